@@ -76,10 +76,7 @@ some-link g count q order most within = elim (cases_lt q g.low) [
 
 -- The links of an earlier node end before those of a later one.
 pub first-before : (l : Links) (v w : ℕ) → AreLinks l → v < w → w ≤ l.nodes + 1 → get_or l.first (v + 1) 0 ≤ get_or l.first w 0
-first-before l v w links before within =
-    let n : ℕ = w - (v + 1) in
-    let same : v + 1 + n ≡ w = omega arith in
-    omega (arith, first-later l (v + 1) n links (omega (arith, same)), ap (λ u. get_or l.first u 0) same)
+first-before l v w links before within = first-later l (v + 1) w links (omega arith) within
 
 module _ (l : Links) (places : List ℕ) (k : ℕ) (g : Gap) (links : AreLinks l) (gap : IsGap l places k g) where
   -- The link of the first node goes in before that of the other.
@@ -250,6 +247,4 @@ module _ (l : Links) (places : List ℕ) (k : ℕ) (g : Gap) (links : AreLinks l
 -- No node's links begin after the last link.
 pub first-short : (l : Links) (v : ℕ) → AreLinks l → v < length l.first → get_or l.first v 0 < 2 ^ 31
 first-short l v links within =
-    let n : ℕ = l.nodes + 1 - v in
-    let same : v + n ≡ l.nodes + 1 = omega (arith, within, links.first_long) in
-    omega (arith, first-later l v n links (omega (arith, same)), ap (λ u. get_or l.first u 0) same, links.last, links.at_most)
+    omega (arith, first-later l v (l.nodes + 1) links (omega (arith, within, links.first_long)) (omega arith), links.last, links.at_most)

@@ -6,7 +6,8 @@ use Rattle.dmf_node.specs.Node.{IsNode}
 use Rattle.dmf_links.specs.declared.grown.Gap.{Gap}
 use Rattle.dmf_links.specs.Links.{Links, LiesAt, AreLinks, ArePlaces, IsOf, no_place, tail_of}
 use Rattle.dmf_links.specs.Grown.{shifted, counted, IsGap, IsGrown, IsPlaced}
-use Rattle.dmf_links.proofs.GrownLinks.{old, low, high, some-link, in-order, gap-within, shift-is, at-tail, old-opposite, low-opposite, high-opposite}
+use Rattle.dmf_links.proofs.GrownLinks.{old, low, high, some-link, shifted-sum, in-order, gap-within, shift-is, at-tail, old-opposite}
+use Rattle.dmf_links.proofs.GrownLinks.{low-opposite, high-opposite}
 
 -- An index moves up by one from the new pair on.
 pub counted-sum : (k j : ℕ) → counted k j ≡ j + min 1 (j + 1 - k)
@@ -14,6 +15,14 @@ counted-sum k j = elim (cases_lt j k) [
   | inl before ↦ cond-true _ _ _ (lt-ltb j k before) ∙ omega arith
   | inr from ↦ cond-false _ _ _ (le-ltb j k from) ∙ omega arith
 ]
+
+-- A link moves up by one from each of the two new links on, in either order:
+pub shifted-low : (g : Gap) (p : ℕ) → g.low ≤ g.high → shifted g p ≡ counted g.low (counted g.high p)
+shifted-low g p order = omega (arith, shifted-sum g p order, counted-sum g.low (counted g.high p), counted-sum g.high p)
+
+-- the higher one is one place further up once the lower one is there.
+pub shifted-high : (g : Gap) (p : ℕ) → g.low ≤ g.high → shifted g p ≡ counted (g.high + 1) (counted g.low p)
+shifted-high g p order = omega (arith, shifted-sum g p order, counted-sum (g.high + 1) (counted g.low p), counted-sum g.low p)
 
 -- A pair is an old one, or the new one.
 pub data IsSomeIndex (k count j : ℕ) : Type 0 where
@@ -69,6 +78,7 @@ module _ (l : Links) (places : List ℕ) (k : ℕ) (g : Gap) (links : AreLinks l
   new-there : get_or after k 0 ≢ no_place
   new-there none = new-some (sym placed.new_is ∙ none)
 
+  -- The new link that lies first belongs to the new pair,
   pub of-low : IsOf n after g.low k
   of-low = (
     new-in,
@@ -79,6 +89,7 @@ module _ (l : Links) (places : List ℕ) (k : ℕ) (g : Gap) (links : AreLinks l
     ],
   )
 
+  -- and so does the other one.
   pub of-high : IsOf n after (g.high + 1) k
   of-high = (
     new-in,

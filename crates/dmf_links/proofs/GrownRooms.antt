@@ -9,59 +9,8 @@ use Rattle.dmf_links.specs.declared.grown.NewPair.{NewPair}
 use Rattle.dmf_links.specs.declared.pair.Pair.{Pair}
 use Rattle.dmf_links.specs.Links.{Links, AreLinks, ArePlaces, AreRooms, AreFlags, open_flag, no_place, pair_at, pairs_at, tail_of}
 use Rattle.dmf_links.specs.Grown.{shifted, counted, with_two, IsGap, IsGrown, IsPlaced, IsSpread, IsOfPair, rising, falling}
-use Rattle.dmf_links.proofs.GrownLinks.{old, low, high, some-link, in-order, gap-within, shift-is}
-use Rattle.dmf_links.proofs.GrownPlaces.{was, new, some-index}
-
--- Two insertions: each new element stands at its place, and the others stand shifted.
-module _ {A : Type 0} (g : Gap) (first second : A) (xs : List A) (d : A) (order : g.low ≤ g.high) (within : g.high ≤ length xs) where
-  two-long : length (with_two g first second xs) ≡ length xs + 2
-  two-long =
-      let one = length-insert xs g.high second within in
-      omega (arith, one, length-insert (insert xs g.high second) g.low first (omega (arith, one, order, within)))
-
-  low-in : g.low ≤ length (insert xs g.high second)
-  low-in = omega (arith, length-insert xs g.high second within, order, within)
-
-  two-kept : (p : ℕ) → get_or (with_two g first second xs) (shifted g p) d ≡ get_or xs p d
-  two-kept p = elim (cases_lt p g.low) [
-    | inl before ↦
-        let at : shifted g p ≡ p = cond-true _ _ _ (lt-ltb p g.low before) in
-        ap (λ q. get_or (with_two g first second xs) q d) at
-        ∙ get_or-insert_below (insert xs g.high second) g.low first d p before low-in
-        ∙ get_or-insert_below xs g.high second d p (omega (arith, before, order)) within
-    | inr from ↦ elim (cases_lt p g.high) [
-      | inl between ↦
-          let at : shifted g p ≡ p + 1 = cond-false _ _ _ (le-ltb p g.low from) ∙ cond-true _ _ _ (lt-ltb p g.high between) in
-          ap (λ q. get_or (with_two g first second xs) q d) at
-          ∙ get_or-insert_above (insert xs g.high second) g.low first d p from low-in
-          ∙ get_or-insert_below xs g.high second d p between within
-      | inr behind ↦
-          let two : p + 2 ≡ p + 1 + 1 = omega arith in
-          let at : shifted g p ≡ p + 1 + 1 = cond-false _ _ _ (le-ltb p g.low from) ∙ cond-false _ _ _ (le-ltb p g.high behind) ∙ two in
-          ap (λ q. get_or (with_two g first second xs) q d) at
-          ∙ get_or-insert_above (insert xs g.high second) g.low first d (p + 1) (omega (arith, order, behind)) low-in
-          ∙ get_or-insert_above xs g.high second d p behind within
-    ]
-  ]
-
-  two-low : get_or (with_two g first second xs) g.low d ≡ first
-  two-low = get_or-insert_at (insert xs g.high second) g.low first d low-in
-
-  two-high : get_or (with_two g first second xs) (g.high + 1) d ≡ second
-  two-high = get_or-insert_above (insert xs g.high second) g.low first d g.high order low-in ∙ get_or-insert_at xs g.high second d within
-
--- What is put in two new places leaves the rest spread round them.
-pub spread-two : (g : Gap) (f : ℕ → ℕ) (first second : ℕ) (before mid after : List ℕ) → g.low ≤ g.high → g.high ≤ length before → length mid ≡ length before
-    → ((p : ℕ) → p < length before → get_or mid p 0 ≡ f (get_or before p 0)) → after ≡ with_two g first second mid
-    → IsSpread g f first second before after
-spread-two g f first second before mid after order within same each is =
-    let in_mid : g.high ≤ length mid = omega (arith, within, same) in
-    rw is (record {
-      long = omega (arith, two-long g first second mid 0 order in_mid, same);
-      kept = λ p h. two-kept g first second mid 0 order in_mid p ∙ each p h;
-      at_low = two-low g first second mid 0 order in_mid;
-      at_high = two-high g first second mid 0 order in_mid;
-    })
+use Rattle.dmf_links.proofs.GrownLinks.{old, low, high, some-link, in-order, gap-within, shifted-sum}
+use Rattle.dmf_links.proofs.GrownPlaces.{was, new, some-index, shifted-low}
 
 -- what is read after a new place
 get-counted : {A : Type 0} (xs : List A) (k : ℕ) (y d : A) (i : ℕ) → k ≤ length xs → get_or (insert xs k y) (counted k i) d ≡ get_or xs i d
@@ -69,6 +18,24 @@ get-counted xs k y d i most = elim (cases_lt i k) [
   | inl before ↦ ap (λ j. get_or (insert xs k y) j d) (cond-true _ _ _ (lt-ltb i k before)) ∙ get_or-insert_below xs k y d i before most
   | inr from ↦ ap (λ j. get_or (insert xs k y) j d) (cond-false _ _ _ (le-ltb i k from)) ∙ get_or-insert_above xs k y d i from most
 ]
+
+-- What is put in two new places leaves the rest spread round them.
+pub spread-two : (g : Gap) (f : ℕ → ℕ) (first second : ℕ) (before mid after : List ℕ) → g.low ≤ g.high → g.high ≤ length before → length mid ≡ length before
+    → ((p : ℕ) → p < length before → get_or mid p 0 ≡ f (get_or before p 0)) → after ≡ with_two g first second mid
+    → IsSpread g f first second before after
+spread-two g f first second before mid after order within same each is =
+    let once = insert mid g.high second in
+    let in_mid : g.high ≤ length mid = omega (arith, within, same) in
+    let long = length-insert mid g.high second in_mid in
+    let in_once : g.low ≤ length once = omega (arith, long, order, in_mid) in
+    rw is (record {
+      long = omega (arith, long, length-insert once g.low first in_once, same);
+      kept = λ p h.
+          ap (λ q. get_or (insert once g.low first) q 0) (shifted-low g p order)
+          ∙ get-counted once g.low first 0 (counted g.high p) in_once ∙ get-counted mid g.high second 0 p in_mid ∙ each p h;
+      at_low = get_or-insert_at once g.low first 0 in_once;
+      at_high = get_or-insert_above once g.low first 0 g.high order in_once ∙ get_or-insert_at mid g.high second 0 in_mid;
+    })
 
 module _ (l : Links) (places : List ℕ) (k : ℕ) (g : Gap) (links : AreLinks l) (gap : IsGap l places k g) (n : Links) (grown : IsGrown g l n) where
   partner-was : (p : ℕ) → p < length l.heads → get_or n.partners (shifted g p) 0 ≡ shifted g (get_or l.partners p 0)
@@ -116,6 +83,22 @@ module _ (l : Links) (places : List ℕ) (k : ℕ) (g : Gap) (links : AreLinks l
     ],
   )
 
+-- A pair reads the same once the two links are there.
+pub pair-shifted : (s b : Links) (g : Gap) (rooms given : List ℕ) (first second p : ℕ) → g.low ≤ g.high → length s.heads < 2 ^ 31
+    → length s.partners ≡ length s.heads → IsGrown g s b → length rooms ≡ length s.heads → IsSpread g (λ room. room) first second rooms given
+    → p < length s.heads → get_or s.partners p 0 < length s.heads → pair_at b given (shifted g p) ≡ pair_at s rooms p
+pair-shifted s b g rooms given first second p order few long grown one_each spread within opposite_in =
+    let opposite = get_or s.partners p 0 in
+    let at : get_or b.partners (shifted g p) 0 ≡ shifted g opposite = grown.partners.kept p (omega (arith, within, long)) in
+    let tail : tail_of b (shifted g p) ≡ tail_of s p = ap (λ x. get_or b.heads x 0) at ∙ grown.heads.kept opposite opposite_in in
+    let head : get_or b.heads (shifted g p) 0 ≡ get_or s.heads p 0 = grown.heads.kept p within in
+    let along : get_or given (shifted g p) 0 ≡ get_or rooms p 0 = spread.kept p (omega (arith, within, one_each)) in
+    let against : get_or given (get_or b.partners (shifted g p) 0) 0 ≡ get_or rooms opposite 0 =
+    ap (λ x. get_or given x 0) at ∙ spread.kept opposite (omega (arith, opposite_in, one_each)) in
+    cond-false _ _ _ (ne_eqb (shifted g p) no_place (λ none. omega (arith, none, shifted-sum g p order, within, few)))
+    ∙ (λ i. Some (record { tail = tail i; head = head i; along = along i; against = against i }))
+    ∙ sym (cond-false _ _ _ (ne_eqb p no_place (λ none. omega (arith, none, within, few))))
+
 module _ (l : Links) (places : List ℕ) (k : ℕ) (made : NewPair) (links : AreLinks l) (gap : IsGap l places k made.gap) (n : Links)
     (grown : IsGrown made.gap l n) (after : List ℕ) (placed : IsPlaced made.gap k made.place places after) (are : ArePlaces l places)
     (index : k ≤ length places) (rooms given : List ℕ) (one_each : length rooms ≡ length l.heads)
@@ -132,19 +115,9 @@ module _ (l : Links) (places : List ℕ) (k : ℕ) (made : NewPair) (links : Are
     | inr there ↦
         let p = get_or places i 0 in
         let below = are.within i within there in
-        let link = links.each p below in
-        let at : get_or after (counted k i) 0 ≡ shifted g p = placed.kept i within ∙ cond-false _ _ _ (ne_eqb p no_place there) in
-        let some : shifted g p ≢ no_place = λ none. omega (arith, none, shift-is l places k g links gap p, below, links.at_most) in
-        let opposite = partner-was l places k g links gap n grown p below in
-        let tail : tail_of n (shifted g p) ≡ tail_of l p = ap (λ x. get_or n.heads x 0) opposite ∙ grown.heads.kept (get_or l.partners p 0) link.partner in
-        let head : get_or n.heads (shifted g p) 0 ≡ get_or l.heads p 0 = grown.heads.kept p below in
-        let along : get_or given (shifted g p) 0 ≡ get_or rooms p 0 = spread.kept p (omega (arith, below, one_each)) in
-        let against : get_or given (get_or n.partners (shifted g p) 0) 0 ≡ get_or rooms (get_or l.partners p 0) 0 =
-        ap (λ x. get_or given x 0) opposite ∙ spread.kept (get_or l.partners p 0) (omega (arith, link.partner, one_each)) in
-        ap (pair_at n given) at
-        ∙ cond-false _ _ _ (ne_eqb (shifted g p) no_place some)
-        ∙ (λ i. Some (record { tail = tail i; head = head i; along = along i; against = against i }))
-        ∙ sym (cond-false _ _ _ (ne_eqb p no_place there))
+        ap (pair_at n given) (placed.kept i within ∙ cond-false _ _ _ (ne_eqb p no_place there))
+        ∙ pair-shifted l n g rooms given _ _ p (in-order l places k g links gap) links.at_most links.partners_long grown one_each spread below
+        (links.each p below).partner
   ]
 
   -- and the new one is the pair that was put in.

@@ -19,3 +19,4 @@ pub mod Slots
 pub mod ShrunkLinks
 pub mod ShrunkPlaces
 pub mod ShrunkRooms
+pub mod Rising

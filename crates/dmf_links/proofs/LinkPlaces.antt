@@ -1,27 +1,17 @@
 -- Where the links of a node lie.
-use Rattle.std.proofs.Common.{ℕ, ◌≡◌, ◌≢◌, ◌+◌, ◌-◌, ◌<◌, ◌≤◌, length, get_or, zero, suc, ap, subst, sym, ◌∙◌, arith}
+use Rattle.std.proofs.Common.{ℕ, ◌≡◌, ◌≢◌, ◌+◌, ◌<◌, ◌≤◌, length, get_or, ap, subst, sym, ◌∙◌, arith}
 use Rattle.std.proofs.lemmas.List.{get_or_default}
 use Rattle.dmf_node.specs.Node.{IsNode}
 use Rattle.dmf_links.specs.Links.{Links, LiesAt, AreLinks}
+use Rattle.dmf_links.proofs.Rising.{rising}
 
 -- The links of a later node begin later.
-pub first-later : (l : Links) (v n : ℕ) → AreLinks l → v + n ≤ l.nodes + 1 → get_or l.first v 0 ≤ get_or l.first (v + n) 0
-first-later l v zero are within = let same : get_or l.first (v + 0) 0 ≡ get_or l.first v 0 =
-    ap (λ u. get_or l.first u 0) (let e : v + 0 ≡ v = omega arith in e) in omega (arith, same)
-first-later l v (suc n) are within =
-    let before : get_or l.first v 0 ≤ get_or l.first (v + n) 0 = first-later l v n are (omega arith) in
-    let next : get_or l.first (v + n) 0 ≤ get_or l.first (v + n + 1) 0 = are.ascending (v + n) (omega arith) in
-    let same : get_or l.first (v + n + 1) 0 ≡ get_or l.first (v + suc n) 0 = ap (λ u. get_or l.first u 0) (let e : v + n + 1 ≡ v + suc n = omega arith in e) in
-    omega (arith, before, next, same)
+pub first-later : (l : Links) (v w : ℕ) → AreLinks l → v ≤ w → w ≤ l.nodes + 1 → get_or l.first v 0 ≤ get_or l.first w 0
+first-later l v w are = rising (λ u. get_or l.first u 0) (l.nodes + 1) v w (λ u h. are.ascending u (omega (arith, h)))
 
 -- The links of a node end within the links.
 pub last-within : (l : Links) (v : ℕ) → AreLinks l → v ≤ l.nodes → get_or l.first (v + 1) 0 ≤ length l.heads
-last-within l v are within =
-    let n : ℕ = l.nodes - v in
-    let later : get_or l.first (v + 1) 0 ≤ get_or l.first (v + 1 + n) 0 = first-later l (v + 1) n are (omega arith) in
-    let same : get_or l.first (v + 1 + n) 0 ≡ get_or l.first (l.nodes + 1) 0 =
-    ap (λ u. get_or l.first u 0) (let e : v + 1 + n ≡ l.nodes + 1 = omega arith in e) in
-    omega (arith, later, same, are.last)
+last-within l v are within = omega (arith, first-later l (v + 1) (l.nodes + 1) are (omega arith) (omega arith), are.last)
 
 -- The same, with another name for the end.
 pub end-within : (l : Links) (v end : ℕ) → AreLinks l → v ≤ l.nodes → end ≡ get_or l.first (v + 1) end → end ≤ length l.heads

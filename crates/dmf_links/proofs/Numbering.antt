@@ -64,14 +64,3 @@ numbered-all l places k numbers are all known = (
       let its = are.each p h in
       subst (IsOf l places p) (sym (known.told p its.0 h (omega (arith, its.1.0, all)) its.1)) its.1,
 )
-
--- If the pairs lie at the same places, the numbers of other links serve.
-pub numbers-same : (l m : Links) (places numbers : List ℕ) → AreLinks l → AreLinks m → l.partners ≡ m.partners → AreNumbers m places numbers
-    → AreNumbers l places numbers
-numbers-same l m places numbers links others same known =
-    let long : length l.heads ≡ length m.heads = omega (arith, links.partners_long, others.partners_long, ap (λ (ps : List ℕ). length ps) same) in (
-      known.0 ∙ sym long,
-      λ p h. subst
-          (λ (ps : List ℕ). IsOf (record { nodes = l.nodes; first = l.first; heads = l.heads; partners = ps }) places p (get_or numbers p 0))
-          (sym same) (known.1 p (omega (arith, h, long))),
-    )

@@ -27,6 +27,7 @@ beside l u s v links u_node v_node lies = elim (cases_lt v u) [
 ]
 
 module _ (l : Links) (place : ℕ) (g : Gap) (links : AreLinks l) (filled : IsFilled l place g) where
+  -- The link that lies first is one of the table.
   pub low-in : g.low < length l.heads
   low-in = omega (arith, filled.order, filled.within)
 

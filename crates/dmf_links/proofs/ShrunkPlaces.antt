@@ -109,6 +109,7 @@ module _ (l : Links) (places : List ℕ) (k : ℕ) (g : Gap) (links : AreLinks l
     pub was_index : i ≡ counted k j
     pub of : IsOf n after p j
 
+  -- A link that stays belongs to a pair that stays.
   pub its-index : (p i : ℕ) → IsOf l places (shifted g p) i → IsItsIndex p i
   its-index p i of =
       let q = shifted g p in

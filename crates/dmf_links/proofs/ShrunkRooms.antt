@@ -1,7 +1,7 @@
 -- Without two links, the rooms, the flags and the pairs that are left are as they were.
-use Rattle.std.proofs.Common.{ℕ, ◌≡◌, ◌≢◌, ◌+◌, ◌<◌, ◌≤◌, List, length, get_or, Some, None, refl, ap, sym, ◌∙◌, arith, inl, inr}
+use Rattle.std.proofs.Common.{ℕ, ◌≡◌, ◌≢◌, ◌+◌, ◌<◌, ◌≤◌, List, length, get_or, None, refl, ap, sym, ◌∙◌, arith, inl, inr}
 use Rattle.std.specs.Prelude.{remove}
-use Rattle.std.proofs.lemmas.Bool.{cases_lt, cases_eq, lt-ltb, le-ltb, cond-true, cond-false, eq-eqb, ne_eqb}
+use Rattle.std.proofs.lemmas.Bool.{cases_lt, cases_eq, lt-ltb, le-ltb, cond-true, cond-false, eq-eqb}
 use Rattle.std.proofs.lemmas.List.{ext_get_or, get_or-map, length-map}
 use Rattle.std.proofs.lemmas.List.Edits.{length-remove, get_or-remove_below, get_or-remove_above}
 use Rattle.dmf_links.specs.declared.grown.Gap.{Gap}
@@ -9,9 +9,17 @@ use Rattle.dmf_links.specs.Links.{Links, AreLinks, ArePlaces, AreRooms, AreFlags
 use Rattle.dmf_links.specs.Grown.{shifted, counted, new_before, IsGrown, IsSpread}
 use Rattle.dmf_links.specs.Shrunk.{without_two, AreRenumbered, AreUnshifted, IsFilled, IsUnplaced}
 use Rattle.dmf_links.proofs.GrownLinks.{old, low, high, some-link, shifted-sum}
-use Rattle.dmf_links.proofs.GrownPlaces.{counted-sum}
-use Rattle.dmf_links.proofs.ShrunkLinks.{shifted-in, partner-was, partner-in, partner-kept, tail-was, head-was, opposite-back, head-low, head-high}
+use Rattle.dmf_links.proofs.GrownPlaces.{counted-sum, shifted-high}
+use Rattle.dmf_links.proofs.GrownRooms.{pair-shifted}
+use Rattle.dmf_links.proofs.ShrunkLinks.{shifted-in, partner-was, partner-in, partner-kept, opposite-back, head-low, head-high}
 use Rattle.dmf_links.proofs.ShrunkPlaces.{place-was}
+
+-- what is read before the place that is gone
+pub get-removed : {A : Type 0} (xs : List A) (k : ℕ) (d : A) (j : ℕ) → k < length xs → get_or (remove xs k) j d ≡ get_or xs (counted k j) d
+get-removed xs k d j index = elim (cases_lt j k) [
+  | inl before ↦ get_or-remove_below xs k d j before index ∙ sym (ap (λ i. get_or xs i d) (cond-true _ _ _ (lt-ltb j k before)))
+  | inr from ↦ get_or-remove_above xs k d j from index ∙ sym (ap (λ i. get_or xs i d) (cond-false _ _ _ (le-ltb j k from)))
+]
 
 -- Where two are taken out, the others stay.
 module _ {A : Type 0} (g : Gap) (xs : List A) (d : A) (order : g.low ≤ g.high) (within : g.high + 1 < length xs) where
@@ -25,26 +33,10 @@ module _ {A : Type 0} (g : Gap) (xs : List A) (d : A) (order : g.low ≤ g.high)
   left-long = omega (arith, one-long, length-remove (remove xs (g.high + 1)) g.low low-in)
 
   pub left-kept : (p : ℕ) → get_or xs (shifted g p) d ≡ get_or (without_two g xs) p d
-  left-kept p = elim (cases_lt p g.low) [
-    | inl before ↦
-        let at : shifted g p ≡ p = cond-true _ _ _ (lt-ltb p g.low before) in
-        ap (λ q. get_or xs q d) at
-        ∙ sym (get_or-remove_below xs (g.high + 1) d p (omega (arith, before, order)) within)
-        ∙ sym (get_or-remove_below (remove xs (g.high + 1)) g.low d p before low-in)
-    | inr from ↦ elim (cases_lt p g.high) [
-      | inl between ↦
-          let at : shifted g p ≡ p + 1 = cond-false _ _ _ (le-ltb p g.low from) ∙ cond-true _ _ _ (lt-ltb p g.high between) in
-          ap (λ q. get_or xs q d) at
-          ∙ sym (get_or-remove_below xs (g.high + 1) d (p + 1) (omega (arith, between)) within)
-          ∙ sym (get_or-remove_above (remove xs (g.high + 1)) g.low d p from low-in)
-      | inr behind ↦
-          let two : p + 2 ≡ p + 1 + 1 = omega arith in
-          let at : shifted g p ≡ p + 1 + 1 = cond-false _ _ _ (le-ltb p g.low from) ∙ cond-false _ _ _ (le-ltb p g.high behind) ∙ two in
-          ap (λ q. get_or xs q d) at
-          ∙ sym (get_or-remove_above xs (g.high + 1) d (p + 1) (omega (arith, behind)) within)
-          ∙ sym (get_or-remove_above (remove xs (g.high + 1)) g.low d p from low-in)
-    ]
-  ]
+  left-kept p =
+      ap (λ q. get_or xs q d) (shifted-high g p order)
+      ∙ sym (get-removed xs (g.high + 1) d (counted g.low p) within)
+      ∙ sym (get-removed (remove xs (g.high + 1)) g.low d p low-in)
 
 -- What is left was spread among what there was.
 pub spread-left : (g : Gap) (first second : ℕ) (xs left : List ℕ) → g.low ≤ g.high → g.high + 1 < length xs → get_or xs g.low 0 ≡ first
@@ -63,13 +55,6 @@ renumbered g k xs left new order within is same each = record {
   long = omega (arith, left-long g xs 0 order within, ap length is, same);
   each = λ p j h was. each p j (omega (arith, h, same)) (ap (λ ys. get_or ys p 0) is ∙ sym (left-kept g xs 0 order within p) ∙ was);
 }
-
--- what is read before the place that is gone
-pub get-removed : {A : Type 0} (xs : List A) (k : ℕ) (d : A) (j : ℕ) → k < length xs → get_or (remove xs k) j d ≡ get_or xs (counted k j) d
-get-removed xs k d j index = elim (cases_lt j k) [
-  | inl before ↦ get_or-remove_below xs k d j before index ∙ sym (ap (λ i. get_or xs i d) (cond-true _ _ _ (lt-ltb j k before)))
-  | inr from ↦ get_or-remove_above xs k d j from index ∙ sym (ap (λ i. get_or xs i d) (cond-false _ _ _ (le-ltb j k from)))
-]
 
 module _ (l : Links) (place : ℕ) (g : Gap) (links : AreLinks l) (filled : IsFilled l place g) where
   -- The partners that are left, before they were shifted, were spread so too.
@@ -153,9 +138,6 @@ module _ (l : Links) (place : ℕ) (g : Gap) (links : AreLinks l) (filled : IsFi
 module _ (l : Links) (places : List ℕ) (k : ℕ) (g : Gap) (links : AreLinks l) (filled : IsFilled l (get_or places k 0) g) (n : Links)
     (grown : IsGrown g n l) (after : List ℕ) (left : IsUnplaced g k places after) (are : ArePlaces l places) (index : k < length places)
     (rooms given : List ℕ) (one_each : length rooms ≡ length l.heads) (spread : given ≡ without_two g rooms) where
-  room-was : (p : ℕ) → get_or given p 0 ≡ get_or rooms (shifted g p) 0
-  room-was p = ap (λ xs. get_or xs p 0) spread ∙ sym (left-kept g rooms 0 filled.order (omega (arith, filled.within, one_each)) p)
-
   -- A pair that stays is as it was.
   pair-was : (j : ℕ) → j < length after → pair_at n given (get_or after j 0) ≡ pair_at l rooms (get_or places (counted k j) 0)
   pair-was j within = elim (cases_eq (get_or places (counted k j) 0) no_place) [
@@ -163,19 +145,12 @@ module _ (l : Links) (places : List ℕ) (k : ℕ) (g : Gap) (links : AreLinks l
         cond-true _ _ _ (eq-eqb (get_or after j 0) no_place (left.none j within none))
         ∙ sym (cond-true _ _ _ (eq-eqb (get_or places (counted k j) 0) no_place none))
     | inr there ↦
-        let place = get_or places k 0 in
         let w = place-was l places k g links filled n grown after left are index j within there in
-        let p = get_or after j 0 in
-        let q = get_or places (counted k j) 0 in
-        let some : p ≢ no_place = λ none. omega (arith, none, w.within, grown.heads.long, links.at_most) in
-        let tail = sym (tail-was l place g links filled n grown p w.within) in
-        let head = sym (head-was l place g links filled n grown p w.within) in
-        let along = room-was p in
-        let against = room-was (get_or n.partners p 0) ∙ ap (λ x. get_or rooms x 0) (sym (partner-was l place g links filled n grown p w.within)) in
-        cond-false _ _ _ (ne_eqb p no_place some)
-        ∙ (λ i. Some (record { tail = tail i; head = head i; along = along i; against = against i }))
-        ∙ sym (cond-false _ _ _ (ne_eqb (shifted g p) no_place (λ none. there (w.is ∙ none))))
-        ∙ ap (pair_at l rooms) (sym w.is)
+        let was = spread-left g _ _ rooms given filled.order (omega (arith, filled.within, one_each)) refl refl spread in
+        sym (ap (pair_at l rooms) w.is
+        ∙ pair-shifted n l g given rooms _ _ _ filled.order (omega (arith, grown.heads.long, links.at_most))
+        (omega (arith, grown.partners.long, grown.heads.long, links.partners_long)) grown (omega (arith, was.long, one_each, grown.heads.long)) was w.within
+        (partner-in l (get_or places k 0) g links filled n grown (get_or after j 0) w.within))
   ]
 
   -- So the pairs are those that were there, without that one.

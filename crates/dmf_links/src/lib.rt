@@ -3,7 +3,7 @@
 
 pub use grown::{Gap, NewPair, place_pair};
 pub use links::{Built, build, open_flag, opposite_flags, put_pair};
-pub use numbers::{grow_numbers, have_same_numbers, number_links, numbers_left, share_known};
+pub use numbers::{grow_numbers, number_links, numbers_left, share_known};
 pub use pair::{Pair, Pairs};
 pub use places::Places;
 pub use shrunk::{gap_of, shrink_own};

@@ -26,19 +26,6 @@ pub fn number_links(
     Ok(numbers)
 }
 
-/// Whether the links of two tables have the same numbers, since each pair has its links at the same places.
-pub fn have_same_numbers(
-    table: &LinkTable,
-    places: &Places,
-    other: &LinkTable,
-    other_places: &Places,
-) -> bool
-    ensures { result ≡ true → (numbers : List ℕ) → AreNumbers (links_of other.now) other_places.now numbers
-        → AreNumbers (links_of table.now) places.now numbers }
-{
-    table.partners == other.partners && places.are(other_places)
-}
-
 /// Gives both links of each pair the pair's index.
 fn put_numbers(table: &LinkTable, places: &Places, numbers: &mut [u32])
     requires places { ArePlaces (links_of table.now) places.now }

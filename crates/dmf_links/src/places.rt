@@ -1,5 +1,6 @@
 //! The places of the links along of pairs.
-ghost use Rattle.std.specs.Prelude.{◌≡◌, ◌-◌, ◌<◌, ◌≤◌, true, length, slice_index, IfSome, MatchOption};
+ghost use Rattle.std.specs.Bool.{Decides};
+ghost use Rattle.std.specs.Prelude.{◌≡◌, ◌-◌, ◌<◌, ◌≤◌, length, slice_index, IfSome, MatchOption};
 ghost use Rattle.dmf_links.specs.Grown.{AreShort, IsPlaced};
 ghost use Rattle.dmf_links.specs.Links.{no_place, IsPlaceOf};
 ghost use Rattle.dmf_links.specs.Shrunk.{IsUnplaced};
@@ -55,7 +56,7 @@ impl Places {
 
     /// Whether these are the same places.
     pub fn are(&self, other: &Places) -> bool
-        ensures { result ≡ true → self.now ≡ other.now }
+        ensures { Decides result (self.now ≡ other.now) }
     {
         self.places == other.places
     }

@@ -19,7 +19,8 @@ pub struct LinkTable {
 }
 
 impl LinkTable {
-    ghost use Rattle.std.specs.Prelude.{◌≡◌, ◌+◌, ◌<◌, ◌≤◌, true, length, slice_index};
+    ghost use Rattle.std.specs.Bool.{Decides};
+    ghost use Rattle.std.specs.Prelude.{◌≡◌, ◌+◌, ◌<◌, ◌≤◌, length, slice_index};
     ghost use Rattle.dmf_links.specs.Links.{tail_of};
     ghost use Rattle.dmf_links.specs.LinkTable.{links_of};
 
@@ -53,7 +54,7 @@ impl LinkTable {
 
     /// Whether another table has the same links. The call does not compare the heads: a link leads to the node at which its opposite lies.
     pub fn is(&self, other: &LinkTable) -> bool
-        ensures { result ≡ true → links_of self.now ≡ links_of other.now }
+        ensures { Decides result (links_of self.now ≡ links_of other.now) }
     {
         self.nodes == other.nodes && self.first == other.first && self.partners == other.partners
     }

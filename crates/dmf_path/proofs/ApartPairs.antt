@@ -12,29 +12,29 @@ use Rattle.dmf_path.specs.Search.{Searched}
 use Rattle.dmf_links.specs.Shrunk.{AreShrunk}
 
 -- It has as many pairs as there are places.
-pub pairs-long : (l : Links) (places : List ℕ) (own : Own) (s : Searched) → IsApart l places own s → length s.pairs ≡ length places
-pairs-long l places own s apart = ap (λ (x : Searched). length x.pairs) (sym apart.same) ∙ length-map places (pair_at l own.rooms.items)
+pub pairs-long : {l : Links} {places : List ℕ} {own : Own} {s : Searched} → IsApart l places own s → length s.pairs ≡ length places
+pairs-long {l} {places} {own} apart = ap (λ (x : Searched). length x.pairs) (sym apart.same) ∙ length-map places (pair_at l own.rooms.items)
 
 -- So it can take in a pair if it has one,
-pub has-grown : (l : Links) (places : List ℕ) (own : Own) (s : Searched) (made : NewPair) (p q : Pair) (n : Links) (after : List ℕ)
-    → IsApart l places own s → 0 < length s.pairs → HasEndsOf p q → AreGrown l places p made n after → HasGrown own made q n after s
-has-grown l places own s made p q n after apart some ends grown = record {
+pub has-grown : {l : Links} {places : List ℕ} {own : Own} {s : Searched} {made : NewPair} {p q : Pair} {n : Links} {after : List ℕ} → IsApart l places own s
+    → 0 < length s.pairs → HasEndsOf p q → AreGrown l places p made n after → HasGrown own made q n after s
+has-grown {l} {places} {p} apart some ends grown = record {
   l = l;
   places = places;
   apart = apart;
-  some = omega (arith, some, pairs-long l places own s apart);
+  some = omega (arith, some, pairs-long apart);
   first = p;
   ends = ends;
   grown = grown;
 }
 
 -- and leave one out if it has two.
-pub has-shrunk : (l : Links) (places : List ℕ) (own : Own) (s : Searched) (gap : Gap) (n : Links) (after : List ℕ) → IsApart l places own s
+pub has-shrunk : {l : Links} {places : List ℕ} {own : Own} {s : Searched} {gap : Gap} {n : Links} {after : List ℕ} → IsApart l places own s
     → 2 ≤ length s.pairs → AreShrunk l places (length places - 2) gap n after → HasShrunk own gap n after s
-has-shrunk l places own s gap n after apart two shrunk = record {
+has-shrunk {l} {places} apart two shrunk = record {
   l = l;
   places = places;
   apart = apart;
-  two = omega (arith, two, pairs-long l places own s apart);
+  two = omega (arith, two, pairs-long apart);
   shrunk = shrunk;
 }

@@ -1,5 +1,5 @@
 -- The beginning of a search: what its labels and current links say.
-use Rattle.std.proofs.Common.{ℕ, ◌≡◌, ◌≢◌, ◌+◌, ◌<◌, inl, inr, List, length, get_or, set, replicate, subst, ◌∙◌, arith}
+use Rattle.std.proofs.Common.{ℕ, ◌≡◌, ◌≢◌, ◌+◌, ◌<◌, List, length, get_or, set, replicate, ◌∙◌, arith}
 use Rattle.std.proofs.lemmas.List.{get_or_default, get_or-replicate, length-replicate, get_or-set_same, get_or-set_other, length-set}
 use Rattle.dmf_node.specs.Node.{IsNode}
 use Rattle.dmf_links.specs.Links.{Links, AreLinks}
@@ -14,44 +14,25 @@ use Rattle.dmf_path.proofs.Spreading.{cases-set}
 -- No admissible link is passed if the current link of each node with a label is its first one: from a node without a label nothing falls.
 pub skipped-first : (l : Links) (labels rooms current : List ℕ) → AreLinks l → AreSmall l.nodes labels
     → ((v : ℕ) → IsNode l.nodes v → get_or labels v 0 ≢ no_label → get_or current v 0 ≡ get_or l.first v 0) → AreSkipped l labels rooms current
-skipped-first l labels rooms current links small first v p node lies before admissible = elim (small.1 v node) [
-  | inl none ↦ elim (small.1 (get_or l.heads p 0) (links.each p (lies-within l v p links node lies)).head) [
-    | inl same ↦ omega (arith, admissible.falls, none, same)
-    | inr least ↦ omega (arith, admissible.falls, none, least, links.at_most_nodes)
-  ]
-  | inr least ↦ omega (arith, first v node (λ none. omega (arith, none, least, links.at_most_nodes)), lies.from, before)
-]
+skipped-first l labels rooms current links small first v p node lies before admissible =
+    let head = small.1 (get_or l.heads p 0) (links.each p (lies-within l v p links node lies)).head in
+    omega (arith, first v node (λ none. omega (arith, none, admissible.falls, head, links.at_most_nodes)), lies.from, before)
 
 -- Nor is one passed in a fresh search, where nothing falls at all.
 pub passed-fresh : (l : Links) (labels rooms : List ℕ) (start goal : ℕ) (current : List ℕ) → AreLinks l → IsFresh l labels start
     → ArePassed l labels rooms goal current
 passed-fresh l labels rooms start goal current links fresh v p ps node lies before walk =
     let head = fresh.others (get_or l.heads p 0) (links.each p (lies-within l v p links node lies)).head in
-    elim (fresh.others v node) [
-      | inl none ↦ elim head [
-        | inl same ↦ omega (arith, walk.0.falls, none, same)
-        | inr zero ↦ omega (arith, walk.0.falls, none, zero)
-      ]
-      | inr zero ↦ omega (arith, walk.0.falls, zero)
-    ]
+    omega (arith, fresh.others v node, head, walk.0.falls)
 
 -- Labels of a fresh search are sound, whatever the rooms are.
 pub sound-fresh : (l : Links) (labels rooms : List ℕ) (start : ℕ) → length labels ≡ l.nodes + 1 → IsFresh l labels start
     → AreSound l labels rooms (get_or labels start 0)
 sound-fresh l labels rooms start long fresh = record {
   beyond = no_label;
-  small = (
-    long,
-    λ v node. elim (fresh.others v node) [
-      | inl none ↦ inl none
-      | inr zero ↦ inr (omega (arith, zero))
-    ],
-  );
+  small = (long, λ v node. grind (arith, fresh.others v node));
   valid = λ v p node lies room below. absurd (omega (arith, below, fresh.label));
-  gated = λ v p node lies room is none. elim (fresh.others v node) [
-    | inl same ↦ omega (arith, is, same)
-    | inr zero ↦ omega (arith, is, zero)
-  ];
+  gated = λ v p node lies room is none. omega (arith, is, fresh.others v node);
 }
 
 -- The labels with which a fresh search begins
@@ -73,13 +54,10 @@ begins-fresh l start goal start_is goal_is apart =
       goal_label = get_or-set_same one goal 0 0 (omega (arith, goal_is.to_last, one_long, none_long));
       fresh = record {
         label = get_or-set_other one goal start 0 0 apart ∙ get_or-set_same none start 0 0 (omega (arith, start_is.to_last, none_long));
-        others = λ v node. elim (cases-set one goal v 0 (omega (arith, goal_is.to_last, one_long, none_long))) [
-          | inl here ↦ inr here.1
-          | inr there ↦ elim (cases-set none start v 0 (omega (arith, start_is.to_last, none_long))) [
-            | inl here ↦ inr (there.1 ∙ here.1)
-            | inr other ↦ inl (there.1 ∙ other.1 ∙ get_or-replicate (l.nodes + 1) v no_label 0 (omega (arith, node.to_last)))
-          ]
-        ];
+        others = λ v node.
+            let last = cases-set one goal v 0 (omega (arith, goal_is.to_last, one_long, none_long)) in
+            let first = cases-set none start v 0 (omega (arith, start_is.to_last, none_long)) in
+            grind (arith, last, first, get_or-replicate (l.nodes + 1) v no_label 0 (omega (arith, node.to_last)));
       };
     }
 
@@ -89,12 +67,8 @@ pub first-queued : (l : Links) (labels queue current : List ℕ) → length labe
     → (v : ℕ) → IsNode l.nodes v → get_or labels v 0 ≢ no_label → get_or current v 0 ≡ get_or l.first v 0
 first-queued l labels queue current long queued first v node has =
     let at = queued.listed v (omega (arith, node.to_last, long)) has in
-    let is : get_or queue at.0 0 ≡ v = get_or_default queue at.0 0 v at.1 ∙ at.2 in
-    let P : ℕ → Type 0 = λ u. get_or current u 0 ≡ get_or l.first u 0 in
-    subst P is (first at.0 at.1)
+    rw (get_or_default queue at.0 0 v at.1 ∙ at.2) at (first at.0 at.1)
 
 -- Levels that are ready are ready for the number of nodes that have labels.
 pub ready-at : (nodes : ℕ) (levels : Levels) → AreReady levels → length levels.near.labels.items ≡ nodes + 1 → IsReady nodes levels.near levels.far
-ready-at nodes levels ready long =
-    let same : ready.0 ≡ nodes = omega (arith, long, ready.1.one_label_each) in
-    subst (λ n. IsReady n levels.near levels.far) same ready.1
+ready-at nodes levels ready long = let same : ready.0 ≡ nodes = omega (arith, long, ready.1.one_label_each) in rw same at ready.1

@@ -16,9 +16,9 @@ use Rattle.dmf_links.proofs.GrownPlaces.{ArePlaces-grown, of-shifted, of-low, of
 use Rattle.dmf_links.proofs.GrownRooms.{pairs-grown, place-own, spread-two, AreRooms-grown, AreFlags-grown}
 
 -- The same pair with other rooms has the same links.
-pub grown-with : (l : Links) (places : List ℕ) (p q : Pair) (made new : NewPair) (n : Links) (after : List ℕ) → AreGrown l places p made n after
+pub grown-with : {l : Links} {places : List ℕ} {p q : Pair} {made new : NewPair} {n : Links} {after : List ℕ} → AreGrown l places p made n after
     → IsOfPair q new → new.gap ≡ made.gap → new.place ≡ made.place → AreGrown l places q new n after
-grown-with l places p q made new n after g of gap place = record {
+grown-with {l} {places} {made} {new} {n} {after} g of gap place = record {
   gap = subst (λ x. IsGap l places (length places - 1) x) (sym gap) g.gap;
   pair = of;
   table = subst (λ x. IsGrown x l n) (sym gap) g.table;
@@ -26,14 +26,16 @@ grown-with l places p q made new n after g of gap place = record {
       (subst (λ x. IsPlaced made.gap (length places - 1) x places after) (sym place) g.placed);
 }
 
-module _ (l : Links) (places : List ℕ) (p : Pair) (made : NewPair) (n : Links) (after : List ℕ) (links : AreLinks l) (are : ArePlaces l places)
+module _ {l : Links} {places : List ℕ} {p : Pair} {made : NewPair} {n : Links} {after : List ℕ} (links : AreLinks l) (are : ArePlaces l places)
     (g : AreGrown l places p made n after) (has : 0 < length places) where
   abbrev k : ℕ
   k = length places - 1
 
+  -- The new pair comes before the last one.
   pub index : k ≤ length places
   index = omega arith
 
+  -- The places with that of the new pair are places of pairs.
   pub places-grown : length places ≤ 2 ^ 27 → ArePlaces n after
   places-grown few =
       ArePlaces-grown l places k made.gap links g.gap n g.table made.place after g.placed are index (place-own p made g.pair) few
@@ -62,27 +64,28 @@ module _ (l : Links) (places : List ℕ) (p : Pair) (made : NewPair) (n : Links)
         ],
   )
 
-  pub numbered-with : (before new : Option (Rc (Vec ℕ Global) Global)) → MayBeNumbered l places before → AreSpreadNumbers made.gap k before new
+  -- Numbers that are spread among those of the new pair are the numbers of the grown links.
+  pub numbered-with : {before new : Option (Rc (Vec ℕ Global) Global)} → MayBeNumbered l places before → AreSpreadNumbers made.gap k before new
       → MayBeNumbered n after new
-  numbered-with before new numbers (none is) = subst (MayBeNumbered n after) (sym is) tt
-  numbered-with before new numbers (some known fresh was is spread) =
-      subst (MayBeNumbered n after) (sym is)
+  numbered-with numbers (none is) = subst (MayBeNumbered n after) (sym is) tt
+  numbered-with numbers (some known fresh was is spread) = subst (MayBeNumbered n after) (sym is)
       (numbers-with known.value.items fresh.value.items (subst (MayBeNumbered l places) was numbers) spread)
 
 -- The rooms of a new pair fit 64 bits together, whichever comes first.
-fits-of : (p : Pair) (new : NewPair) → IsOfPair p new → p.along + p.against < 2 ^ 64 → new.low_room + new.high_room < 2 ^ 64
-fits-of p new (rising t h at a b) fits = omega (arith, a, b, fits)
-fits-of p new (falling t h at a b) fits = omega (arith, a, b, fits)
+fits-of : {p : Pair} {new : NewPair} → IsOfPair p new → p.along + p.against < 2 ^ 64 → new.low_room + new.high_room < 2 ^ 64
+fits-of (rising t h at a b) fits = omega (arith, a, b, fits)
+fits-of (falling t h at a b) fits = omega (arith, a, b, fits)
 
-module _ (own : Own) (made new : NewPair) (pair : Pair) (n : Links) (after : List ℕ) (s : Searched) (h : HasGrown own made pair n after s)
+module _ {own : Own} {made new : NewPair} {pair : Pair} {n : Links} {after : List ℕ} {s : Searched} (h : HasGrown own made pair n after s)
     (of : IsOfPair pair new) (gap : new.gap ≡ made.gap) (place : new.place ≡ made.place) where
   are : AreGrown h.l h.places pair new n after
-  are = grown-with h.l h.places h.first pair made new n after h.grown of gap place
+  are = grown-with h.grown of gap place
 
   -- The new values go in within the old ones, in order.
   pub order-with : new.gap.low ≤ new.gap.high
   order-with = in-order h.l h.places (length h.places - 1) new.gap h.apart.links are.gap
 
+  -- The gap is among the links.
   pub within-with : new.gap.high ≤ length h.l.heads
   within-with = gap-within h.l h.places (length h.places - 1) new.gap h.apart.links are.gap
 
@@ -106,13 +109,12 @@ module _ (own : Own) (made new : NewPair) (pair : Pair) (n : Links) (after : Lis
       let told = spread (open_flag new.high_room) (open_flag new.low_room) own.flags.items flags.items old.flags.0 flagged in
       let long : k ≡ length before.pairs - 1 = omega (arith, length-map places (pair_at l own.rooms.items)) in
       let pairs : pairs_at n after rooms.items ≡ insert before.pairs (length before.pairs - 1) (Some pair) =
-      pairs-with l places pair new n after old.links old.places_are are h.some own.rooms.items rooms.items old.rooms.0 given
-      ∙ ap (λ (j : ℕ). insert before.pairs j (Some pair)) long in
+      pairs-with old.links old.places_are are h.some own.rooms.items rooms.items old.rooms.0 given ∙ ap (λ (j : ℕ). insert before.pairs j (Some pair)) long in
       record {
         links = links;
         places_are = places_are;
         rooms = AreRooms-grown l places k new.gap old.links are.gap n are.table own.rooms.items rooms.items new.low_room new.high_room old.rooms given
-            (fits-of pair new of fits);
+            (fits-of of fits);
         flags = AreFlags-grown l places k new.gap old.links are.gap n are.table own.rooms.items own.flags.items rooms.items flags.items new.low_room
             new.high_room old.rooms.0 old.flags given told;
         begun = subst (λ nodes. HasBegun nodes own.levels own.trail) (sym are.table.nodes) old.begun;

@@ -1,14 +1,12 @@
 -- The labels of both searches are joined, node by node of the start's side.
-use Rattle.std.proofs.Common.{ℕ, ◌≡◌, ◌≢◌, ◌+◌, ◌-◌, ◌≤◌, ◌<◌, ◌⊎◌, ◌++◌, inl, inr, List, [], ◌∷◌, length, get_or, set, refl, ap, sym, subst, ◌∙◌, arith}
-use Rattle.std.proofs.Common.{Contains}
-use Rattle.std.proofs.lemmas.Bool.{cases_lt}
-use Rattle.std.proofs.lemmas.Bool.Decides.{eqb_tells}
-use Rattle.std.proofs.lemmas.List.{get_or_append_left, get_or-append_right, get_or_default, length-set, length_push}
+use Rattle.std.proofs.Common.{ℕ, ◌≡◌, ◌≢◌, ◌+◌, ◌-◌, ◌≤◌, ◌<◌, ◌⊎◌, ◌++◌, inl, inr, List, [], ◌∷◌, length, get_or, set, ap, ◌∙◌, arith}
+use Rattle.std.proofs.lemmas.Bool.{cases_eq, cases_lt}
+use Rattle.std.proofs.lemmas.Bool.Decides.{nat_tests}
+use Rattle.std.proofs.lemmas.List.{get_or_append_left, get_or_push, get_or_default, length-set, length_push}
 use Rattle.std.proofs.lemmas.List.Elements.{Contains-append_left, Contains-push}
 use Rattle.dmf_path.specs.Labels.{no_label, unlabelled_count, AreQueued}
 use Rattle.dmf_path.specs.BothEnds.{AreJoined, joined_label}
 use Rattle.dmf_path.proofs.Spreading.{unlabelled_count-set, cases-set}
-use Rattle.dmf_path.proofs.BothEnds.{joined-goal, joined-start, joined-none}
 
 -- The labels of the first `k` nodes are joined; those of the others may be.
 pub record AreJoining (long : ℕ) (old others nodes : List ℕ) (k : ℕ) (new queue : List ℕ) (capacity : ℕ) : Type 0 where
@@ -18,29 +16,14 @@ pub record AreJoining (long : ℕ) (old others nodes : List ℕ) (k : ℕ) (new 
   pub queued : AreQueued new queue
   pub room : length queue + unlabelled_count new ≤ capacity
 
--- a node without a label of the start's side keeps the label that it has
-joined-unset : (long g s : ℕ) → s ≡ no_label → joined_label long g s ≡ g
-joined-unset long g s unset = elim (eqb_tells g no_label) [
-  | inl none ↦ joined-none long g s none.1 unset ∙ sym none.1
-  | inr other ↦ joined-goal long g s other.1
-]
+-- A label that may be joined is, where there is one, or where the start's side has none.
+joined-has : (long g s label : ℕ) → (label ≢ no_label) ⊎ (s ≡ no_label) → (label ≡ g) ⊎ (label ≡ joined_label long g s) → label ≡ joined_label long g s
+joined-has long g s label has either = grind (arith, nat_tests)
 
--- A node that already has a label,
-pub joining-skip : (long : ℕ) (old others nodes : List ℕ) (k : ℕ) (new queue : List ℕ) (capacity : ℕ) → AreJoining long old others nodes k new queue capacity
-    → get_or nodes k 0 < length new → get_or new (get_or nodes k 0) 0 ≢ no_label → AreJoining long old others nodes (k + 1) new queue capacity
-joining-skip long old others nodes k new queue capacity so_far within has = record {
-  one_each = so_far.one_each;
-  each = so_far.each;
-  done = λ i before. elim (eqb_tells i k) [
-    | inl same ↦ rw same.1 (elim (so_far.each (get_or nodes k 0) within) [
-      | inl kept ↦ kept ∙ sym (joined-goal long (get_or old (get_or nodes k 0) 0) (get_or others (get_or nodes k 0) 0) (λ none. has (kept ∙ none)))
-      | inr joined ↦ joined
-    ])
-    | inr other ↦ so_far.done i (omega (arith, before, other.1))
-  ];
-  queued = so_far.queued;
-  room = so_far.room;
-}
+-- If there is none, it is the rest of the length.
+joined-rest : (long g s label : ℕ) → label ≡ no_label → s ≤ long → long < no_label → (label ≡ g) ⊎ (label ≡ joined_label long g s)
+    → long - s ≡ joined_label long g s
+joined-rest long g s label none most small either = grind (arith, nat_tests)
 
 queued-next : (labels queue : List ℕ) (v label : ℕ) → AreQueued labels queue → v < length labels → AreQueued (set labels v label) (queue ++ v ∷ [])
 queued-next labels queue v label queued inside =
@@ -48,67 +31,62 @@ queued-next labels queue v label queued inside =
     record {
       within = λ k before. elim (cases_lt k (length queue)) [
         | inl less ↦ omega (arith, long, get_or_append_left queue (v ∷ []) 0 k less, queued.within k less)
-        | inr more ↦
-            let last : k - length queue ≡ 0 = omega (arith, before, more, length_push queue v) in
-            omega (arith, long, inside, get_or-append_right queue (v ∷ []) (length queue) k 0 refl more, ap (λ i. get_or (v ∷ []) i 0) last)
+        | inr more ↦ omega (arith, long, inside, get_or_push queue v 0 k (omega (arith, before, more, length_push queue v)))
       ];
       listed = λ u within has. elim (cases-set labels v u label inside) [
-        | inl here ↦ subst (Contains (queue ++ v ∷ [])) (sym here.0) (Contains-push queue v)
+        | inl here ↦ rw here.0 (Contains-push queue v)
         | inr other ↦ Contains-append_left queue (v ∷ []) u (queued.listed u (omega (arith, within, long)) (λ none. has (other.1 ∙ none)))
       ];
     }
 
--- and a node without one, which gets the rest of the length.
-pub joining-next : (long : ℕ) (old others nodes : List ℕ) (k : ℕ) (new queue : List ℕ) (capacity : ℕ) → AreJoining long old others nodes k new queue capacity
-    → get_or nodes k 0 < length new → get_or new (get_or nodes k 0) 0 ≡ no_label → get_or others (get_or nodes k 0) 0 ≤ long → long < no_label
-    → AreJoining long old others nodes (k + 1) (set new (get_or nodes k 0) (long - get_or others (get_or nodes k 0) 0))
-    (queue ++ get_or nodes k 0 ∷ []) capacity
-joining-next long old others nodes k new queue capacity so_far within unset most small =
-    let v : ℕ = get_or nodes k 0 in
-    let label : ℕ = long - get_or others v 0 in
-    let gone : get_or old v 0 ≡ no_label = elim (so_far.each v within) [
-      | inl kept ↦ sym kept ∙ unset
-      | inr joined ↦ elim (eqb_tells (get_or old v 0) no_label) [
-        | inl none ↦ none.1
-        | inr other ↦ absurd (other.1 (sym (joined-goal long (get_or old v 0) (get_or others v 0) other.1) ∙ sym joined ∙ unset))
-      ]
-    ] in
-    let is : label ≡ joined_label long (get_or old v 0) (get_or others v 0) =
-    sym (joined-start long (get_or old v 0) (get_or others v 0) gone (λ none. omega (arith, none, most, small))) in
-    let has : label ≢ no_label = λ none. omega (arith, none, small) in
-    record {
-      one_each = length-set new v label ∙ so_far.one_each;
-      each = λ u inside. elim (cases-set new v u label within) [
-        | inl here ↦ inr (here.1 ∙ is ∙ ap (λ w. joined_label long (get_or old w 0) (get_or others w 0)) (sym here.0))
-        | inr other ↦ elim (so_far.each u (omega (arith, inside, length-set new v label))) [
-          | inl kept ↦ inl (other.1 ∙ kept)
-          | inr joined ↦ inr (other.1 ∙ joined)
-        ]
-      ];
-      done = λ i before. elim (cases-set new v (get_or nodes i 0) label within) [
-        | inl here ↦ here.1 ∙ is ∙ ap (λ w. joined_label long (get_or old w 0) (get_or others w 0)) (sym here.0)
-        | inr other ↦
-            let apart : i ≢ k = λ same. other.0 (ap (λ j. get_or nodes j 0) same) in
-            other.1 ∙ so_far.done i (omega (arith, before, apart))
-      ];
-      queued = queued-next new queue v label so_far.queued within;
-      room = omega (arith, so_far.room, length_push queue v, unlabelled_count-set new v label within unset has);
-    }
+module _ {long : ℕ} {old others nodes : List ℕ} {k : ℕ} {new queue : List ℕ} {capacity : ℕ}
+    (so_far : AreJoining long old others nodes k new queue capacity) where
+  -- A node that already has a label,
+  pub joining-skip : get_or nodes k 0 < length new → get_or new (get_or nodes k 0) 0 ≢ no_label → AreJoining long old others nodes (k + 1) new queue capacity
+  joining-skip within has = record {
+    one_each = so_far.one_each;
+    each = so_far.each;
+    done = λ i before. elim (cases_eq i k) [
+      | inl same ↦ let v = get_or nodes k 0 in rw same (joined-has long (get_or old v 0) (get_or others v 0) (get_or new v 0) (inl has) (so_far.each v within))
+      | inr other ↦ so_far.done i (omega arith)
+    ];
+    queued = so_far.queued;
+    room = so_far.room;
+  }
 
--- Once this is done for all nodes, the labels are joined.
-pub joining-last : (long : ℕ) (old others nodes : List ℕ) (k : ℕ) (new queue : List ℕ) (capacity : ℕ) → AreJoining long old others nodes k new queue capacity
-    → length nodes ≤ k → length old ≡ length others → AreQueued others nodes → AreJoined long old others new
-joining-last long old others nodes k new queue capacity so_far all one_each queued = record {
-  one_each = so_far.one_each;
-  each = λ v within. elim (eqb_tells (get_or others v 0) no_label) [
-    | inl unset ↦ elim (so_far.each v within) [
-      | inl kept ↦ kept ∙ sym (joined-unset long (get_or old v 0) (get_or others v 0) unset.1)
-      | inr joined ↦ joined
-    ]
-    | inr has ↦
-        let at = queued.listed v (omega (arith, within, so_far.one_each, one_each)) has.1 in
-        let is : get_or nodes at.0 0 ≡ v = get_or_default nodes at.0 0 v at.1 ∙ at.2 in
-        let P : ℕ → Type 0 = λ u. get_or new u 0 ≡ joined_label long (get_or old u 0) (get_or others u 0) in
-        subst P is (so_far.done at.0 (omega (arith, at.1, all)))
-  ];
-}
+  -- and a node without one, which gets the rest of the length.
+  pub joining-next : get_or nodes k 0 < length new → get_or new (get_or nodes k 0) 0 ≡ no_label → get_or others (get_or nodes k 0) 0 ≤ long → long < no_label
+      → AreJoining long old others nodes (k + 1) (set new (get_or nodes k 0) (long - get_or others (get_or nodes k 0) 0))
+      (queue ++ get_or nodes k 0 ∷ []) capacity
+  joining-next within unset most small =
+      let v : ℕ = get_or nodes k 0 in
+      let label : ℕ = long - get_or others v 0 in
+      let is = joined-rest long (get_or old v 0) (get_or others v 0) (get_or new v 0) unset most small (so_far.each v within) in
+      let joined : (u : ℕ) → u ≡ v → label ≡ joined_label long (get_or old u 0) (get_or others u 0) = λ u same. rw same is in
+      record {
+        one_each = length-set new v label ∙ so_far.one_each;
+        each = λ u inside. elim (cases-set new v u label within) [
+          | inl here ↦ inr (here.1 ∙ joined u here.0)
+          | inr other ↦ rw other.1 (so_far.each u (omega (arith, inside, length-set new v label)))
+        ];
+        done = λ i before. elim (cases-set new v (get_or nodes i 0) label within) [
+          | inl here ↦ here.1 ∙ joined (get_or nodes i 0) here.0
+          | inr other ↦
+              let apart : i ≢ k = λ same. other.0 (ap (λ j. get_or nodes j 0) same) in
+              other.1 ∙ so_far.done i (omega arith)
+        ];
+        queued = queued-next new queue v label so_far.queued within;
+        room = omega (arith, so_far.room, length_push queue v, unlabelled_count-set new v label within unset (λ none. omega (arith, none, small)));
+      }
+
+  -- Once this is done for all nodes, the labels are joined.
+  pub joining-last : length nodes ≤ k → length old ≡ length others → AreQueued others nodes → AreJoined long old others new
+  joining-last all one_each queued = record {
+    one_each = so_far.one_each;
+    each = λ v within. elim (cases_eq (get_or others v 0) no_label) [
+      | inl unset ↦ joined-has long (get_or old v 0) (get_or others v 0) (get_or new v 0) (inr unset) (so_far.each v within)
+      | inr has ↦
+          let at = queued.listed v (omega (arith, within, so_far.one_each, one_each)) has in
+          rw (get_or_default nodes at.0 0 v at.1 ∙ at.2) at (so_far.done at.0 (omega (arith, at.1, all)))
+    ];
+  }

@@ -54,11 +54,11 @@ pub record HasLeft (l : Links) (takes_back : Bool) (labels : List ℕ) (sent top
   pub long : length (put_once l takes_back sent s rooms) ≡ length l.heads
 
 -- A link can leave a path, wherever it stands there.
-pub has-left : (l : Links) (takes_back : Bool) (labels : List ℕ) (sent top bottom : ℕ) (before behind : List Slot) (s : Slot) (rooms : List ℕ) → AreLinks l
+pub has-left : {l : Links} (takes_back : Bool) (labels : List ℕ) (sent top bottom : ℕ) (before behind : List Slot) (s : Slot) (rooms : List ℕ) → AreLinks l
     → length rooms ≡ length l.heads
     → Descends l labels top bottom (places_of before ++ s.place ∷ places_of behind) → HaveLeft sent rooms (before ++ s ∷ behind)
     → HasLeft l takes_back labels sent top bottom before behind s rooms
-has-left l takes_back labels sent top bottom before behind s rooms links long descends have =
+has-left {l} takes_back labels sent top bottom before behind s rooms links long descends have =
     let b = between l labels top bottom s.place (places_of before) (places_of behind) descends in
     let amount : ℕ = get_or rooms s.place 0 - room_left sent s.full_at in
     let parts = HaveLeft-split sent rooms before (s ∷ behind) have in
@@ -83,28 +83,28 @@ pub record HaveAllLeft (l : Links) (takes_back : Bool) (sent : ℕ) (before slot
   pub long : length (put_each l takes_back sent slots rooms) ≡ length l.heads
 
 -- Links that stand side by side can leave a path together.
-pub have-all-left : (l : Links) (takes_back : Bool) (labels : List ℕ) (sent top bottom : ℕ) (before slots behind : List Slot) (rooms : List ℕ) → AreLinks l
+pub have-all-left : {l : Links} (takes_back : Bool) (labels : List ℕ) (sent top bottom : ℕ) (before slots behind : List Slot) (rooms : List ℕ) → AreLinks l
     → length rooms ≡ length l.heads
     → Descends l labels top bottom (places_of before ++ places_of (slots ++ behind)) → HaveLeft sent rooms (before ++ (slots ++ behind))
     → HaveAllLeft l takes_back sent before slots behind rooms
-have-all-left l takes_back labels sent top bottom before [] behind rooms links long descends have = record { can = tt; same = refl; have = have; long = long }
-have-all-left l takes_back labels sent top bottom before (s ∷ slots) behind rooms links long descends have =
-    let first = has-left l takes_back labels sent top bottom before (slots ++ behind) s rooms links long descends have in
-    let later = have-all-left l takes_back labels sent top bottom before slots behind
+have-all-left takes_back labels sent top bottom before [] behind rooms links long descends have = record { can = tt; same = refl; have = have; long = long }
+have-all-left {l} takes_back labels sent top bottom before (s ∷ slots) behind rooms links long descends have =
+    let first = has-left takes_back labels sent top bottom before (slots ++ behind) s rooms links long descends have in
+    let later = have-all-left takes_back labels sent top bottom before slots behind
     (put_once l takes_back sent s rooms) links first.long first.descends first.have in
     record { can = (first.slot, later.can); same = first.same ∙ later.same; have = later.have; long = later.long }
 
 -- The next link can leave, and then it goes on.
-pub putting-here : (r : Residual) (sent : ℕ) (slots : List Slot) (i : ℕ) (whole : Residual) → i < length slots → IsPutting r sent (drop i slots) whole
+pub putting-here : {r : Residual} {sent : ℕ} (slots : List Slot) (i : ℕ) {whole : Residual} → i < length slots → IsPutting r sent (drop i slots) whole
     → IsSlot r.links sent r.rooms (slot_at slots i)
-putting-here r sent slots i whole within is =
+putting-here {r} {sent} slots i within is =
     let split : drop i slots ≡ slot_at slots i ∷ drop (i + 1) slots = drop_more slots i _ within in
     (subst (λ (ss : List Slot). CanPut r.links r.takes_back sent ss r.rooms) split is.can).0
 
 -- While slots are put on in turn, the next one comes to what all come to.
-pub putting-next : (r next : Residual) (sent : ℕ) (slots : List Slot) (i : ℕ) (whole : Residual) → i < length slots → IsPutting r sent (drop i slots) whole
+pub putting-next : {r next : Residual} {sent : ℕ} (slots : List Slot) (i : ℕ) {whole : Residual} → i < length slots → IsPutting r sent (drop i slots) whole
     → next ≡ put_on r sent (slot_at slots i) → IsPutting next sent (drop (i + 1) slots) whole
-putting-next r next sent slots i whole within is put =
+putting-next {r} {sent} slots i within is put =
     let split : drop i slots ≡ slot_at slots i ∷ drop (i + 1) slots = drop_more slots i _ within in
     rw put (record {
       goes_on = sym (ap (put_each_on r sent) split) ∙ is.goes_on;

@@ -29,17 +29,15 @@ one-before : (xs ys : List ℕ) → length xs ≡ length ys → (xs ≡ ys) ⊎ 
 one-before [] [] long = inl refl
 one-before [] (y ∷ ys) long = absurd (omega (arith, long))
 one-before (x ∷ xs) [] long = absurd (omega (arith, long))
-one-before (x ∷ xs) (y ∷ ys) long =
-    let tails : (xs ≡ ys) ⊎ (ComesBefore xs ys ⊎ ComesBefore ys xs) = one-before xs ys (omega (arith, long)) in
-    elim (cases_order x y) [
-      | inl same ↦ elim tails [
-        | inl equal ↦ inl (λ i. same i ∷ equal i)
-        | inr (inl before) ↦ inr (inl (inr (same, before)))
-        | inr (inr after) ↦ inr (inr (inr (sym same, after)))
-      ]
-      | inr (inl below) ↦ inr (inl (inl below))
-      | inr (inr above) ↦ inr (inr (inl above))
-    ]
+one-before (x ∷ xs) (y ∷ ys) long = elim (cases_order x y) [
+  | inl same ↦ elim (one-before xs ys (omega (arith, long))) [
+    | inl equal ↦ inl (cc)
+    | inr (inl before) ↦ inr (inl (inr (same, before)))
+    | inr (inr after) ↦ inr (inr (inr (sym same, after)))
+  ]
+  | inr (inl below) ↦ inr (inl (inl below))
+  | inr (inr above) ↦ inr (inr (inl above))
+]
 
 -- The ranks of a path determine it.
 path-by_ranks : (steps : List Step) → Ascend steps → (a b c : ℕ) (p q : List Step) → IsPath steps a c p → IsPath steps b c q → ranks p ≡ ranks q → p ≡ q
@@ -47,9 +45,9 @@ path-by_ranks steps ascend a b c [] [] leads other same = refl
 path-by_ranks steps ascend a b c [] (t ∷ q) leads other same = absurd (omega (arith, ap length same))
 path-by_ranks steps ascend a b c (s ∷ p) [] leads other same = absurd (omega (arith, ap length same))
 path-by_ranks steps ascend a b c (s ∷ p) (t ∷ q) leads other same =
-    let first : s ≡ t = step-by_rank steps ascend s t leads.0 other.0 (cc) in
-    let rest : p ≡ q = path-by_ranks steps ascend s.to t.to c p q leads.2 other.2 (cc) in
-    λ i. first i ∷ rest i
+    let first = step-by_rank steps ascend s t leads.0 other.0 (cc) in
+    let rest = path-by_ranks steps ascend s.to t.to c p q leads.2 other.2 (cc) in
+    cc
 
 -- Two least paths between the same nodes are equal.
 pub one-least : (steps : List Step) → Ascend steps → (a b : ℕ) (p q : List Step) → IsLeastPath steps a b p → IsLeastPath steps a b q → p ≡ q

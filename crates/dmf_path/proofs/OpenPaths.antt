@@ -1,5 +1,5 @@
 -- Paths of steps, as lists of links with room.
-use Rattle.std.proofs.Common.{ℕ, ◌≡◌, ◌<◌, List, [], ◌∷◌, get_or, refl, ap, sym, subst, ◌∙◌}
+use Rattle.std.proofs.Common.{ℕ, ◌≡◌, ◌<◌, List, [], ◌∷◌, get_or, refl, ap, ◌∙◌}
 use Rattle.dmf_path.specs.Step.{Step}
 use Rattle.dmf_node.specs.Node.{IsNode}
 use Rattle.dmf_path.specs.Path.{IsPath}
@@ -7,7 +7,7 @@ use Rattle.dmf_path.specs.Pair.{steps_of}
 use Rattle.dmf_links.specs.Links.{Links, LiesAt, AreLinks, ArePlaces, tail_of, pairs_at}
 use Rattle.dmf_links.proofs.LinkPlaces.{lies-within}
 use Rattle.dmf_path.proofs.Steps.{path_on}
-use Rattle.dmf_path.proofs.LinkSteps.{IsLinkStep, link-of_step, step-of_link}
+use Rattle.dmf_path.proofs.LinkSteps.{link-of_step, step-of_link}
 
 -- Links with room lead from node `v` to the goal, each next one from the head of the one before.
 abbrev pub IsOpenPath : Links → List ℕ → ℕ → ℕ → List ℕ → Type 0
@@ -24,7 +24,7 @@ pub path-of_links : (l : Links) (places rooms : List ℕ) (goal v : ℕ) (ps : L
     → IsOpenPath l rooms goal v ps → IsPath (steps_of (pairs_at l places rooms)) v goal (path_on l places rooms ps)
 path-of_links l places rooms goal v [] links are node leads = leads
 path-of_links l places rooms goal v (p ∷ ps) links are node leads = (
-  step-of_link l places rooms p links are (lies-within l v p links node leads.0) leads.1,
+  step-of_link l places rooms links are p (lies-within l v p links node leads.0) leads.1,
   links.at_tail v p node leads.0,
   path-of_links l places rooms goal (get_or l.heads p 0) ps links are (head-node l v p links node leads.0) leads.2,
 )
@@ -40,17 +40,13 @@ pub links-of_path : (l : Links) (places rooms : List ℕ) (goal v : ℕ) (path :
     → IsPath (steps_of (pairs_at l places rooms)) v goal path → IsPathOn l places rooms goal v path
 links-of_path l places rooms goal v [] links are leads = record { on = []; steps = refl; leads = leads }
 links-of_path l places rooms goal v (s ∷ path) links are leads =
-    let link : IsLinkStep l places rooms s = link-of_step l places rooms s links are leads.0 in
-    let rest : IsPathOn l places rooms goal s.to path = links-of_path l places rooms goal s.to path links are leads.2 in
+    let link = link-of_step l places rooms links are s leads.0 in
+    let rest = links-of_path l places rooms goal s.to path links are leads.2 in
     let p : ℕ = link.place in
     let tail : tail_of l p ≡ v = ap (λ (t : Step). t.from) link.step ∙ leads.1 in
-    let to : s.to ≡ get_or l.heads p 0 = sym (ap (λ (t : Step). t.to) link.step) in
+    let to : get_or l.heads p 0 ≡ s.to = ap (λ (t : Step). t.to) link.step in
     record {
       on = p ∷ rest.on;
       steps = λ i. link.step i ∷ rest.steps i;
-      leads = (
-        subst (λ u. LiesAt l u p) tail (links.each p link.within).lies,
-        link.room,
-        subst (λ u. IsOpenPath l rooms goal u rest.on) to rest.leads,
-      );
+      leads = (rw tail at (links.each p link.within).lies, link.room, rw to rest.leads);
     }

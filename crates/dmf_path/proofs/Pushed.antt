@@ -1,6 +1,6 @@
 -- What a push along a trail keeps: labels stay valid, what was passed stays passed, and the links of the trail that still
 -- have room are one.
-use Rattle.std.proofs.Common.{ℕ, ◌≡◌, ◌+◌, ◌-◌, ◌<◌, ◌⊎◌, inl, inr, Bool, false, List, [], ◌∷◌, length, get_or, take, zero, suc, ap, sym, ◌∙◌, arith, ⊎_elim}
+use Rattle.std.proofs.Common.{ℕ, ◌≡◌, ◌+◌, ◌-◌, ◌<◌, ◌⊎◌, inl, inr, Bool, false, List, [], ◌∷◌, length, get_or, take, zero, suc, ap, sym, ◌∙◌, arith}
 use Rattle.std.proofs.lemmas.Bool.{cases_eq}
 use Rattle.std.proofs.lemmas.List.{get_or-set_other, get_or-set_same}
 use Rattle.std.specs.List.{All}
@@ -22,20 +22,20 @@ FallsOn l labels v [] = Unit {0}
 FallsOn l labels v (p ∷ ps) = Falls l labels v p × FallsOn l labels (get_or l.heads p 0) ps
 
 -- an admissible link falls
-pub Falls-admissible : (l : Links) (labels rooms : List ℕ) (v p : ℕ) → AreLinks l → IsNode l.nodes v → IsAdmissible l labels rooms v p → Falls l labels v p
-Falls-admissible l labels rooms v p links node can = record {
+pub Falls-admissible : {l : Links} {labels rooms : List ℕ} {v p : ℕ} → AreLinks l → IsNode l.nodes v → IsAdmissible l labels rooms v p → Falls l labels v p
+Falls-admissible {l} {v} {p} links node can = record {
   within = lies-within l v p links node can.lies;
   tail = links.at_tail v p node can.lies;
   label = can.falls;
 }
 
 -- so do the links of a trail
-pub FallsOn-trail : (l : Links) (labels rooms current : List ℕ) (v : ℕ) (ps : List ℕ) → AreLinks l → IsNode l.nodes v → IsTrail l labels rooms current v ps
+pub FallsOn-trail : {l : Links} (labels rooms current : List ℕ) (v : ℕ) (ps : List ℕ) → AreLinks l → IsNode l.nodes v → IsTrail l labels rooms current v ps
     → FallsOn l labels v ps
-FallsOn-trail l labels rooms current v [] links node trail = tt
-FallsOn-trail l labels rooms current v (p ∷ ps) links node trail =
-    let falls = Falls-admissible l labels rooms v p links node trail.0 in
-    (falls, FallsOn-trail l labels rooms current (get_or l.heads p 0) ps links (links.each p falls.within).head trail.2)
+FallsOn-trail labels rooms current v [] links node trail = tt
+FallsOn-trail {l} labels rooms current v (p ∷ ps) links node trail =
+    let falls = Falls-admissible links node trail.0 in
+    (falls, FallsOn-trail labels rooms current (get_or l.heads p 0) ps links (links.each p falls.within).head trail.2)
 
 -- A link that has room in `new` had room in `old`, or leads up by one label.
 abbrev pub OpensUpwards : Links → List ℕ → List ℕ → List ℕ → Type 0
@@ -71,13 +71,13 @@ none-pushed l amount labels rooms u (q ∷ qs) long falls p room =
     (length-pushed_once l false amount q rooms ∙ long) falls.1 p room)
 
 -- A push along a link that falls opens at most its opposite.
-opens-once : (l : Links) (takes_back : Bool) (amount : ℕ) (labels rooms : List ℕ) (u q : ℕ) → AreLinks l → length rooms ≡ length l.heads → Falls l labels u q
-    → OpensUpwards l labels rooms (pushed_once l takes_back amount q rooms)
-opens-once l takes_back amount labels rooms u q links long falls v p node lies room =
+opens-once : {l : Links} (takes_back : Bool) (amount : ℕ) {labels : List ℕ} (rooms : List ℕ) {u q : ℕ} → AreLinks l → length rooms ≡ length l.heads
+    → Falls l labels u q → OpensUpwards l labels rooms (pushed_once l takes_back amount q rooms)
+opens-once {l} takes_back amount {labels} rooms {u} {q} links long falls v p node lies room =
     let within = lies-within l v p links node lies in
-    elim (is_beside l q p links falls.within within) [
+    elim (is_beside q p links falls.within within) [
       | own same ↦
-          let mine = once-own l takes_back amount q rooms links long falls.within in
+          let mine = once-own takes_back amount q rooms links long falls.within in
           inl (omega (arith, room, mine, ap (λ r. get_or (pushed_once l takes_back amount q rooms) r 0) same, ap (λ r. get_or rooms r 0) same))
       | partner same back ↦
           let tail : get_or l.heads q 0 ≡ v = ap (λ r. get_or l.heads r 0) (sym back) ∙ links.at_tail v p node lies in
@@ -87,49 +87,48 @@ opens-once l takes_back amount labels rooms u q links long falls v p node lies r
     ]
 
 -- the same for a push along several links that fall
-pub opens-pushed : (l : Links) (takes_back : Bool) (amount : ℕ) (labels rooms : List ℕ) (u : ℕ) (qs : List ℕ) → AreLinks l → length rooms ≡ length l.heads
+pub opens-pushed : {l : Links} (takes_back : Bool) (amount : ℕ) (labels rooms : List ℕ) (u : ℕ) (qs : List ℕ) → AreLinks l → length rooms ≡ length l.heads
     → FallsOn l labels u qs → OpensUpwards l labels rooms (pushed l takes_back amount qs rooms)
-opens-pushed l takes_back amount labels rooms u [] links long falls v p node lies room = inl room
-opens-pushed l takes_back amount labels rooms u (q ∷ qs) links long falls v p node lies room =
-    ⊎_elim
-    (λ (had : 0 < get_or (pushed_once l takes_back amount q rooms) p 0). opens-once l takes_back amount labels rooms u q links long falls.0 v p node lies had)
-    (λ (up : get_or labels (get_or l.heads p 0) 0 ≡ get_or labels v 0 + 1). inr up)
-    (opens-pushed l takes_back amount labels (pushed_once l takes_back amount q rooms) (get_or l.heads q 0) qs links
-    (length-pushed_once l takes_back amount q rooms ∙ long) falls.1 v p node lies room)
+opens-pushed takes_back amount labels rooms u [] links long falls v p node lies room = inl room
+opens-pushed {l} takes_back amount labels rooms u (q ∷ qs) links long falls v p node lies room =
+    elim (opens-pushed takes_back amount labels (pushed_once l takes_back amount q rooms) (get_or l.heads q 0) qs links
+    (length-pushed_once l takes_back amount q rooms ∙ long) falls.1 v p node lies room) [
+      | inl had ↦ opens-once takes_back amount rooms links long falls.0 v p node lies had
+      | inr up ↦ inr up
+    ]
 
 -- Labels stay valid.
 pub AreValid-opens : (l : Links) (labels old new : List ℕ) (top : ℕ) → OpensUpwards l labels old new → AreValid l labels old top → AreValid l labels new top
-AreValid-opens l labels old new top opens valid v p node lies room below =
-    ⊎_elim
-    (λ (had : 0 < get_or old p 0). valid v p node lies had below)
-    (λ (up : get_or labels (get_or l.heads p 0) 0 ≡ get_or labels v 0 + 1). omega (arith, up))
-    (opens v p node lies room)
+AreValid-opens l labels old new top opens valid v p node lies room below = elim (opens v p node lies room) [
+  | inl had ↦ valid v p node lies had below
+  | inr up ↦ omega (arith, up)
+]
 
 -- A link that is admissible was admissible before,
 pub admissible-before : (l : Links) (labels old new : List ℕ) (v p : ℕ) → IsNode l.nodes v → OpensUpwards l labels old new → IsAdmissible l labels new v p
     → IsAdmissible l labels old v p
 admissible-before l labels old new v p node opens can = record {
   lies = can.lies;
-  room = ⊎_elim
-      (λ (had : 0 < get_or old p 0). had)
-      (λ (up : get_or labels (get_or l.heads p 0) 0 ≡ get_or labels v 0 + 1). absurd (omega (arith, up, can.falls)))
-      (opens v p node can.lies can.room);
+  room = elim (opens v p node can.lies can.room) [
+    | inl had ↦ had
+    | inr up ↦ absurd (omega (arith, up, can.falls))
+  ];
   falls = can.falls;
 }
 
 -- so a walk was one
-walk-before : (l : Links) (labels old new : List ℕ) (goal v : ℕ) (ps : List ℕ) → AreLinks l → IsNode l.nodes v → OpensUpwards l labels old new
+walk-before : {l : Links} (labels old new : List ℕ) (goal : ℕ) {v : ℕ} (ps : List ℕ) → AreLinks l → IsNode l.nodes v → OpensUpwards l labels old new
     → IsWalk l labels new goal v ps → IsWalk l labels old goal v ps
-walk-before l labels old new goal v [] links node opens walks = walks
-walk-before l labels old new goal v (p ∷ ps) links node opens walks =
+walk-before labels old new goal [] links node opens walks = walks
+walk-before {l} labels old new goal {v} (p ∷ ps) links node opens walks =
     let can = admissible-before l labels old new v p node opens walks.0 in
-    (can, walk-before l labels old new goal (get_or l.heads p 0) ps links (links.each p (lies-within l v p links node can.lies)).head opens walks.1)
+    (can, walk-before labels old new goal ps links (links.each p (lies-within l v p links node can.lies)).head opens walks.1)
 
 -- and passed links stay passed.
 pub ArePassed-opens : (l : Links) (labels old new : List ℕ) (goal : ℕ) (current : List ℕ) → AreLinks l → OpensUpwards l labels old new
     → ArePassed l labels old goal current → ArePassed l labels new goal current
 ArePassed-opens l labels old new goal current links opens passed v p ps node lies before walks =
-    passed v p ps node lies before (walk-before l labels old new goal v (p ∷ ps) links node opens walks)
+    passed v p ps node lies before (walk-before labels old new goal (p ∷ ps) links node opens walks)
 
 -- The links of a trail that still have room are a trail.
 pub IsTrail-open : (l : Links) (labels old new current : List ℕ) (v : ℕ) (ps : List ℕ) → IsTrail l labels old current v ps → All (λ p. 0 < get_or new p 0) ps

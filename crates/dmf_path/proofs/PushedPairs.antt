@@ -1,6 +1,6 @@
 -- Pushing along a trail changes the pairs just as pushing along its path does.
 use Rattle.std.proofs.Common.{ℕ, ◌≡◌, ◌≢◌, ◌+◌, ◌-◌, ◌*◌, ◌<◌, ◌==◌, Bool, true, false, cond, List, [], ◌∷◌, length, map, get_or, suc, refl, ap, sym, ◌∙◌}
-use Rattle.std.proofs.Common.{subst, arith, ⊎_elim, eq-eqb, Option, Some}
+use Rattle.std.proofs.Common.{subst, arith, eq-eqb, inl, inr, Option, Some}
 use Rattle.std.specs.List.{list_any}
 use Rattle.std.proofs.lemmas.Bool.{cases_eq, ne_eqb}
 use Rattle.dmf_links.specs.declared.pair.Pair.{Pair}
@@ -8,7 +8,7 @@ use Rattle.dmf_path.specs.Step.{Step}
 use Rattle.dmf_path.specs.Path.{has_rank}
 use Rattle.dmf_path.specs.Pair.{pushed_pair, pushed_from, pushed_pairs}
 use Rattle.dmf_node.specs.Node.{IsNode}
-use Rattle.dmf_links.specs.Links.{Links, AreLinks, ArePlaces, IsOf, no_place, tail_of, pair_at, pairs_at}
+use Rattle.dmf_links.specs.Links.{Links, AreLinks, ArePlaces, no_place, tail_of, pair_at, pairs_at}
 use Rattle.dmf_path.specs.Walk.{IsTrail, pushed_once, pushed}
 use Rattle.dmf_links.proofs.LinkPlaces.{partner-other}
 use Rattle.dmf_path.proofs.Steps.{rank_of, path_on}
@@ -21,15 +21,15 @@ abbrev pub is_on : ℕ → List ℕ → Bool
 is_on p ps = list_any (λ q. q == p) ps
 
 -- Links that fall on from the end of one that falls are neither that link nor its opposite.
-on-falls : (l : Links) (labels : List ℕ) (u q v : ℕ) (ps : List ℕ) → AreLinks l → Falls l labels u q → get_or labels v 0 < get_or labels u 0
+on-falls : {l : Links} {labels : List ℕ} {u q : ℕ} (v : ℕ) (ps : List ℕ) → AreLinks l → Falls l labels u q → get_or labels v 0 < get_or labels u 0
     → FallsOn l labels v ps → (is_on q ps ≡ false) × (is_on (get_or l.partners q 0) ps ≡ false)
-on-falls l labels u q v [] links first lower falls = (refl, refl)
-on-falls l labels u q v (p ∷ ps) links first lower falls =
+on-falls v [] links first lower falls = (refl, refl)
+on-falls {l} {labels} {u} {q} v (p ∷ ps) links first lower falls =
     let not_own : p ≢ q = λ e. let same : v ≡ u = sym falls.0.tail ∙ ap (tail_of l) e ∙ first.tail in omega (arith, lower, ap (λ r. get_or labels r 0) same) in
     let not_partner : p ≢ get_or l.partners q 0 = λ e.
     let head : get_or l.heads p 0 ≡ u = ap (λ r. get_or l.heads r 0) e ∙ first.tail in
     omega (arith, lower, falls.0.label, ap (λ r. get_or labels r 0) head) in
-    let later = on-falls l labels u q (get_or l.heads p 0) ps links first (omega (arith, lower, falls.0.label)) falls.1 in
+    let later = on-falls (get_or l.heads p 0) ps links first (omega (arith, lower, falls.0.label)) falls.1 in
     (rw (ne_eqb p q not_own) later.0, rw (ne_eqb p (get_or l.partners q 0) not_partner) later.1)
 
 -- the room that a link loses
@@ -41,152 +41,106 @@ gain true room amount = omega arith
 gain false room amount = omega arith
 
 -- The room of link `p` after an amount is pushed along link `q` and then along others that leave both alone.
-abbrev pub IsLeft : Links → Bool → ℕ → List ℕ → ℕ → List ℕ → ℕ → Type 0
+abbrev IsLeft : Links → Bool → ℕ → List ℕ → ℕ → List ℕ → ℕ → Type 0
 IsLeft l takes_back amount rooms q ps p =
     get_or (pushed_once l takes_back amount q rooms) p 0 - loss amount p ps + cond takes_back (loss amount (get_or l.partners p 0) ps) 0
     ≡ get_or rooms p 0 - loss amount p (q ∷ ps) + cond takes_back (loss amount (get_or l.partners p 0) (q ∷ ps)) 0
 
--- if the link is `q` itself
-left-own : (l : Links) (takes_back : Bool) (amount : ℕ) (rooms : List ℕ) (q : ℕ) (ps : List ℕ) → AreLinks l → length rooms ≡ length l.heads → q < length l.heads
-    → (is_on q ps ≡ false) × (is_on (get_or l.partners q 0) ps ≡ false) → IsLeft l takes_back amount rooms q ps q
-left-own l takes_back amount rooms q ps links long within none =
-    let mine = once-own l takes_back amount q rooms links long within in
-    let self : (q == q) ≡ true = eq-eqb q q refl in
-    let apart : (q == get_or l.partners q 0) ≡ false = ne_eqb q (get_or l.partners q 0) (λ e. partner-other l q links within (sym e)) in
-    rw (none.0, none.1, self, apart, mine) (omega arith)
-
--- if it is the opposite of `q`
-left-partner : (l : Links) (takes_back : Bool) (amount : ℕ) (rooms : List ℕ) (q p : ℕ) (ps : List ℕ) → AreLinks l → length rooms ≡ length l.heads
-    → q < length l.heads → (is_on q ps ≡ false) × (is_on (get_or l.partners q 0) ps ≡ false) → p ≡ get_or l.partners q 0 → get_or l.partners p 0 ≡ q
-    → IsLeft l takes_back amount rooms q ps p
-left-partner l takes_back amount rooms q p ps links long within none same back =
-    let its : get_or (pushed_once l takes_back amount q rooms) p 0 ≡ get_or rooms p 0 + cond takes_back amount 0 =
-    ap (λ r. get_or (pushed_once l takes_back amount q rooms) r 0) same ∙ once-partner l takes_back amount q rooms links long within ∙ ap
-    (λ r. get_or rooms r 0 + cond takes_back amount 0) (sym same) in
-    let own : is_on p ps ≡ false = ap (λ r. is_on r ps) same ∙ none.1 in
-    let its_own : is_on (get_or l.partners p 0) ps ≡ false = ap (λ r. is_on r ps) back ∙ none.0 in
-    let self : (q == get_or l.partners p 0) ≡ true = eq-eqb q (get_or l.partners p 0) (sym back) in
-    let apart : (q == p) ≡ false = ne_eqb q p (λ e. partner-other l q links within (sym (e ∙ same))) in
-    rw (own, its_own, self, apart, its) (gain takes_back (get_or rooms p 0) amount)
-
--- if it is another link
-left-other : (l : Links) (takes_back : Bool) (amount : ℕ) (rooms : List ℕ) (q p : ℕ) (ps : List ℕ) → p ≢ q → p ≢ get_or l.partners q 0
-    → get_or l.partners p 0 ≢ q → IsLeft l takes_back amount rooms q ps p
-left-other l takes_back amount rooms q p ps a b c =
-    rw (once-other l takes_back amount q p rooms a b, ne_eqb q p (λ e. a (sym e)), ne_eqb q (get_or l.partners p 0) (λ e. c (sym e))) refl
-
--- The room of each link after an amount is pushed along links that fall.
-pub room-pushed : (l : Links) (takes_back : Bool) (amount : ℕ) (labels rooms : List ℕ) (u : ℕ) (ps : List ℕ) (p : ℕ) → AreLinks l
-    → length rooms ≡ length l.heads → FallsOn l labels u ps → p < length l.heads →
-    get_or (pushed l takes_back amount ps rooms) p 0 ≡ get_or rooms p 0 - loss amount p ps + cond takes_back (loss amount (get_or l.partners p 0) ps) 0
-room-pushed l true amount labels rooms u [] p links long falls within = omega arith
-room-pushed l false amount labels rooms u [] p links long falls within = omega arith
-room-pushed l takes_back amount labels rooms u (q ∷ ps) p links long falls within =
-    let next : List ℕ = pushed_once l takes_back amount q rooms in
-    let later = room-pushed l takes_back amount labels next (get_or l.heads q 0) ps p links
-    (length-pushed_once l takes_back amount q rooms ∙ long) falls.1 within in
-    let none = on-falls l labels u q (get_or l.heads q 0) ps links falls.0 (omega (arith, falls.0.label)) falls.1 in
-    later ∙ elim (is_beside l q p links falls.0.within within) [
-      | own same ↦ subst (IsLeft l takes_back amount rooms q ps) (sym same) (left-own l takes_back amount rooms q ps links long falls.0.within none)
-      | partner same back ↦ left-partner l takes_back amount rooms q p ps links long falls.0.within none same back
-      | other a b c d ↦ left-other l takes_back amount rooms q p ps a b c
+is-left : {l : Links} (takes_back : Bool) (amount : ℕ) (rooms : List ℕ) (q p : ℕ) (ps : List ℕ) → AreLinks l → length rooms ≡ length l.heads
+    → q < length l.heads → p < length l.heads → (is_on q ps ≡ false) × (is_on (get_or l.partners q 0) ps ≡ false) → IsLeft l takes_back amount rooms q ps p
+is-left {l} takes_back amount rooms q p ps links long within link none =
+    elim (is_beside q p links within link) [
+      | own same ↦
+          let apart : (q == get_or l.partners q 0) ≡ false = ne_eqb q (get_or l.partners q 0) (λ e. partner-other l q links within (sym e)) in
+          let mine = once-own takes_back amount q rooms links long within in
+          subst (IsLeft l takes_back amount rooms q ps) (sym same) (rw (none.0, none.1, eq-eqb q q refl, apart, mine) (omega arith))
+      | partner same back ↦
+          let room = ap (λ r. get_or (pushed_once l takes_back amount q rooms) r 0) same ∙ once-partner takes_back amount q rooms links long within
+          ∙ ap (λ r. get_or rooms r 0 + cond takes_back amount 0) (sym same) in
+          let mine : is_on p ps ≡ false = ap (λ r. is_on r ps) same ∙ none.1 in
+          let its : is_on (get_or l.partners p 0) ps ≡ false = ap (λ r. is_on r ps) back ∙ none.0 in
+          let apart : (q == p) ≡ false = ne_eqb q p (λ e. partner-other l q links within (sym (e ∙ same))) in
+          rw (mine, its, eq-eqb q (get_or l.partners p 0) (sym back), apart, room) (gain takes_back (get_or rooms p 0) amount)
+      | other a b c d ↦
+          rw (once-other l takes_back amount q p rooms a b, ne_eqb q p (λ e. a (sym e)), ne_eqb q (get_or l.partners p 0) (λ e. c (sym e))) refl
     ]
 
--- A link with the rank of a pair's link along is that link,
-along_only : (l : Links) (places : List ℕ) (k p j : ℕ) → AreLinks l → ArePlaces l places → p < length l.heads → IsOf l places p j
-    → rank_of l places p ≡ 2 * (1 + k) → p ≡ get_or places k 0
-along_only l places k p j links are within of rank =
-    ⊎_elim
-    (λ (along : get_or places j 0 ≡ p).
-    let here = rank_of-along l places p j are within of.0 of.1 along in
-    let same : j ≡ k = omega (arith, here, rank) in
-    sym along ∙ ap (λ i. get_or places i 0) same)
-    (λ (against : get_or l.partners (get_or places j 0) 0 ≡ p).
-    let here = rank_of-against l places p j links are within of.0 of.1 against in
-    absurd (omega (arith, here, rank)))
-    of.2
+-- The room of each link after an amount is pushed along links that fall.
+pub room-pushed : {l : Links} (takes_back : Bool) (amount : ℕ) (labels rooms : List ℕ) (u : ℕ) (ps : List ℕ) (p : ℕ) → AreLinks l
+    → length rooms ≡ length l.heads → FallsOn l labels u ps → p < length l.heads →
+    get_or (pushed l takes_back amount ps rooms) p 0 ≡ get_or rooms p 0 - loss amount p ps + cond takes_back (loss amount (get_or l.partners p 0) ps) 0
+room-pushed true amount labels rooms u [] p links long falls within = omega arith
+room-pushed false amount labels rooms u [] p links long falls within = omega arith
+room-pushed {l} takes_back amount labels rooms u (q ∷ ps) p links long falls within =
+    room-pushed takes_back amount labels (pushed_once l takes_back amount q rooms) (get_or l.heads q 0) ps p links
+    (length-pushed_once l takes_back amount q rooms ∙ long) falls.1 within ∙ is-left takes_back amount rooms q p ps links long falls.0.within within
+    (on-falls (get_or l.heads q 0) ps links falls.0 (omega (arith, falls.0.label)) falls.1)
 
--- and a link with the rank of its link against is that one.
-against_only : (l : Links) (places : List ℕ) (k p j : ℕ) → AreLinks l → ArePlaces l places → p < length l.heads → IsOf l places p j
-    → rank_of l places p ≡ 2 * (1 + k) + 1 → p ≡ get_or l.partners (get_or places k 0) 0
-against_only l places k p j links are within of rank =
-    ⊎_elim
-    (λ (along : get_or places j 0 ≡ p).
-    let here = rank_of-along l places p j are within of.0 of.1 along in
-    absurd (omega (arith, here, rank)))
-    (λ (against : get_or l.partners (get_or places j 0) 0 ≡ p).
-    let here = rank_of-against l places p j links are within of.0 of.1 against in
-    let same : j ≡ k = omega (arith, here, rank) in
-    sym against ∙ ap (λ i. get_or l.partners (get_or places i 0) 0) same)
-    of.2
+-- Links with the same rank are one.
+rank-one : {l : Links} {places : List ℕ} (p q : ℕ) → AreLinks l → ArePlaces l places → p < length l.heads → q < length l.heads
+    → rank_of l places p ≡ rank_of l places q → p ≡ q
+rank-one {l} {places} p q links are within link same =
+    let j = are.each p within in
+    let k = are.each q link in
+    elim j.1.2 [
+      | inl along ↦
+          let here = rank_of-along l places p j.0 are within j.1.0 j.1.1 along in
+          elim k.1.2 [
+            | inl also ↦
+                let one : j.0 ≡ k.0 = omega (arith, same, here, rank_of-along l places q k.0 are link k.1.0 k.1.1 also) in
+                sym along ∙ ap (λ i. get_or places i 0) one ∙ also
+            | inr its ↦ absurd (omega (arith, same, here, rank_of-against l places q k.0 links are link k.1.0 k.1.1 its))
+          ]
+      | inr against ↦
+          let here = rank_of-against l places p j.0 links are within j.1.0 j.1.1 against in
+          elim k.1.2 [
+            | inl its ↦ absurd (omega (arith, same, here, rank_of-along l places q k.0 are link k.1.0 k.1.1 its))
+            | inr also ↦
+                let one : j.0 ≡ k.0 = omega (arith, same, here, rank_of-against l places q k.0 links are link k.1.0 k.1.1 also) in
+                sym against ∙ ap (λ i. get_or l.partners (get_or places i 0) 0) one ∙ also
+          ]
+    ]
 
--- The link along of a pair, or the one against it, is the link with its rank.
-rank-is_on : (l : Links) (places : List ℕ) (k p : ℕ) → AreLinks l → ArePlaces l places → k < length places → get_or places k 0 ≢ no_place → p < length l.heads →
-    ((rank_of l places p == 2 * (1 + k)) ≡ (p == get_or places k 0)) ×
-    ((rank_of l places p == 2 * (1 + k) + 1) ≡ (p == get_or l.partners (get_or places k 0) 0))
-rank-is_on l places k p links are within there link =
-    let q : ℕ = get_or places k 0 in
-    let q_within : q < length l.heads = are.within k within there in
-    let partner_within = (links.each q q_within).partner in
-    let mine = rank_of-along l places q k are q_within within there refl in
-    let its = rank_of-against l places (get_or l.partners q 0) k links are partner_within within there refl in
-    let here = are.each p link in (
-      ⊎_elim
-          (λ (same : p ≡ q). rw (eq-eqb p q same, eq-eqb (rank_of l places p) (2 * (1 + k)) (ap (rank_of l places) same ∙ mine)) refl)
-          (λ (apart : p ≢ q). rw (
-            ne_eqb p q apart,
-            ne_eqb (rank_of l places p) (2 * (1 + k))
-                (λ e. apart (along_only l places k p here.0 links are link here.1 e)),
-          ) refl)
-          (cases_eq p q),
-      ⊎_elim
-          (λ (same : p ≡ get_or l.partners q 0). rw (
-            eq-eqb p (get_or l.partners q 0) same,
-            eq-eqb (rank_of l places p) (2 * (1 + k) + 1) (ap (rank_of l places) same ∙ its),
-          ) refl)
-          (λ (apart : p ≢ get_or l.partners q 0). rw (
-            ne_eqb p (get_or l.partners q 0) apart,
-            ne_eqb (rank_of l places p) (2 * (1 + k) + 1) (λ e. apart (against_only l places k p here.0 links are link here.1 e)),
-          ) refl)
-          (cases_eq p (get_or l.partners q 0)),
-    )
-
--- A path has a rank of a pair if and only if its links have the pair's link.
-has_rank-path_on : (l : Links) (places rooms labels : List ℕ) (k u : ℕ) (ps : List ℕ) → AreLinks l → ArePlaces l places → k < length places
-    → get_or places k 0 ≢ no_place → FallsOn l labels u ps →
-    (has_rank (path_on l places rooms ps) (2 * (1 + k)) ≡ is_on (get_or places k 0) ps)
-    × (has_rank (path_on l places rooms ps) (2 * (1 + k) + 1) ≡ is_on (get_or l.partners (get_or places k 0) 0) ps)
-has_rank-path_on l places rooms labels k u [] links are within there falls = (refl, refl)
-has_rank-path_on l places rooms labels k u (p ∷ ps) links are within there falls =
-    let first = rank-is_on l places k p links are within there falls.0.within in
-    let later = has_rank-path_on l places rooms labels k (get_or l.heads p 0) ps links are within there falls.1 in
-    (rw (first.0, later.0) refl, rw (first.1, later.1) refl)
+-- A path has the rank of a link if and only if its links have that link.
+has_rank-path_on : {l : Links} {places : List ℕ} (rooms labels : List ℕ) (rank q u : ℕ) (ps : List ℕ) → AreLinks l → ArePlaces l places → q < length l.heads
+    → rank_of l places q ≡ rank → FallsOn l labels u ps → has_rank (path_on l places rooms ps) rank ≡ is_on q ps
+has_rank-path_on rooms labels rank q u [] links are link is falls = refl
+has_rank-path_on {l} {places} rooms labels rank q u (p ∷ ps) links are link is falls =
+    let later = has_rank-path_on rooms labels rank q (get_or l.heads p 0) ps links are link is falls.1 in
+    elim (cases_eq p q) [
+      | inl same ↦ rw (later, eq-eqb p q same, eq-eqb (rank_of l places p) rank (ap (rank_of l places) same ∙ is)) refl
+      | inr apart ↦
+          let other : rank_of l places p ≢ rank = λ e. apart (rank-one p q links are falls.0.within link (e ∙ sym is)) in
+          rw (later, ne_eqb p q apart, ne_eqb (rank_of l places p) rank other) refl
+    ]
 
 -- a pair with these rooms
-pub pair-rooms : (tail head : ℕ) (a b c d : ℕ) → a ≡ c → b ≡ d → ◌≡◌ {A = Option Pair} (Some (record { tail = tail; head = head; along = a; against = b }))
+pub pair-rooms : (tail head : ℕ) {a b c d : ℕ} → a ≡ c → b ≡ d → ◌≡◌ {A = Option Pair} (Some (record { tail = tail; head = head; along = a; against = b }))
     (Some (record { tail = tail; head = head; along = c; against = d }))
-pair-rooms tail head a b c d along against = λ i. Some (record { tail = tail; head = head; along = along i; against = against i })
+pair-rooms tail head along against = λ i. Some (record { tail = tail; head = head; along = along i; against = against i })
 
 -- The pair at each index
-pair-pushed : (l : Links) (takes_back : Bool) (places rooms labels : List ℕ) (u amount k : ℕ) (ps : List ℕ) → AreLinks l → ArePlaces l places
+pair-pushed : {l : Links} (takes_back : Bool) {places : List ℕ} (rooms labels : List ℕ) (u amount k : ℕ) (ps : List ℕ) → AreLinks l → ArePlaces l places
     → length rooms ≡ length l.heads → FallsOn l labels u ps → k < length places →
     pair_at l (pushed l takes_back amount ps rooms) (get_or places k 0) ≡ pushed_pair takes_back (1 + k) amount (path_on l places rooms ps)
     (pair_at l rooms (get_or places k 0))
-pair-pushed l takes_back places rooms labels u amount k ps links are long falls within =
+pair-pushed {l} takes_back {places} rooms labels u amount k ps links are long falls within =
     let q : ℕ = get_or places k 0 in
-    ⊎_elim
-    (λ (none : q ≡ no_place). rw (eq-eqb q no_place none) refl)
-    (λ (there : q ≢ no_place).
-    let link : q < length l.heads = are.within k within there in
-    let partner = links.each q link in
-    let has = has_rank-path_on l places rooms labels k u ps links are within there falls in
-    let mine = room-pushed l takes_back amount labels rooms u ps q links long falls link in
-    let its = room-pushed l takes_back amount labels rooms u ps (get_or l.partners q 0) links long falls partner.partner in
-    let back : loss amount (get_or l.partners (get_or l.partners q 0) 0) ps ≡ loss amount q ps = ap (λ r. loss amount r ps) partner.partner_back in
-    rw (ne_eqb q no_place there, has.0, has.1)
-    (pair-rooms (tail_of l q) (get_or l.heads q 0) _ _ _ _ mine (its ∙ ap
-    (λ x. get_or rooms (get_or l.partners q 0) 0 - loss amount (get_or l.partners q 0) ps + cond takes_back x 0) back)))
-    (cases_eq q no_place)
+    elim (cases_eq q no_place) [
+      | inl none ↦ rw (eq-eqb q no_place none) refl
+      | inr there ↦
+          let link : q < length l.heads = are.within k within there in
+          let partner = links.each q link in
+          let along = has_rank-path_on rooms labels (2 * (1 + k)) q u ps links are link (rank_of-along l places q k are link within there refl) falls in
+          let against = has_rank-path_on rooms labels (2 * (1 + k) + 1) (get_or l.partners q 0) u ps links are partner.partner
+          (rank_of-against l places (get_or l.partners q 0) k links are partner.partner within there refl) falls in
+          let mine = room-pushed takes_back amount labels rooms u ps q links long falls link in
+          let its = room-pushed takes_back amount labels rooms u ps (get_or l.partners q 0) links long falls partner.partner in
+          let back : loss amount (get_or l.partners (get_or l.partners q 0) 0) ps ≡ loss amount q ps = ap (λ r. loss amount r ps) partner.partner_back in
+          rw (ne_eqb q no_place there, along, against)
+          (pair-rooms (tail_of l q) (get_or l.heads q 0) mine (its ∙ ap
+          (λ x. get_or rooms (get_or l.partners q 0) 0 - loss amount (get_or l.partners q 0) ps + cond takes_back x 0) back))
+    ]
 
 -- the pairs of the places from some index on
 pairs-pushed : (l : Links) (takes_back : Bool) (amount j : ℕ) (rooms after : List ℕ) (path : List Step) (qs : List ℕ) →
@@ -202,10 +156,10 @@ pairs-pushed l takes_back amount j rooms after path (q ∷ qs) each =
     λ i. first i ∷ later i
 
 -- After an amount is pushed along a trail, the pairs are pushed along the path of its steps.
-pub pushed_pairs-pushed : (l : Links) (takes_back : Bool) (places rooms labels current trail : List ℕ) (start amount : ℕ) → AreLinks l → ArePlaces l places
-    → length rooms ≡ length l.heads → IsNode l.nodes start → IsTrail l labels rooms current start trail →
+pub pushed_pairs-pushed : {l : Links} (takes_back : Bool) {places : List ℕ} (rooms labels current trail : List ℕ) {start : ℕ} (amount : ℕ) → AreLinks l
+    → ArePlaces l places → length rooms ≡ length l.heads → IsNode l.nodes start → IsTrail l labels rooms current start trail →
     pairs_at l places (pushed l takes_back amount trail rooms) ≡ pushed_pairs takes_back amount (path_on l places rooms trail) (pairs_at l places rooms)
-pushed_pairs-pushed l takes_back places rooms labels current trail start amount links are long node is =
-    let falls = FallsOn-trail l labels rooms current start trail links node is in
+pushed_pairs-pushed {l} takes_back {places} rooms labels current trail {start} amount links are long node is =
+    let falls = FallsOn-trail labels rooms current start trail links node is in
     pairs-pushed l takes_back amount 1 rooms (pushed l takes_back amount trail rooms) (path_on l places rooms trail) places
-    (λ k h. pair-pushed l takes_back places rooms labels start amount k trail links are long falls h)
+    (λ k h. pair-pushed takes_back rooms labels start amount k trail links are long falls h)

@@ -1,8 +1,7 @@
 -- The room of a link in no slot can be lowered: no held push depends on it.
 use Rattle.std.proofs.Common.{ℕ, ◌≡◌, ◌≢◌, ◌+◌, ◌-◌, ◌<◌, ◌≤◌, Bool, true, false, cond, List, [], ◌∷◌, ◌++◌, length, get_or, set, ap, sym, ◌∙◌, subst, arith}
-use Rattle.std.proofs.Common.{⊎_elim, get_or-set_other, get_or-set_same, length-set}
+use Rattle.std.proofs.Common.{inl, inr, get_or-set_other, get_or-set_same, length-set}
 use Rattle.std.proofs.lemmas.Bool.{cases_eq}
-use Rattle.std.proofs.lemmas.List.{ext_get_or}
 use Rattle.dmf_path.specs.declared.trail.Slot.{Slot}
 use Rattle.dmf_node.specs.Node.{IsNode}
 use Rattle.dmf_links.specs.Links.{Links, AreLinks, ArePlaces, AreRooms, tail_of, pairs_at}
@@ -14,7 +13,7 @@ use Rattle.dmf_path.specs.Searching.{IsUnderWay, Labelling, sought, searched, Is
 use Rattle.dmf_path.proofs.Pushed.{OpensUpwards, ArePassed-opens, NoneOpens, none-lowered, opens-none}
 use Rattle.dmf_path.proofs.Gated.{sound-opens}
 use Rattle.dmf_path.proofs.Descending.{off-rising}
-use Rattle.dmf_path.proofs.Settled.{length-settled, room-settled, held-off, held-rooms, places-append}
+use Rattle.dmf_path.proofs.Settled.{length-settled, room-settled, ext-settled, held-off, held-rooms, places-append}
 use Rattle.dmf_path.proofs.SettledRoom.{room-along}
 use Rattle.dmf_path.proofs.Leaving.{HaveLeft-set}
 use Rattle.dmf_path.proofs.Lowered.{HasPlace, pairs-lowered}
@@ -22,26 +21,26 @@ use Rattle.dmf_path.proofs.UnderWay.{descends-way}
 use Rattle.dmf_path.proofs.SearchTurns.{aimed-with}
 
 -- A link that does not fall is in no slot.
-pub off-slots : (l : Links) (labels after current : List ℕ) (w : Way) (p : ℕ) → AreLinks l → IsNode l.nodes w.start → IsUnderWay l labels after current w
+pub off-slots : {l : Links} {labels after current : List ℕ} {w : Way} (p : ℕ) → AreLinks l → IsNode l.nodes w.start → IsUnderWay l labels after current w
     → get_or labels (get_or l.heads p 0) 0 + 1 ≢ get_or labels (tail_of l p) 0 → IsOff p (places_of (filled_slots w))
-off-slots l labels after current w p links start way rises =
+off-slots {l} {labels} {w} p links start way rises =
     rw places-append (off-rising l labels (get_or labels w.start 0) 0 p (places_of (walked_slots w) ++ places_of (rest_slots w))
-    (descends-way l labels after current w links start way) rises)
+    (descends-way way links start) rises)
 
 -- The room of such a link is its settled room, if pushes cannot be taken back.
-pub room-alone : (l : Links) (takes_back : Bool) (w : Way) (rooms : List ℕ) (p : ℕ) → p < length l.heads → length rooms ≡ length l.heads → takes_back ≡ false
+pub room-alone : (l : Links) {takes_back : Bool} (w : Way) (rooms : List ℕ) (p : ℕ) → p < length l.heads → length rooms ≡ length l.heads → takes_back ≡ false
     → IsOff p (places_of (filled_slots w))
     → get_or (rooms_with l takes_back w rooms) p 0 ≡ get_or rooms p 0
-room-alone l takes_back w rooms p within long is off =
-    room-along l takes_back w.sent (filled_slots w) rooms p (omega (arith, within, long)) is ∙ rw (held-off w.sent rooms (filled_slots w) p off) (omega arith)
+room-alone l w rooms p within long is off =
+    room-along l w.sent (filled_slots w) rooms p (omega (arith, within, long)) is ∙ rw (held-off w.sent rooms (filled_slots w) p off) (omega arith)
 
 -- The held pushes of the other links stay,
 held-set : (sent p x q : ℕ) (rooms : List ℕ) (slots : List Slot) → IsOff p (places_of slots)
     → held_for sent (set rooms p x) slots q ≡ held_for sent rooms slots q
-held-set sent p x q rooms slots off = ⊎_elim
-    (λ (same : q ≡ p). rw same (held-off sent (set rooms p x) slots p off ∙ sym (held-off sent rooms slots p off)))
-    (λ (apart : q ≢ p). held-rooms sent (set rooms p x) rooms slots q (get_or-set_other rooms p q x 0 apart))
-    (cases_eq q p)
+held-set sent p x q rooms slots off = elim (cases_eq q p) [
+  | inl same ↦ rw same (held-off sent (set rooms p x) slots p off ∙ sym (held-off sent rooms slots p off))
+  | inr apart ↦ held-rooms sent (set rooms p x) rooms slots q (get_or-set_other rooms p q x 0 apart)
+]
 
 less : (takes_back : Bool) (room amount gained : ℕ) → amount ≤ room → room - amount - 0 + cond takes_back gained 0
     ≡ room - 0 + cond takes_back gained 0 - amount
@@ -54,32 +53,22 @@ settled-lowered : (l : Links) (takes_back : Bool) (sent p amount : ℕ) (slots :
     → settled l takes_back sent slots (pushed_once l false amount p rooms) ≡ pushed_once l false amount p (settled l takes_back sent slots rooms)
 settled-lowered l takes_back sent p amount slots rooms within off enough =
     let before : List ℕ = settled l takes_back sent slots rooms in
-    let after : List ℕ = set rooms p (get_or rooms p 0 - amount) in
+    let room : ℕ = get_or rooms p 0 - amount in
+    let put : ℕ = get_or before p 0 - amount in
     let before_long : length before ≡ length rooms = length-settled l takes_back sent slots rooms in
-    let after_long : length after ≡ length rooms = length-set rooms p (get_or rooms p 0 - amount) in
-    let after_settled : length (settled l takes_back sent slots after) ≡ length after = length-settled l takes_back sent slots after in
-    let lowered : length (set before p (get_or before p 0 - amount)) ≡ length before = length-set before p (get_or before p 0 - amount) in
-    let held : (q : ℕ) → held_for sent after slots q ≡ held_for sent rooms slots q = λ q. held-set sent p (get_or rooms p 0 - amount) q rooms slots off in
-    ext_get_or 0 (settled l takes_back sent slots after) (set before p (get_or before p 0 - amount))
-    (omega (arith, before_long, after_long, after_settled, lowered))
-    (λ q inside.
-    let here : q < length rooms = omega (arith, inside, after_long, after_settled) in
-    let there : q < length after = omega (arith, inside, after_settled) in
-    room-settled l takes_back sent slots after q there ∙ rw (held q, held (get_or l.partners q 0))
-    (⊎_elim
-    (λ (same : q ≡ p).
-    rw (
-      same,
-      get_or-set_same before p (get_or before p 0 - amount) 0 (omega (arith, within, before_long)),
-      get_or-set_same rooms p (get_or rooms p 0 - amount) 0 within,
-      room-settled l takes_back sent slots rooms p within,
-      held-off sent rooms slots p off,
-    )
-    (less takes_back (get_or rooms p 0) amount (held_for sent rooms slots (get_or l.partners p 0)) enough))
-    (λ (apart : q ≢ p).
-    rw (get_or-set_other before p q (get_or before p 0 - amount) 0 apart, get_or-set_other rooms p q (get_or rooms p 0 - amount) 0 apart)
-    (sym (room-settled l takes_back sent slots rooms q here)))
-    (cases_eq q p)))
+    let held : (q : ℕ) → held_for sent (set rooms p room) slots q ≡ held_for sent rooms slots q = λ q. held-set sent p room q rooms slots off in
+    ext-settled l takes_back sent slots (set rooms p room) (set before p put) (length-set rooms p room ∙ sym (length-set before p put ∙ before_long))
+    (λ q inside. rw (held q, held (get_or l.partners q 0)) (elim (cases_eq q p) [
+      | inl same ↦ rw (
+        same,
+        get_or-set_same before p put 0 (omega (arith, within, before_long)),
+        get_or-set_same rooms p room 0 within,
+        room-settled l takes_back sent slots rooms p within,
+        held-off sent rooms slots p off,
+      ) (less takes_back (get_or rooms p 0) amount (held_for sent rooms slots (get_or l.partners p 0)) enough)
+      | inr apart ↦ rw (get_or-set_other before p q put 0 apart, get_or-set_other rooms p q room 0 apart)
+          (sym (room-settled l takes_back sent slots rooms q (omega (arith, inside, length-set rooms p room))))
+    ]))
 
 -- The trail does not depend on the room of the link.
 IsTrail-set : (l : Links) (labels rooms current : List ℕ) (v p x : ℕ) (ps : List ℕ) → IsOff p ps → IsTrail l labels rooms current v ps
@@ -96,10 +85,10 @@ off-front p [] qs off = (tt, off)
 off-front p (q ∷ ps) qs off = let later = off-front p ps qs off.1 in ((off.0, later.0), later.1)
 
 -- After the room of the link is lowered, the search goes on.
-searching-lowered : (r : Residual) (v : Labelling) (w : Way) (p amount : ℕ) (next : Residual) → IsSearching r v w → p < length r.links.heads
+searching-lowered : {r : Residual} {v : Labelling} {w : Way} (p amount : ℕ) {next : Residual} → IsSearching r v w → p < length r.links.heads
     → IsOff p (places_of (filled_slots w)) → amount ≤ get_or r.rooms p 0 → next ≡ lowered r p amount → AreRooms next.links next.rooms
     → IsSearching next v w × (told next w ≡ lowered (told r w) p amount)
-searching-lowered r v w p amount next is within off enough made sums =
+searching-lowered {r} {v} {w} p amount is within off enough made sums =
     let l : Links = r.links in
     let labels : List ℕ = v.labels in
     let before : List ℕ = (told r w).rooms in
@@ -111,8 +100,7 @@ searching-lowered r v w p amount next is within off enough made sums =
     let apart = off-front p (places_of (walked_slots w)) (places_of (rest_slots w)) (subst (IsOff p) (places-append (walked_slots w) (rest_slots w)) off) in
     let a = is.aimed in
     let way = is.under_way in
-    let aimed = aimed-with r w labels labels after a a.start_label
-    (sound-opens l labels before after (get_or labels w.start 0) a.links opens a.sound) in
+    let aimed = aimed-with r w a a.start_label (sound-opens l labels before after (get_or labels w.start 0) a.links opens a.sound) in
     let goes_on : IsUnderWay l labels after v.current w = record {
       walking = record {
         current_is = way.walking.current_is;
@@ -150,21 +138,21 @@ pub record IsLowered (r : Residual) (places : List ℕ) (v : Labelling) (w : Way
   pub none : NoneOpens (told r w).rooms rooms
 
 -- A search whose link along a pair is in no slot stays one when the link's room is lowered.
-pub is-lowered : (r : Residual) (places : List ℕ) (v : Labelling) (w : Way) (k p amount : ℕ) (next : Residual) → IsSearching r v w → ArePlaces r.links places
+pub is-lowered : {r : Residual} {places : List ℕ} {v : Labelling} {w : Way} {k p amount : ℕ} {next : Residual} → IsSearching r v w → ArePlaces r.links places
     → HasPlace r.links places (told r w).rooms k amount → p ≡ get_or places k 0 → IsOff p (places_of (filled_slots w))
     → get_or (told r w).rooms p 0 ≡ get_or r.rooms p 0 → next ≡ lowered r p amount → AreRooms next.links next.rooms
     → IsLowered r places v w k amount next
-is-lowered r places v w k p amount next is are has at off room made sums =
+is-lowered {r} {places} {w} {p} {amount} is are has at off room made sums =
     let before : List ℕ = (told r w).rooms in
     let within : p < length r.links.heads = omega (arith, at, has.within) in
     let enough : amount ≤ get_or r.rooms p 0 = omega (arith, has.enough, room, ap (λ q. get_or before q 0) at) in
     let long : length before ≡ length r.links.heads = length-settled r.links r.takes_back w.sent (filled_slots w) r.rooms ∙ is.holding.rooms_are.0 in
-    let low = searching-lowered r v w p amount next is within off enough made sums in
+    let low = searching-lowered p amount is within off enough made sums in
     record {
       searching = low.0;
       gives = ap (λ (x : Residual). searched (record { residual = x; start = w.start; goal = w.goal }) places) low.1
           ∙ ap (with_pairs (searched (sought r w) places)) (ap (λ q. pairs_at r.links places (pushed_once r.links false amount q before)) at
-          ∙ pairs-lowered r.links places before k amount is.aimed.links are long has);
+          ∙ pairs-lowered is.aimed.links are long has);
       rooms = pushed_once r.links false amount p before;
       told_is = low.1;
       none = none-lowered r.links before p amount long within;

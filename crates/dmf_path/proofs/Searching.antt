@@ -2,27 +2,29 @@
 use Rattle.std.proofs.Common.{ℕ, ◌≡◌, ◌+◌, ◌%◌, ◌^◌, Bool, false, List, length, get_or, ap, sym, ◌∙◌, subst, arith}
 use Rattle.std.proofs.lemmas.List.{length-map}
 use Rattle.dmf_path.specs.declared.trail.Slot.{Slot}
-use Rattle.dmf_links.specs.Links.{Links, ArePlaces, AreRooms, pairs_at}
+use Rattle.dmf_links.specs.Links.{Links, ArePlaces, pairs_at}
 use Rattle.dmf_path.specs.Walk.{IsWalking, end_of, bottleneck_on, pushed}
 use Rattle.dmf_path.specs.Held.{Way, places_of, filled_slots, settled, HaveLeft, least_left}
-use Rattle.dmf_path.specs.Residual.{Residual, told, IsSplit}
+use Rattle.dmf_path.specs.Residual.{Residual, roomed, told}
 use Rattle.dmf_path.specs.Search.{Augments}
-use Rattle.dmf_path.specs.Searching.{Labelling, Sought, sought, searched, IsUnderWay, IsAimed, IsSearching, IsFound}
+use Rattle.dmf_path.specs.Searching.{Labelling, sought, searched, IsSearching, IsFound}
 use Rattle.dmf_path.proofs.Steps.{path_on, step_on, bottleneck_up_to-path_on}
 use Rattle.dmf_path.proofs.LeastTrail.{least-trail}
-use Rattle.dmf_path.proofs.Gated.{sound-opens}
-use Rattle.dmf_path.proofs.Pushed.{FallsOn-trail, NoneOpens, OpensUpwards, none-pushed, opens-pushed, ArePassed-opens}
+use Rattle.dmf_path.proofs.Pushed.{FallsOn-trail, NoneOpens, OpensUpwards, none-pushed, opens-pushed}
 use Rattle.dmf_path.proofs.PushedPairs.{pushed_pairs-pushed}
 use Rattle.dmf_path.proofs.Descending.{Descends, descends-trail}
 use Rattle.dmf_path.proofs.Settled.{length-settled}
-use Rattle.dmf_path.proofs.SettledSent.{CanSend, CanSend-least, HaveLeft-sent, settled-sent, bottleneck-settled}
-use Rattle.dmf_path.proofs.UnderWayWhole.{IsWhole, is-whole}
-use Rattle.dmf_path.proofs.Splitting.{IsSent, has-split, sent_along, split-aim}
-use Rattle.dmf_path.proofs.SearchTurns.{aimed-with}
+use Rattle.dmf_path.proofs.SettledSent.{CanSend, CanSend-least, settled-sent, bottleneck-left}
+use Rattle.dmf_path.proofs.UnderWayWhole.{IsWhole, is-whole, slot-room}
+use Rattle.dmf_path.proofs.SearchTurns.{plainly}
 
 -- what a trail keeps after so much more is sent
 abbrev pub sent_on : Way → ℕ → Way
 sent_on w amount = record w { sent = (w.sent + amount) % 2 ^ 64 }
+
+-- the links along which so much was sent, once their held pushes are applied
+abbrev pub sent_along : Residual → Way → Residual
+sent_along r w = roomed r (settled r.links r.takes_back w.sent w.slots r.rooms)
 
 -- A path was found, and so much can be sent along it.
 pub record CanAugment (r : Residual) (places : List ℕ) (v : Labelling) (w : Way) (limit amount : ℕ) : Type 0 where
@@ -33,12 +35,12 @@ pub record CanAugment (r : Residual) (places : List ℕ) (v : Labelling) (w : Wa
   pub opens : OpensUpwards r.links v.labels (told r w).rooms (sent_along r (sent_on w amount)).rooms
   pub none : r.takes_back ≡ false → NoneOpens (told r w).rooms (sent_along r (sent_on w amount)).rooms
   pub augments : Augments limit (record { amount = amount; links = length w.slots }) (searched (sought r w) places)
-      (searched (record { residual = sent_along r (sent_on w amount); start = w.start; goal = w.goal }) places)
+      (searched (plainly (sent_along r (sent_on w amount)) w) places)
 
 -- So much as is left in the slots can be sent along a path that was found.
-pub can-augment : (r : Residual) (places : List ℕ) (v : Labelling) (w : Way) (limit amount : ℕ) → ArePlaces r.links places → IsSearching r v w
+pub can-augment : {r : Residual} {places : List ℕ} {v : Labelling} {w : Way} (limit : ℕ) {amount : ℕ} → ArePlaces r.links places → IsSearching r v w
     → IsFound r w → amount ≡ least_left w.sent limit w.slots → CanAugment r places v w limit amount
-can-augment r places v w limit amount places_are is joins least =
+can-augment {r} {places} {v} {w} limit {amount} places_are is joins least =
     let l : Links = r.links in
     let takes_back : Bool = r.takes_back in
     let rooms : List ℕ = r.rooms in
@@ -46,7 +48,7 @@ can-augment r places v w limit amount places_are is joins least =
     let after : List ℕ = (told r w).rooms in
     let a = is.aimed in
     let way = is.under_way in
-    let whole = is-whole l labels after v.current w way joins in
+    let whole = is-whole way joins in
     let long : length rooms ≡ length l.heads = is.holding.rooms_are.0 in
     let told : after ≡ settled l takes_back w.sent w.slots rooms = ap (λ (ss : List Slot). settled l takes_back w.sent ss rooms) whole.filled in
     let after_long : length after ≡ length l.heads = length-settled l takes_back w.sent (filled_slots w) rooms ∙ long in
@@ -54,10 +56,10 @@ can-augment r places v w limit amount places_are is joins least =
     let descends : Descends l labels (get_or labels w.start 0) 0 (places_of w.slots) =
     subst (λ b. Descends l labels (get_or labels w.start 0) b (places_of w.slots)) bottom
     (descends-trail l labels after v.current w.start (places_of w.slots) a.links a.start_is whole.trail) in
-    let falls = FallsOn-trail l labels after v.current w.start (places_of w.slots) a.links a.start_is whole.trail in
+    let falls = FallsOn-trail labels after v.current w.start (places_of w.slots) a.links a.start_is whole.trail in
     let have : HaveLeft w.sent rooms w.slots = subst (HaveLeft w.sent rooms) whole.filled is.holding.have in
     let can = CanSend-least w.sent amount limit w.slots (omega (arith, least)) in
-    let sent = settled-sent l takes_back w.sent amount w.slots rooms labels w.start
+    let sent = settled-sent takes_back w.sent amount w.slots rooms labels w.start
     (get_or labels w.start 0) 0 a.links long is.holding.small falls descends can have in
     let made : settled l takes_back ((w.sent + amount) % 2 ^ 64) w.slots rooms ≡ pushed l takes_back amount (places_of w.slots) after =
     sent ∙ ap (pushed l takes_back amount (places_of w.slots)) (sym told) in
@@ -68,70 +70,19 @@ can-augment r places v w limit amount places_are is joins least =
       descends = descends;
       have = have;
       can = can;
-      opens = subst (OpensUpwards l labels after) (sym made) (opens-pushed l takes_back amount labels after w.start
-          (places_of w.slots) a.links after_long falls);
+      opens = subst (OpensUpwards l labels after) (sym made) (opens-pushed takes_back amount labels after w.start (places_of w.slots) a.links after_long falls);
       none = λ kept. subst (NoneOpens after) (sym made) (subst (λ b. NoneOpens after (pushed l b amount (places_of w.slots) after)) (sym kept)
           (none-pushed l amount labels after w.start (places_of w.slots) after_long falls));
       augments = record {
         path = path_on l places after (places_of w.slots);
         least = least-trail l places after labels v.current (places_of w.slots) w.start w.goal a.links places_are a.start_is a.goal_is a.sound a.start_label
             way.goal_label walking whole.ends;
-        amount_is = least ∙ sym (bottleneck-settled l takes_back labels w.sent limit rooms w.slots (get_or labels w.start 0) 0 a.links long descends have)
+        amount_is = least ∙ sym (bottleneck-left w.sent limit (settled l takes_back w.sent w.slots rooms) w.slots (λ i inside.
+            slot-room l labels (get_or labels w.start 0) 0 w.slots i descends inside takes_back w.sent rooms a.links long have))
             ∙ ap (λ rs. bottleneck_on rs limit (places_of w.slots)) (sym told) ∙ sym (bottleneck_up_to-path_on l places after (places_of w.slots) limit);
         links_are = sym (length-map (places_of w.slots) (step_on l places after) ∙ length-map w.slots (λ s. s.place));
         gives = ap (λ pairs. record { nodes = l.nodes; pairs = pairs; start = w.start; goal = w.goal; takes_back = takes_back })
-            (ap (pairs_at l places) made ∙ pushed_pairs-pushed l takes_back places after labels v.current
-            (places_of w.slots) w.start amount a.links places_are after_long a.start_is whole.trail);
+            (ap (pairs_at l places) made ∙ pushed_pairs-pushed takes_back after labels v.current (places_of w.slots) amount a.links places_are after_long
+            a.start_is whole.trail);
       };
-    }
-
--- More is sent along the path that was found.
-pub is-sent : (r : Residual) (places : List ℕ) (v : Labelling) (w : Way) (limit amount : ℕ) → IsSearching r v w → IsFound r w
-    → CanAugment r places v w limit amount → IsSent r v.labels (told r w).rooms v.current (sent_on w amount)
-is-sent r places v w limit amount is joins can = record {
-  links = is.aimed.links;
-  start_is = is.aimed.start_is;
-  trail = can.whole.trail;
-  ends = can.whole.ends;
-  joins = joins;
-  current_is = is.under_way.walking.current_is;
-  passed = ArePassed-opens r.links v.labels (told r w).rooms (sent_along r (sent_on w amount)).rooms w.goal v.current is.aimed.links can.opens
-      is.under_way.walking.passed;
-  meets = can.whole.meets;
-  filled = can.whole.filled;
-  within = is.under_way.within;
-  one_slot_each = is.under_way.one_slot_each;
-  goal_label = is.under_way.goal_label;
-  have = HaveLeft-sent w.sent amount r.rooms w.slots is.holding.small can.can can.have;
-  small = omega arith;
-  rooms_are = is.holding.rooms_are;
-  descends = can.descends;
-}
-
--- What a search has after the path is split, and its network and ends.
-pub record IsOn (r : Residual) (places : List ℕ) (v : Labelling) (w : Way) (amount : ℕ) (next : Residual) (new : Way) : Type 0 where
-  pub searching : IsSearching next v new
-  pub same : sought next new ≡ record { residual = sent_along r (sent_on w amount); start = w.start; goal = w.goal }
-
--- Once the path is split, the search goes on with what is left.
-pub split-on : (r : Residual) (places : List ℕ) (v : Labelling) (w : Way) (limit amount : ℕ) (next : Residual) (new : Way) → IsSearching r v w
-    → IsFound r w → CanAugment r places v w limit amount → IsSplit r (sent_on w amount) next new → AreRooms next.links next.rooms
-    → IsOn r places v w amount next new
-split-on r places v w limit amount next new is joins can split sums =
-    let has = has-split r v.labels (told r w).rooms v.current (sent_on w amount) next new
-    (is-sent r places v w limit amount is joins can) is.under_way.joint_is split sums in
-    let kept = split-aim r (sent_on w amount) next new split in
-    let same : sought next new ≡ record { residual = sent_along r (sent_on w amount); start = w.start; goal = w.goal } =
-    λ i. record { residual = has.same i; start = kept.start i; goal = kept.goal i } in
-    let sound = sound-opens r.links v.labels (told r w).rooms (sent_along r (sent_on w amount)).rooms
-    (get_or v.labels w.start 0) is.aimed.links can.opens is.aimed.sound in
-    let aimed = aimed-with r w v.labels v.labels (sent_along r (sent_on w amount)).rooms is.aimed is.aimed.start_label sound in
-    record {
-      searching = record {
-        aimed = subst (IsAimed (sought next new) v.labels) (sym kept.capacity)
-            (subst (λ (s : Sought). IsAimed s v.labels w.capacity) (sym same) aimed);
-        holding = has.holding;
-        under_way = subst (λ (x : Residual). IsUnderWay next.links v.labels x.rooms v.current new) (sym has.same) has.way;
-      };
-      same = same;
     }

@@ -1,25 +1,17 @@
 -- All links leave, and no push is held any more.
 use Rattle.std.proofs.Common.{ℕ, ◌≡◌, ◌^◌, ◌<◌, Bool, List, [], ◌++◌, length, drop, get_or, ap, sym, ◌∙◌, subst, arith}
-use Rattle.std.proofs.lemmas.List.{append-nil, ext_get_or, drop_all}
+use Rattle.std.proofs.lemmas.List.{append-nil, drop_all}
 use Rattle.dmf_path.specs.declared.trail.Slot.{Slot}
 use Rattle.dmf_node.specs.Node.{IsNode}
 use Rattle.dmf_links.specs.Links.{Links, AreRooms}
 use Rattle.dmf_path.specs.Walk.{AreCurrent, ArePassed, IsTrail, end_of}
-use Rattle.dmf_path.specs.Held.{Way, places_of, walked_slots, rest_slots, settled, rooms_with, HaveLeft, put_each, emptied, with_slots}
+use Rattle.dmf_path.specs.Held.{Way, places_of, walked_slots, rest_slots, settled, rooms_with, HaveLeft, put_each, with_slots}
 use Rattle.dmf_path.specs.Residual.{Residual, roomed, told, CanSettle}
 use Rattle.dmf_path.specs.Searching.{IsUnderWay, IsHolding, Labelling, IsSearching}
 use Rattle.dmf_path.proofs.Descending.{Descends, descends-behind}
-use Rattle.dmf_path.proofs.Settled.{places-append, length-settled, room-settled, nothing}
+use Rattle.dmf_path.proofs.Settled.{places-append, settled-none}
 use Rattle.dmf_path.proofs.Leaving.{have-all-left}
 use Rattle.dmf_path.proofs.UnderWay.{descends-way}
-
--- If no slot is filled, nothing is held.
-pub settled-none : (l : Links) (takes_back : Bool) (sent : ℕ) (rooms : List ℕ) → settled l takes_back sent [] rooms ≡ rooms
-settled-none l takes_back sent rooms =
-    ext_get_or 0 (settled l takes_back sent [] rooms) rooms (length-settled l takes_back sent [] rooms)
-    (λ p within.
-    let here : p < length rooms = omega (arith, within, length-settled l takes_back sent [] rooms) in
-    room-settled l takes_back sent [] rooms p here ∙ nothing takes_back (get_or rooms p 0))
 
 -- The pushes that a search holds can be applied.
 pub can-settle : {r : Residual} {v : Labelling} {w : Way} → IsSearching r v w → CanSettle r w
@@ -28,14 +20,14 @@ can-settle {r = r} {v = v} {w = w} is =
     let labels : List ℕ = v.labels in
     let top : ℕ = get_or labels w.start 0 in
     let links = is.aimed.links in
-    let whole = descends-way l labels (told r w).rooms v.current w links is.aimed.start_is is.under_way in
-    let first = have-all-left l r.takes_back labels w.sent top 0 [] (walked_slots w) (rest_slots w) r.rooms links is.holding.rooms_are.0
+    let whole = descends-way is.under_way links is.aimed.start_is in
+    let first = have-all-left r.takes_back labels w.sent top 0 [] (walked_slots w) (rest_slots w) r.rooms links is.holding.rooms_are.0
     (subst (Descends l labels top 0) (sym (places-append (walked_slots w) (rest_slots w))) whole) is.holding.have in
     let none : rest_slots w ++ [] ≡ rest_slots w = append-nil (rest_slots w) in
     let between : List ℕ = put_each l r.takes_back w.sent (walked_slots w) r.rooms in
     let low : Descends l labels top 0 (places_of (rest_slots w)) = descends-behind l labels top 0 (places_of (walked_slots w))
     (places_of (rest_slots w)) whole in
-    let later = have-all-left l r.takes_back labels w.sent top 0 [] (rest_slots w) [] between links first.long
+    let later = have-all-left r.takes_back labels w.sent top 0 [] (rest_slots w) [] between links first.long
     (subst (λ (ss : List Slot). Descends l labels top 0 (places_of ss)) (sym none) low)
     (subst (HaveLeft w.sent between) (sym none) first.have) in
     record {
@@ -64,10 +56,10 @@ holding-free l w slots rooms sums small = record {
 }
 
 -- and the walk begins, if no link is passed that leads to the goal.
-pub way-free : (l : Links) (labels after current : List ℕ) (w : Way) (slots : List Slot) → IsNode l.nodes w.goal → AreCurrent l current
+pub way-free : {l : Links} (labels after : List ℕ) {current : List ℕ} (w : Way) (slots : List Slot) → IsNode l.nodes w.goal → AreCurrent l current
     → ArePassed l labels after w.goal current
     → length slots ≡ get_or labels w.start 0 → get_or labels w.goal 0 ≡ 0 → IsUnderWay l labels after current (with_slots w slots)
-way-free l labels after current w slots goal current_is passed count label =
+way-free {l} labels after {current} w slots goal current_is passed count label =
     let none : drop (length slots) slots ≡ [] = drop_all (length slots) slots (omega arith) in
     record {
       walking = record { current_is = current_is; passed = passed; trail_is = tt };
@@ -78,20 +70,4 @@ way-free l labels after current w slots goal current_is passed count label =
       within = omega arith;
       one_slot_each = count;
       goal_label = label;
-    }
-
--- After all links have left, it goes on from the start.
-pub way-emptied : (l : Links) (labels after current : List ℕ) (w : Way) → IsNode l.nodes w.goal → IsUnderWay l labels after current w
-    → IsUnderWay l labels after current (emptied w)
-way-emptied l labels after current w goal way =
-    let none : drop (length w.slots) w.slots ≡ [] = drop_all (length w.slots) w.slots (omega arith) in
-    record {
-      walking = record { current_is = way.walking.current_is; passed = way.walking.passed; trail_is = tt };
-      rest_is = subst (λ (ss : List Slot). IsTrail l labels after current w.goal (places_of ss)) (sym none) tt;
-      ends = ap (λ (ss : List Slot). end_of l w.goal (places_of ss)) none;
-      joint_is = goal;
-      order = omega arith;
-      within = omega arith;
-      one_slot_each = way.one_slot_each;
-      goal_label = way.goal_label;
     }

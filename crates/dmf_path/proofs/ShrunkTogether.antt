@@ -15,8 +15,9 @@ use Rattle.dmf_links.proofs.ShrunkLinks.{shifted-in}
 use Rattle.dmf_links.proofs.ShrunkPlaces.{ArePlaces-shrunk, its-index}
 use Rattle.dmf_links.proofs.ShrunkRooms.{AreRooms-left, AreFlags-left, pairs-shrunk}
 
-module _ (l : Links) (places : List ℕ) (k : ℕ) (gap : Gap) (n : Links) (after : List ℕ) (links : AreLinks l) (are : ArePlaces l places)
+module _ {l : Links} {places : List ℕ} {k : ℕ} {gap : Gap} {n : Links} {after : List ℕ} (links : AreLinks l) (are : ArePlaces l places)
     (g : AreShrunk l places k gap n after) (index : k < length places) where
+  -- The places that are left are places of pairs.
   pub places-without : ArePlaces n after
   places-without = ArePlaces-shrunk l places k gap links g.filled n g.table after g.left are index
 
@@ -41,18 +42,18 @@ module _ (l : Links) (places : List ℕ) (k : ℕ) (gap : Gap) (n : Links) (afte
         subst (IsOf n after p) (sym (new.each p its.j (omega (arith, h, new.long, numbers.0, g.table.heads.long)) its.was_index)) its.of,
   )
 
-  pub numbered-without : (before new : Option (Rc (Vec ℕ Global) Global)) → MayBeNumbered l places before → AreNumbersLeft gap k before new
+  -- The numbers that are left are those of the links that are left.
+  pub numbered-without : {before new : Option (Rc (Vec ℕ Global) Global)} → MayBeNumbered l places before → AreNumbersLeft gap k before new
       → MayBeNumbered n after new
-  numbered-without before new numbers (none is) = subst (MayBeNumbered n after) (sym is) tt
-  numbered-without before new numbers (some known fresh was is left) =
-      subst (MayBeNumbered n after) (sym is)
+  numbered-without numbers (none is) = subst (MayBeNumbered n after) (sym is) tt
+  numbered-without numbers (some known fresh was is left) = subst (MayBeNumbered n after) (sym is)
       (numbers-without known.value.items fresh.value.items (subst (MayBeNumbered l places) was numbers) left)
 
 -- So the search that is put together over them has the pairs that are left.
-pub apart-without : (own : Own) (gap : Gap) (n : Links) (after : List ℕ) (s : Searched) (rooms flags : Vec ℕ Global) → HasShrunk own gap n after s
+pub apart-without : {own : Own} {gap : Gap} {n : Links} {after : List ℕ} {s : Searched} (rooms flags : Vec ℕ Global) → HasShrunk own gap n after s
     → AreLinks n → ArePlaces n after → rooms.items ≡ without_two gap own.rooms.items → flags.items ≡ without_two gap own.flags.items
     → IsApart n after (with_values own rooms flags) (with_pairs s (remove s.pairs (length s.pairs - 2)))
-apart-without own gap n after s rooms flags h links places_are roomy flagged =
+apart-without {own} {gap} {n} {after} rooms flags h links places_are roomy flagged =
     let l = h.l in
     let places = h.places in
     let k : ℕ = length places - 2 in
@@ -62,15 +63,13 @@ apart-without own gap n after s rooms flags h links places_are roomy flagged =
     let nodes : n.nodes ≡ l.nodes = sym h.shrunk.table.nodes in
     let long : k ≡ length before.pairs - 2 = omega (arith, length-map places (pair_at l own.rooms.items)) in
     let pairs : pairs_at n after rooms.items ≡ remove before.pairs (length before.pairs - 2) =
-    ap (λ (xs : List ℕ). pairs_at n after xs) roomy
-    ∙ pairs-without l places k gap n after old.links old.places_are h.shrunk index own.rooms.items old.rooms.0
+    ap (λ (xs : List ℕ). pairs_at n after xs) roomy ∙ pairs-without old.links old.places_are h.shrunk index own.rooms.items old.rooms.0
     ∙ ap (λ (j : ℕ). remove before.pairs j) long in
     record {
       links = links;
       places_are = places_are;
-      rooms = rw roomy (rooms-without l places k gap n after old.links old.places_are h.shrunk index own.rooms.items old.rooms);
-      flags = rw (roomy, flagged) (flags-without l places k gap n after old.links old.places_are h.shrunk index own.rooms.items own.flags.items
-          old.rooms.0 old.flags);
+      rooms = rw roomy (rooms-without old.links old.places_are h.shrunk index own.rooms.items old.rooms);
+      flags = rw (roomy, flagged) (flags-without old.links old.places_are h.shrunk index own.rooms.items own.flags.items old.rooms.0 old.flags);
       begun = subst (λ m. HasBegun m own.levels own.trail) h.shrunk.table.nodes old.begun;
       same = (λ i. record {
         nodes = nodes i;

@@ -1,171 +1,175 @@
 -- One turn of a walk: it takes the first admissible link of its node, or steps back if there is none.
-use Rattle.std.proofs.Common.{ℕ, ◌≡◌, ◌≢◌, ◌+◌, ◌-◌, ◌*◌, ◌<◌, ◌≤◌, List, [], ◌∷◌, ◌++◌, length, set, slice_index, get_or, sum_by, ap, sym, subst, ◌∙◌, arith}
+use Rattle.std.proofs.Common.{ℕ, ◌≡◌, ◌≢◌, ◌+◌, ◌-◌, ◌*◌, ◌<◌, ◌≤◌, List, [], ◌∷◌, ◌++◌, length, set, take, get_or, sum_by, ap, sym, subst, ◌∙◌}
+use Rattle.std.proofs.Common.{arith, inl, inr}
 use Rattle.std.proofs.Math.Nat.{mul-le-mul_right}
+use Rattle.std.proofs.lemmas.Bool.{cases_lt}
 use Rattle.std.proofs.lemmas.List.{get_or-set_same, get_or_default, length-set}
 use Rattle.std.proofs.lemmas.List.Sums.{sum_by-set}
 use Rattle.dmf_node.specs.Node.{IsNode}
-use Rattle.dmf_links.specs.Links.{Links, IsLink, AreLinks, tail_of}
-use Rattle.dmf_path.specs.Walk.{IsWalk, end_of}
-use Rattle.dmf_links.proofs.LinkPlaces.{lies-within, last-within}
-use Rattle.dmf_path.proofs.Walking.{HasCome, label-trail, IsTrail-pop, end-node, dead-end, walking-set, come-back}
+use Rattle.dmf_links.specs.Links.{Links, LiesAt, AreLinks, AreRooms, tail_of}
+use Rattle.dmf_path.specs.Walk.{AreSkipped, IsTrail, IsWalk, end_of}
+use Rattle.dmf_path.specs.Held.{Way, places_of, walked_slots, slot_at, stepped_back}
+use Rattle.dmf_path.specs.Residual.{Residual, put_on}
+use Rattle.dmf_links.proofs.LinkPlaces.{lies-within}
+use Rattle.dmf_path.proofs.Spreading.{cases-set}
+use Rattle.dmf_path.proofs.Walking.{label-trail, IsTrail-split, end_of-append, end-node, dead-end, walking-set, come-back}
+use Rattle.dmf_path.proofs.UnderWay.{goal-joint, is-free, free-room}
+use Rattle.dmf_path.proofs.WayStart.{walk-end, last-link_within}
+use Rattle.dmf_path.proofs.WayTurn.{IsOnWay, on-moved, last-places, on-back}
 
--- The last node of a walk and its links: those before `place` are not admissible, and this is the place at which they end.
-pub record WalkTurn : Type 0 where
-  pub l : Links
+-- The walk's last node, its first admissible link from the current one on by the rooms, and the place where its links end.
+pub record Turn : Type 0 where
+  pub r : Residual
   pub labels : List ℕ
-  pub rooms : List ℕ
-  pub start : ℕ
-  pub goal : ℕ
   pub current : List ℕ
-  pub trail : List ℕ
+  pub aim : Residual
+  pub w : Way
   pub node : ℕ
   pub place : ℕ
   pub end : ℕ
-  pub heads : List ℕ
-  pub are : AreLinks l
-  pub at_start : IsNode l.nodes start
-  pub come : HasCome l labels rooms start goal current trail node
-  pub end_read : end ≡ get_or l.first (node + 1) end
-  pub same_heads : heads ≡ l.heads
-  pub from : slice_index current node ≤ place
+  pub links : AreLinks r.links
+  pub start_is : IsNode r.links.nodes w.start
+  pub on : IsOnWay r labels current aim w node
+  pub other : node ≢ w.joint
+  pub end_read : end ≡ get_or r.links.first (node + 1) end
+  pub from : get_or current node 0 ≤ place
   pub to : place ≤ end
-  pub none : (p : ℕ) → slice_index current node ≤ p → p < place → 0 < slice_index rooms p
-      → slice_index labels (slice_index heads p) + 1 ≢ slice_index labels node
+  pub none : (p : ℕ) → get_or current node 0 ≤ p → p < place → 0 < get_or r.rooms p 0 → get_or labels (get_or r.links.heads p 0) 0 + 1 ≢ get_or labels node 0
 
--- a turn, by its node's first admissible link
-abbrev pub walk-turn : (l : Links) (labels rooms : List ℕ) (start goal : ℕ) (current trail : List ℕ) (node place end : ℕ) (heads : List ℕ) → AreLinks l
-    → IsNode l.nodes start → HasCome l labels rooms start goal current trail node
-    → end ≡ get_or l.first (node + 1) end → heads ≡ l.heads → slice_index current node ≤ place → place ≤ end
-    → ((p : ℕ) → slice_index current node ≤ p → p < place → 0 < slice_index rooms p → slice_index labels (slice_index heads p) + 1 ≢ slice_index labels node)
-    → WalkTurn
-walk-turn l labels rooms start goal current trail node place end heads are at_start come end_read same_heads from to none = record {
-  l = l;
-  labels = labels;
-  rooms = rooms;
-  start = start;
-  goal = goal;
-  current = current;
-  trail = trail;
-  node = node;
-  place = place;
-  end = end;
-  heads = heads;
-  are = are;
-  at_start = at_start;
-  come = come;
-  end_read = end_read;
-  same_heads = same_heads;
-  from = from;
-  to = to;
-  none = none;
-}
+-- the current links once that of the node has moved on
+abbrev pub moved : Turn → List ℕ
+moved t = set t.current t.node t.place
 
--- where the links of the node end
-end-is : (t : WalkTurn) → slice_index t.l.first (t.node + 1) ≡ t.end
-end-is t = get_or_default t.l.first (t.node + 1) 0 t.end (omega (arith, t.come.is_node.to_last, t.are.first_long)) ∙ sym t.end_read
+-- the place of the walk's last link, and those of the links before it
+abbrev pub last : Turn → ℕ
+last t = (slot_at t.w.slots (t.w.walked - 1)).place
 
--- The node has a current link.
-pub node-within : (t : WalkTurn) → t.node < length t.current
-node-within t = omega (arith, t.come.walking.current_is.one_each, t.come.is_node.to_last)
-
--- the walk then
-pub come-moved : (t : WalkTurn) → HasCome t.l t.labels t.rooms t.start t.goal (set t.current t.node t.place) t.trail t.node
-come-moved t =
-    let to : t.place ≤ slice_index t.l.first (t.node + 1) = omega (arith, end-is t, t.to) in
-    walking-set t.l t.labels t.rooms t.start t.goal t.current t.trail t.node t.place t.come t.from to
-    (λ p after before room. let other = t.none p after before room in rw t.same_heads at other)
-
--- The link that was found is one.
-pub found-within : (t : WalkTurn) → t.place < t.end → t.place < length t.l.heads
-found-within t found = omega (arith, end-is t, last-within t.l t.node t.are t.come.is_node.to_last)
-
--- all links of the node are passed
-all-passed : (t : WalkTurn) → t.end ≤ t.place → slice_index t.l.first (t.node + 1) ≤ slice_index (set t.current t.node t.place) t.node
-all-passed t none = omega (arith, end-is t, get_or-set_same t.current t.node t.place 0 (node-within t))
-
--- No walk leads on from the start, if the trail is empty.
-pub none-found : (t : WalkTurn) → t.end ≤ t.place → t.node ≢ t.goal → t.trail ≡ [] → (ps : List ℕ) → ¬ IsWalk t.l t.labels t.rooms t.goal t.start ps
-none-found t none other empty ps walk =
-    let is : t.start ≡ t.node = sym (ap (λ trail. end_of t.l t.start trail) empty) ∙ t.come.arrives in
-    let P : ℕ → Type 0 = λ v. IsWalk t.l t.labels t.rooms t.goal v ps in
-    dead-end t.l t.labels t.rooms (set t.current t.node t.place) t.goal t.node (come-moved t).walking.passed t.come.is_node other (all-passed t none) ps
-    (subst P is walk)
-
--- The last link of the trail.
-pub record IsLast (t : WalkTurn) (back : ℕ) : Type 0 where
-  pub within : back < length t.l.heads
-  pub is_link : IsLink t.l back
-  pub current_is : slice_index (set t.current t.node t.place) (tail_of t.l back) ≡ back
-  pub label : slice_index t.labels (tail_of t.l back) ≤ slice_index t.labels t.start
-
-pub last-link : (t : WalkTurn) (rest : List ℕ) (back : ℕ) → t.trail ≡ rest ++ back ∷ [] → IsLast t back
-last-link t rest back popped =
-    let trail = (come-moved t).walking.trail_is in
-    let before = IsTrail-pop t.l t.labels t.rooms (set t.current t.node t.place) t.start rest back (rw popped at trail) in
-    let u : ℕ = end_of t.l t.start rest in
-    let at_u : IsNode t.l.nodes u = end-node t.l t.labels t.rooms (set t.current t.node t.place) t.start rest t.are t.at_start before.0 in
-    let tail : tail_of t.l back ≡ u = t.are.at_tail u back at_u before.1.lies in
-    let within : back < length t.l.heads = lies-within t.l u back t.are at_u before.1.lies in
-    record {
-      within = within;
-      is_link = t.are.each back within;
-      current_is = ap (λ v. slice_index (set t.current t.node t.place) v) tail ∙ before.2;
-      label = omega (arith, ap (λ v. slice_index t.labels v) tail, label-trail t.l t.labels t.rooms (set t.current t.node t.place) t.start rest before.0);
-    }
-
--- The walk steps back.
-pub come-popped : (t : WalkTurn) (rest : List ℕ) (back tail : ℕ) → t.end ≤ t.place → t.node ≢ t.goal → t.trail ≡ rest ++ back ∷ [] → tail ≡ tail_of t.l back
-    → HasCome t.l t.labels t.rooms t.start t.goal (set (set t.current t.node t.place) tail (back + 1)) rest tail
-come-popped t rest back tail none other popped is =
-    let come = come-moved t in
-    rw is (come-back t.l t.labels t.rooms t.start t.goal (set t.current t.node t.place) rest t.node back t.are t.at_start (rw popped at come) other
-    (all-passed t none))
+abbrev pub before_last : Turn → List ℕ
+before_last t = places_of (take (t.w.walked - 1) t.w.slots)
 
 -- the number of links that are not yet passed, each weighted by the work until the walk comes back to it, and what is left of this work
 abbrev pub work_left : Links → List ℕ → ℕ → List ℕ → ℕ → ℕ
-work_left l labels start current node = sum_by (λ p. length l.heads - p) current * (slice_index labels start + 1) + slice_index labels node
+work_left l labels start current node = sum_by (λ p. length l.heads - p) current * (get_or labels start 0 + 1) + get_or labels node 0
 
 -- A current link that moves on leaves at most as much work,
-not_passed-set : (n : ℕ) (current : List ℕ) (v p : ℕ) → v < length current → slice_index current v ≤ p
+pub not_passed-set : (n : ℕ) (current : List ℕ) (v p : ℕ) → v < length current → get_or current v 0 ≤ p
     → sum_by (λ q. n - q) (set current v p) ≤ sum_by (λ q. n - q) current
 not_passed-set n current v p within on = omega (arith, sum_by-set (λ q. n - q) current v p 0 within)
 
 -- and less if it stood at a link.
-passed-set : (n : ℕ) (current : List ℕ) (v p : ℕ) → v < length current → slice_index current v < p → slice_index current v < n
+passed-set : (n : ℕ) (current : List ℕ) (v p : ℕ) → v < length current → get_or current v 0 < p → get_or current v 0 < n
     → sum_by (λ q. n - q) (set current v p) < sum_by (λ q. n - q) current
 passed-set n current v p within on one = omega (arith, sum_by-set (λ q. n - q) current v p 0 within)
 
--- A walk that goes on over a link has less work left.
-pub work-found : (t : WalkTurn) (head : ℕ) → t.place < t.end → slice_index t.labels (slice_index t.heads t.place) + 1 ≡ slice_index t.labels t.node
-    → head ≡ get_or t.l.heads t.place head → work_left t.l t.labels t.start
-    (set t.current t.node t.place) head < work_left t.l t.labels t.start t.current t.node
-work-found t head found falls read =
-    let head_is : head ≡ slice_index t.l.heads t.place = read ∙ get_or_default t.l.heads t.place head 0 (found-within t found) in
-    let falls_on : slice_index t.labels (slice_index t.l.heads t.place) + 1 ≡ slice_index t.labels t.node = rw (← t.same_heads) falls in
-    omega (
-      arith,
-      ap (λ v. slice_index t.labels v) head_is,
-      falls_on,
-      mul-le-mul_right (slice_index t.labels t.start + 1)
-          (not_passed-set (length t.l.heads) t.current t.node t.place (node-within t) t.from),
-    )
+module _ (t : Turn) where
+  -- where the links of the node end
+  pub where-ends : get_or t.r.links.first (t.node + 1) 0 ≡ t.end
+  where-ends = get_or_default t.r.links.first (t.node + 1) 0 t.end (omega (arith, t.on.come.is_node.to_last, t.links.first_long)) ∙ sym t.end_read
 
--- The tail of the last link has a current link.
-pub tail-within : (t : WalkTurn) (rest : List ℕ) (back tail : ℕ) → t.trail ≡ rest ++ back ∷ [] → tail ≡ tail_of t.l back
-    → tail < length (set t.current t.node t.place)
-tail-within t rest back tail popped is =
-    omega (arith, is, (last-link t rest back popped).is_link.tail.to_last, length-set t.current t.node t.place, t.come.walking.current_is.one_each)
+  -- The room of a link that falls from the walk's last node is its settled room.
+  pub told-room : {p : ℕ} → LiesAt t.r.links t.node p → get_or t.labels (get_or t.r.links.heads p 0) 0 + 1 ≡ get_or t.labels t.node 0
+      → get_or t.aim.rooms p 0 ≡ get_or t.r.rooms p 0
+  told-room {p} lies falls = ap (λ (x : Residual). get_or x.rooms p 0) (sym t.on.same)
+      ∙ free-room t.r.takes_back t.r.rooms t.on.holding.rooms_are.0 (is-free t.on.way t.links t.start_is t.on.come.is_node t.on.come.arrives t.other lies falls)
 
--- A walk that steps back has less work left.
-pub work-popped : (t : WalkTurn) (rest : List ℕ) (back tail : ℕ) → t.trail ≡ rest ++ back ∷ [] → tail ≡ tail_of t.l back
-    → work_left t.l t.labels t.start (set (set t.current t.node t.place) tail (back + 1)) tail < work_left t.l t.labels t.start t.current t.node
-work-popped t rest back tail popped is =
-    let last = last-link t rest back popped in
-    let stands : slice_index (set t.current t.node t.place) tail ≡ back = ap (λ v. slice_index (set t.current t.node t.place) v) is ∙ last.current_is in
-    let within : tail < length (set t.current t.node t.place) = tail-within t rest back tail popped is in
-    let less = passed-set (length t.l.heads) (set t.current t.node t.place) tail (back + 1) within (omega (arith, stands))
-    (omega (arith, stands, last.within)) in
-    let most = not_passed-set (length t.l.heads) t.current t.node t.place (node-within t) t.from in
-    let fewer : sum_by (λ p. length t.l.heads - p) (set (set t.current t.node t.place) tail (back + 1)) + 1 ≤ sum_by (λ p. length t.l.heads - p) t.current =
-    omega (arith, less, most) in
-    omega (arith, ap (λ v. slice_index t.labels v) is, last.label, mul-le-mul_right (slice_index t.labels t.start + 1) fewer)
+  -- No link before the one found is admissible by the settled rooms.
+  none-told : (p : ℕ) → get_or t.current t.node 0 ≤ p → p < t.place → 0 < get_or t.aim.rooms p 0
+      → get_or t.labels (get_or t.r.links.heads p 0) 0 + 1 ≢ get_or t.labels t.node 0
+  none-told p later before room falls =
+      let lies : LiesAt t.r.links t.node p = record {
+        from = omega (arith, later, t.on.come.walking.current_is.from t.node t.on.come.is_node);
+        below = omega (arith, before, t.to, where-ends);
+      } in
+      t.none p later before (omega (arith, room, told-room lies falls)) falls
+
+  -- The node has a current link.
+  pub node-within : t.node < length t.current
+  node-within = omega (arith, t.on.come.walking.current_is.one_each, t.on.come.is_node.to_last)
+
+  -- With the node's current link moved on, the walk is still on its way.
+  pub on-turned : IsOnWay t.r t.labels (moved t) t.aim t.w t.node
+  on-turned = on-moved t.on t.place t.other (walking-set t.place t.on.come t.from (omega (arith, where-ends, t.to)) none-told)
+
+  -- No link that is passed in this way is admissible.
+  pub skipped-turned : AreSkipped t.aim.links t.labels t.aim.rooms t.current → AreSkipped t.aim.links t.labels t.aim.rooms (moved t)
+  skipped-turned skipped v p node lies before admissible = elim (cases-set t.current t.node v t.place node-within) [
+    | inr other ↦ skipped v p node lies (omega (arith, before, other.1)) admissible
+    | inl here ↦ elim (cases_lt p (get_or t.current t.node 0)) [
+      | inl passed ↦ skipped v p node lies (omega (arith, passed, ap (λ u. get_or t.current u 0) here.0)) admissible
+      | inr later ↦ none-told p later (omega (arith, before, here.1)) admissible.room
+          (subst (λ (x : Residual). get_or t.labels (get_or x.links.heads p 0) 0 + 1 ≡ get_or t.labels t.node 0) (sym t.on.same)
+          (admissible.falls ∙ ap (λ u. get_or t.labels u 0) here.0))
+    ]
+  ]
+
+  -- all links of the node are passed
+  all-passed : t.end ≤ t.place → get_or t.r.links.first (t.node + 1) 0 ≤ get_or (moved t) t.node 0
+  all-passed none = omega (arith, where-ends, get_or-set_same t.current t.node t.place 0 node-within)
+
+  -- If no link is found and no link is in the walk, no walk leads on from the start.
+  pub no-walk : t.end ≤ t.place → t.w.walked ≡ 0 → (ps : List ℕ) → ¬ IsWalk t.r.links t.labels t.aim.rooms t.w.goal t.w.start ps
+  no-walk none empty ps walk =
+      let is : t.w.start ≡ t.node = sym (ap (λ n. end_of t.r.links t.w.start (places_of (take n t.w.slots))) empty) ∙ t.on.come.arrives in
+      dead-end t.r.links t.labels t.aim.rooms (moved t) t.w.goal on-turned.come.walking.passed t.on.come.is_node
+      (goal-joint t.on.way t.on.come.arrives t.other) (all-passed none) ps (subst (λ v. IsWalk t.r.links t.labels t.aim.rooms t.w.goal v ps) is walk)
+
+  module _ (some : 0 < t.w.walked) where
+    popped : places_of (walked_slots t.w) ≡ before_last t ++ last t ∷ []
+    popped = last-places t.w some (omega (arith, t.on.way.order, t.on.way.within))
+
+    -- the walk before its last link
+    before : IsTrail t.r.links t.labels t.aim.rooms (moved t) t.w.start (before_last t)
+        × IsTrail t.r.links t.labels t.aim.rooms (moved t) (end_of t.r.links t.w.start (before_last t)) (last t ∷ [])
+    before = IsTrail-split t.r.links t.labels t.aim.rooms (moved t) t.w.start (before_last t) (last t ∷ [])
+        (subst (IsTrail t.r.links t.labels t.aim.rooms (moved t) t.w.start) popped on-turned.come.walking.trail_is)
+
+    before-node : IsNode t.r.links.nodes (end_of t.r.links t.w.start (before_last t))
+    before-node = end-node t.labels t.aim.rooms (moved t) t.w.start (before_last t) t.links t.start_is before.0
+
+    tail-is : tail_of t.r.links (last t) ≡ end_of t.r.links t.w.start (before_last t)
+    tail-is = t.links.at_tail (end_of t.r.links t.w.start (before_last t)) (last t) before-node before.1.0.lies
+
+    -- The last link of the walk is one of the links.
+    pub back-within : last t < length t.r.links.heads
+    back-within = lies-within t.r.links (end_of t.r.links t.w.start (before_last t)) (last t) t.links before-node before.1.0.lies
+
+    -- Once it has left, the walk leads to the node from which it led.
+    pub back-tail : {new : Way} (tail : ℕ) → new ≡ stepped_back t.w → (new.walked ≡ 0 → tail ≡ new.start)
+        → (0 < new.walked → tail ≡ get_or t.r.links.heads (slot_at new.slots (new.walked - 1)).place 0) → tail ≡ tail_of t.r.links (last t)
+    back-tail tail step first more =
+        sym (walk-end t.r.links (stepped_back t.w) tail (omega (arith, t.on.way.order, t.on.way.within)) (rw step at first) (rw step at more)) ∙ sym tail-is
+
+    -- Then the walk's last link is one of the links too.
+    pub back-last : {new : Way} → new ≡ stepped_back t.w → 0 < new.walked → (slot_at new.slots (new.walked - 1)).place < length t.r.links.heads
+    back-last step = rw step (last-link_within t.labels t.aim.rooms (moved t) (stepped_back t.w) t.links t.start_is
+        (omega (arith, t.on.way.order, t.on.way.within)) before.0)
+
+    module _ {tail : ℕ} (is : tail ≡ tail_of t.r.links (last t)) where
+      -- The node to which the walk leads then has a current link,
+      pub back-tail_within : tail < length (moved t)
+      back-tail_within = omega (arith, is, tail-is, before-node.to_last, length-set t.current t.node t.place, t.on.come.walking.current_is.one_each)
+
+      -- there less work is left,
+      pub less-back : {back : ℕ} → back ≡ last t
+          → work_left t.aim.links t.labels t.w.start (set (moved t) tail (back + 1)) tail < work_left t.aim.links t.labels t.w.start t.current t.node
+      less-back at =
+          let n : ℕ = length t.aim.links.heads in
+          let same : length t.r.links.heads ≡ n = ap (λ (x : Residual). length x.links.heads) t.on.same in
+          let stands : get_or (moved t) tail 0 ≡ last t = ap (λ v. get_or (moved t) v 0) (is ∙ tail-is) ∙ before.1.1 in
+          let less = passed-set n (moved t) tail (last t + 1) back-tail_within (omega (arith, stands)) (omega (arith, stands, back-within, same)) in
+          let most = not_passed-set n t.current t.node t.place node-within t.from in
+          let fewer : sum_by (λ p. n - p) (set (moved t) tail (last t + 1)) + 1 ≤ sum_by (λ p. n - p) t.current = omega (arith, less, most) in
+          let label = label-trail t.r.links t.labels t.aim.rooms (moved t) t.w.start (before_last t) before.0 in
+          rw at (omega (arith, ap (λ v. get_or t.labels v 0) (is ∙ tail-is), label, mul-le-mul_right (get_or t.labels t.w.start 0 + 1) fewer))
+
+      -- and the walk steps back.
+      pub on-stepped : {next : Residual} {new : Way} {back : ℕ} → t.end ≤ t.place → next ≡ put_on t.r t.w.sent (slot_at t.w.slots (t.w.walked - 1))
+          → new ≡ stepped_back t.w → AreRooms next.links next.rooms → back ≡ last t → IsOnWay next t.labels (set (moved t) tail (back + 1)) t.aim new tail
+      on-stepped none put step sums at =
+          let head : get_or t.r.links.heads (last t) 0 ≡ t.node = sym (end_of-append t.r.links t.w.start (before_last t) (last t ∷ []))
+          ∙ ap (λ ps. end_of t.r.links t.w.start ps) (sym popped) ∙ t.on.come.arrives in
+          let come = come-back (before_last t) (last t) t.links t.start_is (rw popped at on-turned.come) (goal-joint t.on.way t.on.come.arrives t.other)
+          (all-passed none) in
+          rw (at, put, step) (on-back on-turned t.links t.start_is (last t + 1) some
+          (omega (arith, before.1.0.falls, ap (λ u. get_or t.labels u 0) head, ap (λ u. get_or t.labels u 0) (is ∙ tail-is))) (rw is come)
+          (subst (λ (x : Residual). AreRooms x.links x.rooms) put sums))

@@ -33,8 +33,6 @@ fn expand_one(links: &Links, to_goal: &mut Frontier, from_start: &mut Frontier) 
     ensures on { HaveGoneOn links.now to_goal.old from_start.old to_goal.new from_start.new result }
     ensures nearing { result ≡ None → AreNearing links.now to_goal.new from_start.new }
     ensures further { result ≡ None → to_goal.old.done + from_start.old.done < to_goal.new.done + from_start.new.done }
-    ensures goal_on { result ≡ None → to_goal.old.done ≤ to_goal.new.done }
-    ensures start_on { result ≡ None → from_start.old.done ≤ from_start.new.done }
 {
     let table = &links.table;
     if waiting_links(table, from_start) < waiting_links(table, to_goal) {

@@ -51,11 +51,10 @@ fn is_near(links: &Links, labels: &[u32], node: u32) -> bool
     ensures { result ≡ true → (p : ℕ) → LiesAt (links_of links.now.table.value) node p → slice_index links.now.flags.items p ≡ 1
         → slice_index labels.now (slice_index links.now.table.value.heads.items p) ≤ 1 }
 {
-    let from = links.table.first[node as usize];
-    let end = links.table.first[node as usize + 1];
-    for place in from..end {
-        let tail = links.table.heads[place as usize];
-        if links.flags[place as usize] == 1 && labels[tail as usize] > 1 {
+    let places = links.table.places_at(node);
+    for place in places.start..places.end {
+        let tail = links.table.heads[place];
+        if links.flags[place] == 1 && labels[tail as usize] > 1 {
             return false;
         }
     }
@@ -72,12 +71,11 @@ fn bring_back(table: &LinkTable, flags: &[u8], node: u32, current: &mut [u32])
     ensures back { (p : ℕ) → LiesAt (links_of table.now) node p → slice_index flags.now p ≡ 1
         → slice_index current.new (slice_index table.now.heads.items p) ≤ slice_index table.now.partners.items p }
 {
-    let from = table.first[node as usize];
-    let end = table.first[node as usize + 1];
-    for place in from..end {
-        let tail = table.heads[place as usize];
-        let opposite = table.partners[place as usize];
-        if flags[place as usize] == 1 && current[tail as usize] > opposite {
+    let places = table.places_at(node);
+    for place in places.start..places.end {
+        let tail = table.heads[place];
+        let opposite = table.partners[place];
+        if flags[place] == 1 && current[tail as usize] > opposite {
             current[tail as usize] = opposite;
         }
     }

@@ -15,7 +15,7 @@ use crate::reach::{labelled, labels_from_start};
 use crate::release::release;
 use crate::touched::Touched;
 use crate::trail::Trail;
-use dmf_links::{Places, have_same_numbers, number_links};
+use dmf_links::{Places, number_links};
 use std::alloc::{AllocError, Global};
 use std::marker::Model;
 use std::rc::Rc;
@@ -119,7 +119,7 @@ impl Search {
         };
         let links = &self.links;
         let others = &other.links;
-        if have_same_numbers(&links.table, &self.places, &others.table, &other.places) {
+        if links.table.is(&others.table) && self.places.are(&other.places) {
             self.numbers = Some(numbers.clone()?);
         }
         Ok(())

@@ -43,38 +43,24 @@ pub struct Own {
 
 impl Search {
     /// The search begins anew, and comes apart. Takes no memory.
-    pub fn begun(self) -> (Shared, Own)
+    pub fn begun(mut self) -> (Shared, Own)
         ensures shared { AreShared result.0 }
         ensures apart { IsApart (links_of result.0.table.value) result.0.places.value result.1 self }
     {
-        let Search {
-            mut links,
-            places,
-            numbers,
-            mut levels,
-            asides,
-            mut trail,
-            ..
-        } = self;
-        begin_anew(&mut links, &mut levels, &mut trail);
-        let Links {
-            table,
-            takes_back,
-            rooms,
-            flags,
-        } = links;
+        begin_anew(&mut self.links, &mut self.levels, &mut self.trail);
+        let links = self.links;
         let shared = Shared {
-            table,
-            places,
-            numbers,
+            table: links.table,
+            places: self.places,
+            numbers: self.numbers,
         };
         let own = Own {
-            takes_back,
-            rooms,
-            flags,
-            levels,
-            asides,
-            trail,
+            takes_back: links.takes_back,
+            rooms: links.rooms,
+            flags: links.flags,
+            levels: self.levels,
+            asides: self.asides,
+            trail: self.trail,
         };
         (shared, own)
     }
@@ -101,15 +87,9 @@ impl Shared {
         ensures table { IfSome result (λ shared. shared.table.value ≡ self.now.table.value) }
         ensures places { IfSome result (λ shared. shared.places.value ≡ self.now.places.value) }
     {
-        let Ok(table) = self.table.clone() else {
-            return None;
-        };
-        let Ok(places) = self.places.clone() else {
-            return None;
-        };
         Some(Shared {
-            table,
-            places,
+            table: self.table.clone().ok()?,
+            places: self.places.clone().ok()?,
             numbers: share_known(&self.numbers),
         })
     }
@@ -117,39 +97,26 @@ impl Shared {
 
 impl Own {
     /// The search over these links. Takes no memory.
-    pub fn over(self, shared: Shared) -> Search
+    pub fn over(mut self, shared: Shared) -> Search
         requires shared { AreShared shared }
         requires apart { (s : Searched) × IsApart (links_of shared.table.value) shared.places.value self s }
         ensures { (s : Searched) → IsApart (links_of shared.table.value) shared.places.value self s → result ≡ s }
     {
-        let Shared {
-            table,
-            places,
-            numbers,
-        } = shared;
-        let Own {
-            takes_back,
-            rooms,
-            flags,
-            levels,
-            mut asides,
-            trail,
-        } = self;
-        asides.clear();
-        let levels = levels.over(&table);
+        self.asides.clear();
+        let levels = self.levels.over(&shared.table);
         let links = Links {
-            table,
-            takes_back,
-            rooms,
-            flags,
+            table: shared.table,
+            takes_back: self.takes_back,
+            rooms: self.rooms,
+            flags: self.flags,
         };
         Search {
             links,
-            places,
-            numbers,
+            places: shared.places,
+            numbers: shared.numbers,
             levels,
-            asides,
-            trail,
+            asides: self.asides,
+            trail: self.trail,
             is_fresh: true,
         }
     }

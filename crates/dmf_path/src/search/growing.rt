@@ -50,7 +50,7 @@ impl Search {
 impl Own {
     /// The search over the links with those of a new pair, put together with the rooms of this pair, which has the same ends. Takes
     /// memory for the rooms and the flags where there is no room for them.
-    fn taking_in(self, new: &NewPair, pair: Pair, grown: Shared) -> Option<Search>
+    fn taking_in(mut self, new: &NewPair, pair: Pair, grown: Shared) -> Option<Search>
         requires shared { AreShared grown }
         requires grown { (s : Searched) × HasGrown self new.now pair (links_of grown.table.value) grown.places.value s }
         requires fits { pair.along + pair.against < 2 ^ 64 }
@@ -58,27 +58,11 @@ impl Own {
             → IfSome result (λ search. search ≡ with_pairs s (insert s.pairs (length s.pairs - 1) (Some pair))) }
     {
         let new = new.with_rooms_of(pair);
-        let Own {
-            takes_back,
-            rooms,
-            flags,
-            levels,
-            asides,
-            trail,
-        } = self;
-        let rooms = new.gap.put_two(rooms, new.low_room, new.high_room)?;
+        self.rooms = new.gap.put_two(self.rooms, new.low_room, new.high_room)?;
         let low_flag = open_flag(new.high_room);
         let high_flag = open_flag(new.low_room);
-        let flags = new.gap.put_two(flags, low_flag, high_flag)?;
-        let own = Own {
-            takes_back,
-            rooms,
-            flags,
-            levels,
-            asides,
-            trail,
-        };
-        Some(own.over(grown))
+        self.flags = new.gap.put_two(self.flags, low_flag, high_flag)?;
+        Some(self.over(grown))
     }
 }
 
@@ -92,16 +76,11 @@ fn grow(alloc: Global, shared: Shared, pair: Pair) -> Option<(Shared, NewPair)>
     ensures grown { IfSome result (λ grown. AreGrown (links_of shared.table.value) shared.places.value pair grown.1
         (links_of grown.0.table.value) grown.0.places.value) }
 {
-    let Shared {
-        table,
-        places,
-        numbers,
-    } = shared;
-    let new = place_pair(&table, &places, pair);
-    let k = places.len() as u32 - 1;
-    let numbers = grow_numbers(alloc, numbers, &new.gap, k);
-    let table = Rc::into_inner(table)?.grown(&new.gap)?;
-    let places = Rc::into_inner(places)?.grown(&new)?;
+    let new = place_pair(&shared.table, &shared.places, pair);
+    let k = shared.places.len() as u32 - 1;
+    let numbers = grow_numbers(alloc, shared.numbers, &new.gap, k);
+    let table = Rc::into_inner(shared.table)?.grown(&new.gap)?;
+    let places = Rc::into_inner(shared.places)?.grown(&new)?;
     let Ok(table) = Rc::new(alloc, table) else {
         return None;
     };

@@ -100,14 +100,9 @@ impl Linked {
           takes_back = takes_back;
         }) }
     {
-        let Linked {
-            table,
-            places,
-            rooms,
-        } = self;
-        let flags = opposite_flags(alloc, &table, &rooms)?;
-        let mut levels = Levels::new(alloc, &table)?;
-        let slots = Vec::with_capacity(alloc, table.nodes as usize)?;
+        let flags = opposite_flags(alloc, &self.table, &self.rooms)?;
+        let mut levels = Levels::new(alloc, &self.table)?;
+        let slots = Vec::with_capacity(alloc, self.table.nodes as usize)?;
         let mut trail = Trail {
             slots,
             walked: 0,
@@ -117,16 +112,16 @@ impl Linked {
             start,
             goal,
         };
-        make_fresh(&table, &mut levels, &mut trail);
+        make_fresh(&self.table, &mut levels, &mut trail);
         let links = Links {
-            table,
+            table: self.table,
             takes_back,
-            rooms,
+            rooms: self.rooms,
             flags,
         };
         Ok(Search {
             links,
-            places,
+            places: self.places,
             numbers: None,
             levels,
             asides: Vec::new(alloc),

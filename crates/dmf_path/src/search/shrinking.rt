@@ -50,50 +50,20 @@ impl Own {
 
 /// The links without those of the pair before the last one, and where these were. `None` where there is no pair at that index, or where
 /// another search has the same links. Takes no memory.
-fn shrink(shared: Shared) -> Option<(Shared, Gap)>
+fn shrink(mut shared: Shared) -> Option<(Shared, Gap)>
     requires shared { AreShared shared }
     requires two { 2 ≤ length shared.places.value }
     ensures shared { IfSome result (λ left. AreShared left.0) }
     ensures left { IfSome result (λ left. AreShrunk (links_of shared.table.value) shared.places.value (length shared.places.value - 2) left.1
         (links_of left.0.table.value) left.0.places.value) }
 {
-    let Shared {
-        table,
-        places,
-        numbers,
-    } = shared;
-    let k = places.len() - 2;
-    let place = places.place_of(k)?;
-    let gap = gap_of(&table, place);
-    let table = table_left(table, &gap)?;
-    let places = places_left(places, k, &gap)?;
-    let numbers = numbers_left(numbers, &gap, k as u32);
-    let left = Shared {
-        table,
-        places,
-        numbers,
-    };
-    Some((left, gap))
-}
-
-/// The links without the two that leave this gap. `None` if others have the table too.
-fn table_left(mut table: Rc<LinkTable>, gap: &Gap) -> Option<Rc<LinkTable>>
-    requires { (place : ℕ) × IsFilled (links_of table.value) place gap.now }
-    ensures { IfSome result (λ left. IsGrown gap.now (links_of left.value) (links_of table.value)) }
-{
-    if shrink_own(&mut table, gap) {
-        Some(table)
-    } else {
-        None
+    let k = shared.places.len() - 2;
+    let place = shared.places.place_of(k)?;
+    let gap = gap_of(&shared.table, place);
+    if !shrink_own(&mut shared.table, &gap) {
+        return None;
     }
-}
-
-/// The places of the pairs but for that at index `k`, whose two links leave this gap. `None` if others have these places too.
-fn places_left(mut places: Rc<Places>, k: usize, gap: &Gap) -> Option<Rc<Places>>
-    requires index { k < length places.value }
-    requires order { gap.now.low ≤ gap.now.high }
-    ensures { IfSome result (λ left. IsUnplaced gap.now k places.value left.value) }
-{
-    Rc::get_mut(&mut places)?.leave_out(k, gap);
-    Some(places)
+    Rc::get_mut(&mut shared.places)?.leave_out(k, &gap);
+    shared.numbers = numbers_left(shared.numbers, &gap, k as u32);
+    Some((shared, gap))
 }

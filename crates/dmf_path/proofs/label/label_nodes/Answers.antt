@@ -1,10 +1,7 @@
-use Rattle.dmf_links.specs.LinkTable.{links_of}
 use Rattle.dmf_path.proofs.Labelling.{starts-spread}
 use Rattle.dmf_path.proofs.label.label_nodes.Goals as goal
 
 pub label_most-requires-clause-so_far : goal.label_most-requires-clause-so_far
 label_most-requires-clause-so_far g c =
     rw c.begin.ensures.root
-    (starts-spread (links_of c.args.table.now) (g.O.OpenLinks.flags c.args.opens.now) c.args.root c.args.frontier.now.labels.items
-    c.begin.new.frontier.labels.items c.begin.new.frontier.queue.items c.begin.new.frontier.done c.requires.root c.requires.clean.labels_are
-    c.begin.ensures.labels c.begin.ensures.queue c.begin.ensures.done)
+    (starts-spread c.requires.root c.requires.clean.labels_are c.begin.ensures.labels c.begin.ensures.queue c.begin.ensures.done)

@@ -15,8 +15,8 @@ returns-then-waiting_links c =
         start_side = e.so_far;
         met = λ v is.
             let met = e.met v is in
-            has-met_start c.args.links.now c.args.to_goal.now c.args.from_start.now v c.expand_level.new.frontier.labels.items n c.requires.goal_ahead
-            c.requires.start_ahead e.levels e.beyond met.0 met.1 met.2;
+            has-met_start c.args.links.now c.args.to_goal.now c.args.from_start.now n c.requires.goal_ahead c.requires.start_ahead e.levels e.beyond
+            met.0 met.1 met.2;
         goal_root = refl;
         start_root = root;
         goal_capacity = refl;
@@ -37,8 +37,6 @@ returns-then-waiting_links c =
         start_capacity = omega (arith, e.capacity, n.start_capacity);
       };
       further = λ none. omega (arith, e.further none);
-      goal_on = λ none. omega arith;
-      start_on = λ none. omega (arith, e.further none);
     }
 
 pub returns : goal.returns
@@ -52,8 +50,8 @@ returns c =
         start_side = n.start_side;
         met = λ v is.
             let met = e.met v is in
-            has-met_goal c.args.links.now c.args.to_goal.now c.args.from_start.now v c.expand_level-2.new.frontier.labels.items n c.requires.goal_ahead
-            c.requires.start_ahead e.levels e.beyond met.0 met.1 met.2;
+            has-met_goal c.args.links.now c.args.to_goal.now c.args.from_start.now n c.requires.goal_ahead c.requires.start_ahead e.levels e.beyond
+            met.0 met.1 met.2;
         goal_root = root;
         start_root = refl;
         goal_capacity = e.capacity;
@@ -71,6 +69,4 @@ returns c =
         start_capacity = n.start_capacity;
       };
       further = λ none. omega (arith, e.further none);
-      goal_on = λ none. omega (arith, e.further none);
-      start_on = λ none. omega arith;
     }

@@ -1,4 +1,4 @@
-use Rattle.std.proofs.Common.{◌+◌, ◌-◌, None}
+use Rattle.std.proofs.Common.{◌+◌, ◌-◌, ◌*◌, None}
 use Rattle.dmf_path.specs.BothEnds.{AreNearing, HaveGoneOn}
 use Rattle.dmf_path.proofs.meet.meet.Given as goal
 
@@ -9,4 +9,4 @@ invariant-loop-to_goal l = record {
 }
 
 abbrev pub decreases-loop-to_goal : goal.decreases-loop-to_goal
-decreases-loop-to_goal l = (l.links.table.value.nodes + 1 - l.to_goal.done) + (l.links.table.value.nodes + 1 - l.from_start.done)
+decreases-loop-to_goal l = 2 * (l.links.table.value.nodes + 1) - (l.to_goal.done + l.from_start.done)

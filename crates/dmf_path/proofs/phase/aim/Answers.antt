@@ -11,7 +11,7 @@ use Rattle.dmf_path.specs.Searching.{Sought, labelling_of, begun, fresh, AreAsid
 use Rattle.dmf_path.proofs.Beginning.{ready-at}
 use Rattle.dmf_path.proofs.Labelled.{sound-below, sound-whole}
 use Rattle.dmf_path.proofs.Settling.{can-settle}
-use Rattle.dmf_path.proofs.SearchTurns.{plainly, searching-settled, searching-free, searching-fresh_with, sought-free, told-settled}
+use Rattle.dmf_path.proofs.SearchTurns.{plainly, searching-settled, searching-free, searching-anew, sought-free, told-settled}
 use Rattle.dmf_path.proofs.phase.aim.Goals as goal
 use Rattle.dmf_path.proofs.phase.aim.Goals.{After-settle, After-take_up-used, After-redirect, After-index}
 
@@ -20,8 +20,7 @@ settle-requires c = record { can = can-settle c.requires.searching }
 
 -- After all links have left, the search goes on.
 settled : (c : After-settle) → IsSearching (residual_of c.settle.new.links) (labelling_of c.args.levels.now) (way_of c.settle.new.self)
-settled c = searching-settled (residual_of c.args.links.now) (labelling_of c.args.levels.now) (way_of c.args.trail.now)
-    (residual_of c.settle.new.links) (way_of c.settle.new.self) c.requires.searching c.settle.ensures.links c.settle.ensures.way
+settled c = searching-settled c.requires.searching c.settle.ensures.links c.settle.ensures.way
 
 -- The links are the same as before.
 node : (c : After-settle) (v : ℕ) → IsNode c.args.links.now.table.value.nodes v → IsNode c.settle.new.links.table.value.nodes v
@@ -46,7 +45,7 @@ in_use c =
         goal_label = is.under_way.goal_label;
         current_is = is.under_way.walking.current_is;
         passed = subst (λ (x : Residual). ArePassed next.links v.labels x.rooms mid.goal v.current)
-            (told-settled (way_of c.args.trail.now) next mid e.way) is.under_way.walking.passed;
+            (told-settled (way_of c.args.trail.now) next e.way) is.under_way.walking.passed;
       };
     }
 
@@ -121,7 +120,7 @@ returns-then-redirect c =
     } in
     let count = c.free.ensures.count ∙ read (goal.at.returns-then-redirect c).After-index c.if-redirect.true in
     let searching = searching-free next v w slots aimed c.settle.new.links.rooms_are is.holding.small k.current_is k.passed count k.goal_label in
-    let same = sought-free next w (way_of c.free.new.self) slots c.free.ensures.way in
+    let same = sought-free next w slots c.free.ensures.way in
     record {
       searching = rw c.free.ensures.way searching;
       ready = (c.settle.new.links.table.value.nodes, c.redirect.ensures.ready);
@@ -149,10 +148,9 @@ returns c =
     let next = residual_of c.settle.new.links in
     let mid = way_of c.settle.new.self in
     let current = ap (λ v. v.items) m.current ∙ ap (λ (x : Levels). x.current.items) (c.redirect.ensures.same c.if-redirect.false) in
-    let anew = searching-fresh_with next (labelling_of c.args.levels.now) mid (labelling_of c.make_fresh.new.levels) c.args.ends.start c.args.ends.goal
-    (way_of c.make_fresh.new.trail) (settled at) (node at c.args.ends.start c.requires.start) (node at c.args.ends.goal c.requires.goal) c.requires.apart
-    m.labels (subst (AreCurrent next.links) (sym current) up.0.current_is) m.way in
-    let same = sought-free next (record mid { start = c.args.ends.start; goal = c.args.ends.goal }) (way_of c.make_fresh.new.trail) [] m.way in
+    let anew = searching-anew (labelling_of c.make_fresh.new.levels) (settled at) (node at c.args.ends.start c.requires.start)
+    (node at c.args.ends.goal c.requires.goal) c.requires.apart m.labels (subst (AreCurrent next.links) (sym current) up.0.current_is) m.way in
+    let same = sought-free next (record mid { start = c.args.ends.start; goal = c.args.ends.goal }) [] m.way in
     record {
       searching = anew.0;
       ready = (c.settle.new.links.table.value.nodes, m.ready);

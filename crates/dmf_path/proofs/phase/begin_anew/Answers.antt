@@ -1,7 +1,8 @@
 -- All links leave, and no link falls from the start.
-use Rattle.std.proofs.Common.{[], ap, ◌∙◌}
+use Rattle.std.proofs.Common.{[], ap, sym, ◌∙◌, subst}
 use Rattle.dmf_path.specs.Held.{way_of}
 use Rattle.dmf_path.specs.Residual.{residual_of}
+use Rattle.dmf_path.specs.Walk.{AreCurrent}
 use Rattle.dmf_path.specs.Searching.{labelling_of, IsSearching}
 use Rattle.dmf_path.proofs.Beginning.{ready-at}
 use Rattle.dmf_path.proofs.Settling.{can-settle}
@@ -14,8 +15,7 @@ settle-requires c = record { can = can-settle c.requires.searching }
 
 -- After all links have left, the search goes on.
 settled : (c : After-settle) → IsSearching (residual_of c.settle.new.links) (labelling_of c.args.levels.now) (way_of c.settle.new.self)
-settled c = searching-settled (residual_of c.args.links.now) (labelling_of c.args.levels.now) (way_of c.args.trail.now)
-    (residual_of c.settle.new.links) (way_of c.settle.new.self) c.requires.searching c.settle.ensures.links c.settle.ensures.way
+settled c = searching-settled c.requires.searching c.settle.ensures.links c.settle.ensures.way
 
 pub make_fresh-requires : goal.make_fresh-requires
 make_fresh-requires c =
@@ -34,13 +34,12 @@ returns c =
     let mid = way_of c.settle.new.self in
     let new = way_of c.make_fresh.new.trail in
     let is = settled (goal.at.returns c).After-settle in
-    let anew = searching-anew next (labelling_of c.args.levels.now) mid (labelling_of c.make_fresh.new.levels) mid.start mid.goal new is
-    is.aimed.start_is is.aimed.goal_is is.aimed.apart m.labels (ap (λ v. v.items) m.current) m.way in
+    let current = subst (AreCurrent next.links) (sym (ap (λ v. v.items) m.current)) is.under_way.walking.current_is in
+    let anew = searching-anew (labelling_of c.make_fresh.new.levels) is is.aimed.start_is is.aimed.goal_is is.aimed.apart m.labels current m.way in
     record {
       searching = anew.0;
       ready = (c.settle.new.links.table.value.nodes, m.ready);
       fresh = anew.1;
       all = m.all;
-      same = sought-free next mid new [] m.way
-          ∙ plainly-settled (residual_of c.args.links.now) (way_of c.args.trail.now) next mid e.links e.way;
+      same = sought-free next mid [] m.way ∙ plainly-settled (residual_of c.args.links.now) (way_of c.args.trail.now) e.links e.way;
     }

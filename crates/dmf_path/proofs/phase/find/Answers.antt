@@ -32,21 +32,17 @@ settle-requires c = record { can = can-settle c.walk.ensures.searching }
 pub relabel-requires-clause-searching : goal.relabel-requires-clause-searching
 relabel-requires-clause-searching c =
     let current = with_items_is c.args.levels.now.current c.walk.new.current (c.walk.auto.current ∙ c.deref_mut.ensures.len) in
-    rw current (searching-settled (residual_of c.walk.new.links) (record { labels = c.args.levels.now.near.labels.items; current = c.walk.new.current })
-    (way_of c.walk.new.trail) (residual_of c.settle.new.links) (way_of c.settle.new.self)
-    (rw c.deref.ensures.value at c.walk.ensures.searching) c.settle.ensures.links c.settle.ensures.way)
+    rw current (searching-settled (rw c.deref.ensures.value at c.walk.ensures.searching) c.settle.ensures.links c.settle.ensures.way)
 
 -- After all links have left, the network and the ends are the same,
 plain : (c : After-relabel) → plainly (residual_of c.settle.new.links) (way_of c.settle.new.self) ≡ sought (residual_of c.args.links.now)
     (way_of c.args.trail.now)
-plain c = plainly-settled (residual_of c.walk.new.links) (way_of c.walk.new.trail) (residual_of c.settle.new.links)
-    (way_of c.settle.new.self) c.settle.ensures.links c.settle.ensures.way ∙ c.walk.ensures.same
+plain c = plainly-settled (residual_of c.walk.new.links) (way_of c.walk.new.trail) c.settle.ensures.links c.settle.ensures.way ∙ c.walk.ensures.same
 
 -- and so they are after the nodes get new labels.
 free : (c : After-relabel) → sought (residual_of c.settle.new.links) (way_of c.relabel.new.trail) ≡ plainly (residual_of c.settle.new.links)
     (way_of c.settle.new.self)
-free c = sought-free (residual_of c.settle.new.links) (way_of c.settle.new.self)
-    (way_of c.relabel.new.trail) c.relabel.new.trail.slots.items c.relabel.ensures.way
+free c = sought-free (residual_of c.settle.new.links) (way_of c.settle.new.self) c.relabel.new.trail.slots.items c.relabel.ensures.way
 
 pub walk-requires-then-relabel : goal.walk-requires-then-relabel
 walk-requires-then-relabel c = rw (c.deref-then-relabel.ensures.value, c.deref_mut-then-relabel.ensures.value) c.relabel.ensures.searching

@@ -6,15 +6,11 @@ use Rattle.dmf_path.specs.Labels.{no_label}
 use Rattle.dmf_path.specs.Walk.{AreCurrent}
 use Rattle.dmf_path.specs.Held.{Way, way_of, with_slots}
 use Rattle.dmf_path.specs.Residual.{residual_of}
-use Rattle.dmf_path.specs.Searching.{Labelling, labelling_of, IsReady}
+use Rattle.dmf_path.specs.Searching.{Labelling, labelling_of}
 use Rattle.dmf_path.proofs.Beginning.{first-queued, skipped-first, ready-at}
 use Rattle.dmf_path.proofs.SearchTurns.{aimed-with, searching-free, searching-anew}
 use Rattle.dmf_path.proofs.phase.relabel.Goals as goal
-use Rattle.dmf_path.proofs.phase.relabel.Goals.{Start, After-index-start_label}
-
--- At most all nodes have labels.
-ready : (c : Start) → IsReady c.args.links.now.table.value.nodes c.args.levels.now.near c.args.levels.now.far
-ready c = ready-at c.args.links.now.table.value.nodes c.args.levels.now c.requires.ready c.requires.searching.aimed.one_label_each
+use Rattle.dmf_path.proofs.phase.relabel.Goals.{After-index-start_label}
 
 pub unlabel-requires : goal.unlabel-requires
 unlabel-requires c = record { queued = c.requires.ready.1.queued }
@@ -46,9 +42,9 @@ returns-then-not-label_anew c =
     let a = c.requires.searching.aimed in
     let m = rw c.deref.ensures at c.make_fresh.ensures in
     let w = way_of c.args.trail.now in
-    let anew = searching-anew (residual_of c.args.links.now) (labelling_of c.args.levels.now) w (labelling_of c.make_fresh.new.levels) w.start w.goal
-    (way_of c.make_fresh.new.trail) c.requires.searching a.start_is a.goal_is a.apart m.labels
-    (ap (λ v. v.items) (m.current ∙ c.label_anew.ensures.current)) m.way in
+    let current = subst (AreCurrent (links_of c.args.links.now.table.value)) (sym (ap (λ v. v.items) (m.current ∙ c.label_anew.ensures.current)))
+    c.requires.searching.under_way.walking.current_is in
+    let anew = searching-anew (labelling_of c.make_fresh.new.levels) c.requires.searching a.start_is a.goal_is a.apart m.labels current m.way in
     record {
       searching = anew.0;
       ready = (c.args.links.now.table.value.nodes, m.ready);
@@ -94,8 +90,7 @@ returns c =
     let first = first-queued l levels.near.labels.items levels.near.queue.items c.set_current.new.current is.one_label_each is.queued
     (rw (c.deref-2.ensures, c.deref-3.ensures.value) at c.set_current.ensures.first) in
     let skipped = skipped-first l levels.near.labels.items links.rooms.items c.set_current.new.current a.links labelled.sound.small first in
-    let aimed = aimed-with (residual_of links) w (labelling_of c.args.levels.now).labels levels.near.labels.items links.rooms.items a
-    labelled.start_label labelled.sound in
+    let aimed = aimed-with (residual_of links) w a labelled.start_label labelled.sound in
     let v : Labelling = record { labels = levels.near.labels.items; current = c.set_current.new.current } in
     let searching = searching-free (residual_of links) v w slots aimed links.rooms_are c.requires.searching.holding.small
     (rw c.deref-2.ensures at c.set_current.ensures.current)

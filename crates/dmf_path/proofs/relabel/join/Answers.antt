@@ -41,23 +41,17 @@ loop-node-preserved c =
           let items : c.if-labels-node.queue.items ≡ c.loop-node.queue.items ++ v ∷ [] = ap (λ q. q.items) w.queue-is ∙ w.push_reserved.ensures.items in
           record {
             joining = rw (w.labels-is, items)
-                (joining-next c.args.long c.args.labels.now c.args.from_start.now c.args.nodes.now k c.loop-node.labels c.loop-node.queue.items
-                (vec_capacity c.args.queue.now) so_far
-                inside w.if-labels-node.true (c.requires.at_most k c.loop-node-test.true) c.requires.small);
+                (joining-next so_far inside w.if-labels-node.true (c.requires.at_most k c.loop-node-test.true) c.requires.small);
             queue_capacity = ap (λ q. vec_capacity q) w.queue-is ∙ w.push_reserved.ensures.capacity ∙ c.loop-node.invariant.queue_capacity;
           }
       | else-labels-node w ↦
           let items : c.if-labels-node.queue.items ≡ c.loop-node.queue.items = ap (λ q. q.items) w.queue-is in
           record {
-            joining = rw (w.labels-is, items)
-                (joining-skip c.args.long c.args.labels.now c.args.from_start.now c.args.nodes.now k c.loop-node.labels c.loop-node.queue.items
-                (vec_capacity c.args.queue.now) so_far inside w.if-labels-node.false);
+            joining = rw (w.labels-is, items) (joining-skip so_far inside w.if-labels-node.false);
             queue_capacity = ap (λ q. vec_capacity q) w.queue-is ∙ c.loop-node.invariant.queue_capacity;
           }
     ]
 
 pub returns-clause-joined : goal.returns-clause-joined
 returns-clause-joined c =
-    joining-last c.args.long c.args.labels.now c.args.from_start.now c.args.nodes.now c.loop-node.node-index c.loop-node.labels c.loop-node.queue.items
-    (vec_capacity c.args.queue.now)
-    c.loop-node.invariant.joining c.loop-node-test.false c.requires.one_label_each c.requires.far_queued
+    joining-last c.loop-node.invariant.joining c.loop-node-test.false c.requires.one_label_each c.requires.far_queued

@@ -1,5 +1,5 @@
 -- All nodes from which paths lead to the goal are labelled.
-use Rattle.std.proofs.Common.{arith, inl, inr}
+use Rattle.std.proofs.Common.{arith}
 use Rattle.dmf_links.specs.LinkTable.{links_of}
 use Rattle.dmf_path.specs.Labels.{AreLabels}
 use Rattle.dmf_path.proofs.Labelled.{labelled-one, whole-labelled}
@@ -14,25 +14,19 @@ labels c = rw (c.deref.ensures, c.deref-2.ensures.value) at c.label_nodes-looked
 
 pub returns-clause-whole : goal.returns-clause-whole
 returns-clause-whole c =
-    whole-labelled (links_of c.args.links.now.table.value) c.args.links.now.rooms.items c.args.links.now.flags.items
-    c.label_nodes-looked.new.frontier.labels.items 0 c.args.goal c.args.links.now.table.value.are c.args.links.now.flags_are
-    (labels (goal.at.returns-clause-whole c).After-label_nodes-looked)
-    (labels (goal.at.returns-clause-whole c).After-label_nodes-looked).zero
+    let links = c.args.links.now in
+    let are = labels (goal.at.returns-clause-whole c).After-label_nodes-looked in
+    whole-labelled links.rooms.items links.flags.items links.table.value.are links.flags_are are are.zero
 
 pub returns-clause-labelled : goal.returns-clause-labelled
 returns-clause-labelled c has =
-    let l = links_of c.args.links.now.table.value in
+    let links = c.args.links.now in
     let are = labels (goal.at.returns-clause-labelled c).After-label_nodes-looked in
-    labelled-one l c.args.links.now.rooms.items c.args.links.now.flags.items c.label_nodes-looked.new.frontier.labels.items c.args.start c.args.goal 0
-    c.args.links.now.table.value.are c.args.links.now.flags_are are c.requires.start has
-    (elim (are.small c.args.start c.requires.start) [
-      | inl none ↦ absurd (has none)
-      | inr below ↦ omega (arith, below, are.zero, c.args.links.now.table.value.are.at_most_nodes)
-    ])
+    labelled-one links.rooms.items links.flags.items links.table.value.are links.flags_are are c.requires.start has
+    (omega (arith, has, are.small c.args.start c.requires.start, are.zero, links.table.value.are.at_most_nodes))
 
 pub returns-clause-none : goal.returns-clause-none
 returns-clause-none c none =
-    let l = links_of c.args.links.now.table.value in
+    let links = c.args.links.now in
     let are = labels (goal.at.returns-clause-none c).After-label_nodes-looked in
-    separated-unlabelled l c.args.links.now.rooms.items c.args.links.now.flags.items c.label_nodes-looked.new.frontier.labels.items c.args.start c.args.goal 0
-    c.args.links.now.table.value.are c.args.links.now.flags_are are are.zero none
+    separated-unlabelled links.rooms.items links.flags.items links.table.value.are links.flags_are are are.zero none

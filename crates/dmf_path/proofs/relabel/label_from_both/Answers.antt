@@ -1,13 +1,12 @@
 -- Two searches begin and meet, and their labels are joined.
-use Rattle.std.proofs.Common.{ℕ, ◌≡◌, ◌+◌, length, get_or, map, refl, ◌∙◌, arith, inl, inr}
+use Rattle.std.proofs.Common.{◌≡◌, ◌+◌, get_or, map, refl, ◌∙◌, arith}
 use Rattle.std.proofs.lemmas.Grind.{common_steps}
 use Rattle.std.proofs.lemmas.List.{get_or_default, with_items_is}
-use Rattle.dmf_node.specs.Node.{IsNode}
 use Rattle.dmf_links.specs.Links.{open_flag}
 use Rattle.dmf_links.specs.LinkTable.{links_of}
 use Rattle.dmf_path.specs.BothEnds.{HasMetAt}
 use Rattle.dmf_path.proofs.BothEnds.{labelled-met, met-sum}
-use Rattle.dmf_path.proofs.Labelling.{queue-short, starts-spread}
+use Rattle.dmf_path.proofs.Labelling.{label-below, starts-spread}
 use Rattle.dmf_path.proofs.Reaching.{AreOpen-map}
 use Rattle.dmf_path.proofs.relabel.label_from_both.Goals as goal
 use Rattle.dmf_path.proofs.relabel.label_from_both.Goals.{In-Some, After-index-2}
@@ -18,30 +17,26 @@ has_met : (c : In-Some) → HasMetAt (links_of c.args.links.now.table.value) c.a
 has_met c = c.in-Some.ensures.on.met c.in-Some.node refl
 
 -- the sum of the two labels there, as it is read
-long : (c : After-index-2) (nodes : ℕ) → IsNode nodes c.in-Some.node → length c.meet.new.to_goal.labels.items ≡ nodes + 1
-    → length c.meet.new.from_start.labels.items ≡ nodes + 1
-    → c.index.result.now + c.index-2.result.now
+sum : (c : After-index-2) → c.index.result.now + c.index-2.result.now
     ≡ get_or c.meet.new.to_goal.labels.items c.in-Some.node 0 + get_or c.meet.new.from_start.labels.items c.in-Some.node 0
-long c nodes node near_long far_long =
-    let near = get_or_default c.meet.new.to_goal.labels.items c.in-Some.node 0 c.index.result.now (omega (arith, node.to_last, near_long)) in
-    let far = get_or_default c.meet.new.from_start.labels.items c.in-Some.node 0 c.index-2.result.now (omega (arith, node.to_last, far_long)) in
+sum c =
+    let met = c.in-Some.ensures.on.met c.in-Some.node refl in
+    let near = get_or_default c.meet.new.to_goal.labels.items c.in-Some.node 0 c.index.result.now
+    (omega (arith, met.met.node.to_last, met.goal_side.one_each)) in
+    let far = get_or_default c.meet.new.from_start.labels.items c.in-Some.node 0 c.index-2.result.now
+    (omega (arith, met.met.node.to_last, met.start_side.one_each)) in
     omega (arith, near, far, c.index.ensures, c.index-2.ensures)
 
 pub meet-requires : goal.meet-requires
 meet-requires c =
-    let l = links_of c.args.links.now.table.value in
-    let near = c.begin.new.frontier in
-    let far = c.begin-2.new.frontier in
     let clean = rw c.deref.ensures at c.make_ready.ensures.clean in
     record {
       goal = rw c.begin.ensures.root c.requires.goal_is;
       start = rw c.begin-2.ensures.root c.requires.start_is;
       goal_side = rw c.begin.ensures.root
-          (starts-spread l c.args.links.now.flags.items c.args.goal c.args.levels.now.near.labels.items near.labels.items near.queue.items near.done
-          c.requires.goal_is c.requires.near_is.labels_are c.begin.ensures.labels c.begin.ensures.queue c.begin.ensures.done);
+          (starts-spread c.requires.goal_is c.requires.near_is.labels_are c.begin.ensures.labels c.begin.ensures.queue c.begin.ensures.done);
       start_side = rw c.begin-2.ensures.root
-          (starts-spread l (map open_flag c.args.links.now.rooms.items) c.args.start c.make_ready.new.frontier.labels.items far.labels.items far.queue.items
-          far.done c.requires.start_is clean.labels_are c.begin-2.ensures.labels c.begin-2.ensures.queue c.begin-2.ensures.done);
+          (starts-spread c.requires.start_is clean.labels_are c.begin-2.ensures.labels c.begin-2.ensures.queue c.begin-2.ensures.done);
       goal_rest = λ j ahead within. grind (arith, common_steps);
       start_rest = λ j ahead within. grind (arith, common_steps);
       apart = λ v within. grind (arith, common_steps);
@@ -63,42 +58,30 @@ pub overflow_add-long : goal.overflow_add-long
 overflow_add-long c =
     let at = goal.at.overflow_add-long c in
     let met = has_met at.In-Some in
-    let sum = long at.After-index-2 _ met.met.node met.goal_side.one_each met.start_side.one_each in
-    omega (arith, sum, met-sum _ _ _ _ _ _ met.met, met.long, c.args.links.now.table.value.are.at_most_nodes)
+    omega (arith, sum at.After-index-2, met-sum met.met, met.long, c.args.links.now.table.value.are.at_most_nodes)
 
 pub join-requires-clause-at_most : goal.join-requires-clause-at_most
 join-requires-clause-at_most c =
     let at = goal.at.join-requires-clause-at_most c in
     let met = has_met at.In-Some in
-    let far = c.meet.new.from_start in
     let so_far = c.in-Some.ensures.on.start_side in
     rw (c.deref-2.ensures.value, c.deref-3.ensures.value) (λ i before.
-    let entry = so_far.queued i before in
-    elim (met.start_side.small (get_or far.queue.items i 0) entry.node) [
-      | inl none ↦ absurd (omega (arith, none, entry.small, before, queue-short _ _ _ _ _ _ so_far, c.args.links.now.table.value.are.at_most_nodes))
-      | inr least ↦ omega (arith, least, long at.After-index-2 _ met.met.node met.goal_side.one_each met.start_side.one_each, met-sum _ _ _ _ _ _ met.met)
-    ])
+    let small = met.start_side.small (get_or c.meet.new.from_start.queue.items i 0) (so_far.queued i before).node in
+    omega (arith, small, label-below so_far i c.args.links.now.table.value.are before, sum at.After-index-2, met-sum met.met))
 
 pub join-requires-clause-small : goal.join-requires-clause-small
 join-requires-clause-small c =
     let at = goal.at.join-requires-clause-small c in
     let met = has_met at.In-Some in
-    let sum = long at.After-index-2 _ met.met.node met.goal_side.one_each met.start_side.one_each in
-    omega (arith, sum, met-sum _ _ _ _ _ _ met.met, met.long, c.args.links.now.table.value.are.at_most_nodes)
+    omega (arith, sum at.After-index-2, met-sum met.met, met.long, c.args.links.now.table.value.are.at_most_nodes)
 
 pub returns-clause-labelled : goal.returns-clause-labelled
 returns-clause-labelled c =
-    let l = links_of c.args.links.now.table.value in
-    let rooms = c.args.links.now.rooms.items in
+    let links = c.args.links.now in
+    let rooms = links.rooms.items in
     let at = goal.at.returns-clause-labelled c in
-    let met = has_met at.In-Some in
-    let near = c.meet.new.to_goal.labels in
-    let far = c.meet.new.from_start.labels in
-    let labels = with_items_is near c.join.new.labels (c.join.auto.labels ∙ c.deref_mut.ensures.len) in
-    rw labels
-    (λ _. labelled-met l rooms c.args.links.now.flags.items (map open_flag rooms) c.args.start c.args.goal c.in-Some.node
-    (c.index.result.now + c.index-2.result.now) near.items far.items c.join.new.labels
-    c.args.links.now.table.value.are c.args.links.now.flags_are (AreOpen-map l rooms (map open_flag rooms) c.args.links.now.rooms_are refl)
-    c.requires.start_is c.requires.goal_is
-    (rw (c.begin.ensures.root, c.begin-2.ensures.root) at met) (long at.After-index-2 _ met.met.node met.goal_side.one_each met.start_side.one_each)
+    rw (with_items_is c.meet.new.to_goal.labels c.join.new.labels (c.join.auto.labels ∙ c.deref_mut.ensures.len))
+    (λ _. labelled-met rooms links.flags.items links.table.value.are links.flags_are
+    (AreOpen-map (links_of links.table.value) rooms (map open_flag rooms) links.rooms_are refl) c.requires.start_is c.requires.goal_is
+    (rw (c.begin.ensures.root, c.begin-2.ensures.root) at (has_met at.In-Some)) (sum at.After-index-2)
     (rw (c.deref_mut.ensures.value, c.deref-2.ensures.value) at c.join.ensures.joined))

@@ -3,7 +3,6 @@ use Rattle.std.proofs.Common.{◌≡◌, get_or, ap, sym}
 use Rattle.std.proofs.lemmas.Bool.{eqb-false}
 use Rattle.dmf_path.specs.Held.{way_of}
 use Rattle.dmf_path.specs.Residual.{Residual, residual_of, told}
-use Rattle.dmf_path.specs.Searching.{labelling_of}
 use Rattle.dmf_path.proofs.Settling.{can-settle}
 use Rattle.dmf_path.proofs.SearchTurns.{searching-settled, sought-settled, told-settled, off-settled}
 use Rattle.dmf_path.proofs.Released.{off-slots, room-alone}
@@ -19,11 +18,11 @@ returns-then-links c =
     let w = way_of c.args.trail.now in
     let next = residual_of c.settle.new.links in
     let new = way_of c.settle.new.self in
-    let free : told next new ≡ next = told-settled w next new e.way in
+    let free : told next new ≡ next = told-settled w next e.way in
     record {
-      searching = searching-settled r (labelling_of c.args.levels.now) w next new c.requires.searching e.links e.way;
-      same = sought-settled r w next new e.links e.way;
-      off = off-settled w new c.args.place e.way;
+      searching = searching-settled c.requires.searching e.links e.way;
+      same = sought-settled r w e.links e.way;
+      off = off-settled w c.args.place e.way;
       room = ap (λ (x : Residual). get_or x.rooms c.args.place 0) free;
     }
 
@@ -33,12 +32,10 @@ returns-else-falls-clause-off c =
     let r = residual_of c.args.links.now in
     let w = way_of c.args.trail.now in
     let rises = rw (c.deref.ensures, c.deref-else-links.ensures.value) at c.if-falls.ensures in
-    off-slots r.links c.args.levels.now.near.labels.items (told r w).rooms c.args.levels.now.current.items w c.args.place is.aimed.links is.aimed.start_is
-    is.under_way (eqb-false _ _ (sym rises))
+    off-slots c.args.place is.aimed.links is.aimed.start_is is.under_way (eqb-false _ _ (sym rises))
 
 pub returns-else-falls-clause-room : goal.returns-else-falls-clause-room
 returns-else-falls-clause-room c =
     let is = c.requires.searching in
     let r = residual_of c.args.links.now in
-    room-alone r.links r.takes_back (way_of c.args.trail.now) r.rooms c.args.place c.requires.place is.holding.rooms_are.0 c.if-links.false
-    (returns-else-falls-clause-off c)
+    room-alone r.links (way_of c.args.trail.now) r.rooms c.args.place c.requires.place is.holding.rooms_are.0 c.if-links.false (returns-else-falls-clause-off c)

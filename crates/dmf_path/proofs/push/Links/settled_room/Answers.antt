@@ -35,7 +35,7 @@ returns-then-not-self c =
     let a = c.args.self.now in
     let room = room_read (goal.at.returns-then-not-self c).After-index-room in
     rw (room, c.held_for.ensures, c.deref.ensures.value)
-    (sym (room-along (links_of a.table.value) a.takes_back c.args.trail.now.sent (filled_slots (way_of c.args.trail.now)) a.rooms.items c.args.place
+    (sym (room-along (links_of a.table.value) c.args.trail.now.sent (filled_slots (way_of c.args.trail.now)) a.rooms.items c.args.place
     (omega (arith, c.requires.place, a.rooms_are.0)) c.if-not-self.true))
 
 pub overflow_add-result : goal.overflow_add-result
@@ -48,9 +48,9 @@ overflow_add-result c =
       room,
       rw c.deref.ensures.value at c.held_for.ensures,
       rw (c.deref-2.ensures.value, c.opposite.ensures.is, c.deref-3.ensures) at c.held_for-2.ensures,
-      room-back (links_of a.table.value) a.takes_back c.args.trail.now.sent slots a.rooms.items c.args.place
+      room-back (links_of a.table.value) c.args.trail.now.sent slots a.rooms.items c.args.place
           (omega (arith, c.requires.place, a.rooms_are.0)) c.if-not-self.false,
-      room-fits (links_of a.table.value) a.takes_back c.args.trail.now.sent slots a.rooms.items c.args.place a.table.value.are a.rooms_are c.requires.place,
+      room-fits a.takes_back c.args.trail.now.sent slots a.rooms.items c.args.place a.table.value.are a.rooms_are c.requires.place,
     )
 
 pub returns : goal.returns
@@ -59,5 +59,5 @@ returns c =
     let slots = filled_slots (way_of c.args.trail.now) in
     let room = room_read (goal.at.returns c).After-index-room in
     rw (room, c.held_for.ensures, c.held_for-2.ensures, c.deref.ensures.value, c.deref-2.ensures.value, c.opposite.ensures.is, c.deref-3.ensures)
-    (sym (room-back (links_of a.table.value) a.takes_back c.args.trail.now.sent slots a.rooms.items c.args.place
+    (sym (room-back (links_of a.table.value) c.args.trail.now.sent slots a.rooms.items c.args.place
     (omega (arith, c.requires.place, a.rooms_are.0)) c.if-not-self.false))

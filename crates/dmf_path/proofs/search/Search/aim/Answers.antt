@@ -1,9 +1,7 @@
 -- The search keeps its labels between other ends, or begins anew between them.
 use Rattle.std.proofs.Common.{ap, sym, ◌∙◌, subst}
 use Rattle.std.proofs.lemmas.List.{with_items_is}
-use Rattle.dmf_path.specs.Held.{way_of}
-use Rattle.dmf_path.specs.Residual.{residual_of}
-use Rattle.dmf_path.specs.Searching.{Sought, searched, labelling_of}
+use Rattle.dmf_path.specs.Searching.{Sought, searched}
 use Rattle.dmf_links.specs.Numbers.{MayBeNumbered}
 use Rattle.dmf_path.proofs.SearchTurns.{search-next}
 use Rattle.dmf_path.proofs.search.Search.aim.Goals as goal
@@ -26,9 +24,7 @@ invariant_of-self c =
     let e = c.aim-self-inside.ensures in
     let links = ap (λ (s : Sought). s.residual.links) e.same in (
       (e.ready, subst (λ l. MayBeNumbered l of.places.value of.numbers) (sym links) c.self.invariant.0.1, e.kept, rw asides e.asides),
-      search-next (residual_of of.links) of.places.value (labelling_of of.levels) (way_of of.trail) (residual_of c.aim-self-inside.new.links)
-          (labelling_of c.aim-self-inside.new.levels) (way_of c.aim-self-inside.new.trail) of.is_fresh c.aim-self-inside.result
-          c.self.invariant.1 links e.searching e.marked,
+      search-next c.self.invariant.1 links e.searching e.marked,
     )
 
 pub returns : goal.returns

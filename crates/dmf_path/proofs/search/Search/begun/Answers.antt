@@ -3,7 +3,7 @@ use Rattle.std.proofs.Common.{refl, ap, sym, ◌∙◌, subst}
 use Rattle.dmf_path.specs.Held.{way_of}
 use Rattle.dmf_links.specs.Links.{ArePlaces}
 use Rattle.dmf_path.specs.Residual.{Residual, residual_of}
-use Rattle.dmf_path.specs.Searching.{Sought, searched, labelling_of}
+use Rattle.dmf_path.specs.Searching.{Sought, searched}
 use Rattle.dmf_path.proofs.SearchTurns.{told-fresh}
 use Rattle.dmf_path.proofs.search.Search.begun.Goals as goal
 
@@ -21,6 +21,5 @@ returns-clause-apart c =
       flags = links.flags_are;
       begun = record { residual = r; searching = e.searching; fresh = e.fresh; nodes_are = refl; ready = e.ready; none_last = e.all };
       same = rw (← c.self.view_is) (ap (λ (x : Residual). searched (record { residual = x; start = w.start; goal = w.goal }) places)
-          (sym (told-fresh r (labelling_of c.begin_anew.new.levels) w r e.searching e.fresh))
-          ∙ ap (λ (s : Sought). searched s places) e.same);
+          (sym (told-fresh r e.searching e.fresh)) ∙ ap (λ (s : Sought). searched s places) e.same);
     }

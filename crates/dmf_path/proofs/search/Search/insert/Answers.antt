@@ -8,20 +8,17 @@ use Rattle.dmf_path.proofs.search.Search.insert.Goals as goal
 
 first : (c : In_ok-grown) → HasGrown c.begun-shared.result.1 c.in_ok-grown.new c.args.pair (links_of c.in_ok-grown.grown.table.value)
     c.in_ok-grown.grown.places.value c.args.self
-first c =
-    has-grown _ _ _ _ _ c.args.pair _ _ _ c.begun-shared.ensures.apart c.requires.some (record { tail = refl; head = refl })
-    c.in_ok-grown.ensures.grown
+first c = has-grown c.begun-shared.ensures.apart c.requires.some (record { tail = refl; head = refl }) c.in_ok-grown.ensures.grown
 
 -- The other search has as many pairs.
 others-some : (c : In_ok-share) → 0 < length c.in-Some.ensures.0.pairs
-others-some c =
-    omega (arith, c.requires.some, pairs-long _ _ _ _ c.begun-shared.ensures.apart, pairs-long _ _ _ _ c.in-Some.ensures.1.1)
+others-some c = omega (arith, c.requires.some, pairs-long c.begun-shared.ensures.apart, pairs-long c.in-Some.ensures.1.1)
 
 second : (c : In_ok-share) → HasGrown c.in-Some.others c.in_ok-grown.new c.args.other_pair (links_of c.in_ok-share.field-0.table.value)
     c.in_ok-share.field-0.places.value c.in-Some.ensures.0
 second c =
     rw (c.in_ok-share.ensures.table, c.in_ok-share.ensures.places)
-    (has-grown _ _ _ _ _ c.args.pair _ _ _ c.in-Some.ensures.1.1 (others-some c) c.requires.ends c.in_ok-grown.ensures.grown)
+    (has-grown c.in-Some.ensures.1.1 (others-some c) c.requires.ends c.in_ok-grown.ensures.grown)
 
 pub taking_in-requires-clause-grown : goal.taking_in-requires-clause-grown
 taking_in-requires-clause-grown c = (c.args.self, first (goal.at.taking_in-requires-clause-grown c).In_ok-grown)

@@ -8,17 +8,17 @@ use Rattle.dmf_path.proofs.search.Search.remove.Goals as goal
 
 first : (c : In_ok-left) → HasShrunk c.begun-shared.result.1 c.in_ok-left.gap (links_of c.in_ok-left.left.table.value)
     c.in_ok-left.left.places.value c.args.self
-first c = has-shrunk _ _ _ _ _ _ _ c.begun-shared.ensures.apart c.requires c.in_ok-left.ensures.left
+first c = has-shrunk c.begun-shared.ensures.apart c.requires c.in_ok-left.ensures.left
 
 -- The other search has as many pairs.
 others-two : (c : In_ok-share) → 2 ≤ length c.in-Some.ensures.0.pairs
-others-two c = omega (arith, c.requires, pairs-long _ _ _ _ c.begun-shared.ensures.apart, pairs-long _ _ _ _ c.in-Some.ensures.1.1)
+others-two c = omega (arith, c.requires, pairs-long c.begun-shared.ensures.apart, pairs-long c.in-Some.ensures.1.1)
 
 second : (c : In_ok-share) → HasShrunk c.in-Some.others c.in_ok-left.gap (links_of c.in_ok-share.field-0.table.value)
     c.in_ok-share.field-0.places.value c.in-Some.ensures.0
 second c =
     rw (c.in_ok-share.ensures.table, c.in_ok-share.ensures.places)
-    (has-shrunk _ _ _ _ _ _ _ c.in-Some.ensures.1.1 (others-two c) c.in_ok-left.ensures.left)
+    (has-shrunk c.in-Some.ensures.1.1 (others-two c) c.in_ok-left.ensures.left)
 
 pub leaving_out-other-requires-clause-left : goal.leaving_out-other-requires-clause-left
 leaving_out-other-requires-clause-left c = (_, second (goal.at.leaving_out-other-requires-clause-left c).In_ok-share)

@@ -6,10 +6,11 @@ use Rattle.dmf_links.specs.Links.{Links, IsPlaceOf, pair_at}
 use Rattle.dmf_path.specs.Held.{way_of}
 use Rattle.dmf_path.specs.Residual.{Residual, residual_of, told}
 use Rattle.dmf_path.specs.Search.{Searched, with_pairs, with_rooms}
-use Rattle.dmf_path.specs.Searching.{AreReady, AreKept, IsSearch, IsMarked, Sought, searched, labelling_of, fresh}
+use Rattle.dmf_path.specs.Searching.{AreReady, AreKept, IsSearch, Sought, searched, labelling_of, fresh}
 use Rattle.dmf_links.specs.Numbers.{MayBeNumbered}
+use Rattle.dmf_path.specs.Walk.{AreCurrent}
 use Rattle.dmf_path.proofs.Asides.{aside-none}
-use Rattle.dmf_path.proofs.SearchTurns.{search-next, fresh-mark, told-fresh, searching-set}
+use Rattle.dmf_path.proofs.SearchTurns.{plainly, search-next, fresh-mark, told-fresh, searching-over}
 use Rattle.dmf_links.proofs.PairRead.{place-within}
 use Rattle.dmf_path.proofs.RoomsSet.{pairs-set, pairs-unset}
 use Rattle.dmf_path.proofs.search.Search.set_rooms.Goals.{Joined-not-self, then-not-self, else-not-self}
@@ -26,7 +27,7 @@ record IsAnew (x : Inside) (before : Searched) : Type 0 where
   kept : AreKept x.levels x.is_fresh (told (residual_of x.links) (way_of x.trail))
   none : x.asides.items ≡ []
   marked : x.is_fresh ≡ true
-  same : searched (record { residual = residual_of x.links; start = x.trail.start; goal = x.trail.goal }) x.places.value ≡ before
+  same : searched (plainly (residual_of x.links) (way_of x.trail)) x.places.value ≡ before
 
 anew : (c : Joined-not-self) → IsAnew c.if-not-self.self-inside c.args.self.now
 anew c =
@@ -35,11 +36,8 @@ anew c =
     elim c.if-not-self.branch [
       | then-not-self v ↦
           let e = v.begin_anew.ensures in
-          let is = search-next (residual_of of.links) of.places.value (labelling_of of.levels) (way_of of.trail) (residual_of v.begin_anew.new.links)
-          (labelling_of v.begin_anew.new.levels) (way_of v.begin_anew.new.trail) of.is_fresh true i
-          (ap (λ (s : Sought). s.residual.links) e.same) e.searching (fresh e.fresh) in
-          let none = told-fresh (residual_of v.begin_anew.new.links) (labelling_of v.begin_anew.new.levels) (way_of v.begin_anew.new.trail)
-          (residual_of v.begin_anew.new.links) e.searching e.fresh in
+          let is = search-next i (ap (λ (s : Sought). s.residual.links) e.same) e.searching (fresh e.fresh) in
+          let none = told-fresh (residual_of v.begin_anew.new.links) e.searching e.fresh in
           rw v.self-inside-is (record {
             ready = e.ready;
             numbered = subst (λ l. MayBeNumbered l of.places.value of.numbers) (sym (ap (λ (s : Sought). s.residual.links) e.same)) c.self.invariant.0.1;
@@ -47,17 +45,13 @@ anew c =
             kept = λ all. let no = e.all in absurd (cc);
             none = c.clear.ensures.items;
             marked = refl;
-            same = rw (← c.self.view_is)
-                (ap (λ (x : Residual). searched (record { residual = x; start = v.begin_anew.new.trail.start; goal = v.begin_anew.new.trail.goal })
-                of.places.value)
-                (sym none)
+            same = rw (← c.self.view_is) (ap (λ (x : Residual). searched (plainly x (way_of v.begin_anew.new.trail)) of.places.value) (sym none)
                 ∙ ap (λ (s : Sought). searched s of.places.value) e.same);
           })
       | else-not-self v ↦
           let is_fresh : of.is_fresh ≡ true = v.if-not-self.false in
           let is = subst (IsSearch (residual_of of.links) of.places.value (labelling_of of.levels) (way_of of.trail)) is_fresh i in
-          let none = told-fresh (residual_of of.links) (labelling_of of.levels) (way_of of.trail) (residual_of of.links) is.searching
-          (fresh-mark (residual_of of.links).links (labelling_of of.levels).labels of.trail.start is.marked) in
+          let none = told-fresh (residual_of of.links) is.searching (fresh-mark is.marked) in
           rw v.self-inside-is (record {
             ready = c.self.invariant.0.0;
             numbered = c.self.invariant.0.1;
@@ -65,8 +59,7 @@ anew c =
             kept = c.self.invariant.0.2;
             none = c.clear.ensures.items;
             marked = is_fresh;
-            same = rw (← c.self.view_is)
-                (ap (λ (x : Residual). searched (record { residual = x; start = of.trail.start; goal = of.trail.goal }) of.places.value) (sym none));
+            same = rw (← c.self.view_is) (ap (λ (x : Residual). searched (plainly x (way_of of.trail)) of.places.value) (sym none));
           })
     ]
 
@@ -88,11 +81,10 @@ returns-in_default c =
     let a = anew at in
     let x = c.if-not-self.self-inside in
     let r = residual_of x.links in
-    let none = told-fresh r (labelling_of x.levels) (way_of x.trail) r a.is.searching
-    (fresh-mark r.links (labelling_of x.levels).labels x.trail.start a.is.marked) in
+    let none = told-fresh r a.is.searching (fresh-mark a.is.marked) in
     let unset = pairs-unset r.links x.places.value r.rooms c.args.k c.args.along c.args.against (index at) (rw c.deref.ensures at c.in_default.ensures) in
-    ap (λ (y : Residual). searched (record { residual = y; start = x.trail.start; goal = x.trail.goal }) x.places.value) none
-    ∙ ap (with_pairs (searched (record { residual = r; start = x.trail.start; goal = x.trail.goal }) x.places.value)) (sym unset)
+    ap (λ (y : Residual). searched (plainly y (way_of x.trail)) x.places.value) none
+    ∙ ap (with_pairs (searched (plainly r (way_of x.trail)) x.places.value)) (sym unset)
     ∙ ap (λ (s : Searched). with_pairs s (with_rooms s.pairs c.args.k c.args.along c.args.against)) a.same
 
 pub set_pair-requires-clause-within : goal.set_pair-requires-clause-within
@@ -107,21 +99,17 @@ invariant_of-self-2 c =
     let a = anew (goal.at.invariant_of-self-2 c).Joined-not-self in
     let links = ap (λ (x : Residual). x.links) c.set_pair.ensures in
     let x = c.if-not-self.self-inside in
-    let r = residual_of x.links in
-    let v = labelling_of x.levels in
-    let w = way_of x.trail in
     let next = residual_of c.set_pair.new.self in
-    let mark = fresh-mark r.links v.labels w.start a.is.marked in
+    let over = searching-over next a.is.searching (fresh-mark a.is.marked) (ap (λ (l : Links). l.nodes) links) c.set_pair.new.self.table.value.are
+    c.set_pair.new.self.rooms_are (subst (λ (l : Links). AreCurrent l x.levels.current.items) (sym links) a.is.searching.under_way.walking.current_is) in
     rw a.marked (
       (
         a.ready,
         subst (λ l. MayBeNumbered l x.places.value x.numbers) (sym links) a.numbered,
         λ all. let was = (a.kept all).0 in let is = a.marked in absurd (cc),
-        aside-none x.asides.items (told next w) a.none,
+        aside-none x.asides.items (told next (way_of x.trail)) a.none,
       ),
-      search-next r x.places.value v w next v w true true a.is links (searching-set r v w next a.is.searching mark links c.set_pair.new.self.rooms_are)
-          (subst (λ (l : Links). IsMarked l (labelling_of c.if-not-self.self-inside.levels).labels c.if-not-self.self-inside.trail.start true)
-          (sym links) a.is.marked),
+      search-next a.is links over.0 (fresh over.1),
     )
 
 pub returns : goal.returns
@@ -131,11 +119,9 @@ returns c =
     let x = c.if-not-self.self-inside in
     let r = residual_of x.links in
     let of : IsPlaceOf x.places.value c.args.k c.in-Some.place = rw c.deref.ensures at c.in-Some.ensures in
-    let none = told-fresh r (labelling_of x.levels) (way_of x.trail) (residual_of c.set_pair.new.self) a.is.searching
-    (fresh-mark r.links (labelling_of x.levels).labels x.trail.start a.is.marked) in
-    let set = pairs-set r.links x.places.value r.rooms c.args.k c.args.along c.args.against x.links.table.value.are a.is.places_are x.links.rooms_are.0
+    let none = told-fresh (residual_of c.set_pair.new.self) a.is.searching (fresh-mark a.is.marked) in
+    let set = pairs-set r.rooms c.args.k c.args.along c.args.against x.links.table.value.are a.is.places_are x.links.rooms_are.0
     (index at) (λ none. of.there (of.is ∙ none)) in
-    ap (λ (y : Residual). searched (record { residual = y; start = x.trail.start; goal = x.trail.goal }) x.places.value)
-    (none ∙ (rw of.is at c.set_pair.ensures))
-    ∙ ap (with_pairs (searched (record { residual = r; start = x.trail.start; goal = x.trail.goal }) x.places.value)) set
+    ap (λ (y : Residual). searched (plainly y (way_of x.trail)) x.places.value) (none ∙ (rw of.is at c.set_pair.ensures))
+    ∙ ap (with_pairs (searched (plainly r (way_of x.trail)) x.places.value)) set
     ∙ ap (λ (s : Searched). with_pairs s (with_rooms s.pairs c.args.k c.args.along c.args.against)) a.same

@@ -2,12 +2,10 @@
 use Rattle.std.proofs.Common.{ap, sym, subst}
 use Rattle.dmf_path.specs.Held.{way_of}
 use Rattle.dmf_path.specs.Residual.{Residual, residual_of}
-use Rattle.dmf_path.specs.Searching.{Sought, sought, searched, labelling_of}
-use Rattle.dmf_path.proofs.Asides.{aside-same}
-use Rattle.dmf_path.proofs.Lasting.{lasting}
+use Rattle.dmf_path.specs.Searching.{Sought, searched, labelling_of, AreAside, AreKept, IsMarked}
 use Rattle.dmf_path.proofs.Settling.{can-settle}
 use Rattle.dmf_links.specs.Numbers.{MayBeNumbered}
-use Rattle.dmf_path.proofs.SearchTurns.{search-settled, sought-settled}
+use Rattle.dmf_path.proofs.SearchTurns.{search-next, searching-settled, sought-settled}
 use Rattle.dmf_path.proofs.search.Search.settle.Goals as goal
 
 pub settle-requires : goal.settle-requires
@@ -15,30 +13,22 @@ settle-requires c = record { can = can-settle c.self.invariant.1.searching }
 
 pub invariant_of-self : goal.invariant_of-self
 invariant_of-self c =
-    let of = c.self.inside in (
+    let of = c.self.inside in
+    let i = c.self.invariant in
+    let e = c.settle.ensures in
+    let same = sym (sought-settled (residual_of of.links) (way_of of.trail) e.links e.way) in (
       (
-        c.self.invariant.0.0,
-        subst (λ l. MayBeNumbered l of.places.value of.numbers) (sym (ap (λ (x : Residual). x.links) c.settle.ensures.links)) c.self.invariant.0.1,
-        λ all.
-            let was = c.self.invariant.0.2 all in (
-              was.0,
-              lasting (labelling_of of.levels) of.levels.stepped_back (sought (residual_of c.settle.new.links) (way_of c.settle.new.self))
-                  (sought (residual_of of.links) (way_of of.trail))
-                  (sought-settled (residual_of of.links) (way_of of.trail) (residual_of c.settle.new.links)
-                  (way_of c.settle.new.self) c.settle.ensures.links c.settle.ensures.way) was.1,
-            ),
-        aside-same of.asides.items (sought (residual_of c.settle.new.links) (way_of c.settle.new.self)) (sought (residual_of of.links) (way_of of.trail))
-            (sought-settled (residual_of of.links) (way_of of.trail) (residual_of c.settle.new.links)
-            (way_of c.settle.new.self) c.settle.ensures.links c.settle.ensures.way) c.self.invariant.0.3,
+        i.0.0,
+        subst (λ (s : Sought). MayBeNumbered s.residual.links of.places.value of.numbers) same i.0.1,
+        subst (λ (s : Sought). AreKept of.levels of.is_fresh s.residual) same i.0.2,
+        subst (λ (s : Sought). AreAside of.asides.items s.residual) same i.0.3,
       ),
-      search-settled (residual_of of.links) of.places.value (labelling_of of.levels) (way_of of.trail) (residual_of c.settle.new.links)
-          (way_of c.settle.new.self) of.is_fresh
-          c.self.invariant.1 c.settle.ensures.links c.settle.ensures.way,
+      search-next i.1 (ap (λ (x : Residual). x.links) e.links) (searching-settled i.1.searching e.links e.way)
+          (subst (λ (s : Sought). IsMarked s.residual.links (labelling_of of.levels).labels s.start of.is_fresh) same i.1.marked),
     )
 
 pub returns : goal.returns
 returns c =
     let of = c.self.inside in
     rw (← c.self.view_is) (ap (λ (s : Sought). searched s of.places.value)
-    (sought-settled (residual_of of.links) (way_of of.trail) (residual_of c.settle.new.links)
-    (way_of c.settle.new.self) c.settle.ensures.links c.settle.ensures.way))
+    (sought-settled (residual_of of.links) (way_of of.trail) c.settle.ensures.links c.settle.ensures.way))

@@ -32,16 +32,11 @@ are c = record {
 
 pub returns-clause-shared : goal.returns-clause-shared
 returns-clause-shared c =
-    let shared = c.args.shared in
-    let l = links_of shared.table.value in
-    let places = shared.places.value in
-    let n = links_of c.in-Ok.table.value in
-    let after = c.in-Ok-new.places.value in
-    let grown = are (goal.at.returns-clause-shared c).In-Ok-new in
-    let links = shared.table.value.are in
+    let links = c.args.shared.table.value.are in
     let before = c.requires.shared in
+    let grown = are (goal.at.returns-clause-shared c).In-Ok-new in
     record {
-      places = places-grown l places c.args.pair c.place_pair-new.result n after links before.places grown c.requires.some c.requires.few;
-      numbers = numbered-with l places c.args.pair c.place_pair-new.result n after links before.places grown c.requires.some shared.numbers
-          c.grow_numbers-numbers.result before.numbers (rw (c.len.ensures, c.deref-3.ensures) at c.grow_numbers-numbers.ensures);
+      places = places-grown links before.places grown c.requires.some c.requires.few;
+      numbers = numbered-with links before.places grown c.requires.some before.numbers
+          (rw (c.len.ensures, c.deref-3.ensures) at c.grow_numbers-numbers.ensures);
     }

@@ -20,16 +20,14 @@ loop-k-init g c = record {
 pub unwrap-place-requires : goal.unwrap-place-requires
 unwrap-place-requires g c =
     has-place _ c.args.places.now c.loop-k.k c.place_of.ensures
-    (is-read (links_of c.args.table.now) c.args.places.now (g.P.Pairs.pairs c.args.pairs.now) c.loop-k.k c.in-Some.pair c.args.table.now.are c.requires.places
-    c.requires.same_ends c.in-Some.ensures).there
+    (is-read _ _ _ c.loop-k.k c.in-Some.pair c.args.table.now.are c.requires.places c.requires.same_ends c.in-Some.ensures).there
 
 -- The place is that of the pair's link along.
 place : (g : _) (c : After-unwrap-place g) → IsPlaceOf c.args.places.now c.loop-k.k c.unwrap-place.result
 place g c = rw c.unwrap-place.ensures at c.place_of.ensures
 
 at : (g : _) (c : After-unwrap-place g) → IsAt (links_of c.args.table.now) c.args.places.now c.loop-k.k
-at g c = is-read (links_of c.args.table.now) c.args.places.now (g.P.Pairs.pairs c.args.pairs.now) c.loop-k.k c.in-Some.pair c.args.table.now.are
-    c.requires.places c.requires.same_ends c.in-Some.ensures
+at g c = is-read _ _ _ c.loop-k.k c.in-Some.pair c.args.table.now.are c.requires.places c.requires.same_ends c.in-Some.ensures
 
 pub put_pair-requires-clause-place : goal.put_pair-requires-clause-place
 put_pair-requires-clause-place g c =
@@ -39,8 +37,7 @@ put_pair-requires-clause-place g c =
 pub put_pair-requires-clause-zero : goal.put_pair-requires-clause-zero
 put_pair-requires-clause-zero g c =
     let here = (goal.at.put_pair-requires-clause-zero g c).After-unwrap-place in
-    let apart = apart-ends (links_of c.args.table.now) c.args.places.now (g.P.Pairs.pairs c.args.pairs.now) c.args.table.now.are c.requires.places
-    c.requires.same_ends in
+    let apart = apart-ends _ _ _ c.args.table.now.are c.requires.places c.requires.same_ends in
     ap (λ q. get_or c.loop-k.rooms q 0) (place g here).is
     ∙ clear-along c.loop-k.k c.loop-k.rooms c.in-Some.pair apart c.in-Some.ensures c.loop-k.invariant.clear
 

@@ -7,12 +7,12 @@ over-requires-clause-apart c =
     let left = c.args.left in
     let s = c.requires.left.0 in (
       _,
-      apart-without _ c.args.gap.now _ _ s c.take_two.new.items c.take_two-2.new.items c.requires.left.1 left.table.value.are c.requires.shared.places
+      apart-without c.take_two.new.items c.take_two-2.new.items c.requires.left.1 left.table.value.are c.requires.shared.places
           c.take_two.ensures c.take_two-2.ensures,
     )
 
 pub returns : goal.returns
 returns c s h =
     let left = c.args.left in
-    c.over.ensures _ (apart-without _ c.args.gap.now _ _ s c.take_two.new.items c.take_two-2.new.items h left.table.value.are c.requires.shared.places
+    c.over.ensures _ (apart-without c.take_two.new.items c.take_two-2.new.items h left.table.value.are c.requires.shared.places
     c.take_two.ensures c.take_two-2.ensures)

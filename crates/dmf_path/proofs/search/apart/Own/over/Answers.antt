@@ -3,10 +3,10 @@ use Rattle.std.proofs.Common.{ℕ, true, List, ap, sym, ◌∙◌, subst}
 use Rattle.dmf_path.specs.Held.{way_of}
 use Rattle.dmf_links.specs.LinkTable.{links_of}
 use Rattle.dmf_path.specs.Residual.{Residual}
-use Rattle.dmf_path.specs.Searching.{searched, labelling_of, IsSearch}
+use Rattle.dmf_path.specs.Searching.{searched, IsSearch, fresh}
 use Rattle.dmf_path.specs.Walk.{AreCurrent}
 use Rattle.dmf_path.proofs.Asides.{aside-none}
-use Rattle.dmf_path.proofs.SearchTurns.{search-over, told-fresh}
+use Rattle.dmf_path.proofs.SearchTurns.{searching-over, told-fresh}
 use Rattle.dmf_path.proofs.search.apart.Own.over.Goals as goal
 
 pub invariant_of-links : goal.invariant_of-links
@@ -22,8 +22,7 @@ invariant_of-result c =
     let places = shared.places.value in
     let current : List ℕ = c.over-levels.result.current.items in
     let at_first : AreCurrent next.links current = rw c.deref.ensures at o.current in
-    let found = search-over b.residual (labelling_of own.levels) (way_of own.trail) next places current b.searching b.fresh
-    (sym b.nodes_are) shared.table.value.are c.requires.shared.places c.requires.apart.1.rooms at_first in (
+    let found = searching-over next b.searching b.fresh (sym b.nodes_are) shared.table.value.are c.requires.apart.1.rooms at_first in (
       (
         rw (o.near, o.far) b.ready,
         c.requires.shared.numbers,
@@ -31,7 +30,7 @@ invariant_of-result c =
         aside-none _ _ c.clear.ensures.items,
       ),
       subst (λ (labels : List ℕ). IsSearch next places (record { labels = labels; current = current }) (way_of own.trail) true)
-          (ap (λ near. near.labels.items) (sym o.near)) found,
+          (ap (λ near. near.labels.items) (sym o.near)) (record { places_are = c.requires.shared.places; searching = found.0; marked = fresh found.1 }),
     )
 
 pub returns : goal.returns
@@ -41,6 +40,5 @@ returns c s apart =
     let w = way_of own.trail in
     let shared = c.args.shared in
     let next : Residual = record { links = links_of shared.table.value; takes_back = own.takes_back; rooms = own.rooms.items } in
-    ap (λ (x : Residual). searched (record { residual = x; start = w.start; goal = w.goal }) shared.places.value)
-    (told-fresh b.residual (labelling_of own.levels) w next b.searching b.fresh)
+    ap (λ (x : Residual). searched (record { residual = x; start = w.start; goal = w.goal }) shared.places.value) (told-fresh next b.searching b.fresh)
     ∙ apart.same

@@ -10,49 +10,33 @@ pub with_rooms_of-new-requires-clause-ends : goal.with_rooms_of-new-requires-cla
 with_rooms_of-new-requires-clause-ends c = let h = c.requires.grown.1 in (h.first, (h.grown.pair, h.ends))
 
 pub put_two-requires-clause-order : goal.put_two-requires-clause-order
-put_two-requires-clause-order c =
-    let w = c.with_rooms_of-new.ensures in
-    order-with c.args.self c.args.new.now c.with_rooms_of-new.result c.args.pair _ _ c.requires.grown.0 c.requires.grown.1 w.pair w.gap w.place
+put_two-requires-clause-order c = let w = c.with_rooms_of-new.ensures in order-with c.requires.grown.1 w.pair w.gap w.place
 
 pub put_two-requires-clause-within : goal.put_two-requires-clause-within
 put_two-requires-clause-within c =
     let w = c.with_rooms_of-new.ensures in
     let h = c.requires.grown.1 in
-    omega (
-      arith,
-      within-with c.args.self c.args.new.now c.with_rooms_of-new.result c.args.pair _ _ c.requires.grown.0 h w.pair w.gap w.place,
-      h.apart.rooms.0,
-    )
+    omega (arith, within-with h w.pair w.gap w.place, h.apart.rooms.0)
 
 pub put_two-requires-2-clause-order : goal.put_two-requires-2-clause-order
-put_two-requires-2-clause-order c =
-    let w = c.with_rooms_of-new.ensures in
-    order-with c.args.self c.args.new.now c.with_rooms_of-new.result c.args.pair _ _ c.requires.grown.0 c.requires.grown.1 w.pair w.gap w.place
+put_two-requires-2-clause-order c = let w = c.with_rooms_of-new.ensures in order-with c.requires.grown.1 w.pair w.gap w.place
 
 pub put_two-requires-2-clause-within : goal.put_two-requires-2-clause-within
 put_two-requires-2-clause-within c =
     let w = c.with_rooms_of-new.ensures in
     let h = c.requires.grown.1 in
-    omega (
-      arith,
-      within-with c.args.self c.args.new.now c.with_rooms_of-new.result c.args.pair _ _ c.requires.grown.0 h w.pair w.gap w.place,
-      h.apart.flags.0,
-    )
+    omega (arith, within-with h w.pair w.gap w.place, h.apart.flags.0)
 
 pub over-requires-clause-apart : goal.over-requires-clause-apart
 over-requires-clause-apart c =
-    let w = c.with_rooms_of-new.ensures in
-    let grown = c.args.grown in (
+    let w = c.with_rooms_of-new.ensures in (
       _,
-      apart-with c.args.self c.args.new.now c.with_rooms_of-new.result c.args.pair _ _ c.requires.grown.0 c.requires.grown.1 w.pair w.gap w.place
-          c.in_ok-rooms.rooms c.in_ok-flags.flags grown.table.value.are c.requires.shared.places c.requires.fits c.in_ok-rooms.ensures
-          (rw (c.open_flag-low_flag.ensures, c.open_flag-high_flag.ensures) at c.in_ok-flags.ensures),
+      apart-with c.requires.grown.1 w.pair w.gap w.place c.in_ok-self.field-0 c.in_ok-self-2.field-0 c.args.grown.table.value.are c.requires.shared.places
+          c.requires.fits c.in_ok-self.ensures (rw (c.open_flag-low_flag.ensures, c.open_flag-high_flag.ensures) at c.in_ok-self-2.ensures),
     )
 
 pub returns : goal.returns
 returns c s h =
     let w = c.with_rooms_of-new.ensures in
-    let grown = c.args.grown in
-    c.over.ensures _ (apart-with c.args.self c.args.new.now c.with_rooms_of-new.result c.args.pair _ _ s h w.pair w.gap w.place
-    c.in_ok-rooms.rooms c.in_ok-flags.flags grown.table.value.are c.requires.shared.places c.requires.fits c.in_ok-rooms.ensures
-    (rw (c.open_flag-low_flag.ensures, c.open_flag-high_flag.ensures) at c.in_ok-flags.ensures))
+    c.over.ensures _ (apart-with h w.pair w.gap w.place c.in_ok-self.field-0 c.in_ok-self-2.field-0 c.args.grown.table.value.are c.requires.shared.places
+    c.requires.fits c.in_ok-self.ensures (rw (c.open_flag-low_flag.ensures, c.open_flag-high_flag.ensures) at c.in_ok-self-2.ensures))

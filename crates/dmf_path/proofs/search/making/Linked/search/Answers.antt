@@ -3,11 +3,11 @@ use Rattle.std.proofs.Common.{[], ap, sym, subst, arith}
 use Rattle.std.specs.Vec.{vec_capacity}
 use Rattle.dmf_links.specs.LinkTable.{links_of}
 use Rattle.dmf_path.specs.Walk.{AreCurrent}
-use Rattle.dmf_path.specs.Held.{Way, way_of}
+use Rattle.dmf_path.specs.Held.{Way}
 use Rattle.dmf_path.specs.Residual.{Residual}
-use Rattle.dmf_path.specs.Searching.{labelling_of, Sought, searched}
+use Rattle.dmf_path.specs.Searching.{labelling_of, Sought, searched, fresh}
 use Rattle.dmf_path.proofs.Asides.{aside-none}
-use Rattle.dmf_path.proofs.SearchTurns.{search-new, sought-free}
+use Rattle.dmf_path.proofs.SearchTurns.{searching-new, sought-free}
 use Rattle.dmf_path.proofs.search.making.Linked.search.Goals as goal
 use Rattle.dmf_path.proofs.search.making.Linked.search.Goals.{In_ok-slots}
 
@@ -38,15 +38,14 @@ invariant_of-result c =
     let l = links_of table in
     let m = rw c.deref-5.ensures at c.make_fresh.ensures in
     let current : AreCurrent l c.make_fresh.new.levels.current.items =
-    subst (AreCurrent l) (sym (ap (λ v. v.items) m.current)) (rw c.deref-3.ensures at c.in_ok-levels.ensures.current) in (
+    subst (AreCurrent l) (sym (ap (λ v. v.items) m.current)) (rw c.deref-3.ensures at c.in_ok-levels.ensures.current) in
+    let new = searching-new {r = residual at} (labelling_of c.make_fresh.new.levels) (way at) table.are c.requires.rooms (omega arith) c.requires.start
+    c.requires.goal c.requires.apart (omega (arith, rw c.deref-4.ensures at c.in_ok-slots.ensures.capacity)) m.labels current m.way in (
       ((table.nodes, m.ready), tt, λ e. let no = m.all in absurd (cc), aside-none _ _ c.new-2.ensures.items),
-      search-new (residual at) c.args.self.places.value (labelling_of c.make_fresh.new.levels) (way at) (way_of c.make_fresh.new.trail)
-          table.are c.requires.places
-          c.requires.rooms m.labels current c.requires.start c.requires.goal c.requires.apart
-          (omega (arith, rw c.deref-4.ensures at c.in_ok-slots.ensures.capacity)) (omega arith) m.way,
+      record { places_are = c.requires.places; searching = new.0; marked = fresh new.1 },
     )
 
 pub returns : goal.returns
 returns c =
     let at = (goal.at.returns c).In_ok-slots in
-    ap (λ (s : Sought). searched s c.args.self.places.value) (sought-free (residual at) (way at) (way_of c.make_fresh.new.trail) [] c.make_fresh.ensures.way)
+    ap (λ (s : Sought). searched s c.args.self.places.value) (sought-free (residual at) (way at) [] c.make_fresh.ensures.way)
