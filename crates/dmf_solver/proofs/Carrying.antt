@@ -1,55 +1,29 @@
 -- The flow on an arc comes back to the arc's tail, along arcs that carry flow, and over the return link from the sink to the source if
 -- the value is positive.
-use Rattle.std.proofs.Common.{ℕ, suc, ◌≡◌, ◌<◌, ◌≤◌, ◌&&◌, List, [], ◌∷◌, get_or, length, Bool, true, false, not, cond, refl, ap, sym, ◌∙◌, arith, ⊎_elim, pos}
+use Rattle.std.proofs.Common.{ℕ, ◌≡◌, ◌<◌, List, get_or, length, Bool, true, false, ap, sym, ◌∙◌, arith, ⊎_elim, pos}
 use Rattle.std.proofs.Common.{◌≤ℤ◌, ◌<ℤ◌}
-use Rattle.std.specs.List.{zip, Contains}
-use Rattle.std.proofs.lemmas.Bool.{cases_lt, cases_Bool, true_from_ne_false, both_ways}
+use Rattle.std.specs.List.{Contains}
+use Rattle.std.proofs.lemmas.Bool.{cases_Bool, true_from_ne_false, both_ways}
 use Rattle.std.proofs.lemmas.Int.{ints, by_lt_z}
-use Rattle.std.proofs.lemmas.List.Sums.{sum_by-cons, get_or-le-sum_by}
-use Rattle.std.proofs.lemmas.Slice.Zip.{AllZip-long, get_or-zip, length-zip}
+use Rattle.std.proofs.lemmas.Slice.Zip.{AllZip-long}
 use Rattle.dmf_state.specs.declared.arc.Arc.{Arc}
 use Rattle.dmf_path.specs.Step.{Step}
 use Rattle.dmf_state.specs.Network.{Network, IsNetwork}
 use Rattle.dmf_state.specs.Flow.{IsFlow, flow_value}
 use Rattle.dmf_path.specs.Path.{HasNoPath}
 use Rattle.dmf_state.specs.Arc.{no_arc}
-use Rattle.dmf_solver.proofs.Crossing.{leaving, entering, value-across, value-across_back, none-across, none-across_both}
+use Rattle.dmf_solver.proofs.Crossing.{entering, value-across, value-across_back, none-across, none-across_both, across-none, across-at}
 use Rattle.dmf_solver.proofs.Reached.{IsClosed, ArriveAtNodes, path-not_none}
 
 -- No flow leaves the set: if an arc from a node of the set carries flow, the set has the arc's head.
 abbrev pub KeepsFlow : List Arc → List ℕ → (ℕ → Bool) → Type 0
 KeepsFlow arcs flows has = (k : ℕ) → k < length arcs → 0 < get_or flows k 0 → has (get_or arcs k no_arc).tail ≡ true → has (get_or arcs k no_arc).head ≡ true
 
-none_out : (a b : Bool) (x : ℕ) → (0 < x → a ≡ true → b ≡ true) → cond (a && not b) x 0 ≡ 0
-none_out true true x keeps = refl
-none_out true false x keeps = ⊎_elim (λ (some : 0 < x). absurd (both_ways false refl (keeps some refl))) (λ (none : x ≤ 0). omega (arith, none)) (cases_lt 0 x)
-none_out false b x keeps = refl
-
--- So the flow out of it is 0.
-pub keeps-leaving : (arcs : List Arc) (flows : List ℕ) (has : ℕ → Bool) → KeepsFlow arcs flows has → leaving arcs flows has ≡ 0
-keeps-leaving [] flows has keeps = refl
-keeps-leaving (arc ∷ arcs) [] has keeps = refl
-keeps-leaving (arc ∷ arcs) (flow ∷ flows) has keeps =
-    let out : Arc × ℕ → ℕ = λ p. cond (has p.0.tail && not (has p.0.head)) p.1 0 in
-    let here = none_out (has arc.tail) (has arc.head) flow (keeps 0 (omega arith)) in
-    let rest = keeps-leaving arcs flows has (λ k h some tail. keeps (suc k) (omega (arith, h)) some tail) in
-    omega (arith, here, rest, sum_by-cons out (arc, flow) (zip arcs flows))
-
--- The flow on an arc that leads into the set is part of the flow that enters it.
-pub flow-le_entering : (arcs : List Arc) (flows : List ℕ) (has : ℕ → Bool) (k : ℕ) → k < length arcs → k < length flows
-    → has (get_or arcs k no_arc).tail ≡ false → has (get_or arcs k no_arc).head ≡ true → get_or flows k 0 ≤ entering arcs flows has
-flow-le_entering arcs flows has k h l tail head =
-    let into : Arc × ℕ → ℕ = λ p. cond (not (has p.0.tail) && has p.0.head) p.1 0 in
-    let long : k < length (zip arcs flows) = rw length-zip (omega arith) in
-    let part = get_or-le-sum_by into (zip arcs flows) k (no_arc, 0) long in
-    let read = get_or-zip arcs flows k (no_arc, 0) h l in
-    rw (tail, head) at (rw read at part)
-
 -- No flow enters a set that no flow leaves, by an arc or over the return link, if the value is not negative.
 pub keeps-entering : (n : Network) (flows : List ℕ) (has : ℕ → Bool) → IsNetwork n → IsFlow n flows → pos 0 ≤ℤ flow_value n flows → KeepsFlow n.arcs flows has
     → (pos 0 <ℤ flow_value n flows → has n.sink ≡ true → has n.source ≡ true) → entering n.arcs flows has ≡ 0
 keeps-entering n flows has network flow from_zero keeps returns =
-    let none = keeps-leaving n.arcs flows has keeps in
+    let none = across-none (λ a. a.tail) (λ a. a.head) (λ p. p.1) has n.arcs flows keeps in
     ⊎_elim
     (λ (source : has n.source ≡ true). ⊎_elim
     (λ (sink : has n.sink ≡ true). omega (arith, none, none-across_both n flows has network flow.conserved source sink))
@@ -71,7 +45,7 @@ pub keeps-tail : (n : Network) (flows : List ℕ) (has : ℕ → Bool) (k : ℕ)
 keeps-tail n flows has k network flow from_zero keeps returns h some head =
     true_from_ne_false (has (get_or n.arcs k no_arc).tail) (λ tail.
     let same = AllZip-long _ n.arcs flows flow.within in
-    let part = flow-le_entering n.arcs flows has k h (omega (arith, same, h)) tail head in
+    let part = across-at (λ a. a.head) (λ a. a.tail) (λ p. p.1) has n.arcs flows k same h head tail in
     omega (arith, part, some, keeps-entering n flows has network flow from_zero keeps returns))
 
 -- The steps have one from the tail to the head of each arc that carries flow, and one from the sink to the source if the value is

@@ -1,10 +1,11 @@
 -- Each carrying step of a flow leads along an arc that carries flow, or is the return link.
-use Rattle.std.proofs.Common.{ℕ, ◌≡◌, ◌+◌, ◌-◌, ◌*◌, ◌<◌, ◌≤◌, List, [], ◌∷◌, ◌++◌, length, get_or, zero, suc, Bool, true, false, cond, ltb, sym, subst, ap}
-use Rattle.std.proofs.Common.{refl, arith, ⊎_elim, append_assoc, pos, ◌≤ℤ◌}
-use Rattle.std.specs.List.{Contains, All, AllPairs}
-use Rattle.std.proofs.lemmas.Bool.{ltb-true, lt-ltb}
+use Rattle.std.proofs.Common.{ℕ, ◌≡◌, ◌+◌, ◌*◌, ◌<◌, ◌≤◌, List, length, get_or, ◌-◌, true, ltb, sym, subst}
+use Rattle.std.proofs.Common.{refl, arith, ⊎_elim, pos, ◌≤ℤ◌}
+use Rattle.std.specs.List.{Contains}
+use Rattle.std.proofs.lemmas.Bool.{ltb-true, lt-ltb, cases_lt}
+use Rattle.std.proofs.lemmas.List.{get_or_past}
 use Rattle.std.proofs.lemmas.Int.{ints}
-use Rattle.std.proofs.lemmas.List.Elements.{All-contains, Contains-get_or, Contains-append_cases, Contains-append_left, Contains-append_right}
+use Rattle.std.proofs.lemmas.List.Elements.{Contains-get_or, Contains-append_cases, Contains-append_left, Contains-append_right}
 use Rattle.dmf_state.specs.declared.arc.Arc.{Arc}
 use Rattle.dmf_path.specs.Step.{Step}
 use Rattle.dmf_node.specs.Node.{IsNode}
@@ -14,7 +15,8 @@ use Rattle.dmf_state.specs.Flow.{flow_on, IsFlow, flow_value}
 use Rattle.dmf_path.specs.Steps.{IsStep, AreSteps}
 use Rattle.dmf_solver.specs.Drain.{carried, carried_from, value_or_zero, return_link, carrying_steps}
 use Rattle.dmf_state.proofs.ChangedArc.{has_arc-within}
-use Rattle.dmf_solver.proofs.ResidualSteps.{LeadsAlong, in-optional, IsBefore, ascending-optional}
+use Rattle.dmf_solver.proofs.ByArc.{ByArc, step-at, has-step, optional-each, optional-has, optional-ascends, ascending-append, ascending-by_arc}
+use Rattle.dmf_solver.proofs.ResidualSteps.{LeadsAlong}
 use Rattle.dmf_solver.proofs.Carrying.{CarryFlow, path_back-not_none}
 use Rattle.dmf_path.proofs.SomeLeast.{SomePath, SomeLeast, path-or-none, least-path}
 
@@ -38,66 +40,52 @@ pub data IsCarrying (n : Network) (flows : List ℕ) (s : Step) : Type 0 where
   along : CarriesAlong 1 n.arcs flows s → IsCarrying n flows s
   returns : IsReturnLink n flows s → IsCarrying n flows s
 
--- one more arc in front
-carries-behind : (j : ℕ) (a : Arc) (arcs : List Arc) (x : ℕ) (flows : List ℕ) (s : Step) → CarriesAlong (j + 1) arcs flows s
-    → CarriesAlong j (a ∷ arcs) (x ∷ flows) s
-carries-behind j a arcs x flows s c = record {
-  index = suc c.index;
-  leads = record { within = omega (arith, c.leads.within); rank_is = omega (arith, c.leads.rank_is); tail = c.leads.tail; head = c.leads.head };
-  room_is = c.room_is;
-  has_room = c.has_room;
+-- the steps along the arcs that carry flow, arc by arc
+abbrev pub by_carried : ByArc
+by_carried = record {
+  own = carried;
+  all = carried_from;
+  none = λ j flows. refl;
+  short = λ j arc arcs. refl;
+  more = λ j arc arcs flow flows. refl;
 }
 
-carries-first : (j : ℕ) (a : Arc) (arcs : List Arc) (x : ℕ) (flows : List ℕ) (s : Step) → Contains (carried j a x) s → CarriesAlong j (a ∷ arcs) (x ∷ flows) s
-carries-first j a arcs x flows s c =
-    let step : Step = record { from = a.tail; to = a.head; rank = 2 * j; room = x } in
-    let told = in-optional (ltb 0 x) step s c in
-    let less : 0 < x = ltb-true 0 x told.0 in
-    let rank : 2 * j ≡ s.rank = ap (λ (t : Step). t.rank) told.1 in
-    let room : x ≡ s.room = ap (λ (t : Step). t.room) told.1 in
-    record {
-      index = 0;
-      leads = record {
-        within = omega arith;
-        rank_is = omega arith;
-        tail = sym (ap (λ (t : Step). t.from) told.1);
-        head =
-            sym (ap (λ (t : Step). t.to) told.1);
-      };
-      room_is = sym room;
-      has_room = omega arith;
-    }
+-- the step along an arc, and the return link
+abbrev along_arc : ℕ → Arc → ℕ → Step
+along_arc j arc flow = record { from = arc.tail; to = arc.head; rank = 2 * j; room = flow }
 
--- each step of the list is of this kind
+abbrev link : Network → List ℕ → Step
+link n flows = record { from = n.sink; to = n.source; rank = 2 * length n.arcs + 2; room = value_or_zero n flows }
+
+-- What holds of the step of an arc holds of each of its steps,
+pub carried-each : (P : Step → Type 0) (j : ℕ) (arc : Arc) (flow : ℕ) (s : Step)
+    → (0 < flow → P (record { from = arc.tail; to = arc.head; rank = 2 * j; room = flow })) → Contains (carried j arc flow) s → P s
+carried-each P j arc flow s holds c = optional-each P (ltb 0 flow) (along_arc j arc flow) s (λ some. holds (ltb-true 0 flow some)) c
+
+-- and each step of the list is of this kind.
 carried-contained : (j : ℕ) (arcs : List Arc) (flows : List ℕ) (s : Step) → Contains (carried_from j arcs flows) s → CarriesAlong j arcs flows s
-carried-contained j [] flows s c = absurd (omega (arith, c.1))
-carried-contained j (a ∷ arcs) [] s c = absurd (omega (arith, c.1))
-carried-contained j (a ∷ arcs) (x ∷ flows) s c =
-    ⊎_elim
-    (carries-first j a arcs x flows s)
-    (λ (later : Contains (carried_from (j + 1) arcs flows) s). carries-behind j a arcs x flows s (carried-contained (j + 1) arcs flows s later))
-    (Contains-append_cases (carried j a x) (carried_from (j + 1) arcs flows) s c)
+carried-contained j arcs flows s c =
+    let at = step-at by_carried j arcs flows s c in
+    carried-each (CarriesAlong j arcs flows) (j + at.index) (get_or arcs at.index no_arc) (get_or flows at.index 0) s
+    (λ some. record {
+      index = at.index;
+      leads = record { within = at.within; rank_is = refl; tail = refl; head = refl };
+      room_is = refl;
+      has_room = some;
+    })
+    at.has
 
 link-contained : (n : Network) (flows : List ℕ) (s : Step) → Contains (return_link n flows) s → IsReturnLink n flows s
 link-contained n flows s c =
-    let link : Step = record { from = n.sink; to = n.source; rank = 2 * length n.arcs + 2; room = value_or_zero n flows } in
-    let told = in-optional (ltb 0 (value_or_zero n flows)) link s c in
-    let less : 0 < value_or_zero n flows = ltb-true 0 (value_or_zero n flows) told.0 in
-    let room : value_or_zero n flows ≡ s.room = ap (λ (t : Step). t.room) told.1 in
-    record {
-      from_sink = sym (ap (λ (t : Step). t.from) told.1);
-      to_source = sym (ap (λ (t : Step). t.to) told.1);
-      rank_is = sym (ap (λ (t : Step). t.rank) told.1);
-      room_is = sym room;
-      has_room = omega (arith, less, room);
-    }
+    optional-each (IsReturnLink n flows) (ltb 0 (value_or_zero n flows)) (link n flows) s
+    (λ some. record { from_sink = refl; to_source = refl; rank_is = refl; room_is = refl; has_room = ltb-true 0 (value_or_zero n flows) some }) c
 
 -- Each carrying step leads along an arc that carries flow, or is the return link.
 pub carrying-contained : (n : Network) (flows : List ℕ) (s : Step) → Contains (carrying_steps n flows) s → IsCarrying n flows s
 carrying-contained n flows s c =
     ⊎_elim
     (λ (own : Contains (carried_from 1 n.arcs flows) s). along (carried-contained 1 n.arcs flows s own))
-    (λ (link : Contains (return_link n flows) s). returns (link-contained n flows s link))
+    (λ (last : Contains (return_link n flows) s). returns (link-contained n flows s last))
     (Contains-append_cases (carried_from 1 n.arcs flows) (return_link n flows) s c)
 
 -- Each carrying step has room.
@@ -113,78 +101,33 @@ IsStep-carrying n flows s network (along c) =
 IsStep-carrying n flows s network (returns c) =
     (subst (IsNode n.nodes) (sym c.from_sink) network.sink, subst (IsNode n.nodes) (sym c.to_source) network.source)
 
--- the ranks of the steps after the first arc's are greater than its rank
-ranks-behind : (j : ℕ) (arcs : List Arc) (flows : List ℕ) (after : List Step) (s : Step) → s.rank ≡ 2 * j → All (λ t. 2 * (j + 1) ≤ t.rank) after
-    → All (IsBefore s) (carried_from (j + 1) arcs flows ++ after)
-ranks-behind j arcs flows after s first greater k d h =
-    let steps = carried_from (j + 1) arcs flows in
-    let t : Step = get_or (steps ++ after) k d in
-    ⊎_elim
-    (λ (own : Contains steps t). let c = carried-contained (j + 1) arcs flows t own in omega (arith, c.leads.rank_is, first))
-    (λ (own : Contains after t). let le = All-contains (λ u. 2 * (j + 1) ≤ u.rank) after t greater own in omega (arith, le, first))
-    (Contains-append_cases steps after t (Contains-get_or (steps ++ after) k d h))
-
--- the steps of the arcs, and steps of greater ranks after them, are in the order of their ranks
-ascending-carried : (j : ℕ) (arcs : List Arc) (flows : List ℕ) (after : List Step) → All (λ t. 2 * (j + length arcs) ≤ t.rank) after → AllPairs IsBefore after
-    → AllPairs IsBefore (carried_from j arcs flows ++ after)
-ascending-carried j [] flows after greater ascending = ascending
-ascending-carried j (a ∷ arcs) [] after greater ascending = ascending
-ascending-carried j (a ∷ arcs) (x ∷ flows) after greater ascending =
-    let first : Step = record { from = a.tail; to = a.head; rank = 2 * j; room = x } in
-    rw (append_assoc (carried j a x) (carried_from (j + 1) arcs flows) after)
-    (ascending-optional (ltb 0 x) first (carried_from (j + 1) arcs flows ++ after)
-    (ranks-behind j arcs flows after first refl (λ k d h. omega (arith, greater k d h)))
-    (ascending-carried (j + 1) arcs flows after (λ k d h. omega (arith, greater k d h)) ascending))
-
-one-ascends : (b : Bool) (s : Step) → AllPairs IsBefore (cond b (s ∷ []) [])
-one-ascends true s = λ i k d less h. absurd (omega (arith, less, h))
-one-ascends false s = λ i k d less h. absurd (omega (arith, h))
-
 -- The carrying steps are steps between nodes in the order of their ranks.
 pub AreSteps-carrying : (n : Network) (flows : List ℕ) → IsNetwork n → AreSteps n.nodes (carrying_steps n flows)
-AreSteps-carrying n flows network =
-    let link : Step = record { from = n.sink; to = n.source; rank = 2 * length n.arcs + 2; room = value_or_zero n flows } in
-    record {
-      between = λ k d h. IsStep-carrying n flows _ network (carrying-contained n flows _ (Contains-get_or (carrying_steps n flows) k d h));
-      ascending = ascending-carried 1 n.arcs flows (return_link n flows)
-          (λ k d h. let c = link-contained n flows _ (Contains-get_or (return_link n flows) k d h) in omega (arith, c.rank_is))
-          (one-ascends (ltb 0 (value_or_zero n flows)) link);
-    }
-
--- the element in front of a list, if the test holds
-optional-has : (b : Bool) (s : Step) → b ≡ true → Contains (cond b (s ∷ []) []) s
-optional-has true s holds = (0, omega arith, refl)
-optional-has false s holds = absurd (cc)
-
--- The step of an arc that carries flow is in the list.
-carried-has : (j : ℕ) (arcs : List Arc) (flows : List ℕ) (k : ℕ) → k < length arcs → 0 < get_or flows k 0
-    → (s : Step) × Contains (carried_from j arcs flows) s × LeadsAlong j arcs k s
-carried-has j [] flows k within some = absurd (omega (arith, within))
-carried-has j (a ∷ arcs) [] k within some = absurd (omega (arith, some))
-carried-has j (a ∷ arcs) (x ∷ flows) zero within some =
-    let first : Step = record { from = a.tail; to = a.head; rank = 2 * j; room = x } in (
-      first,
-      Contains-append_left (carried j a x) (carried_from (j + 1) arcs flows) first (optional-has (ltb 0 x) first (lt-ltb 0 x some)),
-      record { within = within; rank_is = omega arith; tail = refl; head = refl },
-    )
-carried-has j (a ∷ arcs) (x ∷ flows) (suc k) within some =
-    let later = carried-has (j + 1) arcs flows k (omega (arith, within)) some in (
-      later.0,
-      Contains-append_right (carried j a x) (carried_from (j + 1) arcs flows) later.0 later.1,
-      record {
-        within = within;
-        rank_is = omega (arith, later.2.rank_is);
-        tail = later.2.tail;
-        head = later.2.head;
-      },
-    )
+AreSteps-carrying n flows network = record {
+  between = λ k d h. IsStep-carrying n flows _ network (carrying-contained n flows _ (Contains-get_or (carrying_steps n flows) k d h));
+  ascending = ascending-append (carried_from 1 n.arcs flows) (return_link n flows)
+      (ascending-by_arc by_carried (λ j arc flow. optional-ascends (ltb 0 flow) (along_arc j arc flow))
+      (λ j arc flow s. carried-each (λ t. (2 * j ≤ t.rank) × (t.rank < 2 * j + 2)) j arc flow s (λ _. (omega arith, omega arith)))
+      1 n.arcs flows)
+      (optional-ascends (ltb 0 (value_or_zero n flows)) (link n flows))
+      (λ s t own last.
+      let c = carried-contained 1 n.arcs flows s own in
+      let r = link-contained n flows t last in
+      omega (arith, c.leads.rank_is, c.leads.within, r.rank_is));
+}
 
 -- The step of an arc that carries flow is a carrying step.
 pub carrying-has : (n : Network) (flows : List ℕ) (k : ℕ) → k < length n.arcs → 0 < get_or flows k 0
     → (s : Step) × Contains (carrying_steps n flows) s × LeadsAlong 1 n.arcs k s
 carrying-has n flows k within some =
-    let found = carried-has 1 n.arcs flows k within some in
-    (found.0, Contains-append_left (carried_from 1 n.arcs flows) (return_link n flows) found.0 found.1, found.2)
+    let s = along_arc (1 + k) (get_or n.arcs k no_arc) (get_or flows k 0) in
+    let long : k < length flows = ⊎_elim (λ (inside : k < length flows). inside)
+    (λ (past : length flows ≤ k). omega (arith, some, get_or_past flows k 0 past)) (cases_lt k (length flows)) in (
+      s,
+      Contains-append_left (carried_from 1 n.arcs flows) (return_link n flows) s
+          (has-step by_carried 1 n.arcs flows s k within long (optional-has (ltb 0 (get_or flows k 0)) s (lt-ltb 0 (get_or flows k 0) some))),
+      record { within = within; rank_is = refl; tail = refl; head = refl },
+    )
 
 -- The carrying steps carry the whole flow.
 pub CarryFlow-carrying : (n : Network) (flows : List ℕ) → IsNetwork n → CarryFlow n flows (carrying_steps n flows)
@@ -194,11 +137,10 @@ CarryFlow-carrying n flows network = record {
       let found = carrying-has n flows k within some in
       (found.0, found.1, found.2.tail, found.2.head);
   returns = λ positive.
-      let link : Step = record { from = n.sink; to = n.source; rank = 2 * length n.arcs + 2; room = value_or_zero n flows } in
       let some : 0 < value_or_zero n flows = omega (arith, ints, positive) in (
-        link,
-        Contains-append_right (carried_from 1 n.arcs flows) (return_link n flows) link
-            (optional-has (ltb 0 (value_or_zero n flows)) link (lt-ltb 0 (value_or_zero n flows) some)),
+        link n flows,
+        Contains-append_right (carried_from 1 n.arcs flows) (return_link n flows) (link n flows)
+            (optional-has (ltb 0 (value_or_zero n flows)) (link n flows) (lt-ltb 0 (value_or_zero n flows) some)),
         refl,
         refl,
       );

@@ -4,7 +4,7 @@ use Rattle.dmf_state.specs.declared.edit.Edit.TheVariants as edit
 use Rattle.dmf_state.specs.declared.edit.Move.{Move}
 use Rattle.dmf_state.specs.declared.edit.Shutting.{Shutting}
 use Rattle.dmf_state.specs.Arc.{capacity_sum, open_arcs_at}
-use Rattle.dmf_state.specs.Edit.{applied, moved, numbers, AreOpenWith, Fits, IsOpenWith}
+use Rattle.dmf_state.specs.Edit.{applied, moved, numbers, AreOpenWith, IsOpenWith}
 use Rattle.dmf_state.specs.Flow.{flow_on}
 use Rattle.dmf_state.specs.NetworkState.{NetworkState, IsState, with_flows}
 use Rattle.dmf_state.proofs.ChangedState.{IsState-with_cap, IsState-closed}
@@ -22,39 +22,30 @@ module _ (s : NetworkState) (arc old j : ℕ) (moves : Vec Move Global) (same : 
   found : IsOpenWith s.network arc old
   found = subst (λ k. IsOpenWith s.network k old) (sym same) asked
 
-  -- A capacity within the largest one fits once its arc is drained to it,
-  pub cap-fits : (cap largest : ℕ) → largest + (capacity_sum s.network.arcs - old) + 1 ≡ 2 ^ 64 → cap ≤ largest → AreDrainingMoves s arc cap moves.items
-      → Fits (edit.Cap arc old cap moves) s
-  cap-fits cap largest is_largest at_most drained = record {
-    arc = found;
-    moves = drained.fit;
-    applied = IsState-with_cap (with_flows s (moved moves.items s.flows)) arc cap drained.state found.is_there found.is_open drained.drains.within
-        (omega (arith, is_largest, at_most, found.has_cap));
-  }
-
-  -- so the edit is a plan of the change.
+  -- A capacity within the largest one fits once its arc is drained to it, so the edit is a plan of the change.
   pub cap-plans : (cap largest : ℕ) → largest + (capacity_sum s.network.arcs - old) + 1 ≡ 2 ^ 64 → cap ≤ largest → AreDrainingMoves s arc cap moves.items
       → Plans s (change.Cap j cap) (edit.Cap arc old cap moves)
   cap-plans cap largest is_largest at_most drained = record {
     kind = (same, refl);
-    fits = cap-fits cap largest is_largest at_most drained;
+    fits = record {
+      arc = found;
+      moves = drained.fit;
+      applied = IsState-with_cap (with_flows s (moved moves.items s.flows)) arc cap drained.state found.is_there found.is_open drained.drains.within
+          (omega (arith, is_largest, at_most, found.has_cap));
+    };
     becomes = subst (λ k. Becomes s (change.Cap k cap) (applied (edit.Cap arc old cap moves) s)) same (refl, drained.drains);
     moves = drained.differ;
   }
 
-  -- Closing fits once the arc is drained,
-  pub close-fits : AreDrainingMoves s arc 0 moves.items → Fits (edit.Close arc old moves) s
-  close-fits drained = record {
-    arc = found;
-    moves = drained.fit;
-    applied = IsState-closed (with_flows s (moved moves.items s.flows)) arc drained.state found.is_there drained.drains.within;
-  }
-
-  -- so the edit is a plan of the change.
+  -- Closing fits once the arc is drained.
   pub close-plans : AreDrainingMoves s arc 0 moves.items → Plans s (change.Close j) (edit.Close arc old moves)
   close-plans drained = record {
     kind = same;
-    fits = close-fits drained;
+    fits = record {
+      arc = found;
+      moves = drained.fit;
+      applied = IsState-closed (with_flows s (moved moves.items s.flows)) arc drained.state found.is_there drained.drains.within;
+    };
     becomes = subst (λ k. ClosesArc s k (applied (edit.Close arc old moves) s)) same (refl, drained.drains);
     moves = drained.differ;
   }
@@ -70,22 +61,16 @@ module _ (s : NetworkState) (arc old j : ℕ) (moves : Vec Move Global) (same : 
       let all : flow_on s.flows j - 0 ≡ flow_on s.flows j = omega arith in
       subst (λ amount. TakesOff s.network amount s.flows (moved moves.items s.flows)) all (takes-off 0 drained)
 
-module _ (s : NetworkState) (arcs : Vec Shutting Global) (moves : Vec Move Global) (state : IsState s) (are : AreOpenWith 0 arcs.items s.network)
-    (drained : AreShuttingMoves s (numbers arcs.items) moves.items) where
-  -- Shutting fits once its arcs are drained,
-  pub shut-fits : Fits (edit.Shut arcs moves) s
-  shut-fits =
-      let last = moved moves.items s.flows in
-      let left = left-in_turn s.network (numbers arcs.items) s.flows last state.network state.flow state.value_from_zero
-      (HasArcs-open 0 arcs.items s.network are) drained.drains in
-      record { arc = are; moves = drained.fit; applied = IsState-all_closed 0 arcs.items s.network last drained.state are left.without_flow }
-
-  -- so the edit is a plan of the change.
-  pub shut-plans : (v : ℕ) → numbers arcs.items ≡ open_arcs_at v 1 s.network.arcs → Plans s (change.Shut v) (edit.Shut arcs moves)
-  shut-plans v all = record {
-    kind = tt;
-    fits = shut-fits;
-    becomes = subst (λ js. Closes js s (applied (edit.Shut arcs moves) s)) all
-        (closes-in_turn s.network arcs.items s.flows (moved moves.items s.flows) drained.drains);
-    moves = drained.differ;
-  }
+-- Shutting fits once its arcs are drained.
+pub shut-plans : (s : NetworkState) (arcs : Vec Shutting Global) (moves : Vec Move Global) (v : ℕ) → IsState s → AreOpenWith 0 arcs.items s.network
+    → AreShuttingMoves s (numbers arcs.items) moves.items → numbers arcs.items ≡ open_arcs_at v 1 s.network.arcs
+    → Plans s (change.Shut v) (edit.Shut arcs moves)
+shut-plans s arcs moves v state are drained all =
+    let last = moved moves.items s.flows in
+    let left = left-in_turn s (numbers arcs.items) s.flows last state (HasArcs-open 0 arcs.items s.network are) drained.drains in
+    record {
+      kind = tt;
+      fits = record { arc = are; moves = drained.fit; applied = IsState-all_closed 0 arcs.items s.network last drained.state are left.without_flow };
+      becomes = subst (λ js. Closes js s (applied (edit.Shut arcs moves) s)) all (closes-in_turn s.network arcs.items s.flows last drained.drains);
+      moves = drained.differ;
+    }

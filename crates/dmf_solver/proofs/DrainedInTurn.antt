@@ -1,5 +1,5 @@
 -- Draining arcs to 0 in turn leaves a flow that is 0 on each of them. Its value is lower by at most the flow that was on them.
-use Rattle.std.proofs.Common.{ℕ, true, ◌≡◌, ◌-◌, ◌≤◌, List, [], ◌∷◌, get_or, zero, suc, refl, ◌∙◌, subst, arith, pos, ◌≤ℤ◌}
+use Rattle.std.proofs.Common.{ℕ, true, ◌≡◌, ◌-◌, ◌≤◌, List, [], ◌∷◌, get_or, zero, suc, refl, ◌∙◌, subst, arith}
 use Rattle.std.proofs.lemmas.Int.{ints}
 use Rattle.std.proofs.lemmas.List.Sums.{sum_by-cons}
 use Rattle.std.proofs.lemmas.Slice.Zip.{AllZip-long}
@@ -8,9 +8,9 @@ use Rattle.dmf_state.specs.declared.edit.Move.{Move}
 use Rattle.dmf_solver.specs.Pairs.{Along, IsCarryingSearch, flows_read}
 use Rattle.dmf_solver.specs.Drain.{Drains, TakesOff}
 use Rattle.dmf_state.specs.Edit.{differences}
-use Rattle.dmf_state.specs.Flow.{flow_on, flow_on_all, IsFlow, flow_value}
+use Rattle.dmf_state.specs.Flow.{flow_on, flow_on_all}
 use Rattle.dmf_solver.specs.Moves.{DrainsInTurn, AreShuttingMoves}
-use Rattle.dmf_state.specs.Network.{Network, IsNetwork, has_arc}
+use Rattle.dmf_state.specs.Network.{Network, has_arc}
 use Rattle.dmf_state.specs.NetworkState.{NetworkState, IsState, with_flows}
 use Rattle.dmf_solver.proofs.Draining.{IsNoMore, no_more-in_turn, TakesOff-none, drains-state}
 use Rattle.dmf_state.proofs.ClosedArcs.{HasArcs, AreWithoutFlow}
@@ -34,27 +34,26 @@ no_more-on_all xs ys (j ∷ js) less =
 pub no_more-drained : (s : NetworkState) (first flows last : List ℕ) (j : ℕ) → IsState (with_flows s flows) → has_arc s.network j ≡ true
     → Drains s.network j 0 flows last → IsNoMore first flows → IsNoMore first last
 no_more-drained s first flows last j state has drains less =
-    let once = drains-state s.network j 0 flows last state.network state.flow state.value_from_zero has drains in
-    no_more-in_turn first flows last less once.0.no_more
+    no_more-in_turn first flows last less (drains-state s j 0 flows last state has drains).0.no_more
 
 -- What holds for the flows that draining leaves.
-pub record AreLeft (n : Network) (js flows last : List ℕ) : Type 0 where
-  pub takes_off : TakesOff n (flow_on_all flows js) flows last
-  pub value_from_zero : pos 0 ≤ℤ flow_value n last
+pub record AreLeft (s : NetworkState) (js flows last : List ℕ) : Type 0 where
+  pub takes_off : TakesOff s.network (flow_on_all flows js) flows last
+  pub state : IsState (with_flows s last)
   pub without_flow : AreWithoutFlow last js
 
 -- After arcs are drained in turn it holds.
-pub left-in_turn : (n : Network) (js flows last : List ℕ) → IsNetwork n → IsFlow n flows → pos 0 ≤ℤ flow_value n flows → HasArcs n js
-    → DrainsInTurn n js flows last → AreLeft n js flows last
-left-in_turn n [] flows last network flow from_zero has is = record {
-  takes_off = subst (TakesOff n 0 flows) is (TakesOff-none n 0 flows flow);
-  value_from_zero = subst (λ xs. pos 0 ≤ℤ flow_value n xs) is from_zero;
+pub left-in_turn : (s : NetworkState) (js flows last : List ℕ) → IsState (with_flows s flows) → HasArcs s.network js
+    → DrainsInTurn s.network js flows last → AreLeft s js flows last
+left-in_turn s [] flows last state has is = record {
+  takes_off = subst (TakesOff s.network 0 flows) is (TakesOff-none s.network 0 flows state.flow);
+  state = subst (λ xs. IsState (with_flows s xs)) is state;
   without_flow = tt;
 }
-left-in_turn n (j ∷ js) flows last network flow from_zero has drains =
+left-in_turn s (j ∷ js) flows last state has drains =
     let next : List ℕ = drains.0 in
-    let first = drains-state n j 0 flows next network flow from_zero has.0 drains.1 in
-    let rest = left-in_turn n js next last network first.0.flow first.1 has.1 drains.2 in
+    let first = drains-state s j 0 flows next state has.0 drains.1 in
+    let rest = left-in_turn s js next last first.1 has.1 drains.2 in
     let sum = sum_by-cons (flow_on flows) j js in
     let fewer = no_more-on_all flows next js first.0.no_more in
     record {
@@ -66,7 +65,7 @@ left-in_turn n (j ∷ js) flows last network flow from_zero has drains =
             let here : next ≡ flows = first.0.untouched (omega (arith, none, sum)) in
             rest.takes_off.untouched (omega (arith, none, sum, fewer)) ∙ here;
       };
-      value_from_zero = rest.value_from_zero;
+      state = rest.state;
       without_flow = (omega (arith, no_more-at next last (j - 1) rest.takes_off.no_more, drains.1.within), rest.without_flow);
     }
 
@@ -74,15 +73,14 @@ left-in_turn n (j ∷ js) flows last network flow from_zero has drains =
 pub shutting-moves : (s : NetworkState) (js last : List ℕ) (moves : List Move) → IsState s → HasArcs s.network js → DrainsInTurn s.network js s.flows last
     → moves ≡ differences 1 s.flows last → AreShuttingMoves s js moves
 shutting-moves s js last moves state has drains is =
-    let left = left-in_turn s.network js s.flows last state.network state.flow state.value_from_zero has drains in
-    let same = AllZip-long _ s.flows last left.takes_off.no_more in
-    let between = moves-between moves s.flows last same is in
+    let left = left-in_turn s js s.flows last state has drains in
+    let between = moves-between moves s.flows last (AllZip-long _ s.flows last left.takes_off.no_more) is in
     let made = between.makes in
     record {
       fit = between.fit;
       differ = between.differ;
       drains = rw made drains;
-      state = rw made (record { network = state.network; flow = left.takes_off.flow; value_from_zero = left.value_from_zero });
+      state = rw made left.state;
       takes_off = rw made left.takes_off;
     }
 

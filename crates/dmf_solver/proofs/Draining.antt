@@ -1,16 +1,17 @@
 -- Draining an arc has one outcome, which is a flow.
-use Rattle.std.proofs.Common.{ℕ, ◌≡◌, ◌+◌, ◌-◌, ◌<◌, ◌≤◌, zero, suc, true, List, [], ◌∷◌, refl, ap, sym, ◌∙◌, subst, arith, ⊎_elim, pos, ◌≤ℤ◌}
+use Rattle.std.proofs.Common.{ℕ, ◌≡◌, ◌+◌, ◌-◌, ◌<◌, ◌≤◌, zero, suc, true, List, [], ◌∷◌, refl, ap, sym, ◌∙◌, subst, arith, ⊎_elim}
 use Rattle.std.specs.List.{AllZip}
 use Rattle.std.proofs.lemmas.Bool.{cases_lt}
 use Rattle.std.proofs.lemmas.Int.{ints}
 use Rattle.dmf_path.specs.Step.{Step}
 use Rattle.dmf_state.specs.Network.{Network, IsNetwork, arc_number, has_arc}
-use Rattle.dmf_state.specs.Flow.{flow_on, IsFlow, flow_value}
+use Rattle.dmf_state.specs.Flow.{flow_on, IsFlow}
+use Rattle.dmf_state.specs.NetworkState.{NetworkState, IsState, with_flows}
 use Rattle.dmf_solver.specs.Drain.{carrying_steps, lowered, Lowers, Drains, TakesOff}
 use Rattle.dmf_path.proofs.OneLeast.{one-least}
 use Rattle.dmf_path.proofs.SomeLeast.{SomeLeast}
 use Rattle.dmf_solver.proofs.CarryingSteps.{AreSteps-carrying, carrying-least}
-use Rattle.dmf_solver.proofs.Lowering.{lowered-amount, lowered-no_more, lowered-on, lowered-flow, lowered-value}
+use Rattle.dmf_solver.proofs.Lowering.{CanLower, lowered-amount, lowered-no_more, lowered-on, lowered-flow, lowered-value}
 
 -- No number of the second list exceeds the number at its place in the first.
 abbrev pub IsNoMore : List ℕ → List ℕ → Type 0
@@ -37,19 +38,30 @@ TakesOff-none n amount flows flow = record {
   untouched = λ none. refl;
 }
 
--- Lowering along paths in turn gives a flow, whose value is not negative.
-lowers-state : (n : Network) (j limit : ℕ) (flows last : List ℕ) (paths : List (List Step)) → IsNetwork n → IsFlow n flows → pos 0 ≤ℤ flow_value n flows
-    → has_arc n j ≡ true → Lowers n j limit flows paths last → TakesOff n (flow_on flows j - limit) flows last × (pos 0 ≤ℤ flow_value n last)
-lowers-state n j limit flows last [] network flow from_zero has is =
-    subst (λ xs. TakesOff n (flow_on flows j - limit) flows xs × (pos 0 ≤ℤ flow_value n xs)) is
-    (TakesOff-none n (flow_on flows j - limit) flows flow, from_zero)
-lowers-state n j limit flows last (path ∷ paths) network flow from_zero has goes =
+-- Lowering an arc leaves a state,
+pub lowered-state : (s : NetworkState) (j limit : ℕ) (flows : List ℕ) (path : List Step) → IsState (with_flows s flows)
+    → CanLower s.network j limit flows path → IsState (with_flows s (lowered j limit path flows))
+lowered-state s j limit flows path state can = record {
+  network = state.network;
+  flow = lowered-flow s.network j limit flows path can;
+  value_from_zero = (lowered-value s.network j limit flows path can state.value_from_zero).1;
+}
+
+-- and so does lowering it along paths in turn.
+lowers-state : (s : NetworkState) (j limit : ℕ) (flows last : List ℕ) (paths : List (List Step)) → IsState (with_flows s flows)
+    → has_arc s.network j ≡ true → Lowers s.network j limit flows paths last
+    → TakesOff s.network (flow_on flows j - limit) flows last × IsState (with_flows s last)
+lowers-state s j limit flows last [] state has is =
+    subst (λ xs. TakesOff s.network (flow_on flows j - limit) flows xs × IsState (with_flows s xs)) is
+    (TakesOff-none s.network (flow_on flows j - limit) flows state.flow, state)
+lowers-state s j limit flows last (path ∷ paths) state has goes =
     let next : List ℕ = lowered j limit path flows in
-    let amount = lowered-amount n j limit flows path goes.0 goes.1 in
-    let on = lowered-on n j limit flows path has flow in
-    let left : IsFlow n next = lowered-flow n j limit flows path goes.0 has network flow goes.1 in
-    let value = lowered-value n j limit flows path goes.0 has network flow from_zero goes.1 in
-    let rest = lowers-state n j limit next last paths network left value.1 has goes.2 in (
+    let can : CanLower s.network j limit flows path =
+    record { network = state.network; flow = state.flow; has = has; above = goes.0; least = goes.1 } in
+    let amount = lowered-amount s.network j limit flows path can in
+    let on = lowered-on s.network j limit flows path can in
+    let value = lowered-value s.network j limit flows path can state.value_from_zero in
+    let rest = lowers-state s j limit next last paths (lowered-state s j limit flows path state can) has goes.2 in (
       record {
         no_more = no_more-in_turn flows next last (lowered-no_more j limit path flows) rest.0.no_more;
         flow = rest.0.flow;
@@ -59,10 +71,10 @@ lowers-state n j limit flows last (path ∷ paths) network flow from_zero has go
       rest.1,
     )
 
--- Draining gives a flow, and its value is not negative.
-pub drains-state : (n : Network) (j limit : ℕ) (flows last : List ℕ) → IsNetwork n → IsFlow n flows → pos 0 ≤ℤ flow_value n flows → has_arc n j ≡ true
-    → Drains n j limit flows last → TakesOff n (flow_on flows j - limit) flows last × (pos 0 ≤ℤ flow_value n last)
-drains-state n j limit flows last network flow from_zero has drains = lowers-state n j limit flows last drains.paths network flow from_zero has drains.lowers
+-- Draining leaves a state.
+pub drains-state : (s : NetworkState) (j limit : ℕ) (flows last : List ℕ) → IsState (with_flows s flows) → has_arc s.network j ≡ true
+    → Drains s.network j limit flows last → TakesOff s.network (flow_on flows j - limit) flows last × IsState (with_flows s last)
+drains-state s j limit flows last state has drains = lowers-state s j limit flows last drains.paths state has drains.lowers
 
 -- Lowering the same flows in turn ends at the same flows.
 one-lowered : (n : Network) (j limit : ℕ) → IsNetwork n → (a b : List ℕ) → flow_on a j ≤ limit → flow_on b j ≤ limit
@@ -106,23 +118,23 @@ one-more n j limit flows above found rest = record {
 }
 
 -- Draining ends: each path takes some flow off the arc.
-drained : (n : Network) (j limit : ℕ) → IsNetwork n → has_arc n j ≡ true → (left : ℕ) (flows : List ℕ) → IsFlow n flows → pos 0 ≤ℤ flow_value n flows
-    → flow_on flows j ≤ limit + left → SomeDrained n j limit flows
-drained n j limit network has zero flows flow from_zero bound = already n j limit flows (omega (arith, bound))
-drained n j limit network has (suc left) flows flow from_zero bound = ⊎_elim
+drained : (s : NetworkState) (j limit : ℕ) → has_arc s.network j ≡ true → (left : ℕ) (flows : List ℕ) → IsState (with_flows s flows)
+    → flow_on flows j ≤ limit + left → SomeDrained s.network j limit flows
+drained s j limit has zero flows state bound = already s.network j limit flows (omega (arith, bound))
+drained s j limit has (suc left) flows state bound = ⊎_elim
     (λ (above : limit < flow_on flows j).
+    let n : Network = s.network in
     let found : SomeLeast (carrying_steps n flows) (arc_number n j).head (arc_number n j).tail =
-    carrying-least n flows j network flow from_zero has (omega (arith, above)) in
-    let amount = lowered-amount n j limit flows found.path above found.least in
-    let on = lowered-on n j limit flows found.path has flow in
-    one-more n j limit flows above found (drained n j limit network has left (lowered j limit found.path flows)
-    (lowered-flow n j limit flows found.path above has network flow found.least)
-    (lowered-value n j limit flows found.path above has network flow from_zero found.least).1
-    (omega (arith, amount.0, on, bound))))
-    (λ (within : flow_on flows j ≤ limit). already n j limit flows within)
+    carrying-least n flows j state.network state.flow state.value_from_zero has (omega (arith, above)) in
+    let can : CanLower n j limit flows found.path =
+    record { network = state.network; flow = state.flow; has = has; above = above; least = found.least } in
+    let amount = lowered-amount n j limit flows found.path can in
+    let on = lowered-on n j limit flows found.path can in
+    one-more n j limit flows above found
+    (drained s j limit has left (lowered j limit found.path flows) (lowered-state s j limit flows found.path state can) (omega (arith, amount.0, on, bound))))
+    (λ (within : flow_on flows j ≤ limit). already s.network j limit flows within)
     (cases_lt limit (flow_on flows j))
 
 -- Every arc can be drained to a limit.
-pub some-drained : (n : Network) (j limit : ℕ) (flows : List ℕ) → IsNetwork n → IsFlow n flows → pos 0 ≤ℤ flow_value n flows → has_arc n j ≡ true
-    → SomeDrained n j limit flows
-some-drained n j limit flows network flow from_zero has = drained n j limit network has (flow_on flows j) flows flow from_zero (omega arith)
+pub some-drained : (s : NetworkState) (j limit : ℕ) → IsState s → has_arc s.network j ≡ true → SomeDrained s.network j limit s.flows
+some-drained s j limit state has = drained s j limit has (flow_on s.flows j) s.flows state (omega arith)

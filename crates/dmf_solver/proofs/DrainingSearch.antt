@@ -1,19 +1,18 @@
 -- Draining an arc by a search over the pairs that stand for carrying steps, and reading the flows from it.
-use Rattle.std.proofs.Common.{ℕ, ◌≡◌, ◌≢◌, ◌+◌, ◌-◌, ◌*◌, ◌<◌, ◌≤◌, ◌==◌, Bool, true, false, cond, List, [], ◌∷◌, ◌++◌, length, get_or, zero, suc, refl, ap}
-use Rattle.std.proofs.Common.{sym, ◌∙◌, subst, arith, add-zero, Option, Some, None}
+use Rattle.std.proofs.Common.{ℕ, ◌≡◌, ◌≢◌, ◌+◌, ◌-◌, ◌*◌, ◌<◌, ◌≤◌, true, false, cond, List, [], ◌∷◌, length, get_or, zero, suc, refl, ap}
+use Rattle.std.proofs.Common.{sym, ◌∙◌, subst, arith, add-zero, Option, Some}
 use Rattle.std.specs.List.{slice_get}
 use Rattle.std.specs.Option.{option_map, unwrap_or}
-use Rattle.std.proofs.lemmas.Bool.{ne_eqb, eqb-true}
-use Rattle.std.proofs.lemmas.Option.{get_or_from_slice_get}
+use Rattle.std.proofs.lemmas.Bool.{ne_eqb}
 use Rattle.std.proofs.lemmas.Slice.Zip.{AllZip-long}
 use Rattle.dmf_links.specs.declared.pair.Pair.{Pair}
+use Rattle.dmf_links.specs.Pair.{pair_number}
 use Rattle.dmf_path.specs.Step.{Step}
-use Rattle.dmf_path.specs.Path.{IsPath, HasNoPath, IsLeastPath, has_rank, bottleneck_up_to}
+use Rattle.dmf_path.specs.Path.{IsPath, HasNoPath, has_rank, bottleneck_up_to}
 use Rattle.dmf_path.specs.Pair.{steps_of, pushed_pair, pushed_from, pushed_pairs}
 use Rattle.dmf_path.specs.declared.search.AugmentingPath.{AugmentingPath}
 use Rattle.dmf_path.specs.Search.{Searched, aimed, along_at, with_pairs, Augments, HasAlong, lowered_along}
 use Rattle.dmf_path.proofs.Loops.{least-without_loops, no_path-without_loops}
-use Rattle.dmf_path.proofs.ShortestPaths.{IsShortestPath, IsShortestPath-least, IsShortestPath-tail}
 use Rattle.dmf_state.specs.declared.arc.Arc.{Arc}
 use Rattle.dmf_state.specs.Arc.{no_arc}
 use Rattle.dmf_state.specs.Network.{Network, arc_number, has_arc}
@@ -23,108 +22,64 @@ use Rattle.dmf_state.specs.Edit.{moved, differences}
 use Rattle.dmf_state.proofs.Moving.{moves-between}
 use Rattle.dmf_solver.specs.Drain.{carrying_steps, lowered, value_or_zero, Drains}
 use Rattle.dmf_state.specs.NetworkState.{NetworkState, IsState, with_flows}
-use Rattle.dmf_solver.specs.CarryingNetwork.{IsCarryingOf, MayCarry, carrying_pair, carrying_from, return_pair, carrying_pairs}
+use Rattle.dmf_solver.specs.CarryingNetwork.{IsCarryingOf, MayCarry, carrying_pair, return_pair, carrying_pairs}
 use Rattle.dmf_solver.specs.Pairs.{Along, KeepLoops, Carries, IsCarryingSearch, flows_read}
-use Rattle.dmf_solver.proofs.CarryingPairs.{length-carrying_pairs, carrying-without_loops, pair-of_arc}
-use Rattle.dmf_solver.proofs.CarryingSteps.{IsCarrying, along, returns, carrying-contained, carrying-path}
+use Rattle.dmf_solver.proofs.ArcPairs.{length-with_last, pair_number-of_arc, loop-unranked, read-flow, read-flows}
+use Rattle.dmf_solver.proofs.CarryingPairs.{by_carrying_pair, carrying-without_loops}
+use Rattle.dmf_solver.proofs.CarryingSteps.{carrying-path}
 use Rattle.dmf_state.proofs.ChangedArc.{has_arc-within}
 use Rattle.dmf_solver.proofs.DrainingWalk.{AreDrainedSoFar, drained-none, drained-more, drained-all}
-use Rattle.dmf_solver.proofs.LoweredPairs.{other-rank, carrying_pairs-lowered}
-use Rattle.dmf_solver.proofs.Lowering.{HaveOwnRanks-least, lowered-amount, lowered-on, unlowered}
+use Rattle.dmf_solver.proofs.LoweredPairs.{carrying_pairs-lowered}
+use Rattle.dmf_solver.proofs.Lowering.{CanLower, other-rank, lowered-amount, lowered-on, unlowered}
 
 -- ---- self loops
 
--- A carrying step with the rank of a self loop is a loop.
-comes-back : (n : Network) (flows : List ℕ) (s : Step) (k : ℕ) → k < length n.arcs → (get_or n.arcs k no_arc).tail ≡ (get_or n.arcs k no_arc).head
-    → s.rank ≡ 2 * (1 + k) → IsCarrying n flows s → s.to ≡ s.from
-comes-back n flows s k within loop rank (along c) =
-    let index : c.index ≡ k = omega (arith, c.leads.rank_is, rank) in
-    c.leads.head ∙ ap (λ i. (get_or n.arcs i no_arc).head) index ∙ sym loop ∙ sym (ap (λ i. (get_or n.arcs i no_arc).tail) index) ∙ sym c.leads.tail
-comes-back n flows s k within loop rank (returns c) = absurd (omega (arith, c.rank_is, rank, within))
-
--- So a shortest path does not have its rank.
-loop-unranked : (n : Network) (flows : List ℕ) (a b k : ℕ) (path : List Step) → k < length n.arcs
-    → (get_or n.arcs k no_arc).tail ≡ (get_or n.arcs k no_arc).head → IsShortestPath (carrying_steps n flows) a b path → has_rank path (2 * (1 + k)) ≡ false
-loop-unranked n flows a b k [] within loop shortest = refl
-loop-unranked n flows a b k (s ∷ path) within loop shortest =
-    let apart : s.rank ≢ 2 * (1 + k) = λ rank.
-    let back : s.to ≡ a = comes-back n flows s k within loop rank (carrying-contained n flows s shortest.leads.0) ∙ shortest.leads.1 in
-    let short : length (s ∷ path) ≤ length path = shortest.shortest path (subst (λ v. IsPath (carrying_steps n flows) v b path) back shortest.leads.2) in
-    omega (arith, short) in
-    rw (ne_eqb s.rank (2 * (1 + k)) apart) (loop-unranked n flows s.to b k path within loop (IsShortestPath-tail (carrying_steps n flows) a b s path shortest))
-
 -- Lowering along a least path leaves the flow on a self loop.
-KeepLoops-lowered : (n : Network) (unpaired flows : List ℕ) (j limit : ℕ) (path : List Step) → (arc_number n j).head ≢ (arc_number n j).tail → IsFlow n flows
-    → IsLeastPath (carrying_steps n flows) (arc_number n j).head (arc_number n j).tail path → KeepLoops n unpaired flows
+KeepLoops-lowered : (n : Network) (unpaired flows : List ℕ) (j limit : ℕ) (path : List Step) → (arc_number n j).tail ≢ (arc_number n j).head → IsFlow n flows
+    → IsPath (steps_of (carrying_pairs n flows)) (arc_number n j).head (arc_number n j).tail path → KeepLoops n unpaired flows
     → KeepLoops n unpaired (lowered j limit path flows)
-KeepLoops-lowered n unpaired flows j limit path apart flow least kept k within loop =
+KeepLoops-lowered n unpaired flows j limit path apart flow leads kept k within loop =
     let same = AllZip-long _ n.arcs flows flow.within in
     let other : 1 + k ≢ j = λ e.
     let index : k ≡ j - 1 = omega (arith, e) in
-    apart (subst (λ i. (get_or n.arcs i no_arc).head ≡ (get_or n.arcs i no_arc).tail) index (sym loop)) in
-    let none = loop-unranked n flows (arc_number n j).head (arc_number n j).tail k path within loop
-    (IsShortestPath-least (carrying_steps n flows) (arc_number n j).head (arc_number n j).tail path least) in
+    apart (subst (λ i. (get_or n.arcs i no_arc).tail ≡ (get_or n.arcs i no_arc).head) index loop) in
+    let none = loop-unranked by_carrying_pair n.arcs flows (return_pair n flows ∷ []) _ _ k (2 * (1 + k)) path same within loop
+    leads (omega arith) (omega arith) in
     unlowered j (bottleneck_up_to (flow_on flows j - limit) path) path flows k (omega (arith, within, same)) other none ∙ kept k within loop
 
 -- ---- the pair of an arc
 
--- the pair of an arc, after a push
-slice_get-pushed : (amount i : ℕ) (path : List Step) (arcs : List Arc) (flows : List ℕ) (last : Option Pair) (k : ℕ) → k < length arcs
-    → length flows ≡ length arcs → slice_get (pushed_from false i amount path (carrying_from arcs flows ++ last ∷ [])) k ≡ Some
-    (pushed_pair false (i + k) amount path (carrying_pair (get_or arcs k no_arc) (get_or flows k 0)))
-slice_get-pushed amount i path [] flows last k within same = absurd (omega (arith, within))
-slice_get-pushed amount i path (arc ∷ arcs) [] last k within same = absurd (omega (arith, same))
-slice_get-pushed amount i path (arc ∷ arcs) (flow ∷ flows) last zero within same =
-    ap (λ m. Some (pushed_pair false m amount path (carrying_pair arc flow))) (sym (add-zero i))
-slice_get-pushed amount i path (arc ∷ arcs) (flow ∷ flows) last (suc k) within same =
+-- a pair, after a push
+pushed-at : (amount i : ℕ) (path : List Step) (pairs : List (Option Pair)) (k : ℕ) → k < length pairs
+    → slice_get (pushed_from false i amount path pairs) k ≡ Some (pushed_pair false (i + k) amount path (pair_number pairs k))
+pushed-at amount i path [] k h = absurd (omega (arith, h))
+pushed-at amount i path (p ∷ pairs) zero h = ap (λ m. Some (pushed_pair false m amount path p)) (sym (add-zero i))
+pushed-at amount i path (p ∷ pairs) (suc k) h =
     let place : i + 1 + k ≡ i + suc k = omega arith in
-    slice_get-pushed amount (i + 1) path arcs flows last k (omega (arith, within)) (omega (arith, same))
-    ∙ ap (λ m. Some (pushed_pair false m amount path (carrying_pair (get_or arcs k no_arc) (get_or flows k 0)))) place
-
--- The room along the pair of an arc is the flow on the arc. A list has the flow on arcs without a pair.
-flow-left : (arc : Arc) (unpaired flow : ℕ) (loop : Bool) → (arc.tail == arc.head) ≡ loop → (arc.tail ≡ arc.head → flow ≡ unpaired)
-    → unwrap_or (option_map (λ (p : Pair). p.along) (carrying_pair arc flow)) unpaired ≡ flow
-flow-left arc unpaired flow false e kept = rw e refl
-flow-left arc unpaired flow true e kept = let same : unpaired ≡ flow = sym (kept (eqb-true arc.tail arc.head e)) in rw e same
-
--- The flows are read from the pairs of the arcs, and from the list.
-read-flows : (arcs : List Arc) (unpaired flows : List ℕ) (rest : List (Option Pair)) → length unpaired ≡ length arcs → length flows ≡ length arcs
-    → ((k : ℕ) → k < length arcs → (get_or arcs k no_arc).tail ≡ (get_or arcs k no_arc).head → get_or flows k 0 ≡ get_or unpaired k 0)
-    → flows_read Along unpaired (carrying_from arcs flows ++ rest) ≡ flows
-read-flows [] [] [] rest long same kept = refl
-read-flows [] [] (flow ∷ flows) rest long same kept = absurd (omega (arith, same))
-read-flows [] (u ∷ unpaired) flows rest long same kept = absurd (omega (arith, long))
-read-flows (arc ∷ arcs) [] flows rest long same kept = absurd (omega (arith, long))
-read-flows (arc ∷ arcs) (u ∷ unpaired) [] rest long same kept = absurd (omega (arith, same))
-read-flows (arc ∷ arcs) (u ∷ unpaired) (flow ∷ flows) rest long same kept =
-    let here = flow-left arc u flow (arc.tail == arc.head) refl (λ loop. kept 0 (omega arith) loop) in
-    let later = read-flows arcs unpaired flows rest (omega (arith, long)) (omega (arith, same)) (λ k h loop. kept (suc k) (omega (arith, h)) loop) in
-    λ i. here i ∷ later i
-
--- the pair of an arc, after a push
-abbrev pushed_link : ℕ → ℕ → List Step → Arc → ℕ → Pair
-pushed_link amount i path arc flow = record {
-  tail = arc.tail;
-  head = arc.head;
-  along = flow - cond (has_rank path (2 * i)) amount 0 + 0;
-  against = 0 - cond (has_rank path (2 * i + 1)) amount 0 + 0;
-}
+    pushed-at amount (i + 1) path pairs k (omega (arith, h)) ∙ ap (λ m. Some (pushed_pair false m amount path (pair_number pairs k))) place
 
 -- The pair of arc number `j` keeps its room when a push follows a path without the arc's rank.
 has-along : (n : Network) (flows : List ℕ) (j amount : ℕ) (path : List Step) → length flows ≡ length n.arcs → has_arc n j ≡ true
-    → (arc_number n j).head ≢ (arc_number n j).tail → amount ≤ flow_on flows j → has_rank path (2 * j) ≡ false
+    → (arc_number n j).tail ≢ (arc_number n j).head → amount ≤ flow_on flows j → has_rank path (2 * j) ≡ false
     → HasAlong (pushed_pairs false amount path (carrying_pairs n flows)) (j - 1) amount
 has-along n flows j amount path same has apart within none =
     let at = has_arc-within n j has in
     let place : 1 + (j - 1) ≡ j = omega (arith, at.0) in
-    let own = ne_eqb (arc_number n j).tail (arc_number n j).head (λ loop. apart (sym loop)) in
+    let own = ne_eqb (arc_number n j).tail (arc_number n j).head apart in
     let here : carrying_pair (arc_number n j) (flow_on flows j) ≡ Some
     (record { tail = (arc_number n j).tail; head = (arc_number n j).head; along = flow_on flows j; against = 0 }) = rw own refl in
+    let count = length-with_last by_carrying_pair n.arcs flows (return_pair n flows) same in
     record {
-      pair = pushed_link amount (1 + (j - 1)) path (arc_number n j) (flow_on flows j);
+      pair = record {
+        tail = (arc_number n j).tail;
+        head = (arc_number n j).head;
+        along = flow_on flows j - cond (has_rank path (2 * (1 + (j - 1)))) amount 0 + 0;
+        against = 0 - cond (has_rank path (2 * (1 + (j - 1)) + 1)) amount 0 + 0;
+      };
       is =
-          slice_get-pushed amount 1 path n.arcs flows (return_pair n flows) (j - 1) at.1 same
-          ∙ ap (λ o. Some (pushed_pair false (1 + (j - 1)) amount path o)) here;
+          pushed-at amount 1 path (carrying_pairs n flows) (j - 1) (omega (arith, at.1, count))
+          ∙ ap (λ o. Some (pushed_pair false (1 + (j - 1)) amount path o))
+          (pair_number-of_arc by_carrying_pair n.arcs flows (return_pair n flows ∷ []) (j - 1) same at.1 ∙ here);
       enough = rw (place, none) (omega (arith, within));
     }
 
@@ -140,29 +95,37 @@ carrying_search n j flows = record {
   takes_back = false;
 }
 
--- There is a flow for each arc,
-pub one_each : (s : NetworkState) (unpaired flows : List ℕ) (search : Searched) → Carries s unpaired flows search → length flows ≡ length s.network.arcs
-one_each s unpaired flows search carries = AllZip-long _ s.network.arcs flows carries.state.flow.within
+module _ (s : NetworkState) (unpaired flows : List ℕ) (search : Searched) (carries : Carries s unpaired flows search) where
+  -- There is a flow for each arc,
+  pub one_each : length flows ≡ length s.network.arcs
+  one_each = AllZip-long _ s.network.arcs flows carries.state.flow.within
 
--- and a pair for each arc, and one more.
-pub length-carries : (s : NetworkState) (unpaired flows : List ℕ) (search : Searched) → Carries s unpaired flows search
-    → length search.pairs ≡ length s.network.arcs + 1
-length-carries s unpaired flows search carries =
-    ap (λ (pairs : List (Option Pair)). length pairs) carries.search_is.pairs_are
-    ∙ length-carrying_pairs s.network flows (one_each s unpaired flows search carries)
+  -- and a pair for each arc, and one more.
+  pub length-carries : length search.pairs ≡ length s.network.arcs + 1
+  length-carries =
+      ap (λ (pairs : List (Option Pair)). length pairs) carries.search_is.pairs_are
+      ∙ length-with_last by_carrying_pair s.network.arcs flows (return_pair s.network flows) one_each
 
--- The flows are read from the search and the list.
-pub carries-read : (s : NetworkState) (unpaired flows : List ℕ) (search : Searched) → Carries s unpaired flows search
-    → flows_read Along unpaired search.pairs ≡ flows
-carries-read s unpaired flows search carries =
-    ap (flows_read Along unpaired) carries.search_is.pairs_are
-    ∙ read-flows s.network.arcs unpaired flows (return_pair s.network flows ∷ []) carries.listed (one_each s unpaired flows search carries) carries.loops
+  -- The flows are read from the search and the list.
+  pub carries-read : flows_read Along unpaired search.pairs ≡ flows
+  carries-read =
+      ap (flows_read Along unpaired) carries.search_is.pairs_are
+      ∙ read-flows by_carrying_pair s.network unpaired flows (return_pair s.network flows ∷ []) carries.listed one_each carries.loops
 
--- So they are the flows that the search has.
-pub IsCarryingSearch-from : (s : NetworkState) (unpaired flows : List ℕ) (search : Searched) → Carries s unpaired flows search
-    → IsCarryingSearch s unpaired search
-IsCarryingSearch-from s unpaired flows search carries =
-    subst (λ xs. Carries s unpaired xs search) (sym (carries-read s unpaired flows search carries)) carries
+  -- So they are the flows that the search has.
+  pub IsCarryingSearch-from : IsCarryingSearch s unpaired search
+  IsCarryingSearch-from = subst (λ xs. Carries s unpaired xs search) (sym carries-read) carries
+
+  -- The flow that the search has on an arc that is no self loop is the flow on the arc.
+  pub carries-along : (j : ℕ) → has_arc s.network j ≡ true → (arc_number s.network j).tail ≢ (arc_number s.network j).head
+      → unwrap_or (along_at search.pairs (j - 1)) 0 ≡ flow_on flows j
+  carries-along j has apart =
+      let arc : Arc = arc_number s.network j in
+      let at = has_arc-within s.network j has in
+      ap (λ pairs. unwrap_or (along_at pairs (j - 1)) 0) carries.search_is.pairs_are
+      ∙ ap (λ p. unwrap_or (option_map (λ (p : Pair). p.along) p) 0)
+      (pair_number-of_arc by_carrying_pair s.network.arcs flows (return_pair s.network flows ∷ []) (j - 1) one_each at.1)
+      ∙ read-flow by_carrying_pair arc 0 (flow_on flows j) (λ loop. absurd (apart loop))
 
 -- A search over the carrying steps of the state's flow carries that flow, and the flows read from it are the state's.
 pub carrying-first : (s : NetworkState) (search : Searched) → IsState s → IsCarryingOf s search
@@ -184,18 +147,6 @@ carries-moved s unpaired moves search state carries listed =
     let same = one_each s unpaired last search carries ∙ sym (AllZip-long _ s.network.arcs s.flows state.flow.within) in
     subst (λ flows. MayCarry (with_flows s flows) search) (sym (moves-between moves s.flows last same listed).makes)
     (value_or_zero s.network last, carries.search_is)
-
--- The flow that the search has on an arc that is no self loop is the flow on the arc.
-pub carries-along : (s : NetworkState) (unpaired flows : List ℕ) (search : Searched) (j : ℕ) → has_arc s.network j ≡ true
-    → (arc_number s.network j).head ≢ (arc_number s.network j).tail → Carries s unpaired flows search
-    → unwrap_or (along_at search.pairs (j - 1)) 0 ≡ flow_on flows j
-carries-along s unpaired flows search j has apart carries =
-    let n : Network = s.network in
-    let at = has_arc-within n j has in
-    let pair = get_or_from_slice_get _ (j - 1) _ None (pair-of_arc n flows (j - 1) at.1 (one_each s unpaired flows search carries)) in
-    ap (λ pairs. unwrap_or (along_at pairs (j - 1)) 0) carries.search_is.pairs_are
-    ∙ ap (λ p. unwrap_or (option_map (λ (p : Pair). p.along) p) 0) pair
-    ∙ flow-left (arc_number n j) 0 (flow_on flows j) ((arc_number n j).tail == (arc_number n j).head) refl (λ loop. absurd (apart (sym loop)))
 
 -- ---- draining
 
@@ -226,25 +177,44 @@ draining-begun s unpaired first j limit left search left_is carries = record {
   left_is = left_is;
 }
 
--- A path is left while more than the limit flows on the arc.
-pub draining-has_path : (s : NetworkState) (unpaired first : List ℕ) (j limit left : ℕ) (search : Searched) → has_arc s.network j ≡ true → 0 < left
-    → IsDraining s unpaired first j limit left search → ¬ HasNoPath (steps_of search.pairs) search.start search.goal
-draining-has_path s unpaired first j limit left search has some draining none =
-    let n : Network = s.network in
-    let state = draining.so_far.state in
-    let found = carrying-path n draining.flows j state.network state.flow state.value_from_zero has (omega (arith, some, draining.left_is)) in
-    let without = carrying-without_loops n draining.flows (AllZip-long _ n.arcs draining.flows state.flow.within) in
-    let here : HasNoPath (steps_of (carrying_pairs n draining.flows)) (arc_number n j).head (arc_number n j).tail =
-    subst (λ (x : Searched). HasNoPath (steps_of x.pairs) x.start x.goal) draining.search_is none in
-    no_path-without_loops (carrying_steps n draining.flows) (steps_of (carrying_pairs n draining.flows)) (arc_number n j).head
-    (arc_number n j).tail without here found.path found.leads
+module _ (s : NetworkState) (unpaired first : List ℕ) (j limit left : ℕ) (search : Searched) (draining : IsDraining s unpaired first j limit left search) where
+  -- A path is left while more than the limit flows on the arc.
+  pub draining-has_path : has_arc s.network j ≡ true → 0 < left → ¬ HasNoPath (steps_of search.pairs) search.start search.goal
+  draining-has_path has some none =
+      let n : Network = s.network in
+      let state = draining.so_far.state in
+      let found = carrying-path n draining.flows j state.network state.flow state.value_from_zero has (omega (arith, some, draining.left_is)) in
+      let without = carrying-without_loops n draining.flows (AllZip-long _ n.arcs draining.flows state.flow.within) in
+      let here : HasNoPath (steps_of (carrying_pairs n draining.flows)) (arc_number n j).head (arc_number n j).tail =
+      subst (λ (x : Searched). HasNoPath (steps_of x.pairs) x.start x.goal) draining.search_is none in
+      no_path-without_loops (carrying_steps n draining.flows) (steps_of (carrying_pairs n draining.flows)) (arc_number n j).head
+      (arc_number n j).tail without here found.path found.leads
 
--- A search that drains has a pair for each arc, and one more.
-pub length-draining : (s : NetworkState) (unpaired first : List ℕ) (j limit left : ℕ) (search : Searched)
-    → IsDraining s unpaired first j limit left search → length search.pairs ≡ length s.network.arcs + 1
-length-draining s unpaired first j limit left search draining =
-    ap (λ (x : Searched). length x.pairs) draining.search_is
-    ∙ length-carrying_pairs s.network draining.flows (AllZip-long _ s.network.arcs draining.flows draining.so_far.state.flow.within)
+  -- A search that drains has a pair for each arc, and one more.
+  pub length-draining : length search.pairs ≡ length s.network.arcs + 1
+  length-draining =
+      ap (λ (x : Searched). length x.pairs) draining.search_is
+      ∙ length-with_last by_carrying_pair s.network.arcs draining.flows (return_pair s.network draining.flows)
+      (AllZip-long _ s.network.arcs draining.flows draining.so_far.state.flow.within)
+
+  -- If nothing is left above the limit, the arc is drained, and the search carries the flow that draining gives.
+  pub draining-done : left ≤ 0 → IsCarryingSearch s unpaired search × Drains s.network j limit first (flows_read Along unpaired search.pairs)
+  draining-done done =
+      let flows : List ℕ = draining.flows in
+      let carries : Carries s unpaired flows search = record {
+        state = draining.so_far.state;
+        listed = draining.listed;
+        loops = draining.loops;
+        search_is = record {
+          nodes_are = ap (λ (x : Searched). x.nodes) draining.search_is;
+          pairs_are = ap (λ (x : Searched). x.pairs) draining.search_is;
+          takes_none_back = ap (λ (x : Searched). x.takes_back) draining.search_is;
+        };
+      } in (
+        IsCarryingSearch-from s unpaired flows search carries,
+        subst (Drains s.network j limit first) (sym (carries-read s unpaired flows search carries))
+            (drained-all (with_flows s first) j limit flows (omega (arith, done, draining.left_is)) draining.so_far),
+      )
 
 -- One more path: its amount is positive and at most `left`, and the arc's link has room for it.
 pub record DrainsOnce (s : NetworkState) (unpaired first : List ℕ) (j limit left amount : ℕ) (next : Searched) : Type 0 where
@@ -255,7 +225,7 @@ pub record DrainsOnce (s : NetworkState) (unpaired first : List ℕ) (j limit le
 
 -- One path more drains the arc further.
 pub draining-once : (s : NetworkState) (unpaired first : List ℕ) (j limit left : ℕ) (found : AugmentingPath) (search next : Searched)
-    → has_arc s.network j ≡ true → (arc_number s.network j).head ≢ (arc_number s.network j).tail → 0 < left → IsDraining s unpaired first j limit left search
+    → has_arc s.network j ≡ true → (arc_number s.network j).tail ≢ (arc_number s.network j).head → 0 < left → IsDraining s unpaired first j limit left search
     → Augments left found search next → DrainsOnce s unpaired first j limit left found.amount next
 draining-once s unpaired first j limit left found search next has apart some draining augments =
     let amount : ℕ = found.amount in
@@ -265,15 +235,16 @@ draining-once s unpaired first j limit left found search next has apart some dra
     let own : Augments left found old next = subst (λ x. Augments left found x next) draining.search_is augments in
     let path : List Step = own.path in
     let state = draining.so_far.state in
-    let above : limit < flow_on flows j = omega (arith, some, draining.left_is) in
     let same = AllZip-long _ n.arcs flows state.flow.within in
     let without = carrying-without_loops n flows same in
     let least = least-without_loops (carrying_steps n flows) (steps_of (carrying_pairs n flows)) (arc_number n j).head
     (arc_number n j).tail path without own.least in
+    let can : CanLower n j limit flows path =
+    record { network = state.network; flow = state.flow; has = has; above = omega (arith, some, draining.left_is); least = least } in
     let is : amount ≡ bottleneck_up_to (flow_on flows j - limit) path = own.amount_is ∙ ap (λ bound. bottleneck_up_to bound path) draining.left_is in
-    let told = lowered-amount n j limit flows path above least in
-    let none = other-rank j path (HaveOwnRanks-least n j flows path has state.network (omega (arith, above)) least) in
-    let on = lowered-on n j limit flows path has state.flow in
+    let told = lowered-amount n j limit flows path can in
+    let none = other-rank n j limit flows path can in
+    let on = lowered-on n j limit flows path can in
     let along : HasAlong (pushed_pairs false amount path old.pairs) (j - 1) amount =
     has-along n flows j amount path same has apart (omega (arith, is, told.1)) none in
     record {
@@ -282,34 +253,13 @@ draining-once s unpaired first j limit left found search next has apart some dra
       room = subst (λ pairs. HasAlong pairs (j - 1) amount) (sym (ap (λ (x : Searched). x.pairs) own.gives)) along;
       draining = record {
         flows = lowered j limit path flows;
-        so_far = drained-more (with_flows s first) j limit flows path has above least draining.so_far;
+        so_far = drained-more (with_flows s first) j limit flows path can draining.so_far;
         listed = draining.listed;
-        loops = KeepLoops-lowered n unpaired flows j limit path apart state.flow least draining.loops;
+        loops = KeepLoops-lowered n unpaired flows j limit path apart state.flow own.least.leads draining.loops;
         search_is =
             ap (λ (x : Searched). with_pairs x (lowered_along x.pairs (j - 1) amount)) own.gives
             ∙ ap (λ m. with_pairs old (lowered_along (pushed_pairs false m path old.pairs) (j - 1) m)) is
-            ∙ ap (with_pairs old) (sym (carrying_pairs-lowered n flows j limit path above has state.network state.flow least));
+            ∙ ap (with_pairs old) (sym (carrying_pairs-lowered n flows j limit path can));
         left_is = omega (arith, is, told.1, on, draining.left_is);
       };
     }
-
--- If nothing is left above the limit, the arc is drained, and the search carries the flow that draining gives.
-pub draining-done : (s : NetworkState) (unpaired first : List ℕ) (j limit left : ℕ) (search : Searched) → left ≤ 0
-    → IsDraining s unpaired first j limit left search → IsCarryingSearch s unpaired search
-    × Drains s.network j limit first (flows_read Along unpaired search.pairs)
-draining-done s unpaired first j limit left search done draining =
-    let flows : List ℕ = draining.flows in
-    let carries : Carries s unpaired flows search = record {
-      state = draining.so_far.state;
-      listed = draining.listed;
-      loops = draining.loops;
-      search_is = record {
-        nodes_are = ap (λ (x : Searched). x.nodes) draining.search_is;
-        pairs_are = ap (λ (x : Searched). x.pairs) draining.search_is;
-        takes_none_back = ap (λ (x : Searched). x.takes_back) draining.search_is;
-      };
-    } in (
-      IsCarryingSearch-from s unpaired flows search carries,
-      subst (Drains s.network j limit first) (sym (carries-read s unpaired flows search carries))
-          (drained-all (with_flows s first) j limit flows (omega (arith, done, draining.left_is)) draining.so_far),
-    )

@@ -7,15 +7,14 @@ use Rattle.dmf_path.specs.Step.{Step}
 use Rattle.dmf_state.specs.Network.{arc_number, has_arc}
 use Rattle.dmf_state.specs.Flow.{flow_on}
 use Rattle.dmf_state.specs.NetworkState.{NetworkState, IsState, with_flows}
-use Rattle.dmf_path.specs.Path.{IsLeastPath}
-use Rattle.dmf_solver.specs.Drain.{carrying_steps, lowered, Drains}
-use Rattle.dmf_state.specs.Edit.{moved, differences}
+use Rattle.dmf_solver.specs.Drain.{lowered, Drains}
+use Rattle.dmf_state.specs.Edit.{differences}
 use Rattle.dmf_solver.specs.Moves.{AreDrainingMoves}
 use Rattle.dmf_state.proofs.ChangedArc.{has_arc-within}
 use Rattle.dmf_solver.proofs.DrainedLoop.{drained-loop}
-use Rattle.dmf_solver.proofs.Draining.{drains-state}
-use Rattle.dmf_state.proofs.Moving.{differences-fit, moved-differences}
-use Rattle.dmf_solver.proofs.Lowering.{lowered-flow, lowered-value}
+use Rattle.dmf_solver.proofs.Draining.{lowered-state, drains-state}
+use Rattle.dmf_state.proofs.Moving.{moves-between}
+use Rattle.dmf_solver.proofs.Lowering.{CanLower}
 
 -- The flows are those of a state, and draining them gives what draining the flows of `s` gives.
 pub record AreDrainedSoFar (s : NetworkState) (j limit : ℕ) (flows : List ℕ) : Type 0 where
@@ -27,16 +26,12 @@ pub drained-none : (s : NetworkState) (j limit : ℕ) → IsState s → AreDrain
 drained-none s j limit state = record { state = state; onward = λ last drains. drains }
 
 -- one more path
-pub drained-more : (s : NetworkState) (j limit : ℕ) (flows : List ℕ) (path : List Step) → has_arc s.network j ≡ true → limit < flow_on flows j
-    → IsLeastPath (carrying_steps s.network flows) (arc_number s.network j).head (arc_number s.network j).tail path → AreDrainedSoFar s j limit flows
+pub drained-more : (s : NetworkState) (j limit : ℕ) (flows : List ℕ) (path : List Step) → CanLower s.network j limit flows path
+    → AreDrainedSoFar s j limit flows
     → AreDrainedSoFar s j limit (lowered j limit path flows)
-drained-more s j limit flows path has above least so_far = record {
-  state = record {
-    network = so_far.state.network;
-    flow = lowered-flow s.network j limit flows path above has so_far.state.network so_far.state.flow least;
-    value_from_zero = (lowered-value s.network j limit flows path above has so_far.state.network so_far.state.flow so_far.state.value_from_zero least).1;
-  };
-  onward = λ last drains. so_far.onward last (record { paths = path ∷ drains.paths; lowers = (above, least, drains.lowers); within = drains.within });
+drained-more s j limit flows path can so_far = record {
+  state = lowered-state s j limit flows path so_far.state can;
+  onward = λ last drains. so_far.onward last (record { paths = path ∷ drains.paths; lowers = (can.above, can.least, drains.lowers); within = drains.within });
 }
 
 -- If no more than the limit flows on the arc, it is drained.
@@ -44,24 +39,18 @@ pub drained-all : (s : NetworkState) (j limit : ℕ) (flows : List ℕ) → flow
     → Drains s.network j limit s.flows flows
 drained-all s j limit flows within so_far = so_far.onward flows (record { paths = []; lowers = refl; within = within })
 
--- draining leaves one flow for each arc
-pub length-drained : (s : NetworkState) (j limit : ℕ) (last : List ℕ) → IsState s → has_arc s.network j ≡ true → Drains s.network j limit s.flows last
-    → length last ≡ length s.flows
-length-drained s j limit last state has drains =
-    AllZip-long _ s.flows last (drains-state s.network j limit s.flows last state.network state.flow state.value_from_zero has drains).0.no_more
-
 -- It holds for the moves between the flows before and after draining.
 pub draining-moves : (s : NetworkState) (j limit : ℕ) (last : List ℕ) (moves : List Move) → IsState s → has_arc s.network j ≡ true
     → Drains s.network j limit s.flows last → moves ≡ differences 1 s.flows last → AreDrainingMoves s j limit moves
 draining-moves s j limit last moves state has drains is =
-    let told = drains-state s.network j limit s.flows last state.network state.flow state.value_from_zero has drains in
-    let same = length-drained s j limit last state has drains in
-    let made : moved moves s.flows ≡ last = ap (λ ms. moved ms s.flows) is ∙ moved-differences [] s.flows last same in
+    let told = drains-state s j limit s.flows last state has drains in
+    let between = moves-between moves s.flows last (AllZip-long _ s.flows last told.0.no_more) is in
+    let made = between.makes in
     record {
-      fit = rw is (differences-fit [] s.flows last same);
-      differ = is ∙ ap (differences 1 s.flows) (sym made);
+      fit = between.fit;
+      differ = between.differ;
       drains = rw made drains;
-      state = rw made (record { network = state.network; flow = told.0.flow; value_from_zero = told.1 });
+      state = rw made told.1;
       takes_off = rw made told.0;
     }
 

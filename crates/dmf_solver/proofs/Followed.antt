@@ -8,7 +8,7 @@ use Rattle.std.proofs.lemmas.Slice.Zip.{AllZip-long}
 use Rattle.std.proofs.Math.ListN.{drop_of_length-le}
 use Rattle.std.proofs.Math.Seq.{drop-cons}
 use Rattle.dmf_links.specs.declared.pair.Pair.{Pair}
-use Rattle.dmf_path.specs.Search.{Searched, pair_with, with_pairs, with_rooms, against_at}
+use Rattle.dmf_path.specs.Search.{Searched, with_pairs, with_rooms, against_at}
 use Rattle.dmf_links.specs.Pair.{pair_number}
 use Rattle.dmf_state.specs.declared.arc.Arc.{Arc}
 use Rattle.dmf_state.specs.declared.edit.Edit.{Edit}
@@ -23,73 +23,27 @@ use Rattle.dmf_state.specs.Edit.{applied, moved, moves_of, numbers, with_closed,
 use Rattle.dmf_state.specs.Network.{Network, arc_number, with_arc}
 use Rattle.dmf_state.specs.NetworkState.{NetworkState, IsState}
 use Rattle.dmf_solver.specs.Pairs.{recapped, with_capacity}
-use Rattle.dmf_solver.specs.ResidualNetwork.{residual_pair, residual_pairs, closed_return, network_pairs, residual_search}
+use Rattle.dmf_solver.specs.ResidualNetwork.{residual_pair, residual_pairs, closed_return, network_pairs, residual_search, IsResidualOf}
 use Rattle.dmf_state.specs.Revert.{with_opened}
 use Rattle.dmf_state.proofs.ChangedArc.{has_arc-within}
 use Rattle.dmf_state.proofs.ClosedArcs.{HasArcs-open, HasArcs}
 use Rattle.dmf_state.proofs.ClosedTogether.{HasArcs-long, length-closed}
 use Rattle.dmf_state.proofs.Moving.{no_move, IsMoveAt, MovesFit-made}
+use Rattle.dmf_solver.proofs.ArcPairs.{pairs-flow}
 use Rattle.dmf_solver.proofs.NetworkPairs.{length-network_pairs}
+use Rattle.dmf_solver.proofs.ResidualPairs.{by_residual_pair}
 use Rattle.dmf_state.proofs.Reverting.{fit-back}
-
--- ---- moves
-
--- The first `i` moves are made.
-pub record ArePut (moves : List Move) (last_flows : List ℕ) (i : ℕ) (flows : List ℕ) : Type 0 where
-  pub last : ℕ
-  pub fit : MovesFit last (drop i moves) flows
-  pub rest : moved (drop i moves) flows ≡ last_flows
-
--- At first none is made.
-pub put-none : (moves : List Move) (flows : List ℕ) → MovesFit 0 moves flows → ArePut moves (moved moves flows) 0 flows
-put-none moves flows fit = record { last = 0; fit = fit; rest = refl }
-
-module _ (moves : List Move) (last_flows : List ℕ) (i : ℕ) (flows : List ℕ) (h : i < length moves) (a : ArePut moves last_flows i flows) where
-  split : drop i moves ≡ get_or moves i no_move ∷ drop (i + 1) moves
-  split =
-      let next : suc i ≡ i + 1 = omega arith in
-      subst (λ k. drop i moves ≡ get_or moves i no_move ∷ drop k moves) next (drop-cons moves i no_move h)
-
-  fit : MovesFit a.last (get_or moves i no_move ∷ drop (i + 1) moves) flows
-  fit = subst (λ ms. MovesFit a.last ms flows) split a.fit
-
-  -- The next move is that of an arc.
-  pub index-put : (1 ≤ (get_or moves i no_move).arc) × ((get_or moves i no_move).arc - 1 < length flows)
-  index-put = (omega (arith, fit.0), slice_get_within flows ((get_or moves i no_move).arc - 1) (get_or moves i no_move).from fit.1)
-
-  -- One more is made.
-  pub put-more : ArePut moves last_flows (i + 1) (set flows ((get_or moves i no_move).arc - 1) (get_or moves i no_move).to)
-  put-more = record {
-    last = (get_or moves i no_move).arc;
-    fit = MovesFit-made a.last (get_or moves i no_move) (drop (i + 1) moves) flows fit;
-    rest = subst (λ ms. moved ms flows ≡ last_flows) split a.rest;
-  }
-
--- Once all are made, the flows are the last ones.
-pub put-all : (moves : List Move) (last_flows : List ℕ) (i : ℕ) (flows : List ℕ) → length moves ≤ i → ArePut moves last_flows i flows → flows ≡ last_flows
-put-all moves last_flows i flows long a = subst (λ ms. moved ms flows ≡ last_flows) (drop_of_length-le moves long) a.rest
 
 -- ---- one flow
 
-flow-pair : (arc : Arc) (first flow : ℕ) (loop : Bool) → (arc.tail == arc.head) ≡ loop
-    → residual_pair arc flow ≡ option_map (pair_with (arc.cap - flow) flow) (residual_pair arc first)
-flow-pair arc first flow true e = rw e refl
-flow-pair arc first flow false e = rw e refl
-
-flow-pairs : (arcs : List Arc) (flows : List ℕ) (rest : List (Option Pair)) (k flow : ℕ) → length flows ≡ length arcs → k < length arcs
-    → residual_pairs arcs (set flows k flow) ++ rest ≡ with_rooms (residual_pairs arcs flows ++ rest) k ((get_or arcs k no_arc).cap - flow) flow
-flow-pairs [] flows rest k flow same h = absurd (omega (arith, h))
-flow-pairs (arc ∷ arcs) [] rest k flow same h = absurd (omega (arith, same))
-flow-pairs (arc ∷ arcs) (first ∷ flows) rest zero flow same h = ap (λ (p : Option Pair). p ∷ (residual_pairs arcs flows ++ rest))
-    (flow-pair arc first flow (arc.tail == arc.head) refl)
-flow-pairs (arc ∷ arcs) (first ∷ flows) rest (suc k) flow same h = ap (λ (ps : List (Option Pair)). residual_pair arc first ∷ ps)
-    (flow-pairs arcs flows rest k flow (omega (arith, same)) (omega (arith, h)))
-
 -- A new flow on an arc gives both links of its pair new rooms.
-pub flow-followed : (n : Network) (flows : List ℕ) (k flow : ℕ) → length flows ≡ length n.arcs → k < length n.arcs
-    → residual_search n (set flows k flow) ≡ with_pairs (residual_search n flows)
-    (with_rooms (network_pairs n flows) k ((get_or n.arcs k no_arc).cap - flow) flow)
-flow-followed n flows k flow same h = ap (with_pairs (residual_search n flows)) (flow-pairs n.arcs flows (closed_return n ∷ []) k flow same h)
+pub residual-next : (n : Network) (flows : List ℕ) (k flow : ℕ) (old new : Searched) → length flows ≡ length n.arcs → k < length n.arcs
+    → old ≡ residual_search n flows → new ≡ with_pairs old (with_rooms old.pairs k ((get_or n.arcs k no_arc).cap - flow) flow)
+    → new ≡ residual_search n (set flows k flow)
+residual-next n flows k flow old new same h was is =
+    is
+    ∙ ap (λ (o : Searched). with_pairs o (with_rooms o.pairs k ((get_or n.arcs k no_arc).cap - flow) flow)) was
+    ∙ sym (ap (with_pairs (residual_search n flows)) (pairs-flow by_residual_pair n.arcs flows (closed_return n ∷ []) k flow same h))
 
 -- ---- one capacity
 
@@ -109,13 +63,6 @@ cap-pairs (old ∷ arcs) (flow ∷ flows) rest (suc k) arc h tail head = ap (λ 
     (cap-pairs arcs flows rest k arc (omega (arith, h)) tail head)
 
 -- A new capacity of an arc gives the link along its pair a new room.
-cap-followed : (n : Network) (flows : List ℕ) (j : ℕ) (arc : Arc) → j - 1 < length (residual_pairs n.arcs flows) → arc.tail ≡ (arc_number n j).tail
-    → arc.head ≡ (arc_number n j).head
-    → residual_search (with_arc n j arc) flows ≡ with_pairs (residual_search n flows) (with_capacity (network_pairs n flows) (j - 1) arc.cap)
-cap-followed n flows j arc h tail head =
-    ap (with_pairs (residual_search n flows)) (cap-pairs n.arcs flows (closed_return n ∷ []) (j - 1) arc h tail head)
-
--- The same for a search that is the residual one.
 cap-search : (n : Network) (flows : List ℕ) (j : ℕ) (arc : Arc) (old new : Searched) → length old.pairs ≡ length n.arcs + 1 → j - 1 < length n.arcs
     → arc.tail ≡ (arc_number n j).tail → arc.head ≡ (arc_number n j).head
     → new ≡ with_pairs old (with_capacity old.pairs (j - 1) arc.cap) → old ≡ residual_search n flows → new ≡ residual_search (with_arc n j arc) flows
@@ -123,7 +70,9 @@ cap-search n flows j arc old new long h tail head put is =
     let pairs : length old.pairs ≡ length (network_pairs n flows) = ap (λ (o : Searched). length o.pairs) is in
     let within : j - 1 < length (residual_pairs n.arcs flows) =
     omega (arith, h, long, pairs, length_push (residual_pairs n.arcs flows) (closed_return n)) in
-    put ∙ ap (λ (o : Searched). with_pairs o (with_capacity o.pairs (j - 1) arc.cap)) is ∙ sym (cap-followed n flows j arc within tail head)
+    put
+    ∙ ap (λ (o : Searched). with_pairs o (with_capacity o.pairs (j - 1) arc.cap)) is
+    ∙ sym (ap (with_pairs (residual_search n flows)) (cap-pairs n.arcs flows (closed_return n ∷ []) (j - 1) arc within tail head))
 
 -- There are as many pairs as before.
 pub length-with_capacity : (pairs : List (Option Pair)) (k cap : ℕ) → length (with_capacity pairs k cap) ≡ length pairs
@@ -146,57 +95,67 @@ rooms-told pairs k cap flow is = told-some pairs k cap flow (pair_number pairs k
 
 -- ---- moves in turn
 
--- The first moves are made: the search is the residual one of flows from which the other moves lead to the last ones.
-pub record AreFollowed (n : Network) (moves : List Move) (last : List ℕ) (i : ℕ) (search : Searched) : Type 0 where
+-- The first `i` moves are made: the search is of the kind for flows from which the other moves lead to the last ones.
+pub record AreFollowed (Kind : NetworkState → Searched → Type 0) (n : Network) (moves : List Move) (last : List ℕ) (i : ℕ) (search : Searched) : Type 0 where
   pub flows : List ℕ
-  pub put : ArePut moves last i flows
+  pub number : ℕ
+  pub fit : MovesFit number (drop i moves) flows
+  pub rest : moved (drop i moves) flows ≡ last
   pub one_each : length flows ≡ length n.arcs
-  pub is : search ≡ residual_search n flows
+  pub is : Kind (record { network = n; flows = flows }) search
 
 -- At first none is.
-pub followed-none : (s : NetworkState) (moves : List Move) (search : Searched) → IsState s → MovesFit 0 moves s.flows
-    → search ≡ residual_search s.network s.flows → AreFollowed s.network moves (moved moves s.flows) 0 search
-followed-none s moves search state fit is = record {
+pub followed-none : (Kind : NetworkState → Searched → Type 0) (s : NetworkState) (moves : List Move) (search : Searched) → IsState s
+    → MovesFit 0 moves s.flows → Kind s search → AreFollowed Kind s.network moves (moved moves s.flows) 0 search
+followed-none Kind s moves search state fit is = record {
   flows = s.flows;
-  put = put-none moves s.flows fit;
+  number = 0;
+  fit = fit;
+  rest = refl;
   one_each = AllZip-long _ s.network.arcs s.flows state.flow.within;
   is = is;
 }
 
--- there is a pair for each arc, and one more
-pub long-followed : (n : Network) (moves : List Move) (last : List ℕ) (i : ℕ) (search : Searched) → AreFollowed n moves last i search
-    → length search.pairs ≡ length n.arcs + 1
-long-followed n moves last i search are = ap (λ (o : Searched). length o.pairs) are.is ∙ length-network_pairs n are.flows are.one_each
+module _ (Kind : NetworkState → Searched → Type 0) (n : Network) (moves : List Move) (last : List ℕ) (i : ℕ) (m : Move) (search : Searched)
+    (move : IsMoveAt moves i m) (are : AreFollowed Kind n moves last i search) where
+  split : drop i moves ≡ m ∷ drop (i + 1) moves
+  split =
+      let next : suc i ≡ i + 1 = omega arith in
+      drop-cons moves i no_move move.within ∙ (λ t. move.is t ∷ drop (next t) moves)
 
--- the arc of the next move is there
-pub move-within : (n : Network) (moves : List Move) (last : List ℕ) (i : ℕ) (m : Move) (search : Searched) → IsMoveAt moves i m
-    → AreFollowed n moves last i search
-    → (1 ≤ m.arc) × (m.arc - 1 < length n.arcs) × (m.arc - 1 < length search.pairs)
-move-within n moves last i m search move are =
-    let at = index-put moves last i are.flows move.within are.put in
-    let arc : (get_or moves i no_move).arc ≡ m.arc = ap (λ (x : Move). x.arc) move.is in
-    (omega (arith, at.0, arc), omega (arith, at.1, are.one_each, arc), omega (arith, at.1, arc, are.one_each, long-followed n moves last i search are))
+  fit : MovesFit are.number (m ∷ drop (i + 1) moves) are.flows
+  fit = subst (λ ms. MovesFit are.number ms are.flows) split are.fit
 
--- the next move is made
-pub followed-next : (n : Network) (moves : List Move) (last : List ℕ) (i : ℕ) (m : Move) (old new : Searched) → IsMoveAt moves i m
-    → AreFollowed n moves last i old
-    → new ≡ with_pairs old (with_rooms old.pairs (m.arc - 1) ((get_or n.arcs (m.arc - 1) no_arc).cap - m.to) m.to)
-    → AreFollowed n moves last (i + 1) new
-followed-next n moves last i m old new move are is =
-    let k : ℕ = m.arc - 1 in
-    let within = (move-within n moves last i m old move are).1 in
-    record {
-      flows = set are.flows k m.to;
-      put = subst (λ (x : Move). ArePut moves last (i + 1) (set are.flows (x.arc - 1) x.to)) move.is (put-more moves last i are.flows move.within are.put);
-      one_each = length-set are.flows k m.to ∙ are.one_each;
-      is = is ∙ ap (λ (o : Searched). with_pairs o (with_rooms o.pairs k ((get_or n.arcs k no_arc).cap - m.to) m.to)) are.is ∙ sym
-          (flow-followed n are.flows k m.to are.one_each within);
-    }
+  -- The arc of the next move is there.
+  pub move-within : (1 ≤ m.arc) × (m.arc - 1 < length n.arcs)
+  move-within =
+      let within = slice_get_within are.flows (m.arc - 1) m.from fit.1 in
+      (omega (arith, fit.0), omega (arith, within, are.one_each))
+
+  -- The next move is made,
+  pub followed-next : (new : Searched) → ((flows : List ℕ) → length flows ≡ length n.arcs → m.arc - 1 < length n.arcs
+      → Kind (record { network = n; flows = flows }) search → Kind (record { network = n; flows = set flows (m.arc - 1) m.to }) new)
+      → AreFollowed Kind n moves last (i + 1) new
+  followed-next new next = record {
+    flows = set are.flows (m.arc - 1) m.to;
+    number = m.arc;
+    fit = MovesFit-made are.number m (drop (i + 1) moves) are.flows fit;
+    rest = subst (λ ms. moved ms are.flows ≡ last) split are.rest;
+    one_each = length-set are.flows (m.arc - 1) m.to ∙ are.one_each;
+    is = next are.flows are.one_each move-within.1 are.is;
+  }
 
 -- and in the end all are.
-pub followed-all : (n : Network) (moves : List Move) (last : List ℕ) (i : ℕ) (search : Searched) → length moves ≤ i → AreFollowed n moves last i search
-    → search ≡ residual_search n last
-followed-all n moves last i search long are = are.is ∙ ap (residual_search n) (put-all moves last i are.flows long are.put)
+pub followed-all : (Kind : NetworkState → Searched → Type 0) (n : Network) (moves : List Move) (last : List ℕ) (i : ℕ) (search : Searched) → length moves ≤ i
+    → AreFollowed Kind n moves last i search → Kind (record { network = n; flows = last }) search
+followed-all Kind n moves last i search long are =
+    subst (λ flows. Kind (record { network = n; flows = flows }) search)
+    (subst (λ ms. moved ms are.flows ≡ last) (drop_of_length-le moves long) are.rest) are.is
+
+-- There is a pair for each arc, and one more.
+pub long-followed : (n : Network) (moves : List Move) (last : List ℕ) (i : ℕ) (search : Searched) → AreFollowed IsResidualOf n moves last i search
+    → length search.pairs ≡ length n.arcs + 1
+long-followed n moves last i search are = ap (λ (o : Searched). length o.pairs) are.is ∙ length-network_pairs n are.flows are.one_each
 
 -- ---- one capacity, changed or reverted
 
@@ -228,15 +187,16 @@ shut_along Forward arcs n = with_closed arcs n
 shut_along Back arcs n = with_opened arcs n
 
 -- whether an arc is closed afterwards
-abbrev is_closed : Direction → Bool
+abbrev pub is_closed : Direction → Bool
 is_closed Forward = true
 is_closed Back = false
 
 -- the arc afterwards
-abbrev shut_arc : Direction → Shutting → Arc → Arc
+abbrev pub shut_arc : Direction → Shutting → Arc → Arc
 shut_arc d a arc = record { tail = arc.tail; head = arc.head; cap = cap_along d a.old 0; closed = is_closed d }
 
-shut-first : (d : Direction) (a : Shutting) (rest : List Shutting) (n : Network)
+-- The first arc is shut before the others.
+pub shut-first : (d : Direction) (a : Shutting) (rest : List Shutting) (n : Network)
     → shut_along d rest (with_arc n a.arc (shut_arc d a (arc_number n a.arc))) ≡ shut_along d (a ∷ rest) n
 shut-first Forward a rest n = refl
 shut-first Back a rest n = refl

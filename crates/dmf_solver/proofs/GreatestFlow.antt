@@ -1,5 +1,5 @@
 -- Every network has a maximum flow, and a minimum cut whose capacity is its value.
-use Rattle.std.proofs.Common.{ℕ, ◌≡◌, ◌==◌, List, [], ◌∷◌, Bool, true, false, cond, refl, subst, arith}
+use Rattle.std.proofs.Common.{Bool, ℕ, ◌≡◌, ◌==◌, List, [], ◌∷◌, refl, subst, arith}
 use Rattle.std.specs.List.{zip}
 use Rattle.std.proofs.lemmas.Int.{ints}
 use Rattle.std.proofs.lemmas.List.Sums.{sum_by-cons}
@@ -8,48 +8,48 @@ use Rattle.dmf_state.specs.Network.{Network, IsNetwork}
 use Rattle.dmf_state.specs.Flow.{flow_at, AreWithinCapacities, IsFlow, flow_value}
 use Rattle.dmf_state.specs.NetworkState.{NetworkState, IsState}
 use Rattle.dmf_solver.specs.Greatest.{IsGreatest}
-use Rattle.dmf_state.specs.Cut.{HasCutOf}
+use Rattle.dmf_state.specs.Cut.{HasCutOf, HasMinimumCutOf}
 use Rattle.dmf_path.specs.Path.{HasNoPath}
 use Rattle.dmf_solver.specs.Residual.{residual_steps}
 use Rattle.dmf_solver.specs.Change.{Solve}
 use Rattle.dmf_state.proofs.Summing.{at_node}
+use Rattle.dmf_solver.proofs.Crossing.{no_part}
 use Rattle.dmf_solver.proofs.Reached.{is_reached, AreReachedFrom-is_reached}
-use Rattle.dmf_solver.proofs.MaxFlowMinCut.{reached-cut, reached-capacity, reached-greatest, reached-minimum_cut}
+use Rattle.dmf_solver.proofs.MaxFlowMinCut.{AreReached, reached-capacity, reached-greatest, reached-minimum_cut}
 use Rattle.dmf_solver.proofs.LargerFlow.{no_path-from_greatest}
 use Rattle.dmf_solver.proofs.SomeOutcome.{some-outcome}
 use Rattle.dmf_solver.specs.Laws.{HasGreatestFlow, MaxFlowMinCut}
 
 -- ---- a flow whose residual network has no path from the source to the sink
 
--- It is a maximum flow.
-pub greatest-from_no_path : (n : Network) (flows : List ℕ) → IsNetwork n → IsFlow n flows → HasNoPath (residual_steps n.arcs flows) n.source n.sink
-    → IsGreatest n flows
-greatest-from_no_path n flows network flow none =
-    let steps = residual_steps n.arcs flows in
-    reached-greatest n flows (is_reached steps n.nodes n.source) network flow none (AreReachedFrom-is_reached steps n.nodes n.source)
+module _ (n : Network) (flows : List ℕ) (network : IsNetwork n) (flow : IsFlow n flows) (none : HasNoPath (residual_steps n.arcs flows) n.source n.sink) where
+  abbrev has : ℕ → Bool
+  has = is_reached (residual_steps n.arcs flows) n.nodes n.source
 
--- Its value is the capacity of a cut.
-pub cut-from_no_path : (n : Network) (flows : List ℕ) → IsNetwork n → IsFlow n flows → HasNoPath (residual_steps n.arcs flows) n.source n.sink
-    → HasCutOf n (flow_value n flows)
-cut-from_no_path n flows network flow none =
-    let steps = residual_steps n.arcs flows in
-    let has = is_reached steps n.nodes n.source in
-    let r = AreReachedFrom-is_reached steps n.nodes n.source in
-    record { has = has; cut = reached-cut n flows has network r none; capacity = reached-capacity n flows has network flow none r }
+  are : AreReached n flows has
+  are = AreReachedFrom-is_reached (residual_steps n.arcs flows) n.nodes n.source
+
+  -- It is a maximum flow.
+  pub greatest-from_no_path : IsGreatest n flows
+  greatest-from_no_path = reached-greatest n flows has network flow none are
+
+  -- Its value is the capacity of a minimum cut,
+  minimum_cut-from_no_path : HasMinimumCutOf n (flow_value n flows)
+  minimum_cut-from_no_path = record {
+    has = has;
+    least = reached-minimum_cut n flows has network flow none are;
+    capacity = reached-capacity n flows has network flow none are;
+  }
+
+  -- and so of a cut.
+  pub cut-from_no_path : HasCutOf n (flow_value n flows)
+  cut-from_no_path =
+      let least = minimum_cut-from_no_path in
+      record { has = least.has; cut = least.least.cut; capacity = least.capacity }
 
 -- The theorem that the value of a maximum flow is the capacity of a minimum cut.
 pub max_flow-min_cut : MaxFlowMinCut
-max_flow-min_cut n flows network greatest =
-    let steps = residual_steps n.arcs flows in
-    let has = is_reached steps n.nodes n.source in
-    let r = AreReachedFrom-is_reached steps n.nodes n.source in
-    let none = no_path-from_greatest n flows network greatest in
-    record {
-      has = has;
-      least = reached-minimum_cut n flows has network greatest.flow none r;
-      capacity =
-          reached-capacity n flows has network greatest.flow none r;
-    }
+max_flow-min_cut n flows network greatest = minimum_cut-from_no_path n flows network greatest.flow (no_path-from_greatest n flows network greatest)
 
 -- ---- there is a maximum flow
 
@@ -61,10 +61,6 @@ no_flow (arc ∷ arcs) = 0 ∷ no_flow arcs
 within-no_flow : (arcs : List Arc) → AreWithinCapacities arcs (no_flow arcs)
 within-no_flow [] = tt
 within-no_flow (arc ∷ arcs) = (omega arith, within-no_flow arcs)
-
-no_part : (b : Bool) → ◌≡◌ {A = ℕ} (cond b 0 0) 0
-no_part true = refl
-no_part false = refl
 
 -- The outflow and the inflow of a node are 0.
 flow_at-no_flow : (end : Arc → ℕ) (arcs : List Arc) (v : ℕ) → flow_at end arcs (no_flow arcs) v ≡ 0

@@ -1,7 +1,7 @@
 pub mod ListedMoves
+pub mod ByArc
+pub mod ArcPairs
 pub mod ResidualSteps
-pub mod Pushing
-pub mod AugmentedPushed
 pub mod Augmenting
 pub mod Solving
 pub mod Crossing
@@ -32,7 +32,6 @@ pub mod FlowsRead
 pub mod SolvingSearch
 pub mod SolvedEdit
 pub mod Followed
-pub mod LoweredValue
 pub mod CarryingPairs
 pub mod CarryingFollowed
 pub mod LoweredPairs

@@ -40,6 +40,7 @@ module _ (before after : List ℕ) (same : length after ≡ length before) where
       (move_of-same (a + n + 1) _ _ (stay (a + n) (omega arith) (omega arith))) ∙ append-nil _
       ∙ moves-stay n a (λ k from to. stay k from (omega (arith, to)))
 
+  -- No move comes in between where the flows stay.
   pub moves-between : (a b : ℕ) → a ≤ b → ((k : ℕ) → a ≤ k → k < b → Stays before after k) → moves_before before after b ≡ moves_before before after a
   moves-between a b order stay =
       let gap : a + (b - a) ≡ b = omega (arith, order) in

@@ -1,28 +1,23 @@
 -- The pairs that stand for carrying steps, after an arc is lowered along a least path: the pairs are pushed along the path, and lowered
 -- by the same amount at the arc.
 use Rattle.std.proofs.Common.{ℕ, ◌≡◌, ◌+◌, ◌-◌, ◌*◌, ◌<◌, ◌==◌, Bool, true, false, cond, List, [], ◌∷◌, ◌++◌, length, zero, suc, refl, ap, ◌∙◌, arith, add-zero}
-use Rattle.std.proofs.Common.{eq-eqb, Option, Some}
+use Rattle.std.proofs.Common.{eq-eqb, Option}
 use Rattle.std.specs.Option.{option_map}
 use Rattle.std.proofs.lemmas.Bool.{ne_eqb}
 use Rattle.std.proofs.lemmas.Slice.Zip.{AllZip-long}
 use Rattle.dmf_links.specs.declared.pair.Pair.{Pair}
 use Rattle.dmf_path.specs.Step.{Step}
-use Rattle.dmf_path.specs.Path.{IsLeastPath, has_rank, bottleneck_up_to}
+use Rattle.dmf_path.specs.Path.{has_rank, bottleneck_up_to}
 use Rattle.dmf_path.specs.Pair.{pushed_pair, pushed_from, pushed_pairs}
 use Rattle.dmf_path.specs.Search.{lowered_pair, lowered_along}
 use Rattle.dmf_state.specs.declared.arc.Arc.{Arc}
-use Rattle.dmf_state.specs.Network.{Network, IsNetwork, arc_number, has_arc}
-use Rattle.dmf_state.specs.Flow.{flow_on, IsFlow}
-use Rattle.dmf_solver.specs.Drain.{value_or_zero, carrying_steps, lowered_from, lowered}
+use Rattle.dmf_state.specs.Network.{Network}
+use Rattle.dmf_state.specs.Flow.{flow_on}
+use Rattle.dmf_solver.specs.Drain.{value_or_zero, lowered_from, lowered}
 use Rattle.dmf_solver.specs.CarryingNetwork.{carrying_pair, carrying_from, return_pair, carrying_pairs}
 use Rattle.dmf_state.proofs.ChangedArc.{has_arc-within}
-use Rattle.dmf_solver.proofs.LoweredValue.{value_or_zero-lowered}
-use Rattle.dmf_solver.proofs.Lowering.{HaveOwnRanks, HaveOwnRanks-least}
-
--- a pair with these rooms
-pair-rooms : (tail head a b c d : ℕ) → a ≡ c → b ≡ d → ◌≡◌ {A = Option Pair} (Some (record { tail = tail; head = head; along = a; against = b }))
-    (Some (record { tail = tail; head = head; along = c; against = d }))
-pair-rooms tail head a b c d first second = λ i. Some (record { tail = tail; head = head; along = first i; against = second i })
+use Rattle.dmf_solver.proofs.ResidualPairs.{pair-rooms}
+use Rattle.dmf_solver.proofs.Lowering.{CanLower, other-rank, value_or_zero-lowered}
 
 -- If an arc's flow is lower because the path has its step, its new pair is the old one, pushed.
 pair-pushed : (amount j : ℕ) (path : List Step) (arc : Arc) (flow : ℕ) (loop : Bool) → (arc.tail == arc.head) ≡ loop
@@ -79,22 +74,14 @@ pairs-lowered amount i j (suc k) path (arc ∷ arcs) (flow ∷ flows) last now a
     (is ∙ ap (λ m. pushed_pair false m amount path last) place) in
     rw (ne_eqb i j (omega (arith, at))) (λ t. own t ∷ rest t)
 
--- a path that has only its own ranks does not have the rank of arc number `j`
-pub other-rank : (j : ℕ) (path : List Step) → HaveOwnRanks j path → has_rank path (2 * j) ≡ false
-other-rank j [] own = refl
-other-rank j (s ∷ path) own = rw (ne_eqb s.rank (2 * j) own.0) (other-rank j path own.2)
-
 -- The pairs of the lowered flows are the pairs of the flows, pushed along the path and lowered at the arc.
-pub carrying_pairs-lowered : (n : Network) (flows : List ℕ) (j limit : ℕ) (path : List Step) → limit < flow_on flows j
-    → has_arc n j ≡ true → IsNetwork n → IsFlow n flows → IsLeastPath (carrying_steps n flows) (arc_number n j).head (arc_number n j).tail path →
+pub carrying_pairs-lowered : (n : Network) (flows : List ℕ) (j limit : ℕ) (path : List Step) → CanLower n j limit flows path →
     carrying_pairs n (lowered j limit path flows) ≡ lowered_along
     (pushed_pairs false (bottleneck_up_to (flow_on flows j - limit) path) path (carrying_pairs n flows)) (j - 1)
     (bottleneck_up_to (flow_on flows j - limit) path)
-carrying_pairs-lowered n flows j limit path above has network flow least =
-    let at = has_arc-within n j has in
-    let own = HaveOwnRanks-least n j flows path has network (omega (arith, above)) least in
-    pairs-lowered (bottleneck_up_to (flow_on flows j - limit) path) 1 j (j - 1) path n.arcs flows (return_pair n flows)
-    (return_pair n (lowered j limit path flows))
-    (omega (arith, at.0)) at.1 (other-rank j path own) (AllZip-long _ n.arcs flows flow.within)
-    (return-pushed (bottleneck_up_to (flow_on flows j - limit) path) path n flows (lowered j limit path flows)
-    (value_or_zero-lowered n j limit flows path above has network flow least))
+carrying_pairs-lowered n flows j limit path can =
+    let at = has_arc-within n j can.has in
+    let amount : ℕ = bottleneck_up_to (flow_on flows j - limit) path in
+    pairs-lowered amount 1 j (j - 1) path n.arcs flows (return_pair n flows) (return_pair n (lowered j limit path flows)) (omega (arith, at.0)) at.1
+    (other-rank n j limit flows path can) (AllZip-long _ n.arcs flows can.flow.within)
+    (return-pushed amount path n flows (lowered j limit path flows) (value_or_zero-lowered n j limit flows path can))

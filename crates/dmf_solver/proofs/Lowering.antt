@@ -1,24 +1,23 @@
 -- Lowering an arc along a least path of carrying steps from its head to its tail gives a flow.
-use Rattle.std.proofs.Common.{ℕ, ◌≡◌, ◌≢◌, ◌+◌, ◌-◌, ◌*◌, ◌<◌, ◌≤◌, ◌==◌, ◌||◌, ◌⊎◌, List, [], ◌∷◌, length, get_or, set, zero, suc, Bool, true, false, cond}
-use Rattle.std.proofs.Common.{refl, ap, ◌∙◌, sym, arith, ⊎_elim, inl, inr, length-set, get_or-set_other, add-zero, eq-eqb, pos, ◌-ℤ◌, ◌≤ℤ◌}
+use Rattle.std.proofs.Common.{ℕ, ◌≡◌, ◌≢◌, ◌+◌, ◌-◌, ◌*◌, ◌<◌, ◌≤◌, ◌==◌, ◌||◌, ◌⊎◌, List, [], ◌∷◌, length, get_or, set, zero, suc, true, false, cond}
+use Rattle.std.proofs.Common.{refl, ap, ◌∙◌, sym, arith, ⊎_elim, inl, inr, add-zero, eq-eqb, pos, ◌-ℤ◌, ◌≤ℤ◌}
 use Rattle.std.specs.List.{Contains, AllZip}
-use Rattle.std.proofs.lemmas.Bool.{ne_eqb, cases_eq, both_ways}
+use Rattle.std.proofs.lemmas.Bool.{ne_eqb, cases_Bool, both_ways}
 use Rattle.std.proofs.lemmas.Bool.Decides.{eqb_tells}
-use Rattle.std.proofs.lemmas.Grind.{get_or-set_at, same_number_lists}
+use Rattle.std.proofs.lemmas.Grind.{same_number_lists}
 use Rattle.std.proofs.lemmas.Int.{ints}
 use Rattle.std.proofs.lemmas.Slice.Zip.{AllZip-long}
 use Rattle.dmf_state.specs.declared.arc.Arc.{Arc}
 use Rattle.dmf_path.specs.Step.{Step}
-use Rattle.dmf_state.specs.Arc.{no_arc}
 use Rattle.dmf_state.specs.Network.{Network, IsNetwork, arc_number, has_arc}
-use Rattle.dmf_state.specs.Flow.{flow_on, flow_at, outflow, inflow, AreWithinCapacities, IsFlow, flow_value}
+use Rattle.dmf_state.specs.Flow.{flow_on, outflow, inflow, AreWithinCapacities, IsFlow, flow_value}
 use Rattle.dmf_path.specs.Path.{IsPath, IsLeastPath, has_rank, bottleneck_up_to}
 use Rattle.dmf_solver.specs.Drain.{value_or_zero, carrying_steps, lowered_from, lowered}
 use Rattle.dmf_state.proofs.ChangedArc.{has_arc-within}
-use Rattle.dmf_state.proofs.Changing.{flow_at-set}
+use Rattle.dmf_state.proofs.Summing.{part-le}
 use Rattle.dmf_path.proofs.ShortestPaths.{Avoids, IsShortestPath, IsShortestPath-least, IsShortestPath-tail, avoids-start}
-use Rattle.dmf_solver.proofs.Pushing.{at_end, more-at}
-use Rattle.dmf_solver.proofs.Augmenting.{at_end-other, bottleneck_up_to-le}
+use Rattle.dmf_solver.proofs.Augmenting.{set-from, at_end, at_end-other, at_end-same, flow_at-less, step-of_rank}
+use Rattle.dmf_solver.proofs.Augmenting.{bottleneck_up_to-le, bottleneck_up_to-positive}
 use Rattle.dmf_path.proofs.OneLeast.{Ascend, step-by_rank}
 use Rattle.dmf_solver.proofs.CarryingSteps.{IsCarrying, along, returns, carrying-contained, carrying-room, carrying-has, AreSteps-carrying}
 
@@ -62,57 +61,33 @@ unlowered j amount path flows k h apart none =
 pub lowered-none : (j amount : ℕ) (flows : List ℕ) → 1 ≤ j → j - 1 < length flows
     → lowered_from 1 j amount [] flows ≡ set flows (j - 1) (get_or flows (j - 1) 0 - amount)
 lowered-none j amount flows first h =
-    let long = length-lowered_from 1 j amount [] flows in
-    same_number_lists (lowered_from 1 j amount [] flows) (set flows (j - 1) (get_or flows (j - 1) 0 - amount))
-    (long ∙ sym (length-set flows _ _))
-    (λ k l.
-    let within : k < length flows = omega (arith, l, long) in
-    ⊎_elim
-    (λ (here : k ≡ j - 1).
-    rw (
-      get_or-lowered_from 1 j amount [] flows k within,
-      eq-eqb (1 + k) j (omega (arith, here, first)),
-      get_or-set_at flows (j - 1) k (get_or flows (j - 1) 0 - amount) 0 here h,
-    )
-    (ap (λ m. get_or flows m 0 - amount) here))
-    (λ (elsewhere : k ≢ j - 1).
-    let apart : 1 + k ≢ j = omega (arith, elsewhere) in
-    unlowered j amount [] flows k within apart refl ∙ sym (get_or-set_other flows (j - 1) k _ 0 elsewhere))
-    (cases_eq k (j - 1)))
+    let place : 1 + (j - 1) ≡ j = omega (arith, first) in
+    set-from (lowered_from 1 j amount [] flows) flows (j - 1) (get_or flows (j - 1) 0 - amount) (length-lowered_from 1 j amount [] flows) h
+    (rw (get_or-lowered_from 1 j amount [] flows (j - 1) h, eq-eqb (1 + (j - 1)) j place) refl)
+    (λ i within elsewhere.
+    let apart : 1 + i ≢ j = omega (arith, elsewhere) in
+    unlowered j amount [] flows i within apart refl)
 
 -- one more step in front lowers its arc
 lowered-along : (j amount : ℕ) (s : Step) (path : List Step) (flows : List ℕ) (k : ℕ) → s.rank ≡ 2 * (1 + k) → s.rank ≢ 2 * j → k < length flows
     → lowered_from 1 j amount (s ∷ path) flows ≡ set (lowered_from 1 j amount path flows) k (get_or flows k 0 - amount)
 lowered-along j amount s path flows k rank apart h =
-    let before : List ℕ = lowered_from 1 j amount path flows in
-    let long_before = length-lowered_from 1 j amount path flows in
-    let long = length-lowered_from 1 j amount (s ∷ path) flows in
-    same_number_lists (lowered_from 1 j amount (s ∷ path) flows) (set before k (get_or flows k 0 - amount))
-    (long ∙ sym long_before ∙ sym (length-set before _ _))
-    (λ i l.
+    let long = length-lowered_from 1 j amount path flows in
+    set-from (lowered_from 1 j amount (s ∷ path) flows) (lowered_from 1 j amount path flows) k (get_or flows k 0 - amount)
+    (length-lowered_from 1 j amount (s ∷ path) flows ∙ sym long) (omega (arith, h, long))
+    (rw (get_or-lowered_from 1 j amount (s ∷ path) flows k h, ne_eqb (1 + k) j (omega (arith, rank, apart)), eq-eqb s.rank (2 * (1 + k)) rank) refl)
+    (λ i l elsewhere.
     let within : i < length flows = omega (arith, l, long) in
-    ⊎_elim
-    (λ (here : i ≡ k).
-    rw (
-      get_or-lowered_from 1 j amount (s ∷ path) flows i within,
-      ne_eqb (1 + i) j (omega (arith, here, rank, apart)),
-      eq-eqb s.rank (2 * (1 + i)) (omega (arith, here, rank)),
-      get_or-set_at before k i (get_or flows k 0 - amount) 0 here (omega (arith, h, long_before)),
-    )
-    (ap (λ m. get_or flows m 0 - amount) here))
-    (λ (elsewhere : i ≢ k).
-    rw (get_or-lowered_from 1 j amount (s ∷ path) flows i within, ne_eqb s.rank (2 * (1 + i)) (omega (arith, elsewhere, rank)))
-    (sym (get_or-set_other before k i _ 0 elsewhere ∙ get_or-lowered_from 1 j amount path flows i within)))
-    (cases_eq i k))
+    get_or-lowered_from 1 j amount (s ∷ path) flows i within
+    ∙ rw (ne_eqb s.rank (2 * (1 + i)) (omega (arith, elsewhere, rank))) (sym (get_or-lowered_from 1 j amount path flows i within)))
 
 -- the return link lowers no arc
 lowered-link : (j amount : ℕ) (s : Step) (path : List Step) (flows : List ℕ) → s.rank ≡ 2 * length flows + 2
     → lowered_from 1 j amount (s ∷ path) flows ≡ lowered_from 1 j amount path flows
 lowered-link j amount s path flows rank =
-    let long_before = length-lowered_from 1 j amount path flows in
     let long = length-lowered_from 1 j amount (s ∷ path) flows in
     same_number_lists (lowered_from 1 j amount (s ∷ path) flows) (lowered_from 1 j amount path flows)
-    (long ∙ sym long_before)
+    (long ∙ sym (length-lowered_from 1 j amount path flows))
     (λ i l.
     let within : i < length flows = omega (arith, l, long) in
     rw (get_or-lowered_from 1 j amount (s ∷ path) flows i within, ne_eqb s.rank (2 * (1 + i)) (omega (arith, within, rank)))
@@ -120,25 +95,30 @@ lowered-link j amount s path flows rank =
 
 -- ---- the outflow and the inflow of a node
 
--- If one flow is lower by an amount, the sum at a node is lower by it if the node is that end of the arc.
-flow_at-less : (end : Arc → ℕ) (arcs : List Arc) (flows : List ℕ) (k amount v : ℕ) → length flows ≡ length arcs → k < length arcs → amount ≤ get_or flows k 0
-    → flow_at end arcs (set flows k (get_or flows k 0 - amount)) v + at_end amount (end (get_or arcs k no_arc)) v ≡ flow_at end arcs flows v
-flow_at-less end arcs flows k amount v same h le =
-    let x : ℕ = get_or flows k 0 in
-    let here : Bool = end (get_or arcs k no_arc) == v in
-    let old : x - amount + amount ≡ x = omega (arith, le) in
-    let part : cond here x 0 ≡ cond here (x - amount) 0 + cond here amount 0 = ap (λ y. cond here y 0) (sym old) ∙ more-at here (x - amount) amount in
-    omega (arith, flow_at-set end arcs flows k (x - amount) v same h, part)
-
--- the amount that the return link carries on the path, if the two nodes are the same
+-- the amount that the return link carries if the path has it and the two nodes are the same
 abbrev pub returned : ℕ → Network → List Step → ℕ → ℕ → ℕ
-returned amount n [] u v = 0
-returned amount n (s ∷ path) u v = cond (s.rank == 2 * length n.arcs + 2) (at_end amount u v) 0 + returned amount n path u v
+returned amount n path u v = cond (has_rank path (2 * length n.arcs + 2)) (at_end amount u v) 0
 
--- The ranks of the path's steps differ, and none is the rank of arc number `j`.
-abbrev pub HaveOwnRanks : ℕ → List Step → Type 0
-HaveOwnRanks j [] = Unit {0}
-HaveOwnRanks j (s ∷ path) = (s.rank ≢ 2 * j) × (has_rank path s.rank ≡ false) × HaveOwnRanks j path
+-- one more step in front, whose rank no other has
+rank-more : (s : Step) (path : List Step) (rank x : ℕ) → has_rank path s.rank ≡ false
+    → cond (has_rank (s ∷ path) rank) x 0 ≡ cond (s.rank == rank) x 0 + cond (has_rank path rank) x 0
+rank-more s path rank x none =
+    ⊎_elim
+    (λ (here : ((s.rank == rank) ≡ true) × (s.rank ≡ rank)). rw (here.0, ap (has_rank path) (sym here.1) ∙ none) (omega arith))
+    (λ (other : ((s.rank == rank) ≡ false) × (s.rank ≢ rank)). rw other.0 (omega arith))
+    (eqb_tells s.rank rank)
+
+-- The ranks of the path's steps differ.
+abbrev pub HaveOwnRanks : List Step → Type 0
+HaveOwnRanks [] = Unit {0}
+HaveOwnRanks (s ∷ path) = (has_rank path s.rank ≡ false) × HaveOwnRanks path
+
+-- If no step of the path has a rank, neither the first step nor any other has it.
+rank-not_first : (s : Step) (path : List Step) (rank : ℕ) → has_rank (s ∷ path) rank ≡ false → (s.rank ≢ rank) × (has_rank path rank ≡ false)
+rank-not_first s path rank none = ⊎_elim
+    (λ (here : ((s.rank == rank) ≡ true) × (s.rank ≡ rank)). absurd (both_ways true (rw here.0 at none) refl))
+    (λ (other : ((s.rank == rank) ≡ false) × (s.rank ≢ rank)). (other.1, rw other.0 at none))
+    (eqb_tells s.rank rank)
 
 -- One more step in front: the outflow minus the inflow of a node falls by the amount at the step's tail and grows by it at the step's
 -- head, apart from what the return link carries.
@@ -155,11 +135,10 @@ balance-step n j amount flows s path v same (along c) le apart none =
     let long : length before ≡ length n.arcs = length-lowered_from 1 j amount path flows ∙ same in
     let kept : get_or before k 0 ≡ get_or flows k 0 = unlowered j amount path flows k within (omega (arith, c.leads.rank_is, apart))
     (ap (has_rank path) (sym c.leads.rank_is) ∙ none) in
-    let now : lowered_from 1 j amount (s ∷ path) flows ≡ set before k (get_or before k 0 - amount) =
-    lowered-along j amount s path flows k c.leads.rank_is apart within ∙ ap (λ x. set before k (x - amount)) (sym kept) in
-    let some : amount ≤ get_or before k 0 = omega (arith, le, c.room_is, kept) in
-    let out = flow_at-less (λ a. a.tail) n.arcs before k amount v long c.leads.within some in
-    let into = flow_at-less (λ a. a.head) n.arcs before k amount v long c.leads.within some in
+    let now = lowered-along j amount s path flows k c.leads.rank_is apart within in
+    let some : amount ≤ get_or flows k 0 = omega (arith, le, c.room_is) in
+    let out = flow_at-less (λ a. a.tail) n.arcs before k amount v (get_or flows k 0) long c.leads.within kept some in
+    let into = flow_at-less (λ a. a.head) n.arcs before k amount v (get_or flows k 0) long c.leads.within kept some in
     rw (now, c.leads.tail, c.leads.head, ne_eqb s.rank (2 * length n.arcs + 2) (omega (arith, c.leads.rank_is, c.leads.within)))
     (omega (arith, out, into))
 balance-step n j amount flows s path v same (returns c) le apart none =
@@ -169,64 +148,25 @@ balance-step n j amount flows s path v same (returns c) le apart none =
 -- The outflow minus the inflow of a node falls by the amount where the path begins and grows by it where the path ends, apart from what
 -- the return link carries; likewise for arc number `j`.
 balance-lowered : (n : Network) (j amount bound : ℕ) (flows : List ℕ) (path : List Step) (a b v : ℕ) → has_arc n j ≡ true → length flows ≡ length n.arcs
-    → amount ≤ flow_on flows j → amount ≤ bottleneck_up_to bound path → IsPath (carrying_steps n flows) a b path → HaveOwnRanks j path →
+    → amount ≤ flow_on flows j → amount ≤ bottleneck_up_to bound path → IsPath (carrying_steps n flows) a b path → HaveOwnRanks path
+    → has_rank path (2 * j) ≡ false →
     outflow n.arcs (lowered_from 1 j amount path flows) v + inflow n.arcs flows v + at_end amount
     (arc_number n j).tail v + at_end amount a v + returned amount n path n.source v
     ≡ outflow n.arcs flows v + inflow n.arcs (lowered_from 1 j amount path flows) v + at_end amount
     (arc_number n j).head v + at_end amount b v + returned amount n path n.sink v
-balance-lowered n j amount bound flows [] a b v has same some le leads own =
+balance-lowered n j amount bound flows [] a b v has same some le leads own none =
     let at = has_arc-within n j has in
-    let out = flow_at-less (λ a. a.tail) n.arcs flows (j - 1) amount v same at.1 some in
-    let into = flow_at-less (λ a. a.head) n.arcs flows (j - 1) amount v same at.1 some in
+    let out = flow_at-less (λ a. a.tail) n.arcs flows (j - 1) amount v _ same at.1 refl some in
+    let into = flow_at-less (λ a. a.head) n.arcs flows (j - 1) amount v _ same at.1 refl some in
     let ends : at_end amount a v ≡ at_end amount b v = ap (λ u. at_end amount u v) leads in
     rw (lowered-none j amount flows at.0 (omega (arith, at.1, same))) (omega (arith, out, into, ends))
-balance-lowered n j amount bound flows (s ∷ path) a b v has same some le leads own =
-    let later = balance-lowered n j amount bound flows path s.to b v has same some (omega (arith, le)) leads.2 own.2 in
-    let first = balance-step n j amount flows s path v same (carrying-contained n flows s leads.0) (omega (arith, le)) own.0 own.1 in
+balance-lowered n j amount bound flows (s ∷ path) a b v has same some le leads own none =
+    let apart = rank-not_first s path (2 * j) none in
+    let later = balance-lowered n j amount bound flows path s.to b v has same some (omega (arith, le)) leads.2 own.1 apart.1 in
+    let first = balance-step n j amount flows s path v same (carrying-contained n flows s leads.0) (omega (arith, le)) apart.0 own.0 in
     let start : at_end amount s.from v ≡ at_end amount a v = ap (λ u. at_end amount u v) leads.1 in
-    omega (arith, first, later, start)
-
--- ---- what the return link carries
-
-at_end-le : (amount u v : ℕ) → at_end amount u v ≤ amount
-at_end-le amount u v = part (u == v)
-  where
-    part : (here : Bool) → cond here amount 0 ≤ amount
-    part true = omega arith
-    part false = omega arith
-
--- If no step of the path has a rank, neither the first step nor any other has it.
-rank-not_first : (s : Step) (path : List Step) (rank : ℕ) → has_rank (s ∷ path) rank ≡ false → (s.rank ≢ rank) × (has_rank path rank ≡ false)
-rank-not_first s path rank none = ⊎_elim
-    (λ (here : ((s.rank == rank) ≡ true) × (s.rank ≡ rank)). absurd (both_ways true (rw here.0 at none) refl))
-    (λ (other : ((s.rank == rank) ≡ false) × (s.rank ≢ rank)). (other.1, rw other.0 at none))
-    (eqb_tells s.rank rank)
-
--- A path that does not take the return link returns nothing over it.
-pub returned-none : (amount : ℕ) (n : Network) (path : List Step) (u v : ℕ) → has_rank path (2 * length n.arcs + 2) ≡ false → returned amount n path u v ≡ 0
-returned-none amount n [] u v none = refl
-returned-none amount n (s ∷ path) u v none =
-    let apart = rank-not_first s path (2 * length n.arcs + 2) none in
-    rw (ne_eqb s.rank (2 * length n.arcs + 2) apart.0) (omega (arith, returned-none amount n path u v apart.1))
-
-link-room : (n : Network) (flows : List ℕ) (s : Step) → IsCarrying n flows s → s.rank ≡ 2 * length n.arcs + 2 → s.room ≡ value_or_zero n flows
-link-room n flows s (along c) rank = absurd (omega (arith, rank, c.leads.rank_is, c.leads.within))
-link-room n flows s (returns c) rank = c.room_is
-
--- The return link carries the amount at most once, and at most the inflow of the sink.
-returned-le : (n : Network) (j amount bound : ℕ) (flows : List ℕ) (path : List Step) (a b u v : ℕ) → amount ≤ bottleneck_up_to bound path
-    → IsPath (carrying_steps n flows) a b path → HaveOwnRanks j path → (returned amount n path u v ≤ at_end amount u v)
-    × (returned amount n path u v ≤ value_or_zero n flows)
-returned-le n j amount bound flows [] a b u v le leads own = (omega arith, omega arith)
-returned-le n j amount bound flows (s ∷ path) a b u v le leads own = ⊎_elim
-    (λ (here : ((s.rank == 2 * length n.arcs + 2) ≡ true) × (s.rank ≡ 2 * length n.arcs + 2)).
-    let none = returned-none amount n path u v (ap (has_rank path) (sym here.1) ∙ own.1) in
-    let room = link-room n flows s (carrying-contained n flows s leads.0) here.1 in
-    rw here.0 (omega (arith, none), omega (arith, none, room, le, at_end-le amount u v)))
-    (λ (other : ((s.rank == 2 * length n.arcs + 2) ≡ false) × (s.rank ≢ 2 * length n.arcs + 2)).
-    let later = returned-le n j amount bound flows path s.to b u v (omega (arith, le)) leads.2 own.2 in
-    rw other.0 (omega (arith, later.0), omega (arith, later.1)))
-    (eqb_tells s.rank (2 * length n.arcs + 2))
+    let more = λ (u : ℕ). rank-more s path (2 * length n.arcs + 2) (at_end amount u v) own.0 in
+    omega (arith, first, later, start, more n.source, more n.sink)
 
 -- ---- the ranks of a shortest path
 
@@ -241,15 +181,12 @@ rank-avoided steps ascend s v a b (t ∷ path) has ends leads avoids =
     rw (ne_eqb t.rank s.rank apart) (rank-avoided steps ascend s v t.to b path has ends leads.2 avoids.2)
 
 -- The ranks on a shortest path differ.
-HaveOwnRanks-shortest : (steps : List Step) → Ascend steps → (j a b : ℕ) (path : List Step) → IsShortestPath steps a b path → has_rank path (2 * j) ≡ false
-    → HaveOwnRanks j path
-HaveOwnRanks-shortest steps ascend j a b [] shortest none = tt
-HaveOwnRanks-shortest steps ascend j a b (s ∷ path) shortest none =
-    let apart = rank-not_first s path (2 * j) none in (
-      apart.0,
-      rank-avoided steps ascend s a s.to b path shortest.leads.0 (inl shortest.leads.1) shortest.leads.2 (avoids-start steps a b s path shortest),
-      HaveOwnRanks-shortest steps ascend j s.to b path (IsShortestPath-tail steps a b s path shortest) apart.1,
-    )
+HaveOwnRanks-shortest : (steps : List Step) → Ascend steps → (a b : ℕ) (path : List Step) → IsShortestPath steps a b path → HaveOwnRanks path
+HaveOwnRanks-shortest steps ascend a b [] shortest = tt
+HaveOwnRanks-shortest steps ascend a b (s ∷ path) shortest = (
+  rank-avoided steps ascend s a s.to b path shortest.leads.0 (inl shortest.leads.1) shortest.leads.2 (avoids-start steps a b s path shortest),
+  HaveOwnRanks-shortest steps ascend s.to b path (IsShortestPath-tail steps a b s path shortest),
+)
 
 -- A shortest path from the head of a step to its tail does not use the step.
 rank-not_back : (steps : List Step) → Ascend steps → (s : Step) (a b : ℕ) (path : List Step) → Contains steps s → s.from ≡ b → s.to ≡ a
@@ -263,101 +200,110 @@ rank-not_back steps ascend s a b (t ∷ path) has from to shortest =
     omega (arith, short) in
     rw (ne_eqb t.rank s.rank apart) (rank-avoided steps ascend s a t.to b path has (inr to) shortest.leads.2 (avoids-start steps a b t path shortest))
 
--- The ranks on a least path from an arc's head to its tail differ from each other, and from the arc's rank.
-pub HaveOwnRanks-least : (n : Network) (j : ℕ) (flows : List ℕ) (path : List Step) → has_arc n j ≡ true → IsNetwork n → 0 < flow_on flows j
-    → IsLeastPath (carrying_steps n flows) (arc_number n j).head (arc_number n j).tail path → HaveOwnRanks j path
-HaveOwnRanks-least n j flows path has network some least =
-    let steps : List Step = carrying_steps n flows in
-    let ascend : Ascend steps = (AreSteps-carrying n flows network).ascending in
-    let shortest = IsShortestPath-least steps (arc_number n j).head (arc_number n j).tail path least in
-    let at = has_arc-within n j has in
-    let step = carrying-has n flows (j - 1) at.1 some in
-    let rank : step.0.rank ≡ 2 * j = omega (arith, at.0, step.2.rank_is) in
-    let none = rank-not_back steps ascend step.0 (arc_number n j).head (arc_number n j).tail path step.1 step.2.tail step.2.head shortest in
-    HaveOwnRanks-shortest steps ascend j (arc_number n j).head (arc_number n j).tail path shortest (ap (has_rank path) (sym rank) ∙ none)
-
 -- ---- lowering along a least path
 
-room-positive : (n : Network) (flows : List ℕ) (a b bound : ℕ) (path : List Step) → 0 < bound → IsPath (carrying_steps n flows) a b path
-    → 0 < bottleneck_up_to bound path
-room-positive n flows a b bound [] positive leads = positive
-room-positive n flows a b bound (s ∷ path) positive leads =
-    let first = carrying-room n flows s (carrying-contained n flows s leads.0) in
-    let later = room-positive n flows s.to b bound path positive leads.2 in
-    omega (arith, first, later)
-
--- The amount is positive, and at most the flow above the limit.
-pub lowered-amount : (n : Network) (j limit : ℕ) (flows : List ℕ) (path : List Step) → limit < flow_on flows j
-    → IsLeastPath (carrying_steps n flows) (arc_number n j).head (arc_number n j).tail path
-    → (0 < bottleneck_up_to (flow_on flows j - limit) path) × (bottleneck_up_to (flow_on flows j - limit) path ≤ flow_on flows j - limit)
-lowered-amount n j limit flows path above least = (
-  room-positive n flows (arc_number n j).head (arc_number n j).tail (flow_on flows j - limit) path (omega (arith, above)) least.leads,
-  bottleneck_up_to-le (flow_on flows j - limit) path,
-)
+-- the room of the return link
+link-room : (n : Network) (flows : List ℕ) (s : Step) → IsCarrying n flows s → s.rank ≡ 2 * length n.arcs + 2 → s.room ≡ value_or_zero n flows
+link-room n flows s (along c) rank = absurd (omega (arith, rank, c.leads.rank_is, c.leads.within))
+link-room n flows s (returns c) rank = c.room_is
 
 -- No flow is more than before.
 pub lowered-no_more : (j limit : ℕ) (path : List Step) (flows : List ℕ) → AllZip (λ x y. y ≤ x) flows (lowered j limit path flows)
 lowered-no_more j limit path flows = lowered_from-no_more 1 j (bottleneck_up_to (flow_on flows j - limit) path) path flows
 
--- The arc's flow is lower by that amount.
-pub lowered-on : (n : Network) (j limit : ℕ) (flows : List ℕ) (path : List Step) → has_arc n j ≡ true → IsFlow n flows
-    → flow_on (lowered j limit path flows) j ≡ flow_on flows j - bottleneck_up_to (flow_on flows j - limit) path
-lowered-on n j limit flows path has flow =
-    let at = has_arc-within n j has in
-    let same = AllZip-long _ n.arcs flows flow.within in
-    let place : 1 + (j - 1) ≡ j = omega (arith, at.0) in
-    rw (get_or-lowered_from 1 j (bottleneck_up_to (flow_on flows j - limit) path) path flows (j - 1) (omega (arith, at.1, same)), eq-eqb (1 + (j - 1)) j place)
-    refl
+-- More than the limit flows on an arc of the network, and the path is the least one of carrying steps from its head to its tail.
+pub record CanLower (n : Network) (j limit : ℕ) (flows : List ℕ) (path : List Step) : Type 0 where
+  pub network : IsNetwork n
+  pub flow : IsFlow n flows
+  pub has : has_arc n j ≡ true
+  pub above : limit < flow_on flows j
+  pub least : IsLeastPath (carrying_steps n flows) (arc_number n j).head (arc_number n j).tail path
 
--- The outflow minus the inflow of a node stays the same, apart from what the return link carries.
-pub balance : (n : Network) (j limit : ℕ) (flows : List ℕ) (path : List Step) (v : ℕ) → limit < flow_on flows j → has_arc n j ≡ true → IsNetwork n
-    → IsFlow n flows → IsLeastPath (carrying_steps n flows) (arc_number n j).head (arc_number n j).tail path →
-    outflow n.arcs (lowered j limit path flows) v + inflow n.arcs flows v + returned (bottleneck_up_to (flow_on flows j - limit) path) n path n.source v
-    ≡ outflow n.arcs flows v + inflow n.arcs (lowered j limit path flows) v + returned (bottleneck_up_to (flow_on flows j - limit) path) n path n.sink v
-balance n j limit flows path v above has network flow least =
-    let bound : ℕ = flow_on flows j - limit in
-    let amount : ℕ = bottleneck_up_to bound path in
-    let le = bottleneck_up_to-le bound path in
-    let own = HaveOwnRanks-least n j flows path has network (omega (arith, above)) least in
-    let both = balance-lowered n j amount bound flows path (arc_number n j).head (arc_number n j).tail v has (AllZip-long _ n.arcs flows flow.within)
-    (omega (arith, le)) (omega arith) least.leads own in
-    omega (arith, both)
+module _ (n : Network) (j limit : ℕ) (flows : List ℕ) (path : List Step) (can : CanLower n j limit flows path) where
+  abbrev bound : ℕ
+  bound = flow_on flows j - limit
 
--- what the return link carries, at each node
-pub returned-least : (n : Network) (j limit : ℕ) (flows : List ℕ) (path : List Step) (u v : ℕ) → limit < flow_on flows j → has_arc n j ≡ true → IsNetwork n
-    → IsLeastPath (carrying_steps n flows) (arc_number n j).head (arc_number n j).tail path
-    → (returned (bottleneck_up_to (flow_on flows j - limit) path) n path u v ≤ at_end (bottleneck_up_to (flow_on flows j - limit) path) u v)
-    × (returned (bottleneck_up_to (flow_on flows j - limit) path) n path u v ≤ value_or_zero n flows)
-returned-least n j limit flows path u v above has network least =
-    let bound : ℕ = flow_on flows j - limit in
-    returned-le n j (bottleneck_up_to bound path) bound flows path (arc_number n j).head (arc_number n j).tail u v (omega arith) least.leads
-    (HaveOwnRanks-least n j flows path has network (omega (arith, above)) least)
+  abbrev amount : ℕ
+  amount = bottleneck_up_to bound path
 
--- The lowered flows are a flow.
-pub lowered-flow : (n : Network) (j limit : ℕ) (flows : List ℕ) (path : List Step) → limit < flow_on flows j → has_arc n j ≡ true → IsNetwork n → IsFlow n flows
-    → IsLeastPath (carrying_steps n flows) (arc_number n j).head (arc_number n j).tail path → IsFlow n (lowered j limit path flows)
-lowered-flow n j limit flows path above has network flow least = record {
-  within = within-lowered_from 1 j (bottleneck_up_to (flow_on flows j - limit) path) path n.arcs flows flow.within;
-  conserved = λ v inner.
-      let amount : ℕ = bottleneck_up_to (flow_on flows j - limit) path in
-      let same = balance n j limit flows path v above has network flow least in
-      let out = (returned-least n j limit flows path n.source v above has network least).0 in
-      let into = (returned-least n j limit flows path n.sink v above has network least).0 in
-      let start = at_end-other amount n.source v (λ e. inner.not_source (sym e)) in
-      let end = at_end-other amount n.sink v (λ e. inner.not_sink (sym e)) in
-      omega (arith, same, out, into, start, end, flow.conserved v inner);
-}
+  one_each : length flows ≡ length n.arcs
+  one_each = AllZip-long _ n.arcs flows can.flow.within
 
--- The value is lower by at most that amount, and not negative.
-pub lowered-value : (n : Network) (j limit : ℕ) (flows : List ℕ) (path : List Step) → limit < flow_on flows j → has_arc n j ≡ true → IsNetwork n
-    → IsFlow n flows → pos 0 ≤ℤ flow_value n flows → IsLeastPath (carrying_steps n flows) (arc_number n j).head (arc_number n j).tail path
-    → ((flow_value n flows -ℤ pos (bottleneck_up_to (flow_on flows j - limit) path)) ≤ℤ flow_value n (lowered j limit path flows))
-    × (pos 0 ≤ℤ flow_value n (lowered j limit path flows))
-lowered-value n j limit flows path above has network flow from_zero least =
-    let amount : ℕ = bottleneck_up_to (flow_on flows j - limit) path in
-    let same = balance n j limit flows path n.source above has network flow least in
-    let out = returned-least n j limit flows path n.source n.source above has network least in
-    let into = (returned-least n j limit flows path n.sink n.source above has network least).0 in
-    let start = at_end-le amount n.source n.source in
-    let end = at_end-other amount n.sink n.source (λ e. network.two_terminals (sym e)) in
-    (omega (arith, ints, same, out.0, into, start, end), omega (arith, ints, same, out.1, into, end, from_zero))
+  shortest : IsShortestPath (carrying_steps n flows) (arc_number n j).head (arc_number n j).tail path
+  shortest = IsShortestPath-least (carrying_steps n flows) (arc_number n j).head (arc_number n j).tail path can.least
+
+  -- The path does not have the rank of the arc.
+  pub other-rank : has_rank path (2 * j) ≡ false
+  other-rank =
+      let at = has_arc-within n j can.has in
+      let step = carrying-has n flows (j - 1) at.1 (omega (arith, can.above)) in
+      let rank : step.0.rank ≡ 2 * j = omega (arith, at.0, step.2.rank_is) in
+      ap (has_rank path) (sym rank)
+      ∙ rank-not_back (carrying_steps n flows) (AreSteps-carrying n flows can.network).ascending step.0 _ _ path step.1 step.2.tail step.2.head shortest
+
+  -- The amount is positive, and at most the flow above the limit.
+  pub lowered-amount : (0 < amount) × (amount ≤ bound)
+  lowered-amount = (
+    bottleneck_up_to-positive (carrying_steps n flows) (arc_number n j).head (arc_number n j).tail bound path
+        (λ s has. carrying-room n flows s (carrying-contained n flows s has)) (omega (arith, can.above)) can.least.leads,
+    bottleneck_up_to-le bound path,
+  )
+
+  -- The arc's flow is lower by that amount.
+  pub lowered-on : flow_on (lowered j limit path flows) j ≡ flow_on flows j - amount
+  lowered-on =
+      let at = has_arc-within n j can.has in
+      let place : 1 + (j - 1) ≡ j = omega (arith, at.0) in
+      rw (get_or-lowered_from 1 j amount path flows (j - 1) (omega (arith, at.1, one_each)), eq-eqb (1 + (j - 1)) j place) refl
+
+  -- The outflow minus the inflow of a node stays the same, apart from what the return link carries.
+  balance : (v : ℕ) → outflow n.arcs (lowered j limit path flows) v + inflow n.arcs flows v + returned amount n path n.source v
+      ≡ outflow n.arcs flows v + inflow n.arcs (lowered j limit path flows) v + returned amount n path n.sink v
+  balance v =
+      let le = bottleneck_up_to-le bound path in
+      let both = balance-lowered n j amount bound flows path (arc_number n j).head (arc_number n j).tail v can.has one_each
+      (omega (arith, le)) (omega arith) can.least.leads
+      (HaveOwnRanks-shortest (carrying_steps n flows) (AreSteps-carrying n flows can.network).ascending _ _ path shortest) other-rank in
+      omega (arith, both)
+
+  -- The return link carries at most the inflow of the sink,
+  returned-le : (u v : ℕ) → returned amount n path u v ≤ value_or_zero n flows
+  returned-le u v =
+      ⊎_elim
+      (λ (used : has_rank path (2 * length n.arcs + 2) ≡ true).
+      let found = step-of_rank (carrying_steps n flows) _ _ amount bound (2 * length n.arcs + 2) path can.least.leads (omega arith) used in
+      let room = link-room n flows found.step (carrying-contained n flows found.step found.listed) found.rank_is in
+      rw used (omega (arith, part-le (u == v) amount, found.room, room)))
+      (λ (none : has_rank path (2 * length n.arcs + 2) ≡ false). rw none (omega arith))
+      (cases_Bool (has_rank path (2 * length n.arcs + 2)))
+
+  -- and nothing at a node where it does not begin or end.
+  returned-none : (u v : ℕ) → u ≢ v → returned amount n path u v ≡ 0
+  returned-none u v apart = omega (arith, part-le (has_rank path (2 * length n.arcs + 2)) (at_end amount u v), at_end-other amount u v apart)
+
+  -- The lowered flows are a flow.
+  pub lowered-flow : IsFlow n (lowered j limit path flows)
+  lowered-flow = record {
+    within = within-lowered_from 1 j amount path n.arcs flows can.flow.within;
+    conserved = λ v inner.
+        let start = returned-none n.source v (λ e. inner.not_source (sym e)) in
+        let end = returned-none n.sink v (λ e. inner.not_sink (sym e)) in
+        omega (arith, balance v, start, end, can.flow.conserved v inner);
+  }
+
+  -- The inflow of the sink falls by what the return link carries.
+  pub value_or_zero-lowered : value_or_zero n (lowered j limit path flows) ≡ value_or_zero n flows - cond (has_rank path (2 * length n.arcs + 2)) amount 0
+  value_or_zero-lowered =
+      let once = ap (λ x. cond (has_rank path (2 * length n.arcs + 2)) x 0) (at_end-same amount n.source) in
+      let end = returned-none n.sink n.source (λ e. can.network.two_terminals (sym e)) in
+      omega (arith, balance n.source, returned-le n.source n.source, end, once)
+
+  -- The value is lower by at most that amount, and not negative.
+  pub lowered-value : pos 0 ≤ℤ flow_value n flows
+      → ((flow_value n flows -ℤ pos amount) ≤ℤ flow_value n (lowered j limit path flows)) × (pos 0 ≤ℤ flow_value n (lowered j limit path flows))
+  lowered-value from_zero =
+      let same = balance n.source in
+      let out = part-le (has_rank path (2 * length n.arcs + 2)) (at_end amount n.source n.source) in
+      let start = part-le (n.source == n.source) amount in
+      let end = returned-none n.sink n.source (λ e. can.network.two_terminals (sym e)) in
+      (omega (arith, ints, same, out, start, end), omega (arith, ints, same, returned-le n.source n.source, end, from_zero))

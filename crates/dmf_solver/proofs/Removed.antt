@@ -1,8 +1,7 @@
 -- The residual network of a state without its last arc: the pair before that of the return link is gone.
-use Rattle.std.proofs.Common.{ℕ, ◌≡◌, ◌+◌, ◌-◌, ◌≤◌, [], ◌∷◌, ◌++◌, length, refl, ap, sym, ◌∙◌, arith, List}
+use Rattle.std.proofs.Common.{◌≡◌, ◌+◌, ◌-◌, ◌≤◌, [], ◌∷◌, ◌++◌, length, ap, sym, ◌∙◌, arith}
 use Rattle.std.specs.Prelude.{remove}
-use Rattle.std.proofs.lemmas.List.{append-nil, length_push}
-use Rattle.std.proofs.lemmas.List.Edits.{remove-append_left, remove-append_right}
+use Rattle.std.proofs.lemmas.List.{length_push}
 use Rattle.std.proofs.lemmas.Slice.Zip.{AllZip-long}
 use Rattle.dmf_path.specs.Search.{Searched, with_pairs}
 use Rattle.dmf_state.specs.declared.arc.Arc.{Arc}
@@ -10,16 +9,10 @@ use Rattle.dmf_state.specs.Direction.{HasIdleLast}
 use Rattle.dmf_state.specs.NetworkState.{NetworkState, IsState, with_last_arc}
 use Rattle.dmf_state.specs.Revert.{without_last}
 use Rattle.dmf_state.proofs.Reverting.{without_last-idle}
-use Rattle.dmf_solver.specs.ResidualNetwork.{residual_pair, residual_pairs, closed_return, network_pairs, residual_search}
-use Rattle.dmf_solver.proofs.Added.{pairs-added}
-use Rattle.dmf_solver.proofs.NetworkPairs.{length-residual_pairs, length-network_pairs}
-
-pub last-removed : {A : Type 0} (xs : List A) (x last : A) (k : ℕ) → length xs ≡ k → remove ((xs ++ x ∷ []) ++ last ∷ []) k ≡ xs ++ last ∷ []
-last-removed xs x last k at =
-    let here : k - k ≡ 0 = omega arith in
-    remove-append_left (xs ++ x ∷ []) (last ∷ []) k (omega (arith, at, length_push xs x))
-    ∙ ap (λ left. left ++ last ∷ [])
-    (remove-append_right xs (x ∷ []) k k at (omega arith) ∙ ap (λ i. xs ++ remove (x ∷ []) i) here ∙ append-nil xs)
+use Rattle.dmf_solver.specs.ResidualNetwork.{closed_return, residual_search}
+use Rattle.dmf_solver.proofs.ArcPairs.{pairs-removed}
+use Rattle.dmf_solver.proofs.NetworkPairs.{length-network_pairs}
+use Rattle.dmf_solver.proofs.ResidualPairs.{by_residual_pair}
 
 module _ (s : NetworkState) (arc : Arc) (state : IsState s) where
   one_each : length s.flows ≡ length s.network.arcs
@@ -32,21 +25,13 @@ module _ (s : NetworkState) (arc : Arc) (state : IsState s) where
       (omega (arith, one_each, length_push s.flows 0, length_push s.network.arcs arc)) in
       omega (arith, ap (λ (x : Searched). length x.pairs) is, long, length_push s.network.arcs arc)
 
-  network-removed : (k : ℕ) → k ≡ length s.network.arcs
-      → remove (network_pairs (with_last_arc s.network arc) (s.flows ++ 0 ∷ [])) k ≡ network_pairs s.network s.flows
-  network-removed k at =
-      ap (λ pairs. remove (pairs ++ closed_return s.network ∷ []) k) (pairs-added s.network.arcs s.flows arc one_each)
-      ∙ last-removed (residual_pairs s.network.arcs s.flows) (residual_pair arc 0) (closed_return s.network) k
-      (omega (arith, at, length-residual_pairs s.network.arcs s.flows one_each))
-
   -- Without it the search is that of the state without the arc.
   pub search-removed : (before after : Searched) → before ≡ residual_search (with_last_arc s.network arc) (s.flows ++ 0 ∷ [])
       → after ≡ with_pairs before (remove before.pairs (length before.pairs - 2)) → after ≡ residual_search s.network s.flows
   search-removed before after is made =
       let old = residual_search (with_last_arc s.network arc) (s.flows ++ 0 ∷ []) in
-      let at : length old.pairs - 2 ≡ length s.network.arcs = omega (arith, pairs-after old refl) in
       made ∙ ap (λ (x : Searched). with_pairs x (remove x.pairs (length x.pairs - 2))) is
-      ∙ ap (with_pairs old) (network-removed (length old.pairs - 2) at)
+      ∙ ap (with_pairs old) (pairs-removed by_residual_pair s.network.arcs s.flows arc (closed_return s.network) one_each)
 
 -- A state that has an idle last arc.
 module _ (t : NetworkState) (has : HasIdleLast t) where

@@ -40,17 +40,12 @@ room_leaving-residual v [] [] within = refl
 room_leaving-residual v [] (flow ∷ flows) within = absurd within
 room_leaving-residual v (arc ∷ arcs) [] within = absurd within
 room_leaving-residual v (arc ∷ arcs) (flow ∷ flows) within =
-    let here = room_at-residual v arc flow within.0 in
+    let sum = λ (end : Arc → ℕ). sum_by-cons (λ (p : Arc × ℕ). cond (end p.0 == v) p.1 0) (arc, flow) (zip arcs flows) in
+    let rooms = sum_by-cons (room_at v) (residual_pair arc flow) (residual_pairs arcs flows) in
+    let tails = sum (λ a. a.tail) in
+    let heads = sum (λ a. a.head) in
     let rest = room_leaving-residual v arcs flows within.1 in
-    omega (
-      arith,
-      here,
-      rest,
-      sum_by-cons (room_at v) (residual_pair arc flow) (residual_pairs arcs flows),
-      sum_by-cons (capacity_at v) arc arcs,
-      sum_by-cons (λ (p : Arc × ℕ). cond (p.0.tail == v) p.1 0) (arc, flow) (zip arcs flows),
-      sum_by-cons (λ (p : Arc × ℕ). cond (p.0.head == v) p.1 0) (arc, flow) (zip arcs flows),
-    )
+    omega (arith, room_at-residual v arc flow within.0, rest, rooms, sum_by-cons (capacity_at v) arc arcs, tails, heads)
 
 -- The return link has no room.
 room_at-return : (v : ℕ) (n : Network) → room_at v (closed_return n) ≡ 0

@@ -7,7 +7,7 @@ use Rattle.std.proofs.lemmas.List.Kept.{AllPairs-from_increasing}
 use Rattle.dmf_node.specs.Node.{IsNode}
 use Rattle.dmf_state.specs.Network.{Network, IsNetwork}
 use Rattle.dmf_state.specs.Flow.{IsFlow, flow_value}
-use Rattle.dmf_state.specs.Cut.{cut_capacity, IsMinimumCut, IsInEveryMinimumCut}
+use Rattle.dmf_state.specs.Cut.{cut_capacity, IsInEveryMinimumCut}
 use Rattle.dmf_state.specs.Side.{CutSide, has_node, IsSmallestSide}
 use Rattle.dmf_path.specs.Search.{Searched}
 use Rattle.dmf_solver.specs.ResidualNetwork.{residual_search}
@@ -15,45 +15,31 @@ use Rattle.dmf_solver.specs.Pairs.{IsReachedSide}
 use Rattle.dmf_solver.proofs.NetworkPairs.{reached-residual}
 use Rattle.dmf_path.specs.Path.{HasNoPath}
 use Rattle.dmf_solver.specs.Residual.{residual_steps}
-use Rattle.dmf_solver.proofs.MaxFlowMinCut.{AreTight, tight-from_capacity, closed-from_tight, AreReached, reached-cut, reached-capacity, reached-minimum_cut}
+use Rattle.dmf_solver.proofs.Enclosing.{closed-from_stay}
+use Rattle.dmf_solver.proofs.MaxFlowMinCut.{stay-from_capacity, AreReached, reached-capacity, reached-minimum_cut}
 use Rattle.dmf_solver.proofs.Reached.{path-stays}
 use Rattle.dmf_state.proofs.Ascending.{same-nodes}
 use Rattle.dmf_solver.specs.Laws.{HasOneSmallestSide}
 
--- A minimum cut is tight if the value of the flow is the capacity of some cut, as of the reached nodes.
-pub minimum_cut-tight : (n : Network) (flows : List ℕ) (has other : ℕ → Bool) → IsNetwork n → IsFlow n flows
-    → HasNoPath (residual_steps n.arcs flows) n.source n.sink → AreReached n flows has → IsMinimumCut n other → AreTight other n.arcs flows
-minimum_cut-tight n flows has other network flow none r least =
-    let same = reached-capacity n flows has network flow none r in
-    let within = least.least has (reached-cut n flows has network r none) in
-    tight-from_capacity n flows other network flow least.cut (omega (arith, ints, same, within))
-
--- Every minimum cut has each reached node.
-pub reached-in_every : (n : Network) (flows : List ℕ) (has : ℕ → Bool) (v : ℕ) → IsNetwork n → IsFlow n flows
-    → HasNoPath (residual_steps n.arcs flows) n.source n.sink → AreReached n flows has → has v ≡ true → IsInEveryMinimumCut n v
-reached-in_every n flows has v network flow none r inside other least =
-    let p = r.reached v inside in
-    let closed = closed-from_tight other 1 n.arcs flows (minimum_cut-tight n flows has other network flow none r least) in
-    path-stays (residual_steps n.arcs flows) other n.source v p.0 closed p.1 least.cut.source
-
--- A node that every minimum cut has is reached.
-pub reached-from_every : (n : Network) (flows : List ℕ) (has : ℕ → Bool) (v : ℕ) → IsNetwork n → IsFlow n flows
-    → HasNoPath (residual_steps n.arcs flows) n.source n.sink → AreReached n flows has → IsInEveryMinimumCut n v → has v ≡ true
-reached-from_every n flows has v network flow none r every = every has (reached-minimum_cut n flows has network flow none r)
-
--- The ascending list of the reached nodes is the smallest side, and the value of the flow is its capacity.
+-- The ascending list of the reached nodes is the smallest side, and the value of the flow is its capacity. Every minimum cut has each
+-- reached node, since the capacity is the value, so that no residual step leaves the cut. A node that every minimum cut has is reached.
 pub IsSmallestSide-reached : (n : Network) (flows ids : List ℕ) (capacity : ℕ) → IsNetwork n → IsFlow n flows
     → HasNoPath (residual_steps n.arcs flows) n.source n.sink → AreReached n flows (has_node ids) → IsStrictlyIncreasing ids → pos capacity ≡ flow_value n flows
     → IsSmallestSide n (record { ids = ids; capacity = capacity })
-IsSmallestSide-reached n flows ids capacity network flow none r increasing value = record {
-  ascending = increasing;
-  in_every = λ v. (
-    λ inside. (r.of_nodes v inside, reached-in_every n flows (has_node ids) v network flow none r inside),
-    λ is. reached-from_every n flows (has_node ids) v network flow none r is.1,
-  );
-  least = reached-minimum_cut n flows (has_node ids) network flow none r;
-  capacity_is = omega (arith, ints, value, reached-capacity n flows (has_node ids) network flow none r);
-}
+IsSmallestSide-reached n flows ids capacity network flow none r increasing value =
+    let same = reached-capacity n flows (has_node ids) network flow none r in
+    let least = reached-minimum_cut n flows (has_node ids) network flow none r in
+    let in_every : (v : ℕ) → has_node ids v ≡ true → IsInEveryMinimumCut n v = λ v inside other is.
+    let p = r.reached v inside in
+    let within = is.least (has_node ids) least.cut in
+    let stay = stay-from_capacity n flows other network flow is.cut (omega (arith, ints, same, within)) in
+    path-stays (residual_steps n.arcs flows) other n.source v p.0 (closed-from_stay other n.arcs flows stay) p.1 is.cut.source in
+    record {
+      ascending = increasing;
+      in_every = λ v. (λ inside. (r.of_nodes v inside, in_every v inside), λ is. is.1 (has_node ids) least);
+      least = least;
+      capacity_is = omega (arith, ints, value, same);
+    }
 
 -- The side that a search for augmenting paths reaches has the nodes that residual paths reach.
 pub reached-by_search : (n : Network) (flows : List ℕ) (search : Searched) (capacity : ℕ) (side : CutSide) → search ≡ residual_search n flows

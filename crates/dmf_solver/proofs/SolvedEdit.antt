@@ -6,7 +6,7 @@ use Rattle.dmf_solver.specs.declared.solve.Solved.{Solved}
 use Rattle.dmf_state.specs.declared.edit.Move.{Move}
 use Rattle.dmf_state.specs.declared.edit.Edit.TheVariants as edit
 use Rattle.dmf_state.specs.Cut.{HasCutOf}
-use Rattle.dmf_state.specs.Edit.{applied, differences, MovesFit}
+use Rattle.dmf_state.specs.Edit.{applied, differences}
 use Rattle.dmf_state.specs.Flow.{flow_value}
 use Rattle.dmf_state.specs.Side.{CutSide}
 use Rattle.dmf_solver.specs.Greatest.{IsGreatest}
@@ -41,10 +41,6 @@ module _ (s : NetworkState) (solved : Solved) (moves : Vec Move Global) (state :
         greatest = subst (IsGreatest n) makes (greatest-from_no_path n _ is.state.network is.state.flow is.solves.no_path);
         cut = subst (λ xs. HasCutOf n (flow_value n xs)) makes (cut-from_no_path n _ is.state.network is.state.flow is.solves.no_path);
       }
-
-  -- its moves fit,
-  pub fits-listed : MovesFit 0 moves.items s.flows
-  fits-listed = between.fit
 
   -- it makes the flow that the search has reached,
   pub flows-listed : (applied (edit.Solve moves) s).flows ≡ reached_flows s solved.search

@@ -22,7 +22,7 @@ use Rattle.dmf_state.proofs.IdleArc.{IsState-idle, IsNode-is_node}
 use Rattle.dmf_path.proofs.SomeLeast.{SomeLeast, least-or-none}
 use Rattle.dmf_solver.proofs.ResidualSteps.{AreSteps-residual}
 use Rattle.dmf_state.proofs.ChangedArc.{IsNetwork-with_arc, IsFlow-with_arc, flow_value-with_arc}
-use Rattle.dmf_solver.proofs.Draining.{drains-state, SomeDrained, some-drained}
+use Rattle.dmf_solver.proofs.Draining.{drains-state, some-drained}
 use Rattle.dmf_state.proofs.ClosedArcs.{HasArcs}
 use Rattle.dmf_state.proofs.ClosedTogether.{IsNetwork-closed, HasArcs-closed, HasArcs-at}
 use Rattle.dmf_solver.proofs.Augmenting.{room-positive, augmented-flow, augmented-value, value-le-capacities}
@@ -94,27 +94,28 @@ cap-passes true false false none = absurd (cc)
 cap-passes true false true none = (refl, refl, refl)
 
 -- Draining an arc to the capacity of another one with the same ends makes a state with that one in its place.
-IsState-drained : (s : NetworkState) (j : ℕ) (arc : Arc) (last : List ℕ) → IsState s → has_arc s.network j ≡ true → arc.tail ≡ (arc_number s.network j).tail
-    → arc.head ≡ (arc_number s.network j).head → IsNetwork (with_arc s.network j arc) → Drains s.network j arc.cap s.flows last
-    → IsState (record { network = with_arc s.network j arc; flows = last })
-IsState-drained s j arc last state has tail head network drains =
-    let left = drains-state s.network j arc.cap s.flows last state.network state.flow state.value_from_zero has drains in
-    record {
-      network = network;
-      flow = IsFlow-with_arc s.network j arc last has tail head drains.within left.0.flow;
-      value_from_zero = rw (flow_value-with_arc s.network j arc last tail head (AllZip-long _ s.network.arcs last left.0.flow.within)) left.1;
-    }
+some-drained_to : (s : NetworkState) (j : ℕ) (arc : Arc) → IsState s → has_arc s.network j ≡ true → arc.tail ≡ (arc_number s.network j).tail
+    → arc.head ≡ (arc_number s.network j).head → IsNetwork (with_arc s.network j arc)
+    → (last : List ℕ) × Drains s.network j arc.cap s.flows last × IsState (record { network = with_arc s.network j arc; flows = last })
+some-drained_to s j arc state has tail head network =
+    let found = some-drained s j arc.cap state has in
+    let left = drains-state s j arc.cap s.flows found.last state has found.drains in
+    let long = AllZip-long _ s.network.arcs found.last left.0.flow.within in (
+      found.last,
+      found.drains,
+      record {
+        network = network;
+        flow = IsFlow-with_arc s.network j arc found.last has tail head found.drains.within left.0.flow;
+        value_from_zero = rw (flow_value-with_arc s.network j arc found.last tail head long) left.1.value_from_zero;
+      },
+    )
 
 -- An arc can be closed,
 some-closed : (s : NetworkState) (j : ℕ) → IsState s → has_arc s.network j ≡ true → Outcome s (Close j)
 some-closed s j state has =
     let arc : Arc = closed_arc (arc_number s.network j) in
-    let found : SomeDrained s.network j 0 s.flows = some-drained s.network j 0 s.flows state.network state.flow state.value_from_zero has in
-    record {
-      after = record { network = with_arc s.network j arc; flows = found.last };
-      state = IsState-drained s j arc found.last state has refl refl (IsNetwork-closed s.network j state.network has) found.drains;
-      becomes = (refl, found.drains);
-    }
+    let found = some-drained_to s j arc state has refl refl (IsNetwork-closed s.network j state.network has) in
+    record { after = record { network = with_arc s.network j arc; flows = found.0 }; state = found.2; becomes = (refl, found.1) }
 
 -- and so can several arcs in turn.
 record SomeClosed (js : List ℕ) (s : NetworkState) : Type 0 where
@@ -139,12 +140,8 @@ some-outcome s (Cap j cap) state accepted =
     let network : IsNetwork (with_arc n j arc) =
     IsNetwork-with_arc n j arc state.network passes.0 refl refl (λ closed. absurd (both_ways (arc_number n j).closed passes.1 closed))
     (ltb-true _ _ passes.2) in
-    let found : SomeDrained n j cap s.flows = some-drained n j cap s.flows state.network state.flow state.value_from_zero passes.0 in
-    record {
-      after = record { network = with_arc n j arc; flows = found.last };
-      state = IsState-drained s j arc found.last state passes.0 refl refl network found.drains;
-      becomes = (refl, found.drains);
-    }
+    let found = some-drained_to s j arc state passes.0 refl refl network in
+    record { after = record { network = with_arc n j arc; flows = found.0 }; state = found.2; becomes = (refl, found.1) }
 some-outcome s (Close j) state accepted =
     some-closed s j state (close-passes (has_arc s.network j) (arc_number s.network j).closed accepted).0
 some-outcome s (Add tail head cap) state accepted =

@@ -10,11 +10,12 @@ use Rattle.dmf_state.specs.Arc.{no_arc}
 use Rattle.dmf_solver.specs.Drain.{value_or_zero, Drains}
 use Rattle.dmf_state.specs.Flow.{flow_on}
 use Rattle.dmf_state.specs.Network.{Network, arc_number, has_arc}
-use Rattle.dmf_state.specs.NetworkState.{NetworkState}
+use Rattle.dmf_state.specs.NetworkState.{NetworkState, with_flows}
 use Rattle.dmf_solver.specs.CarryingNetwork.{carrying_pair, carrying_from, return_pair}
 use Rattle.dmf_solver.specs.Pairs.{Along, Carries, IsCarryingSearch, flows_read}
 use Rattle.dmf_state.proofs.ChangedArc.{has_arc-within}
 use Rattle.dmf_state.proofs.Changing.{flow_at-set}
+use Rattle.dmf_solver.proofs.CarryingFollowed.{carries-made}
 use Rattle.dmf_solver.proofs.DrainedLoop.{drained-loop}
 use Rattle.dmf_solver.proofs.Draining.{drains-state}
 use Rattle.dmf_solver.proofs.DrainingSearch.{carries-read, IsCarryingSearch-from}
@@ -61,11 +62,11 @@ drained-by_list s j unpaired search has loop carries =
     let at = has_arc-within n j has in
     let long = AllZip-long _ n.arcs flows carries.state.flow.within in
     let drains = loop-drains s j unpaired flows search has loop carries in
-    let left = drains-state n j 0 flows (set flows k 0) carries.state.network carries.state.flow carries.state.value_from_zero has drains in
+    let left = drains-state s j 0 flows (set flows k 0) carries.state has drains in
     let value = value-dropped n flows k long at.1 loop in
     let last : return_pair n (set flows k 0) ≡ return_pair n flows = rw value refl in
     let next : Carries s (set unpaired k 0) (set flows k 0) search = record {
-      state = record { network = carries.state.network; flow = left.0.flow; value_from_zero = left.1 };
+      state = left.1;
       listed = length-set unpaired k 0 ∙ carries.listed;
       loops = λ i within back. ⊎_elim
           (λ (here : i ≡ k).
@@ -74,14 +75,8 @@ drained-by_list s j unpaired search has loop carries =
           rw here (first ∙ sym second))
           (λ (other : i ≢ k). get_or-set_other flows k i 0 0 other ∙ carries.loops i within back ∙ sym (get_or-set_other unpaired k i 0 0 other))
           (cases_eq i k);
-      search_is = record {
-        nodes_are = carries.search_is.nodes_are;
-        pairs_are =
-            carries.search_is.pairs_are
-            ∙ sym (ap (λ pairs. pairs ++ return_pair n flows ∷ []) (pairs-dropped n.arcs flows k loop))
-            ∙ ap (λ p. carrying_from n.arcs (set flows k 0) ++ p ∷ []) (sym last);
-        takes_none_back = carries.search_is.takes_none_back;
-      };
+      search_is = carries-made (with_flows s flows) (with_flows s (set flows k 0)) (value_or_zero n flows) (value_or_zero n (set flows k 0)) (λ pairs. pairs)
+          search search carries.search_is refl refl (λ i. sym (pairs-dropped n.arcs flows k loop) i ++ sym last i ∷ []);
     } in
     record {
       carrying = IsCarryingSearch-from s (set unpaired k 0) (set flows k 0) search next;

@@ -1,5 +1,5 @@
 -- An arc keeps its flow if no path used its pair.
-use Rattle.std.proofs.Common.{ℕ, ◌≡◌, ◌+◌, ◌<◌, ◌≤◌, ◌==◌, ◌↔◌, true, false, Bool, List, [], ◌∷◌, ◌++◌, length, get_or, zero, suc, refl, ap, sym, ◌∙◌}
+use Rattle.std.proofs.Common.{ℕ, ◌≡◌, ◌+◌, ◌<◌, ◌≤◌, ◌↔◌, List, [], ◌∷◌, length, get_or, refl, ap, sym, ◌∙◌}
 use Rattle.std.proofs.Common.{⊎_elim, subst, arith, Option, None}
 use Rattle.std.proofs.lemmas.List.{get_or-set_other}
 use Rattle.std.proofs.lemmas.Bool.{cases_lt}
@@ -9,17 +9,17 @@ use Rattle.dmf_path.specs.Search.{Searched, Covers, lowered_along}
 use Rattle.dmf_links.specs.Pair.{pair_number}
 use Rattle.dmf_path.specs.Touched.{IsTouched, AreBelow, KeepsUntouched, Touches}
 use Rattle.dmf_path.proofs.Covering.{Covers-weaker}
-use Rattle.dmf_state.specs.declared.arc.Arc.{Arc}
-use Rattle.dmf_state.specs.Arc.{no_arc}
-use Rattle.dmf_state.specs.Flow.{AreWithinCapacities}
 use Rattle.dmf_state.specs.NetworkState.{NetworkState, IsState}
 use Rattle.dmf_solver.specs.declared.solve.Solved.{Solved}
 use Rattle.dmf_solver.specs.Moves.{CoverDifferences}
-use Rattle.dmf_solver.specs.Pairs.{Against, Along, flow_read, flows_read, reached_flows, IsSolved}
-use Rattle.dmf_solver.specs.ResidualNetwork.{residual_pair, residual_pairs, closed_return, network_pairs}
+use Rattle.dmf_solver.specs.Pairs.{PairLink, Against, flow_read, flows_read, reached_flows, IsSolved}
+use Rattle.dmf_solver.specs.ResidualNetwork.{closed_return, network_pairs}
+use Rattle.dmf_solver.proofs.ArcPairs.{read-flows}
+use Rattle.dmf_solver.proofs.NetworkPairs.{length-network_pairs}
+use Rattle.dmf_solver.proofs.ResidualPairs.{by_residual_pair}
 use Rattle.dmf_solver.proofs.FlowsRead.{get_or-flows_read, length-flows_read}
 use Rattle.dmf_solver.proofs.ListedMoves.{stays-past}
-use Rattle.dmf_solver.proofs.SolvingSearch.{IsSolving, solving-long, pairs-long, reached-long}
+use Rattle.dmf_solver.proofs.SolvingSearch.{IsSolving, solving-long, pairs-long}
 
 -- At first each pair is as it was,
 pub keeps-same : (touched : Option (List ℕ)) (first pairs : List (Option Pair)) → pairs ≡ first → KeepsUntouched touched first pairs
@@ -42,64 +42,33 @@ pub below-next : (s : NetworkState) (value : ℕ) (search : Searched) (old new :
     → AreBelow (length s.network.arcs + 1) old → AreBelow (length s.network.arcs + 1) new
 below-next s value search old new is next = subst (λ n. AreBelow n old → AreBelow n new) (solving-long s search value is) next
 
-number-residual : (arcs : List Arc) (flows : List ℕ) (rest : List (Option Pair)) (k : ℕ) → AreWithinCapacities arcs flows → k < length arcs
-    → pair_number (residual_pairs arcs flows ++ rest) k ≡ residual_pair (get_or arcs k no_arc) (get_or flows k 0)
-number-residual [] flows rest k within h = absurd (omega (arith, h))
-number-residual (arc ∷ arcs) [] rest k within h = absurd within
-number-residual (arc ∷ arcs) (flow ∷ flows) rest zero within h = refl
-number-residual (arc ∷ arcs) (flow ∷ flows) rest (suc k) within h = number-residual arcs flows rest k within.1 (omega (arith, h))
-
-read-own : (arc : Arc) (flow : ℕ) (loop : Bool) → (arc.tail == arc.head) ≡ loop → flow_read Against flow (residual_pair arc flow) ≡ flow
-read-own arc flow true e = rw e refl
-read-own arc flow false e = rw e refl
-
--- So an arc whose pair is not touched has the flow that it had,
-flow-untouched : (s : NetworkState) (search : Searched) (touched : Option (List ℕ)) (k : ℕ) → AreWithinCapacities s.network.arcs s.flows
-    → length s.flows ≤ length search.pairs → k < length s.flows → KeepsUntouched touched (network_pairs s.network s.flows) search.pairs
-    → ¬ IsTouched touched k → get_or s.flows k 0 ≡ get_or (reached_flows s search) k 0
-flow-untouched s search touched k within long h keeps untouched =
-    let arc : Arc = get_or s.network.arcs k no_arc in
-    let flow : ℕ = get_or s.flows k 0 in
-    let arcs_long = AllZip-long _ s.network.arcs s.flows within in
-    let own = number-residual s.network.arcs s.flows (closed_return s.network ∷ []) k within (omega (arith, arcs_long, h)) in
-    let same = keeps k untouched ∙ own in
-    sym (get_or-flows_read Against s.flows search.pairs k long h ∙ ap (flow_read Against flow) same ∙ read-own arc flow
-    (arc.tail == arc.head) refl)
-
--- and the touched indices cover all arcs whose flow differs.
-pub touched-cover : (s : NetworkState) (solved : Solved) (indices : List ℕ) → IsState s → IsSolved s solved
-    → Covers (length s.network.arcs + 1) (λ k. ¬ IsTouched solved.touched k) indices → CoverDifferences s.flows (reached_flows s solved.search) indices
-touched-cover s solved indices state is covers =
-    let flows_long = AllZip-long _ s.network.arcs s.flows state.flow.within in
-    let pairs = pairs-long s solved.search state is.search_is is.state.flow.within in
-    let reached = reached-long s solved.search state is.search_is is.state.flow.within in
-    record {
-      count = length s.network.arcs + 1;
-      most = omega (arith, flows_long);
-      covers = Covers-weaker (length s.network.arcs + 1) _ _ indices (λ k h untouched.
-          ⊎_elim
-          (λ (inside : k < length s.flows).
-          flow-untouched s solved.search solved.touched k state.flow.within (omega (arith, pairs)) inside is.kept untouched)
-          (λ (past : length s.flows ≤ k). stays-past s.flows (reached_flows s solved.search) reached k past)
-          (cases_lt k (length s.flows))) covers;
-    }
-
--- The touched indices cover all arcs whose flows draining has changed.
-pub drained-cover : (s : NetworkState) (old new : List (Option Pair)) (touched : Option (List ℕ)) (indices : List ℕ) (count : ℕ)
-    → length s.flows ≤ length old → length s.flows ≤ length new → length s.flows ≤ count → flows_read Along s.flows old ≡ s.flows
-    → KeepsUntouched touched old new → Covers count (λ k. ¬ IsTouched touched k) indices → CoverDifferences s.flows (flows_read Along s.flows new) indices
-drained-cover s old new touched indices count old_long new_long most same keeps covers = record {
+-- If the flows are read from the pairs, the touched indices cover all arcs whose flows differ,
+pub changed-cover : (link : PairLink) (s : NetworkState) (old new : List (Option Pair)) (touched : Option (List ℕ)) (indices : List ℕ) (count : ℕ)
+    → length s.flows ≤ length old → length s.flows ≤ length new → length s.flows ≤ count → flows_read link s.flows old ≡ s.flows
+    → KeepsUntouched touched old new → Covers count (λ k. ¬ IsTouched touched k) indices → CoverDifferences s.flows (flows_read link s.flows new) indices
+changed-cover link s old new touched indices count old_long new_long most same keeps covers = record {
   count = count;
   most = most;
   covers = Covers-weaker count _ _ indices (λ k h untouched. ⊎_elim
       (λ (inside : k < length s.flows).
       ap (λ (flows : List ℕ). get_or flows k 0) (sym same)
-      ∙ get_or-flows_read Along s.flows old k old_long inside
-      ∙ ap (flow_read Along (get_or s.flows k 0)) (sym (keeps k untouched))
-      ∙ sym (get_or-flows_read Along s.flows new k new_long inside))
-      (λ (past : length s.flows ≤ k). stays-past s.flows (flows_read Along s.flows new) (length-flows_read Along s.flows new new_long) k past)
+      ∙ get_or-flows_read link s.flows old k old_long inside
+      ∙ ap (flow_read link (get_or s.flows k 0)) (sym (keeps k untouched))
+      ∙ sym (get_or-flows_read link s.flows new k new_long inside))
+      (λ (past : length s.flows ≤ k). stays-past s.flows (flows_read link s.flows new) (length-flows_read link s.flows new new_long) k past)
       (cases_lt k (length s.flows))) covers;
 }
+
+-- and so after a solve.
+pub touched-cover : (s : NetworkState) (solved : Solved) (indices : List ℕ) → IsState s → IsSolved s solved
+    → Covers (length s.network.arcs + 1) (λ k. ¬ IsTouched solved.touched k) indices → CoverDifferences s.flows (reached_flows s solved.search) indices
+touched-cover s solved indices state is covers =
+    let flows_long = AllZip-long _ s.network.arcs s.flows state.flow.within in
+    let old = length-network_pairs s.network s.flows flows_long in
+    let pairs = pairs-long s solved.search state is.search_is is.state.flow.within in
+    changed-cover Against s (network_pairs s.network s.flows) solved.search.pairs solved.touched indices (length s.network.arcs + 1)
+    (omega (arith, old, flows_long)) (omega (arith, pairs)) (omega (arith, flows_long))
+    (read-flows by_residual_pair s.network s.flows s.flows (closed_return s.network ∷ []) flows_long flows_long (λ k h loop. refl)) is.kept covers
 
 -- One more path is drained: it touches its pairs, and the pair of the drained arc counts as touched.
 pub touches-lowered : (first old new : Option (List ℕ)) (pairs before after : List (Option Pair)) (i amount : ℕ) → length before ≡ length pairs

@@ -1,4 +1,4 @@
-use Rattle.std.proofs.Common.{[], List, ℕ, ◌-◌, ◌≤◌, length, ap, sym, ◌∙◌, arith}
+use Rattle.std.proofs.Common.{◌≡◌, [], List, ℕ, ◌-◌, length, ap, sym, ◌∙◌, arith}
 use Rattle.std.specs.Option.{unwrap_or}
 use Rattle.dmf_path.specs.Search.{Searched}
 use Rattle.dmf_state.specs.Flow.{flow_on}
@@ -10,6 +10,7 @@ use Rattle.dmf_solver.proofs.DrainingSearch.{carries-along, length-carries, leng
 use Rattle.dmf_solver.proofs.DrainingWalk.{drained-none, drained-all}
 use Rattle.dmf_solver.proofs.Untouched.{keeps-same, touches-lowered}
 use Rattle.dmf_solver.proofs.Solving.{AreTold-none, AreTold-trans}
+use Rattle.dmf_solver.proofs.drain.drain_along.Goals.{After-saturating_sub-left}
 use Rattle.dmf_solver.proofs.drain.drain_along.Goals as goal
 
 pub along-requires : goal.along-requires
@@ -20,25 +21,23 @@ along-requires g c =
     let long = length-carries s c.requires.carrying.0 _ c.args.search.now carries in
     omega (arith, at.1, long)
 
+-- the flow on the arc above the limit
+left-is : (g : _) (c : After-saturating_sub-left g) (unpaired : List ℕ) → IsCarryingSearch c.args.state.now unpaired c.args.search.now
+    → c.saturating_sub-left.result ≡ flow_on (flows_read Along unpaired c.args.search.now.pairs) c.args.turn.arc - c.args.turn.limit
+left-is g c unpaired carries =
+    let along = carries-along c.args.state.now unpaired _ c.args.search.now carries c.args.turn.arc c.requires.is_there c.requires.no_loop in
+    c.saturating_sub-left.ensures ∙ ap (λ x. x - c.args.turn.limit) (c.unwrap_or.ensures ∙ ap (λ o. unwrap_or o 0) c.along.ensures ∙ along)
+
 pub loop-left-init : goal.loop-left-init
 loop-left-init g c =
     let s = c.args.state.now in
-    let differ = c.requires.no_loop in
+    let at = (goal.at.loop-left-init g c).After-saturating_sub-left in
     record {
-      draining = λ unpaired carries.
-          let along = carries-along s unpaired _ c.args.search.now c.args.turn.arc c.requires.is_there (λ e. differ (sym e)) carries in
-          rw (c.aim.ensures, c.arc-arc.ensures.value) (draining-begun s unpaired
-          (flows_read Along unpaired c.args.search.now.pairs) c.args.turn.arc c.args.turn.limit _ c.args.search.now
-          (c.saturating_sub-left.ensures ∙ ap (λ x. x - c.args.turn.limit) (c.unwrap_or.ensures ∙ ap (λ o. unwrap_or o 0) c.along.ensures ∙ along)) carries);
+      draining = λ unpaired carries. rw (c.aim.ensures, c.arc-arc.ensures.value) (draining-begun s unpaired
+          (flows_read Along unpaired c.args.search.now.pairs) c.args.turn.arc c.args.turn.limit _ c.args.search.now (left-is g at unpaired carries) carries);
       own = c.add.ensures.touched;
       told = AreTold-none _;
-      drained = λ unpaired carries.
-          let along = carries-along s unpaired _ c.args.search.now c.args.turn.arc c.requires.is_there (λ e. differ (sym e)) carries in
-          omega (
-            arith,
-            c.saturating_sub-left.ensures ∙ ap (λ x. x - c.args.turn.limit) (c.unwrap_or.ensures
-                ∙ ap (λ o. unwrap_or o 0) c.along.ensures ∙ along),
-          );
+      drained = λ unpaired carries. omega (arith, left-is g at unpaired carries);
       touches = record {
         more = c.add.ensures.more;
         below = c.add.ensures.below (length c.args.search.now.pairs)
@@ -52,13 +51,10 @@ loop-left-init g c =
 pub returns-then-left-eq0-clause-drains : goal.returns-then-left-eq0-clause-drains
 returns-then-left-eq0-clause-drains g c = λ unpaired carries.
     let s = c.args.state.now in
-    let differ = c.requires.no_loop in
     let flows = flows_read Along unpaired c.args.search.now.pairs in
-    let along = carries-along s unpaired flows c.args.search.now c.args.turn.arc c.requires.is_there (λ e. differ (sym e)) carries in
-    let left = c.saturating_sub-left.ensures ∙ ap (λ x. x - c.args.turn.limit) (c.unwrap_or.ensures ∙ ap (λ o. unwrap_or o 0) c.along.ensures ∙ along) in
-    let within : flow_on flows c.args.turn.arc ≤ c.args.turn.limit = omega (arith, left, c.if-left-eq0.true) in (
+    let left = left-is g (goal.at.returns-then-left-eq0-clause-drains g c).After-saturating_sub-left unpaired carries in (
       carries,
-      drained-all (with_flows s flows) c.args.turn.arc c.args.turn.limit flows within
+      drained-all (with_flows s flows) c.args.turn.arc c.args.turn.limit flows (omega (arith, left, c.if-left-eq0.true))
           (drained-none (with_flows s flows) c.args.turn.arc c.args.turn.limit carries.state),
     )
 
@@ -68,16 +64,14 @@ once : (g : _) (c : goal.After-lowered g) (unpaired : List ℕ) → IsCarryingSe
     c.args.turn.arc c.args.turn.limit c.loop-left.left c.in-Some.found.amount
     c.augment.new.self
 once g c unpaired carries =
-    let differ = c.requires.no_loop in
-    draining-once c.args.state.now unpaired _ c.args.turn.arc c.args.turn.limit _ c.in-Some.found _ _
-    c.requires.is_there (λ e. differ (sym e)) c.loop-left-test.true
+    draining-once c.args.state.now unpaired _ c.args.turn.arc c.args.turn.limit _ c.in-Some.found _ _ c.requires.is_there c.requires.no_loop
+    c.loop-left-test.true
     (c.loop-left.invariant.draining unpaired carries) c.in-Some.ensures.found
 
 pub lower-requires : goal.lower-requires
 lower-requires g c =
-    let differ = c.requires.no_loop in
     (draining-once c.args.state.now c.requires.carrying.0 _ c.args.turn.arc c.args.turn.limit _ c.in-Some.found _ _ c.requires.is_there
-    (λ e. differ (sym e)) c.loop-left-test.true (c.loop-left.invariant.draining c.requires.carrying.0 c.requires.carrying.1) c.in-Some.ensures.found).room
+    c.requires.no_loop c.loop-left-test.true (c.loop-left.invariant.draining c.requires.carrying.0 c.requires.carrying.1) c.in-Some.ensures.found).room
 
 pub overflow_sub-left : goal.overflow_sub-left
 overflow_sub-left g c = (once g c c.requires.carrying.0 c.requires.carrying.1).within
@@ -108,13 +102,13 @@ loop-left-preserved g c = record {
 -- the flow on the arc comes back
 pub unreachable-requires : goal.unreachable-requires
 unreachable-requires g c =
-    draining-has_path c.args.state.now c.requires.carrying.0 _ c.args.turn.arc c.args.turn.limit _ _ c.requires.is_there c.loop-left-test.true
-    (c.loop-left.invariant.draining c.requires.carrying.0 c.requires.carrying.1) c.in-None.ensures.found.0
+    draining-has_path c.args.state.now c.requires.carrying.0 _ c.args.turn.arc c.args.turn.limit _ _
+    (c.loop-left.invariant.draining c.requires.carrying.0 c.requires.carrying.1) c.requires.is_there c.loop-left-test.true c.in-None.ensures.found.0
 
 pub returns-clause-drains : goal.returns-clause-drains
 returns-clause-drains g c = λ unpaired carries.
-    rw c.settle.ensures (draining-done c.args.state.now unpaired _ c.args.turn.arc c.args.turn.limit _ _ c.loop-left-test.false
-    (c.loop-left.invariant.draining unpaired carries))
+    rw c.settle.ensures (draining-done c.args.state.now unpaired _ c.args.turn.arc c.args.turn.limit _ _ (c.loop-left.invariant.draining unpaired carries)
+    c.loop-left-test.false)
 
 pub returns-clause-drained : goal.returns-clause-drained
 returns-clause-drained g c = λ unpaired carries. omega (arith, c.loop-left.invariant.drained unpaired carries)

@@ -5,7 +5,7 @@ use Rattle.dmf_path.specs.Touched.{AreBelow}
 use Rattle.dmf_solver.specs.Pairs.{Along, IsCarryingSearch, flows_read}
 use Rattle.dmf_solver.proofs.DrainingSearch.{carrying-first, carries-moved, length-carries, one_each}
 use Rattle.dmf_solver.proofs.DrainingWalk.{draining-moves}
-use Rattle.dmf_solver.proofs.Untouched.{drained-cover, keeps-sorted}
+use Rattle.dmf_solver.proofs.Untouched.{changed-cover, keeps-sorted}
 use Rattle.dmf_solver.proofs.drain.drain_by.Goals as goal
 use Rattle.dmf_solver.proofs.drain.drain_by.Goals.{In_ok-touched}
 
@@ -53,7 +53,7 @@ list_moves-requires-clause-others_stay g c =
     let keeps = keeps-sorted c.drain_along.new.touched c.sort.new.self c.args.carrying.pairs c.drain_along.new.search.pairs
     c.drain_along.ensures.touched.kept c.sort.ensures.same in
     rw c.flows-before.ensures.value
-    (drained-cover s c.args.carrying.pairs c.drain_along.new.search.pairs c.sort.new.self (indices_of c.indices.result) (length s.flows + 1)
+    (changed-cover Along s c.args.carrying.pairs c.drain_along.new.search.pairs c.sort.new.self (indices_of c.indices.result) (length s.flows + 1)
     (omega (arith, old, flows)) (omega (arith, new, flows)) (omega arith) here.1 keeps (rw c.flows-before.ensures.value at c.indices.ensures))
 
 pub returns-clause-moves : goal.returns-clause-moves

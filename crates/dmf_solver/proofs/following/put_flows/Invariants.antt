@@ -1,9 +1,10 @@
 use Rattle.dmf_state.specs.Direction.{along}
 use Rattle.dmf_state.specs.Edit.{moved}
+use Rattle.dmf_solver.specs.ResidualNetwork.{IsResidualOf}
 use Rattle.dmf_solver.proofs.Followed.{AreFollowed}
 use Rattle.dmf_solver.proofs.following.put_flows.Given as goal
 
 abbrev pub invariant-loop-m : goal.invariant-loop-m
 invariant-loop-m l =
     let moves = along l.direction l.moves in
-    AreFollowed l.state.network moves (moved moves l.state.flows) l.m-index l.search
+    AreFollowed IsResidualOf l.state.network moves (moved moves l.state.flows) l.m-index l.search

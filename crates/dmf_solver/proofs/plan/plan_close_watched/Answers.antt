@@ -1,10 +1,10 @@
-use Rattle.dmf_solver.proofs.DrainedEdits.{close-fits, close-plans, takes-all_off}
+use Rattle.dmf_solver.proofs.DrainedEdits.{close-plans, takes-all_off}
 use Rattle.dmf_solver.proofs.plan.plan_close_watched.Goals as goal
 
 pub follow_drained-requires-clause-fits : goal.follow_drained-requires-clause-fits
 follow_drained-requires-clause-fits g c =
-    close-fits c.args.state.now c.in_ok-arc.arc c.in_ok-arc.old c.args.j c.in_ok-drained.drained.moves c.in_ok-arc.ensures.arc.0 c.in_ok-arc.ensures.arc.1
-    (rw (c.only.ensures.arc, c.only.ensures.limit) at c.in_ok-drained.ensures.moves)
+    (close-plans c.args.state.now c.in_ok-arc.arc c.in_ok-arc.old c.args.j c.in_ok-drained.drained.moves c.in_ok-arc.ensures.arc.0 c.in_ok-arc.ensures.arc.1
+    (rw (c.only.ensures.arc, c.only.ensures.limit) at c.in_ok-drained.ensures.moves)).fits
 
 pub returns-clause-plan : goal.returns-clause-plan
 returns-clause-plan g c =

@@ -2,18 +2,19 @@ use Rattle.std.proofs.Common.{subst}
 use Rattle.dmf_state.specs.Edit.{moved}
 use Rattle.dmf_state.specs.Flow.{flow_on_all}
 use Rattle.dmf_solver.specs.Drain.{TakesOff}
-use Rattle.dmf_solver.proofs.DrainedEdits.{shut-fits, shut-plans}
+use Rattle.dmf_solver.proofs.DrainedEdits.{shut-plans}
 use Rattle.dmf_solver.proofs.plan.plan_shut_watched.Goals as goal
 
 pub follow_drained-requires-clause-fits : goal.follow_drained-requires-clause-fits
 follow_drained-requires-clause-fits g c =
     let drained = rw c.deref.ensures.value at c.in_ok-drained.ensures.moves in
-    shut-fits c.args.state.now c.in_ok-arcs.arcs c.in_ok-drained.drained.moves c.nodes.ensures.state c.in_ok-arcs.ensures.are_open drained
+    (shut-plans c.args.state.now c.in_ok-arcs.arcs c.in_ok-drained.drained.moves c.args.v c.nodes.ensures.state c.in_ok-arcs.ensures.are_open drained
+    c.in_ok-arcs.ensures.numbers).fits
 
 pub returns-clause-plan : goal.returns-clause-plan
 returns-clause-plan g c =
     let drained = rw c.deref.ensures.value at c.in_ok-drained.ensures.moves in
-    shut-plans c.args.state.now c.in_ok-arcs.arcs c.in_ok-drained.drained.moves c.nodes.ensures.state c.in_ok-arcs.ensures.are_open drained c.args.v
+    shut-plans c.args.state.now c.in_ok-arcs.arcs c.in_ok-drained.drained.moves c.args.v c.nodes.ensures.state c.in_ok-arcs.ensures.are_open drained
     c.in_ok-arcs.ensures.numbers
 
 pub returns-clause-takes_off : goal.returns-clause-takes_off

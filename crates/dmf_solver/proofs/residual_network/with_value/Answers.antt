@@ -3,14 +3,16 @@ use Rattle.std.proofs.lemmas.Int.{ints}
 use Rattle.std.proofs.lemmas.Slice.Zip.{AllZip-long}
 use Rattle.dmf_solver.specs.Drain.{value_or_zero}
 use Rattle.dmf_solver.proofs.CarryingFollowed.{return-followed}
-use Rattle.dmf_solver.proofs.CarryingPairs.{length-carrying_with}
+use Rattle.dmf_solver.specs.CarryingNetwork.{return_of}
+use Rattle.dmf_solver.proofs.ArcPairs.{length-with_last}
+use Rattle.dmf_solver.proofs.CarryingPairs.{by_carrying_pair}
 use Rattle.dmf_solver.proofs.residual_network.with_value.Goals as goal
 
 pub set_rooms-requires-clause-number : goal.set_rooms-requires-clause-number
 set_rooms-requires-clause-number c =
     let s = c.args.state.now in
     let same = AllZip-long _ s.network.arcs s.flows c.arcs.ensures.state.flow.within in
-    let pairs = length-carrying_with s.network s.flows c.requires.0 same in
+    let pairs = length-with_last by_carrying_pair s.network.arcs s.flows (return_of s.network c.requires.0) same in
     omega (arith, pairs, ap length c.requires.1.pairs_are, ap length c.arcs.ensures.value)
 
 pub returns-clause-carrying : goal.returns-clause-carrying

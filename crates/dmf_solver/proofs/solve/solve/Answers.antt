@@ -60,5 +60,5 @@ returns-clause-solved g c =
 pub returns-clause-told : goal.returns-clause-told
 returns-clause-told g c =
     let none = c.in_default.ensures.found in
-    solving-told c.args.state.now c.loop-found.value c.loop-found.search c.augment.new.self _ _ c.value-value.ensures.state c.loop-found.invariant.solving
-    c.loop-found.invariant.told none.0 none.1
+    solving-told c.args.state.now c.loop-found.value c.loop-found.search c.augment.new.self c.value-value.ensures.state c.loop-found.invariant.solving
+    none.0 none.1 _ _ c.loop-found.invariant.told

@@ -1,4 +1,4 @@
-use Rattle.dmf_solver.proofs.SolvedEdit.{PlansSolve-listed, value-listed, told-listed, told-nothing, told-refused, fits-listed, residual-listed}
+use Rattle.dmf_solver.proofs.SolvedEdit.{PlansSolve-listed, value-listed, told-listed, told-nothing, told-refused, residual-listed}
 use Rattle.dmf_solver.proofs.residual_network.ResidualNetwork.plan_solve.Goals as goal
 
 pub returns-in_err-looks-clause-told : goal.returns-in_err-looks-clause-told
@@ -28,7 +28,8 @@ returns-clause-value g c =
 pub carry_flows-carrying-requires-clause-fit : goal.carry_flows-carrying-requires-clause-fit
 carry_flows-carrying-requires-clause-fit g c =
     rw c.deref.ensures.value
-    (fits-listed c.args.state.now c.solve-solved.result c.in_ok-moves.moves c.solve-solved.ensures.state c.solve-solved.ensures.solved c.in_ok-moves.ensures)
+    (PlansSolve-listed c.args.state.now c.solve-solved.result c.in_ok-moves.moves c.solve-solved.ensures.state c.solve-solved.ensures.solved
+    c.in_ok-moves.ensures).plan.fits.moves
 
 pub returns-clause-kept : goal.returns-clause-kept
 returns-clause-kept g c = record {
