@@ -139,10 +139,7 @@ increasing-push ids x increasing above k h = ⊎_elim
 
 has_node-push : (ids : List ℕ) (x v : ℕ) → has_node (ids ++ x ∷ []) v ≡ true → (has_node ids v ≡ true) ⊎ (x ≡ v)
 has_node-push ids x v has = ⊎_elim inl
-    (λ (last : has_node (x ∷ []) v ≡ true). ⊎_elim
-    (λ (here : (x == v) ≡ true). inr (eqb-true x v here))
-    (λ (none : false ≡ true). absurd (both_ways false refl none))
-    (or_cases (x == v) false last))
+    (λ last. inr (⊎_elim (λ here. eqb-true x v here) (λ none. absurd (both_ways false refl none)) (or_cases (x == v) false last)))
     (or_cases (has_node ids v) (has_node (x ∷ []) v) (sym (list_any-append (λ u. u == v) ids (x ∷ [])) ∙ has))
 
 -- The next node is marked.

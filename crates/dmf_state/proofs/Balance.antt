@@ -1,5 +1,5 @@
 -- The sums at the nodes give conservation and the value.
-use Rattle.std.proofs.Common.{ℕ, ◌≡◌, ◌+◌, ◌-◌, ◌<◌, ◌≤◌, List, length, slice_index, arith, sym, ap, subst, ◌∙◌, pos, ◌<ℤ◌}
+use Rattle.std.proofs.Common.{ℕ, ◌≡◌, ◌+◌, ◌-◌, ◌<◌, ◌≤◌, List, length, slice_index, arith, sym, ap, ◌∙◌, pos, ◌<ℤ◌}
 use Rattle.std.proofs.lemmas.Int.{ints}
 use Rattle.dmf_state.specs.declared.arc.Arc.{Arc}
 use Rattle.dmf_node.specs.Node.{IsNode}
@@ -15,79 +15,60 @@ pub record AreBothSums (n : Network) (flows leaving entering : List ℕ) : Type 
   pub tails : AreFlowSums (λ arc. arc.tail) n.nodes n.arcs flows leaving
   pub heads : AreFlowSums (λ arc. arc.head) n.nodes n.arcs flows entering
 
--- the same, with the parts of the network in place of the record
-pub AreBothSums-of_parts : (n : Network) (nodes : ℕ) (arcs : List Arc) (flows leaving entering : List ℕ) → nodes ≡ n.nodes → arcs ≡ n.arcs
-    → AreFlowSums (λ arc. arc.tail) nodes arcs flows leaving → AreFlowSums (λ arc. arc.head) nodes arcs flows entering → AreBothSums n flows leaving entering
-AreBothSums-of_parts n nodes arcs flows leaving entering of_nodes of_arcs tails heads = record {
-  tails = subst (λ m. AreFlowSums (λ arc. arc.tail) m n.arcs flows leaving) of_nodes
-      (subst (λ xs. AreFlowSums (λ arc. arc.tail) nodes xs flows leaving) of_arcs tails);
-  heads = subst (λ m. AreFlowSums (λ arc. arc.head) m n.arcs flows entering) of_nodes
-      (subst (λ xs. AreFlowSums (λ arc. arc.head) nodes xs flows entering) of_arcs heads);
-}
-
 sum_at : (end : Arc → ℕ) (nodes : ℕ) (arcs : List Arc) (flows sums : List ℕ) (v : ℕ) → AreFlowSums end nodes arcs flows sums → IsNode nodes v
     → slice_index sums (v - 1) ≡ flow_at end arcs flows v
 sum_at end nodes arcs flows sums v s node =
     let place : v - 1 + 1 ≡ v = omega (arith, node.from_one) in
     s.each (v - 1) (omega (arith, s.one_each, node.from_one, node.to_last)) ∙ ap (flow_at end arcs flows) place
 
-same-to_conserved : (n : Network) (flows leaving entering : List ℕ) (v : ℕ) → AreBothSums n flows leaving entering → IsNode n.nodes v
-    → AreSameAt leaving entering v → IsConservedAt n flows v
-same-to_conserved n flows leaving entering v s node same =
-    sym (sum_at _ _ _ _ leaving v s.tails node) ∙ same ∙ sum_at _ _ _ _ entering v s.heads node
+module _ (n : Network) (flows leaving entering : List ℕ) (s : AreBothSums n flows leaving entering) where
+  same-to_conserved : (v : ℕ) → IsNode n.nodes v → AreSameAt leaving entering v → IsConservedAt n flows v
+  same-to_conserved v node same = sym (sum_at _ _ _ _ leaving v s.tails node) ∙ same ∙ sum_at _ _ _ _ entering v s.heads node
 
-conserved-to_same : (n : Network) (flows leaving entering : List ℕ) (v : ℕ) → AreBothSums n flows leaving entering → IsNode n.nodes v → IsConservedAt n flows v
-    → AreSameAt leaving entering v
-conserved-to_same n flows leaving entering v s node conserved =
-    sum_at _ _ _ _ leaving v s.tails node ∙ conserved ∙ sym (sum_at _ _ _ _ entering v s.heads node)
+  -- Where the sums at all inner nodes agree, flow is conserved there.
+  pub conserved-from_sums : ((v : ℕ) → IsInnerUpTo (length leaving) n.source n.sink v → AreSameAt leaving entering v)
+      → (v : ℕ) → IsInnerNode n v → IsConservedAt n flows v
+  conserved-from_sums same v inner =
+      same-to_conserved v inner.node (same v (record {
+        from_one = inner.node.from_one;
+        to_last = omega (arith, s.tails.one_each, inner.node.to_last);
+        not_source = inner.not_source;
+        not_sink = inner.not_sink;
+      }))
 
--- Where the sums at all inner nodes agree, flow is conserved there.
-pub conserved-from_sums : (n : Network) (flows leaving entering : List ℕ) → AreBothSums n flows leaving entering
-    → ((v : ℕ) → IsInnerUpTo (length leaving) n.source n.sink v → AreSameAt leaving entering v) → (v : ℕ) → IsInnerNode n v → IsConservedAt n flows v
-conserved-from_sums n flows leaving entering s same v inner =
-    same-to_conserved n flows leaving entering v s inner.node (same v (record {
-      from_one = inner.node.from_one;
-      to_last = omega (arith, s.tails.one_each, inner.node.to_last);
-      not_source = inner.not_source;
-      not_sink = inner.not_sink;
-    }))
+  unbalanced-from_differ : (v : ℕ) → DifferAt n.source n.sink leaving entering v → IsUnbalanced n flows v
+  unbalanced-from_differ v d =
+      let node : IsNode n.nodes v = record { from_one = d.inner.from_one; to_last = omega (arith, s.tails.one_each, d.inner.to_last) } in
+      record {
+        inner = record { node = node; not_source = d.inner.not_source; not_sink = d.inner.not_sink };
+        differ = λ conserved. d.differ (sum_at _ _ _ _ leaving v s.tails node ∙ conserved ∙ sym (sum_at _ _ _ _ entering v s.heads node));
+      }
 
-unbalanced-from_differ : (n : Network) (flows leaving entering : List ℕ) (v : ℕ) → AreBothSums n flows leaving entering
-    → DifferAt n.source n.sink leaving entering v → IsUnbalanced n flows v
-unbalanced-from_differ n flows leaving entering v s d =
-    let node : IsNode n.nodes v = record { from_one = d.inner.from_one; to_last = omega (arith, s.tails.one_each, d.inner.to_last) } in
-    record {
-      inner = record { node = node; not_source = d.inner.not_source; not_sink = d.inner.not_sink };
-      differ = λ conserved. d.differ (conserved-to_same n flows leaving entering v s node conserved);
-    }
+  differ-from_unbalanced : (v : ℕ) → IsUnbalanced n flows v → DifferAt n.source n.sink leaving entering v
+  differ-from_unbalanced v u = record {
+    inner = record {
+      from_one = u.inner.node.from_one;
+      to_last = omega (arith, s.tails.one_each, u.inner.node.to_last);
+      not_source = u.inner.not_source;
+      not_sink = u.inner.not_sink;
+    };
+    differ = λ same. u.differ (same-to_conserved v u.inner.node same);
+  }
 
-differ-from_unbalanced : (n : Network) (flows leaving entering : List ℕ) (v : ℕ) → AreBothSums n flows leaving entering → IsUnbalanced n flows v
-    → DifferAt n.source n.sink leaving entering v
-differ-from_unbalanced n flows leaving entering v s u = record {
-  inner = record {
-    from_one = u.inner.node.from_one;
-    to_last = omega (arith, s.tails.one_each, u.inner.node.to_last);
-    not_source = u.inner.not_source;
-    not_sink = u.inner.not_sink;
-  };
-  differ = λ same. u.differ (same-to_conserved n flows leaving entering v s u.inner.node same);
-}
+  -- The least node at which the sums differ is the least that does not conserve flow.
+  pub least_unbalanced : (v : ℕ) → IsLeast (DifferAt n.source n.sink leaving entering) v → IsLeast (IsUnbalanced n flows) v
+  least_unbalanced v least = record {
+    holds = unbalanced-from_differ v least.holds;
+    least = λ u lower unbalanced. least.least u lower (differ-from_unbalanced u unbalanced);
+  }
 
--- The least node at which the sums differ is the least that does not conserve flow.
-pub least_unbalanced : (n : Network) (flows leaving entering : List ℕ) (v : ℕ) → AreBothSums n flows leaving entering
-    → IsLeast (DifferAt n.source n.sink leaving entering) v → IsLeast (IsUnbalanced n flows) v
-least_unbalanced n flows leaving entering v s least = record {
-  holds = unbalanced-from_differ n flows leaving entering v s least.holds;
-  least = λ u lower unbalanced. least.least u lower (differ-from_unbalanced n flows leaving entering u s unbalanced);
-}
-
--- the sums at the source
-pub at_source-from_sums : (n : Network) (flows leaving entering : List ℕ) (at : NodeFlow) → AreBothSums n flows leaving entering → IsNode n.nodes n.source
-    → at.leaving ≡ slice_index leaving (n.source - 1) → at.entering ≡ slice_index entering (n.source - 1) → IsNodeFlow n.arcs flows n.source at
-at_source-from_sums n flows leaving entering at s source out into = record {
-  leaving = out ∙ sum_at _ _ _ _ leaving _ s.tails source;
-  entering = into ∙ sum_at _ _ _ _ entering _ s.heads source;
-}
+  -- the sums at the source
+  pub at_source-from_sums : (at : NodeFlow) → IsNode n.nodes n.source → at.leaving ≡ slice_index leaving (n.source - 1)
+      → at.entering ≡ slice_index entering (n.source - 1) → IsNodeFlow n.arcs flows n.source at
+  at_source-from_sums at source out into = record {
+    leaving = out ∙ sum_at _ _ _ _ leaving _ s.tails source;
+    entering = into ∙ sum_at _ _ _ _ entering _ s.heads source;
+  }
 
 -- the value, where the source's inflow is within its outflow
 pub value-from_source : (n : Network) (flows : List ℕ) (at : NodeFlow) → IsNodeFlow n.arcs flows n.source at → at.entering ≤ at.leaving

@@ -1,6 +1,7 @@
 -- Closing several arcs without flow.
-use Rattle.std.proofs.Common.{ℕ, ◌≡◌, ◌≢◌, ◌+◌, ◌-◌, ◌<◌, ◌≤◌, true, List, [], ◌∷◌, length, get_or, drop, zero, suc, ap, ◌∙◌, subst, arith}
+use Rattle.std.proofs.Common.{ℕ, ◌≡◌, ◌≢◌, ◌+◌, ◌-◌, ◌<◌, ◌≤◌, true, List, [], ◌∷◌, length, get_or, drop, zero, suc, ap, ◌∙◌, arith}
 use Rattle.std.proofs.lemmas.List.{length-set, get_or-set_other}
+use Rattle.std.proofs.Math.Numerals.{add-one}
 use Rattle.std.proofs.Math.ListN.{drop_of_length-le}
 use Rattle.std.proofs.Math.Seq.{drop-cons}
 use Rattle.dmf_state.specs.declared.arc.Arc.{Arc}
@@ -41,9 +42,7 @@ open-at last (a ∷ arcs) n (suc i) are h = open-at a.arc arcs n i are.2 (omega 
 
 -- The remaining arcs are the next one and the arcs after it.
 pub left-next : (arcs : List Shutting) (i : ℕ) → i < length arcs → drop i arcs ≡ get_or arcs i no_shutting ∷ drop (i + 1) arcs
-left-next arcs i h =
-    let next : suc i ≡ i + 1 = omega arith in
-    subst (λ k. drop i arcs ≡ get_or arcs i no_shutting ∷ drop k arcs) next (drop-cons arcs i no_shutting h)
+left-next arcs i h = rw (add-one i) (drop-cons arcs i no_shutting h)
 
 -- Their numbers are that of the next one and those of the rest.
 pub numbers-next : (arcs : List Shutting) (i : ℕ) → i < length arcs → numbers (drop i arcs) ≡ (get_or arcs i no_shutting).arc ∷ numbers (drop (i + 1) arcs)

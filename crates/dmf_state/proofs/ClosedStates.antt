@@ -47,21 +47,19 @@ pub record ClosesNext (final : Network) (a : Shutting) (left : List Shutting) (t
   pub state : IsState (record { network = closed_at t.network a.arc; flows = t.flows })
   pub up_to : AreClosedUpTo final left (record { network = closed_at t.network a.arc; flows = t.flows }) flows
 
-closes-first : (final : Network) (a : Shutting) (rest : List Shutting) (t : NetworkState) (flows : List ℕ) → IsState t
-    → AreClosedUpTo final (a ∷ rest) t flows → ClosesNext final a rest t flows
-closes-first final a rest t flows state own =
+-- Closing the next arc leaves a state, and the rest to be closed.
+pub closes-next : (final : Network) (arcs : List Shutting) (i : ℕ) (t : NetworkState) (flows : List ℕ) → IsState t → i < length arcs
+    → AreClosedUpTo final (drop i arcs) t flows → ClosesNext final (get_or arcs i no_shutting) (drop (i + 1) arcs) t flows
+closes-next final arcs i t flows state inside up_to =
+    let a = get_or arcs i no_shutting in
+    let rest = drop (i + 1) arcs in
+    let own : AreClosedUpTo final (a ∷ rest) t flows = rw (left-next arcs i inside) at up_to in
     let has = own.are.1.is_there in
     let later = open-rest own.last a rest t.network own.are in
     record {
       state = (IsState-before_closed a.arc rest (closed_at t.network a.arc) t.flows (IsNetwork-closed t.network a.arc state.network has) later own.state).0;
       up_to = record { last = a.arc; are = later; state = own.state; final_is = own.final_is; flows_are = own.flows_are };
     }
-
--- Closing the next arc leaves a state, and the rest to be closed.
-pub closes-next : (final : Network) (arcs : List Shutting) (i : ℕ) (t : NetworkState) (flows : List ℕ) → IsState t → i < length arcs
-    → AreClosedUpTo final (drop i arcs) t flows → ClosesNext final (get_or arcs i no_shutting) (drop (i + 1) arcs) t flows
-closes-next final arcs i t flows state inside up_to =
-    closes-first final _ _ t flows state (subst (λ left. AreClosedUpTo final left t flows) (left-next arcs i inside) up_to)
 
 -- ---- opening them one by one
 
@@ -98,9 +96,8 @@ pub opens-has : (final : Network) (arcs : List Shutting) (i : ℕ) (t : NetworkS
 opens-has final arcs i t flows inside up_to =
     let a = get_or arcs i no_shutting in
     let rest = drop (i + 1) arcs in
-    let own = subst (λ xs. AreOpenedUpTo final xs t flows) (left-next arcs i inside) up_to in
-    let has : has_arc (with_closed (a ∷ rest) own.before) a.arc ≡ true = rw (length-closed (a ∷ rest) own.before) own.are.1.is_there in
-    subst (λ m. has_arc m a.arc ≡ true) own.gives has
+    let own : AreOpenedUpTo final (a ∷ rest) t flows = rw (left-next arcs i inside) at up_to in
+    rw (← own.gives, length-closed (a ∷ rest) own.before) own.are.1.is_there
 
 -- Opening the first of them leaves the others closed.
 opened-first : (last : ℕ) (a : Shutting) (rest : List Shutting) (n : Network) → AreOpenWith last (a ∷ rest) n
@@ -109,22 +106,19 @@ opened-first last a rest n are =
     open-before a.arc rest n (closed_at n a.arc) a.arc a.old (omega (arith, are.0)) (omega arith) are.2
     ∙ ap (with_closed rest) (with_open-replaced n a.arc a.old (closed_arc (arc_number n a.arc)) are.1 refl refl)
 
-opens-first : (final : Network) (a : Shutting) (rest : List Shutting) (t : NetworkState) (flows : List ℕ) → IsState t
-    → AreOpenedUpTo final (a ∷ rest) t flows → OpensNext final a rest t flows
-opens-first final a rest t flows state own =
-    let n : Network = own.before in
-    let opened : with_open t.network a.arc a.old ≡ with_closed rest n =
-    ap (λ m. with_open m a.arc a.old) (sym own.gives) ∙ opened-first own.last a rest n own.are in
-    let none = (IsState-before_closed own.last (a ∷ rest) n t.flows own.state.network own.are
-    (subst (λ m. IsState (record { network = m; flows = t.flows })) (sym own.gives) state)).1 in
-    let others : AreOpenWith a.arc rest n = own.are.2 in
-    record {
-      state = subst (λ m. IsState (record { network = m; flows = t.flows })) (sym opened) (IsState-all_closed a.arc rest n t.flows own.state others none.1);
-      up_to = record { last = a.arc; before = n; state = own.state; are = others; gives = sym opened; final_is = own.final_is; flows_are = own.flows_are };
-    }
-
 -- Opening the next arc leaves a state, and the rest to be opened.
 pub opens-next : (final : Network) (arcs : List Shutting) (i : ℕ) (t : NetworkState) (flows : List ℕ) → IsState t → i < length arcs
     → AreOpenedUpTo final (drop i arcs) t flows → OpensNext final (get_or arcs i no_shutting) (drop (i + 1) arcs) t flows
 opens-next final arcs i t flows state inside up_to =
-    opens-first final _ _ t flows state (subst (λ left. AreOpenedUpTo final left t flows) (left-next arcs i inside) up_to)
+    let a = get_or arcs i no_shutting in
+    let rest = drop (i + 1) arcs in
+    let own : AreOpenedUpTo final (a ∷ rest) t flows = rw (left-next arcs i inside) at up_to in
+    let n : Network = own.before in
+    let opened : with_open t.network a.arc a.old ≡ with_closed rest n = rw (← own.gives) (opened-first own.last a rest n own.are) in
+    let none = (IsState-before_closed own.last (a ∷ rest) n t.flows own.state.network own.are
+    (subst (λ m. IsState (record { network = m; flows = t.flows })) (sym own.gives) state)).1 in
+    let others : AreOpenWith a.arc rest n = own.are.2 in
+    record {
+      state = rw opened (IsState-all_closed a.arc rest n t.flows own.state others none.1);
+      up_to = record { last = a.arc; before = n; state = own.state; are = others; gives = sym opened; final_is = own.final_is; flows_are = own.flows_are };
+    }

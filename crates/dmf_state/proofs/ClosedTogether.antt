@@ -1,6 +1,6 @@
 -- Closing arcs one after the other: the network that this gives, and how opening them restores the network before.
-use Rattle.std.proofs.Common.{ℕ, ◌≡◌, ◌≢◌, ◌-◌, ◌<◌, ◌≤◌, List, [], ◌∷◌, length, set, zero, suc, true, false, refl, ap, sym, ◌∙◌, subst, arith}
-use Rattle.std.proofs.lemmas.List.{get_or-set_same, get_or-set_other, length-set, set-set, set-get_or}
+use Rattle.std.proofs.Common.{ℕ, ◌≡◌, ◌≢◌, ◌-◌, ◌<◌, ◌≤◌, List, [], ◌∷◌, length, true, false, refl, ap, sym, ◌∙◌, subst, arith}
+use Rattle.std.proofs.lemmas.List.{get_or-set_same, get_or-set_other, length-set, set-set, set-get_or, set_comm}
 use Rattle.dmf_state.specs.declared.arc.Arc.{Arc}
 use Rattle.dmf_state.specs.declared.edit.Shutting.{Shutting}
 use Rattle.dmf_state.specs.Arc.{no_arc, open_arc, closed_arc, open_arcs_at}
@@ -50,20 +50,10 @@ pub with_open-replaced : (n : Network) (j cap : ℕ) (arc : Arc) → IsOpenWith 
 with_open-replaced n j cap arc is tail head =
     let k : ℕ = j - 1 in
     let put : arc_number (with_arc n j arc) j ≡ arc = get_or-set_same n.arcs k arc no_arc (has_arc-within n j is.is_there).1 in
-    let back : open_arc arc.tail arc.head cap ≡ arc_number n j =
-    ap (λ v. open_arc v arc.head cap) tail ∙ ap (λ v. open_arc (arc_number n j).tail v cap) head ∙ open_arc-same (arc_number n j) cap is.is_open is.has_cap in
+    let back : open_arc arc.tail arc.head cap ≡ arc_number n j = rw (tail, head) (open_arc-same (arc_number n j) cap is.is_open is.has_cap) in
     let arcs : (with_open (with_arc n j arc) j cap).arcs ≡ n.arcs =
-    ap (λ a. set (set n.arcs k arc) k (open_arc a.tail a.head cap)) put ∙ ap (λ a. set (set n.arcs k arc) k a) back ∙ set-set n.arcs k arc
-    (arc_number n j) ∙ set-get_or n.arcs k no_arc in
+    rw (put, back, set-set n.arcs k arc (arc_number n j)) (set-get_or n.arcs k no_arc) in
     λ i. record { nodes = n.nodes; source = n.source; sink = n.sink; arcs = arcs i }
-
--- Two writes at different places may be made in either order.
-set-apart : {A : Type 0} (xs : List A) (i k : ℕ) (x y : A) → i ≢ k → set (set xs i x) k y ≡ set (set xs k y) i x
-set-apart [] i k x y apart = refl
-set-apart (a ∷ xs) zero zero x y apart = absurd (apart refl)
-set-apart (a ∷ xs) zero (suc k) x y apart = refl
-set-apart (a ∷ xs) (suc i) zero x y apart = refl
-set-apart (a ∷ xs) (suc i) (suc k) x y apart = ap (λ ys. a ∷ ys) (set-apart xs i k x y (λ e. apart (ap suc e)))
 
 -- Opening one arc and closing another may be done in either order.
 open-apart : (n : Network) (b j cap : ℕ) → j - 1 ≢ b - 1 → with_open (closed_at n b) j cap ≡ closed_at (with_open n j cap) b
@@ -73,9 +63,8 @@ open-apart n b j cap apart =
     let opened : Arc = open_arc old.tail old.head cap in
     let other : b - 1 ≢ j - 1 = λ e. apart (sym e) in
     let arcs : (with_open (closed_at n b) j cap).arcs ≡ (closed_at (with_open n j cap) b).arcs =
-    ap (λ (a : Arc). set (set n.arcs (b - 1) closed) (j - 1) (open_arc a.tail a.head cap)) (get_or-set_other n.arcs (b - 1) (j - 1) closed no_arc apart)
-    ∙ set-apart n.arcs (b - 1) (j - 1) closed opened other
-    ∙ ap (λ a. set (set n.arcs (j - 1) opened) (b - 1) (closed_arc a)) (sym (get_or-set_other n.arcs (j - 1) (b - 1) opened no_arc other)) in
+    rw (get_or-set_other n.arcs (b - 1) (j - 1) closed no_arc apart, get_or-set_other n.arcs (j - 1) (b - 1) opened no_arc other)
+    (set_comm n.arcs (b - 1) (j - 1) closed opened other) in
     λ i. record { nodes = n.nodes; source = n.source; sink = n.sink; arcs = arcs i }
 
 -- So is opening one arc, where several with larger numbers are closed.

@@ -1,10 +1,10 @@
 -- The fault of a flow, from what a walk over it finds.
-use Rattle.std.proofs.Common.{ℕ, ◌≡◌, ◌+◌, ◌-◌, ◌<◌, ◌≤◌, zero, suc, List, length, get_or, Bool, true, false, nat_lt, Some, None, refl, ap, ◌∙◌, arith, ℤ, pos}
+use Rattle.std.proofs.Common.{ℕ, ◌≡◌, ◌+◌, ◌-◌, ◌<◌, ◌≤◌, zero, suc, List, length, get_or, Bool, true, false, Some, None, refl, ap, ◌∙◌, arith, ℤ, pos}
 use Rattle.std.proofs.Common.{negsuc, ◌<ℤ◌, ◌≤ℤ◌, ⊎_elim, eq-eqb}
 use Rattle.std.specs.List.{find, range_with_len}
 use Rattle.std.specs.Prelude.{int_lt}
-use Rattle.std.proofs.lemmas.Bool.{cond-true, cond-false, cases_lt, ltb-true, ne_eqb}
-use Rattle.std.proofs.lemmas.Bool.Decides.{nat_tests, eqb_tells}
+use Rattle.std.proofs.lemmas.Bool.{cond-true, cond-false, cases_lt, lt-ltb, le-ltb, ltb-true, ne_eqb}
+use Rattle.std.proofs.lemmas.Bool.Decides.{eqb_tells}
 use Rattle.std.proofs.lemmas.Int.{ints}
 use Rattle.std.proofs.lemmas.Option.{get_or_from_slice_get, slice_get-get_or, slice_get_within}
 use Rattle.dmf_state.specs.declared.arc.Arc.{Arc}
@@ -33,18 +33,12 @@ find-none p a (suc n) none =
     cond-false _ _ _ (none a (omega arith) (omega arith))
     ∙ find-none p (a + 1) n (λ i past before. none i (omega (arith, past)) (omega (arith, before)))
 
-less-told : (a b : ℕ) → a < b → nat_lt a b ≡ true
-less-told a b less = grind (arith, nat_tests)
-
-not_less-told : (a b : ℕ) → b ≤ a → nat_lt a b ≡ false
-not_less-told a b within = grind (arith, nat_tests)
-
 int-below : (x : ℤ) → x <ℤ pos 0 → int_lt x (pos 0) ≡ true
 int-below (pos a) less = absurd (omega (arith, ints, less))
 int-below (negsuc a) less = refl
 
 int-from_zero : (x : ℤ) → pos 0 ≤ℤ x → int_lt x (pos 0) ≡ false
-int-from_zero (pos a) from = not_less-told a 0 (omega arith)
+int-from_zero (pos a) from = le-ltb a 0 (omega arith)
 int-from_zero (negsuc a) from = absurd (omega (arith, ints, from))
 
 -- The test for a number below 0 tells of one.
@@ -57,7 +51,7 @@ below-told (negsuc a) less = omega (arith, ints)
 -- Where all flows are within the capacities, no arc is over its capacity.
 pub none-over : (arcs : List Arc) (flows : List ℕ) → AreWithinCapacities arcs flows → first_over_capacity arcs flows ≡ None
 none-over arcs flows within =
-    find-none (is_over_capacity arcs flows) 1 (length arcs) (λ j from below. not_less-told _ _ (within-at arcs flows (j - 1) within))
+    find-none (is_over_capacity arcs flows) 1 (length arcs) (λ j from below. le-ltb _ _ (within-at arcs flows (j - 1) within))
 
 -- the least arc over capacity
 least-over : (arcs : List Arc) (flows : List ℕ) (j : ℕ) → IsLeast (IsOverCapacity arcs flows) j → first_over_capacity arcs flows ≡ Some j
@@ -68,7 +62,7 @@ least-over arcs flows j least =
     let arc = get_or_from_slice_get arcs (j - 1) over.arc no_arc over.arc_is in
     let flow = get_or_from_slice_get flows (j - 1) over.flow 0 over.flow_is in
     let more : (get_or arcs (j - 1) no_arc).cap < get_or flows (j - 1) 0 = omega (arith, over.over, flow, ap (λ (a : Arc). a.cap) arc) in
-    find-least (is_over_capacity arcs flows) 1 (length arcs) j over.from_one (omega (arith, in_arcs)) (less-told _ _ more)
+    find-least (is_over_capacity arcs flows) 1 (length arcs) j over.from_one (omega (arith, in_arcs)) (lt-ltb _ _ more)
     (λ i from before.
     ⊎_elim
     (λ (above : (get_or arcs (i - 1) no_arc).cap < get_or flows (i - 1) 0).
@@ -80,7 +74,7 @@ least-over arcs flows j least =
       flow_is = slice_get-get_or flows (i - 1) 0 (omega (arith, before, in_flows));
       over = above;
     })))
-    (λ (within : get_or flows (i - 1) 0 ≤ (get_or arcs (i - 1) no_arc).cap). not_less-told _ _ within)
+    (λ (within : get_or flows (i - 1) 0 ≤ (get_or arcs (i - 1) no_arc).cap). le-ltb _ _ within)
     (cases_lt (get_or arcs (i - 1) no_arc).cap (get_or flows (i - 1) 0)))
 
 -- ---- nodes
@@ -91,16 +85,9 @@ module _ (n : Network) (flows : List ℕ) where
   balanced-at v from to conserved =
       ⊎_elim (λ source. rw source.0 refl)
       (λ other. ⊎_elim (λ sink. rw (other.0, sink.0) refl)
-      (λ inner. rw (
-        other.0,
-        inner.0,
-        eq-eqb _ _ (conserved (record {
-          node = record { from_one = from; to_last = to };
-          not_source = other.1;
-          not_sink =
-              inner.1;
-        })),
-      ) refl)
+      (λ inner.
+      let same = conserved (record { node = record { from_one = from; to_last = to }; not_source = other.1; not_sink = inner.1 }) in
+      rw (other.0, inner.0, eq-eqb _ _ same) refl)
       (eqb_tells v n.sink))
       (eqb_tells v n.source)
 

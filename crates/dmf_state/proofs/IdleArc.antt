@@ -1,9 +1,10 @@
 -- Appending an arc without flow leaves every sum of flows as it is.
-use Rattle.std.proofs.Common.{ℕ, ◌≡◌, ◌+◌, ◌^◌, ◌<◌, ◌≤◌, ◌==◌, List, [], ◌∷◌, ◌++◌, length, Bool, true, false, cond, refl, ap, ◌∙◌, sym, sum_by, arith}
+use Rattle.std.proofs.Common.{ℕ, ◌≡◌, ◌+◌, ◌^◌, ◌<◌, ◌≤◌, ◌==◌, List, [], ◌∷◌, ◌++◌, length, true, false, cond, refl, ap, ◌∙◌, sym, arith}
 use Rattle.std.proofs.Common.{add-zero, eq-eqb}
 use Rattle.std.specs.List.{zip}
 use Rattle.std.proofs.lemmas.List.Sums.{sum_by_push}
 use Rattle.std.proofs.lemmas.Grind.{common_steps}
+use Rattle.std.proofs.lemmas.Bool.{cond_both}
 use Rattle.std.proofs.lemmas.Bool.Decides.{nat_tests}
 use Rattle.std.proofs.lemmas.List.Elements.{All-push}
 use Rattle.std.proofs.lemmas.Slice.Zip.{AllZip-long, all_zipped_more}
@@ -19,21 +20,16 @@ use Rattle.dmf_state.specs.Totals.{KeepsTotals}
 
 pub zip-push : {A B : Type 0} (xs : List A) (ys : List B) (x : A) (y : B) → length ys ≡ length xs → zip (xs ++ x ∷ []) (ys ++ y ∷ []) ≡ zip xs ys ++ (x, y) ∷ []
 zip-push [] [] x y e = refl
-zip-push [] (b ∷ ys) x y e = absurd (omega (arith, e))
-zip-push (a ∷ xs) [] x y e = absurd (omega (arith, e))
 zip-push (a ∷ xs) (b ∷ ys) x y e = ap (λ ps. (a, b) ∷ ps) (zip-push xs ys x y (omega (arith, e)))
-
-nothing : (b : Bool) → ◌≡◌ {A = ℕ} (cond b 0 0) 0
-nothing true = refl
-nothing false = refl
+zip-push xs ys x y e = absurd (omega (arith, e))
 
 -- the sum at a node, with the new arc
 pub flow_at-idle : (end : Arc → ℕ) (arcs : List Arc) (flows : List ℕ) (arc : Arc) (v : ℕ) → length flows ≡ length arcs
     → flow_at end (arcs ++ arc ∷ []) (flows ++ 0 ∷ []) v ≡ flow_at end arcs flows v
 flow_at-idle end arcs flows arc v e =
     let f : Arc × ℕ → ℕ = λ p. cond (end p.0 == v) p.1 0 in
-    ap (sum_by f) (zip-push arcs flows arc 0 e) ∙ sum_by_push f (zip arcs flows) (arc, 0)
-    ∙ ap (λ x. sum_by f (zip arcs flows) + x) (nothing (end arc == v)) ∙ add-zero _
+    let none : f (arc, 0) ≡ 0 = cond_both (end arc == v) 0 0 (λ n. n ≡ 0) (λ _. refl) (λ _. refl) in
+    rw (zip-push arcs flows arc 0 e, sum_by_push f (zip arcs flows) (arc, 0), none, add-zero) refl
 
 pub flow_value-idle : (n : Network) (flows : List ℕ) (arc : Arc) → length flows ≡ length n.arcs
     → flow_value (with_last_arc n arc) (flows ++ 0 ∷ []) ≡ flow_value n flows

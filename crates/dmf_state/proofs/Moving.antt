@@ -1,12 +1,13 @@
 -- The moves of an edit: making them, listing them, and what they say about the flows.
 use Rattle.std.proofs.Common.{ℕ, ◌≡◌, ◌≢◌, ◌+◌, ◌-◌, ◌<◌, ◌≤◌, ◌==◌, List, [], ◌∷◌, ◌++◌, length, get_or, set, take, drop, true, false, cond, if◌then◌else◌}
-use Rattle.std.proofs.Common.{◌^◌, refl, ap, ◌∙◌, sym, subst, arith, suc, zero, Some, Bool, add-zero, length-append, ⊎_elim, eq-eqb}
+use Rattle.std.proofs.Common.{◌^◌, refl, ap, ◌∙◌, sym, subst, arith, suc, zero, Some, Bool, add-zero, append_assoc, length-append, ⊎_elim, eq-eqb}
 use Rattle.std.specs.List.{slice_get}
 use Rattle.std.proofs.lemmas.Bool.Decides.{eqb_tells}
 use Rattle.std.proofs.lemmas.List.{get_or-set_same, get_or-set_other, set-set, set-get_or, length-set}
 use Rattle.std.proofs.lemmas.Option.{slice_get-get_or, slice_get_within, get_or_from_slice_get}
 use Rattle.dmf_state.specs.declared.edit.Move.{Move}
-use Rattle.std.proofs.Math.Seq.{drop-cons}
+use Rattle.std.proofs.Math.Numerals.{add-one, one-add}
+use Rattle.std.proofs.Math.Seq.{drop-cons, set-append_seam}
 use Rattle.std.proofs.Math.ListN.{drop_of_length-le}
 use Rattle.std.proofs.lemmas.Slice.Zip.{AllZip-long}
 use Rattle.dmf_state.specs.declared.arc.Arc.{Arc}
@@ -95,12 +96,10 @@ pub record IsNextMove (arcs : List Arc) (last_flows flows : List ℕ) (m : Move)
   pub was : get_or flows (m.arc - 1) 0 ≡ m.from
   pub will_be : get_or last_flows (m.arc - 1) 0 ≡ m.to
 
-module _ (arcs : List Arc) (moves : List Move) (last_flows : List ℕ) (v i : ℕ) (flows : List ℕ) (sums : NodeFlow) (m : Move)
+module _ {arcs : List Arc} {moves : List Move} {last_flows : List ℕ} {v i : ℕ} {flows : List ℕ} {sums : NodeFlow} {m : Move}
     (next : IsMoveAt moves i m) (a : AreMoved arcs moves last_flows v i flows sums) where
   split : drop i moves ≡ m ∷ drop (i + 1) moves
-  split =
-      let one : suc i ≡ i + 1 = omega arith in
-      subst (λ k. drop i moves ≡ m ∷ drop k moves) one (drop-cons moves i no_move next.within ∙ ap (λ n. n ∷ drop (suc i) moves) next.is)
+  split = rw (add-one i, drop-cons moves i no_move next.within, next.is) refl
 
   fit : MovesFit a.last (m ∷ drop (i + 1) moves) flows
   fit = subst (λ ms. MovesFit a.last ms flows) split a.fit
@@ -192,33 +191,19 @@ differences-next j i [] ys h same = absurd (omega (arith, h))
 differences-next j i (x ∷ xs) [] h same = absurd (omega (arith, same))
 differences-next j zero (x ∷ xs) (y ∷ ys) h same = ap (λ k. move_of k x y) (sym (add-zero j))
 differences-next j (suc i) (x ∷ xs) (y ∷ ys) h same =
-    let place : j + 1 + i ≡ j + suc i = omega arith in
-    let after = differences-next (j + 1) i xs ys (omega (arith, h)) (omega (arith, same)) in
-    one-more (x == y) (record { arc = j; from = x; to = y }) _ _ _ (subst
-    (λ k. differences (j + 1) (take (suc i) xs) (take (suc i) ys) ≡ differences (j + 1) (take i xs) (take i ys) ++ move_of k (get_or xs i 0)
-    (get_or ys i 0)) place after)
+    let place : j + suc i ≡ j + 1 + i = omega arith in
+    one-more (x == y) (record { arc = j; from = x; to = y }) _ _ _
+    (rw place (differences-next (j + 1) i xs ys (omega (arith, h)) (omega (arith, same))))
 
 -- the moves, with the move of the next arc
 pub differences-more : (i : ℕ) (xs ys : List ℕ) → i < length xs → length ys ≡ length xs
     → differences 1 (take (i + 1) xs) (take (i + 1) ys) ≡ differences 1 (take i xs) (take i ys) ++ move_of (i + 1) (get_or xs i 0) (get_or ys i 0)
 differences-more i xs ys h same =
-    let next : suc i ≡ i + 1 = omega arith in
-    let place : 1 + i ≡ i + 1 = omega arith in
-    subst (λ k. differences 1 (take k xs) (take k ys) ≡ differences 1 (take i xs) (take i ys) ++ move_of (i + 1) (get_or xs i 0) (get_or ys i 0)) next
-    (subst (λ k. differences 1 (take (suc i) xs) (take (suc i) ys) ≡ differences 1 (take i xs) (take i ys) ++ move_of k (get_or xs i 0) (get_or ys i 0)) place
-    (differences-next 1 i xs ys h same))
+    rw (add-one i) (rw (one-add i) at (differences-next 1 i xs ys h same))
 
 read-middle : (done : List ℕ) (x : ℕ) (xs : List ℕ) → slice_get (done ++ x ∷ xs) (length done) ≡ Some x
 read-middle [] x xs = refl
 read-middle (d ∷ done) x xs = read-middle done x xs
-
-set-middle : (done : List ℕ) (x y : ℕ) (xs : List ℕ) → set (done ++ x ∷ xs) (length done) y ≡ done ++ y ∷ xs
-set-middle [] x y xs = refl
-set-middle (d ∷ done) x y xs = ap (λ zs. d ∷ zs) (set-middle done x y xs)
-
-join-middle : (done : List ℕ) (x : ℕ) (xs : List ℕ) → (done ++ x ∷ []) ++ xs ≡ done ++ x ∷ xs
-join-middle [] x xs = refl
-join-middle (d ∷ done) x xs = ap (λ zs. d ∷ zs) (join-middle done x xs)
 
 fit-cases : (b : Bool) (n x y : ℕ) (moves : List Move) (flows : List ℕ) → slice_get flows (n + 1 - 1) ≡ Some x → MovesFit (n + 1) moves flows
     → MovesFit n (if b then moves else record { arc = n + 1; from = x; to = y } ∷ moves) flows
@@ -232,31 +217,24 @@ differences-fit done (x ∷ xs) [] same = tt
 differences-fit done (x ∷ xs) (y ∷ ys) same =
     let one_more : length (done ++ x ∷ []) ≡ length done + 1 = length-append done (x ∷ []) in
     let rest : MovesFit (length done + 1) (differences (length done + 1 + 1) xs ys) (done ++ x ∷ xs) =
-    subst (λ n. MovesFit n (differences (n + 1) xs ys) (done ++ x ∷ xs)) one_more
-    (subst (λ zs. MovesFit (length (done ++ x ∷ [])) (differences (length (done ++ x ∷ []) + 1) xs ys) zs) (join-middle done x xs)
-    (differences-fit (done ++ x ∷ []) xs ys (omega (arith, same)))) in
+    rw (one_more, append_assoc done (x ∷ []) xs) at (differences-fit (done ++ x ∷ []) xs ys (omega (arith, same))) in
     let place : length done + 1 - 1 ≡ length done = omega arith in
     fit-cases (x == y) (length done) x y _ (done ++ x ∷ xs) (rw place (read-middle done x xs)) rest
 
 -- and make the first into the second
 pub moved-differences : (done xs ys : List ℕ) → length ys ≡ length xs → moved (differences (length done + 1) xs ys) (done ++ xs) ≡ done ++ ys
 moved-differences done [] [] same = refl
-moved-differences done [] (y ∷ ys) same = absurd (omega (arith, same))
-moved-differences done (x ∷ xs) [] same = absurd (omega (arith, same))
 moved-differences done (x ∷ xs) (y ∷ ys) same =
     let one_more : length (done ++ y ∷ []) ≡ length done + 1 = length-append done (y ∷ []) in
     let rest : moved (differences (length done + 1 + 1) xs ys) (done ++ y ∷ xs) ≡ done ++ y ∷ ys =
-    subst (λ n. moved (differences (n + 1) xs ys) (done ++ y ∷ xs) ≡ done ++ y ∷ ys) one_more
-    (ap (moved (differences (length (done ++ y ∷ []) + 1) xs ys)) (sym (join-middle done y xs)) ∙ moved-differences (done ++ y ∷ []) xs ys
-    (omega (arith, same)) ∙ join-middle done y ys) in
+    rw (one_more, append_assoc done (y ∷ []) xs, append_assoc done (y ∷ []) ys) at (moved-differences (done ++ y ∷ []) xs ys (omega (arith, same))) in
     let place : length done + 1 - 1 ≡ length done = omega arith in
     ⊎_elim
-    (λ (e : ((x == y) ≡ true) × (x ≡ y)). rw e.0 (subst (λ z. moved (differences (length done + 1 + 1) xs ys) (done ++ z ∷ xs) ≡ done ++ y ∷ ys)
-    (sym e.1) rest))
+    (λ (e : ((x == y) ≡ true) × (x ≡ y)). rw (e.0, e.1) rest)
     (λ (d : ((x == y) ≡ false) × (x ≢ y)). rw d.0
-    (ap (λ k. moved (differences (length done + 1 + 1) xs ys) (set (done ++ x ∷ xs) k y)) place
-    ∙ ap (moved (differences (length done + 1 + 1) xs ys)) (set-middle done x y xs) ∙ rest))
+    (ap (moved (differences (length done + 1 + 1) xs ys)) (ap (λ k. set (done ++ x ∷ xs) k y) place ∙ set-append_seam done x xs y) ∙ rest))
     (eqb_tells x y)
+moved-differences done xs ys same = absurd (omega (arith, same))
 
 -- The moves turn the first flows into the second, and name just the arcs whose flow differs.
 pub record AreMovesBetween (moves : List Move) (before after : List ℕ) : Type 0 where

@@ -1,6 +1,7 @@
 -- Listing the open arcs at a node in one pass over the arcs.
 use Rattle.std.proofs.Common.{ℕ, ◌≡◌, ◌+◌, ◌-◌, ◌<◌, ◌==◌, ◌&&◌, ◌||◌, not, Bool, true, false, cond, List, [], ◌∷◌, ◌++◌, length, get_or, take, zero, suc, refl}
 use Rattle.std.proofs.Common.{ap, sym, ◌∙◌, subst, arith, append_assoc, add-zero, append-nil}
+use Rattle.std.proofs.Math.Numerals.{add-one, one-add}
 use Rattle.std.proofs.lemmas.Bool.{both_ways}
 use Rattle.std.proofs.lemmas.Bool.Decides.{nat_tests}
 use Rattle.dmf_state.specs.declared.arc.Arc.{Arc}
@@ -24,31 +25,23 @@ listed-next : (v j i : ℕ) (arcs : List Arc) → i < length arcs → listed_fro
 listed-next v j i [] h = absurd (omega (arith, h))
 listed-next v j zero (arc ∷ arcs) h = append-nil (listed v j arc) ∙ ap (λ k. listed v k arc) (sym (add-zero j))
 listed-next v j (suc i) (arc ∷ arcs) h =
-    let place : j + 1 + i ≡ j + suc i = omega arith in
-    ap (λ rest. listed v j arc ++ rest) (listed-next v (j + 1) i arcs (omega (arith, h)) ∙ ap
-    (λ k. listed_from v (j + 1) (take i arcs) ++ listed v k (get_or arcs i no_arc)) place)
-    ∙ sym (append_assoc (listed v j arc) (listed_from v (j + 1) (take i arcs)) (listed v (j + suc i) (get_or arcs i no_arc)))
+    let place : j + suc i ≡ j + 1 + i = omega arith in
+    rw (place, listed-next v (j + 1) i arcs (omega (arith, h)))
+    (sym (append_assoc (listed v j arc) (listed_from v (j + 1) (take i arcs)) (listed v (j + 1 + i) (get_or arcs i no_arc))))
 
 -- With one arc more, what is listed of it comes last.
 pub listed-more : (v i : ℕ) (arcs : List Arc) → i < length arcs → listed_from v 1 (take (i + 1) arcs) ≡ listed_from v 1 (take i arcs) ++ listed v (i + 1)
     (get_or arcs i no_arc)
-listed-more v i arcs h =
-    let next : suc i ≡ i + 1 = omega arith in
-    let place : 1 + i ≡ i + 1 = omega arith in
-    subst (λ k. listed_from v 1 (take k arcs) ≡ listed_from v 1 (take i arcs) ++ listed v (i + 1) (get_or arcs i no_arc)) next
-    (listed-next v 1 i arcs h ∙ ap (λ k. listed_from v 1 (take i arcs) ++ listed v k (get_or arcs i no_arc)) place)
+listed-more v i arcs h = rw (add-one i) (rw (one-add i) at (listed-next v 1 i arcs h))
 
 -- Their numbers are those of the open arcs at the node.
-numbers-step : (v j : ℕ) (arc : Arc) (rest : List Shutting) (js : List ℕ) (is_listed : Bool) → is_open_at v arc ≡ is_listed → numbers rest ≡ js
-    → numbers (listed v j arc ++ rest) ≡ cond (is_open_at v arc) (j ∷ js) js
-numbers-step v j arc rest js true e same = rw e (ap (λ ks. j ∷ ks) same)
-numbers-step v j arc rest js false e same = rw e same
-
--- The same, of all that are listed.
 pub numbers-listed : (v j : ℕ) (arcs : List Arc) → numbers (listed_from v j arcs) ≡ open_arcs_at v j arcs
 numbers-listed v j [] = refl
-numbers-listed v j (arc ∷ arcs) = numbers-step v j arc (listed_from v (j + 1) arcs) (open_arcs_at v (j + 1) arcs) (is_open_at v arc) refl
-    (numbers-listed v (j + 1) arcs)
+numbers-listed v j (arc ∷ arcs) =
+    let rest = numbers-listed v (j + 1) arcs in
+    let js : List ℕ = open_arcs_at v (j + 1) arcs in
+    elim (is_open_at v arc) as (λ b. numbers (cond b (record { arc = j; old = arc.cap } ∷ []) [] ++ listed_from v (j + 1) arcs) ≡ cond b (j ∷ js) js)
+    [ true ↦ ap (λ ks. j ∷ ks) rest | false ↦ rest ]
 
 -- The list has arcs of the network from number `j` on.
 abbrev AreFrom : Network → ℕ → List Arc → Type 0

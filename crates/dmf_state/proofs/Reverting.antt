@@ -9,11 +9,11 @@ use Rattle.dmf_state.specs.declared.edit.Edit.TheVariants.{Cap, Add, Close, Shut
 use Rattle.dmf_state.specs.declared.edit.Move.{Move}
 use Rattle.dmf_state.specs.declared.flow_sums.NodeFlow.{NodeFlow}
 use Rattle.dmf_state.specs.Arc.{no_arc, open_arc, with_cap, closed_arc, capacity_sum, open_count}
-use Rattle.dmf_state.specs.Network.{arc_number}
+use Rattle.dmf_state.specs.Network.{Network, arc_number}
 use Rattle.dmf_state.specs.NetworkState.{NetworkState, IsState, with_idle_arc}
 use Rattle.dmf_state.specs.Totals.{KeepsTotals}
-use Rattle.dmf_state.specs.Edit.{MovesFit, moves_of}
-use Rattle.dmf_state.specs.Revert.{opposite, without_last, reverted, Stands}
+use Rattle.dmf_state.specs.Edit.{MovesFit, moved, moves_of}
+use Rattle.dmf_state.specs.Revert.{opposite, moved_back, without_last, reverted, Stands}
 use Rattle.dmf_state.specs.Direction.{HasIdleLast}
 use Rattle.dmf_state.proofs.IdleArc.{flow_at-idle}
 use Rattle.dmf_state.proofs.ClosedTogether.{with_open-replaced, with_opened-closed}
@@ -34,24 +34,20 @@ without_last-idle s arc =
       flows = flows i;
     }
 
+-- Where the network is that before an edit, its moves restore the flows.
+taken-back : (s : NetworkState) (n : Network) (moves : List Move) → n ≡ s.network → MovesFit 0 moves s.flows
+    → ◌≡◌ {A = NetworkState} (record { network = n; flows = moved_back moves (moved moves s.flows) }) s
+taken-back s n moves network fit = λ i. record { network = network i; flows = moved_back-moved 0 moves s.flows fit i }
+
 -- Taking back an edit gives back the state before it.
 pub gives-back : GivesBack
 gives-back (Add tail head cap) s fits = without_last-idle s (open_arc tail head cap)
 gives-back (Cap j old new moves) s fits =
-    let network = with_open-replaced s.network j old (with_cap new (arc_number s.network j)) fits.arc refl refl in
-    let flows = moved_back-moved 0 moves.items s.flows fits.moves in
-    λ i. record { network = network i; flows = flows i }
+    taken-back s _ moves.items (with_open-replaced s.network j old (with_cap new (arc_number s.network j)) fits.arc refl refl) fits.moves
 gives-back (Close j old moves) s fits =
-    let network = with_open-replaced s.network j old (closed_arc (arc_number s.network j)) fits.arc refl refl in
-    let flows = moved_back-moved 0 moves.items s.flows fits.moves in
-    λ i. record { network = network i; flows = flows i }
-gives-back (Shut arcs moves) s fits =
-    let network = with_opened-closed 0 arcs.items s.network fits.arc in
-    let flows = moved_back-moved 0 moves.items s.flows fits.moves in
-    λ i. record { network = network i; flows = flows i }
-gives-back (Solve moves) s fits =
-    let flows = moved_back-moved 0 moves.items s.flows fits.moves in
-    λ i. record { network = s.network; flows = flows i }
+    taken-back s _ moves.items (with_open-replaced s.network j old (closed_arc (arc_number s.network j)) fits.arc refl refl) fits.moves
+gives-back (Shut arcs moves) s fits = taken-back s _ moves.items (with_opened-closed 0 arcs.items s.network fits.arc) fits.moves
+gives-back (Solve moves) s fits = taken-back s s.network moves.items refl fits.moves
 
 -- Only one state is before an edit.
 pub one-before : HasOneBefore
@@ -97,9 +93,7 @@ KeepsTotals-without_last t sum source count has keeps =
     let last : get_or (s.network.arcs ++ arc ∷ []) (length (s.network.arcs ++ arc ∷ []) - 1) no_arc ≡ arc =
     get_or_push s.network.arcs arc no_arc _ (omega (arith, one_more)) in
     let before = totals-before s arc sum source count has.state has.is_open (subst (λ u. KeepsTotals u sum source count) (sym has.gives) keeps) in
-    subst (λ u. KeepsTotals (without_last u) (sum - (get_or u.network.arcs (length u.network.arcs - 1) no_arc).cap) source (count - 1)) has.gives
-    (subst (λ a. KeepsTotals (without_last (with_idle_arc s arc)) (sum - a.cap) source (count - 1)) (sym last)
-    (subst (λ u. KeepsTotals u (sum - arc.cap) source (count - 1)) (sym (without_last-idle s arc)) before))
+    rw (← has.gives, last, without_last-idle s arc) before
 
 -- A state with an idle last arc has an arc.
 pub length-idle_last : (t : NetworkState) → HasIdleLast t → 1 ≤ length t.network.arcs

@@ -2,6 +2,7 @@
 use Rattle.std.proofs.Common.{ℕ, ◌≡◌, ◌≢◌, ◌+◌, ◌-◌, ◌<◌, ◌≤◌, ◌==◌, List, [], ◌∷◌, length, get_or, set, take, replicate, Bool, true, false, cond, ap, ◌∙◌, sym}
 use Rattle.std.proofs.Common.{sum_by, arith, add-zero, ⊎_elim}
 use Rattle.std.specs.List.{zip}
+use Rattle.std.proofs.lemmas.Bool.{cond_both}
 use Rattle.std.proofs.lemmas.Bool.Decides.{eqb_tells}
 use Rattle.std.proofs.lemmas.List.{get_or-set_same, get_or-set_other, get_or-replicate, length-replicate, length-set, take_all, get_or_read}
 use Rattle.std.proofs.lemmas.List.Sums.{sum_by-cons, sum_by_more, sum_by_more_le_part}
@@ -70,17 +71,15 @@ sums-all end nodes arcs flows sums i same long s = record {
 -- the sum of all flows is at most the sum of the capacities
 pub flows-le-capacities : (arcs : List Arc) (flows : List ℕ) → AreWithinCapacities arcs flows → sum_by (λ p. p.1) (zip arcs flows) ≤ capacity_sum arcs
 flows-le-capacities [] [] w = omega arith
-flows-le-capacities [] (x ∷ flows) w = absurd w
-flows-le-capacities (a ∷ arcs) [] w = absurd w
 flows-le-capacities (a ∷ arcs) (x ∷ flows) w =
     let f : Arc × ℕ → ℕ = λ p. p.1 in
     let g : Arc → ℕ = λ b. b.cap in
     omega (arith, w.0, flows-le-capacities arcs flows w.1, sum_by-cons f (a, x) (zip arcs flows), sum_by-cons g a arcs)
+flows-le-capacities arcs flows w = absurd w
 
 -- a summand that may be absent
 pub part-le : (b : Bool) (x : ℕ) → cond b x 0 ≤ x
-part-le true x = omega arith
-part-le false x = omega arith
+part-le b x = cond_both b x 0 (λ n. n ≤ x) (λ _. omega arith) (λ _. omega arith)
 
 -- no sum at a node exceeds the sum of the capacities
 pub sums-le : (end : Arc → ℕ) (nodes : ℕ) (arcs : List Arc) (flows : List ℕ) (i : ℕ) (sums : List ℕ) (old : ℕ) → AreWithinCapacities arcs flows

@@ -1,14 +1,15 @@
 -- A problem text without a fault stands for a state.
-use Rattle.std.proofs.Common.{◌≡◌, ◌≢◌, ℕ, ◌+◌, ◌^◌, ◌<◌, ◌≤◌, ◌==◌, ◌&&◌, ◌||◌, List, [], ◌∷◌, ◌++◌, length, map, replicate, Bool, true, false, not, Option}
+use Rattle.std.proofs.Common.{◌≡◌, ℕ, ◌+◌, ◌^◌, ◌<◌, ◌≤◌, ◌==◌, ◌&&◌, ◌||◌, List, [], ◌∷◌, ◌++◌, length, map, replicate, true, false, Option}
 use Rattle.std.proofs.Common.{Some, None, is_some, is_none, unwrap_or, Result, Ok, Err, codes, arith, refl, sym, ap, ◌∙◌, subst, ⊎_elim, append-nil}
-use Rattle.std.proofs.Common.{length-append, sum_by, zero-add, if◌then◌else◌, nat_lt, nat_le}
-use Rattle.std.proofs.lemmas.Bool.{cases_Bool, and_parts, leb-true, ltb-true, not-true, eqb-false}
+use Rattle.std.proofs.Common.{length-append, if◌then◌else◌, nat_lt, nat_le}
+use Rattle.std.proofs.lemmas.Bool.{cases_Bool, cond_both, and_parts, leb-true, ltb-true, not-true, not_from_false, ne_eqb, eqb-false}
 use Rattle.std.proofs.lemmas.List.Elements.{All-push, All-nil}
 use Rattle.std.proofs.lemmas.List.Sums.{sum_by_push, sum_by-cons}
 use Rattle.std.proofs.lemmas.Int.{ints}
+use Rattle.std.proofs.lemmas.Option.{IfSome_then}
 use Rattle.std.proofs.lemmas.Slice.Eq.{bytes_eq-Decides}
 use Rattle.std.specs.List.{All, zip}
-use Rattle.std.specs.Option.{option_map, option_or, option_to_list}
+use Rattle.std.specs.Option.{IfSome, option_map}
 use Rattle.std.specs.Result.{result_unwrap_or}
 use Rattle.std.specs.Str.{bytes_eq}
 use Rattle.std.specs.Str.Lines.{lines}
@@ -20,7 +21,7 @@ use Rattle.dmf_state.specs.NetworkState.{NetworkState, IsState}
 use Rattle.dmf_text.specs.declared.digits.NumberFault.{NumberFault}
 use Rattle.dmf_text.specs.declared.fault.ProblemFaultKind.TheVariants.{ProblemLineExpected, SecondProblemLine, NotMax, FieldCount, NodeOutOfRange}
 use Rattle.dmf_text.specs.declared.fault.ProblemFaultKind.TheVariants.{NotSourceOrSink, SecondTerminal, SameTerminals, ArcBeforeTerminals, TooManyArcs}
-use Rattle.dmf_text.specs.declared.fault.ProblemFaultKind.TheVariants.{TooFewArcs, TerminalMissing, SumTooLarge}
+use Rattle.dmf_text.specs.declared.fault.ProblemFaultKind.TheVariants.{TooFewArcs, SumTooLarge}
 use Rattle.dmf_text.specs.Fields.{fields}
 use Rattle.dmf_text.specs.Number.{number_of}
 use Rattle.dmf_text.specs.Judging.{Line, field, number_at, map_fault, outcome_after}
@@ -28,6 +29,7 @@ use Rattle.dmf_text.specs.Problem.{Facts, Counts, facts_of, node_count, arc_coun
 use Rattle.dmf_text.specs.Problem.{other, differs, judged_node, judged_arc, judged, ended, state_of, problem_fault, problem_after, problem_of}
 use Rattle.dmf_text.specs.Reading.{with_line}
 use Rattle.dmf_text.proofs.PassedJudgements.{passed, held, passed-value, at-line, at-line-then}
+use Rattle.dmf_text.proofs.JudgingLemmas.{or-none}
 use Rattle.dmf_text.proofs.ProblemLemmas.{facts_of-push}
 use Rattle.dmf_text.proofs.ReadingLemmas.{node-from}
 
@@ -39,122 +41,58 @@ spelled behind i n good =
     let P : Result ℕ NumberFault → Type 0 = λ r. map_fault number_fault r ≡ Ok n → result_unwrap_or r 0 ≡ n in
     (elim (number_of (field i behind)) as P [ Ok m ↦ λ e. (let same : m ≡ n = cc in same) | Err fault ↦ λ e. absurd (let no : ⊥ = cc in no) ]) good
 
--- the texts are the same
-same_text : (f g : List ℕ) → bytes_eq f g ≡ true → f ≡ g
-same_text f g same = (bytes_eq-Decides f g).0 same
-
-or-none : {A : Type 0} (o : Option A) → option_or o None ≡ o
-or-none None = refl
-or-none (Some x) = refl
-
 none-is : {A : Type 0} (o : Option A) → is_none o ≡ true → o ≡ None
 none-is None is = refl
 none-is (Some x) is = absurd (let no : ⊥ = cc in no)
 
 -- ---- what good lines say together
 
+-- The arcs are as the arcs of a network with so many nodes are, and no more than this.
+record AreArcs (nodes most : ℕ) (arcs : List Arc) : Type 0 where
+  each : All (IsArc nodes) arcs
+  few : length arcs ≤ most
+  fits : capacity_sum arcs < 2 ^ 64
+
 -- The counts are within the limits, the terminals are two nodes, and the arcs are as the arcs of a network are.
 record Sound (facts : Facts) : Type 0 where
-  counts : (c : Counts) → facts.counts ≡ Some c → (2 ≤ c.nodes) × (c.nodes ≤ 2 ^ 24) × (c.arcs ≤ 2 ^ 27)
-  source : (v : ℕ) → facts.source ≡ Some v → IsNode (node_count facts) v
-  sink : (v : ℕ) → facts.sink ≡ Some v → IsNode (node_count facts) v
-  two : (v w : ℕ) → facts.source ≡ Some v → facts.sink ≡ Some w → v ≢ w
-  arcs : All (IsArc (node_count facts)) facts.arcs
-  few : length facts.arcs ≤ arc_count facts
-  fits : capacity_sum facts.arcs < 2 ^ 64
+  counts : IfSome facts.counts (λ c. (2 ≤ c.nodes) × (c.nodes ≤ 2 ^ 24) × (c.arcs ≤ 2 ^ 27))
+  source : IfSome facts.source (IsNode (node_count facts))
+  sink : IfSome facts.sink (IsNode (node_count facts))
+  two : IfSome facts.source (λ v. differs v facts.sink ≡ true)
+  arcs : AreArcs (node_count facts) (arc_count facts) facts.arcs
 
 sound-nothing : Sound (facts_of [])
-sound-nothing = record {
-  counts = λ c is. absurd (let no : ⊥ = cc in no);
-  source = λ v is. absurd (let no : ⊥ = cc in no);
-  sink = λ v is. absurd (let no : ⊥ = cc in no);
-  two = λ v w is also. absurd (let no : ⊥ = cc in no);
-  arcs = All-nil _;
-  few = omega arith;
-  fits = omega arith;
-}
-
--- a line that says nothing about a fact leaves it as it is
-silent : (facts : Facts) → ◌≡◌ {A = Facts}
-    (record { counts = option_or facts.counts None; source = option_or facts.source None; sink = option_or facts.sink None; arcs = facts.arcs ++ [] }) facts
-silent facts = λ i. record {
-  counts = or-none facts.counts i;
-  source = or-none facts.source i;
-  sink = or-none facts.sink i;
-  arcs = append-nil facts.arcs i;
-}
-
--- nor does a line of another kind say anything about it
-other-line : (facts : Facts) (kind : List ℕ) (behind : List (List ℕ)) → bytes_eq kind (codes "a") ≡ false → bytes_eq kind (codes "n") ≡ false
-    → bytes_eq kind (codes "p") ≡ false
-    → with_line facts (kind ∷ behind) ≡ facts
-other-line facts kind behind not-a not-n not-p = λ i. record {
-  counts = (ap (λ b. option_or facts.counts (if b then Some (let c : Counts = record { nodes = number_at 1 behind; arcs = number_at 2 behind } in c) else None))
-      not-p ∙ or-none facts.counts) i;
-  source = (ap (λ b. option_or facts.source (if b && bytes_eq (field 1 behind) (codes "s") then Some (number_at 0 behind) else None)) not-n ∙ or-none
-      facts.source) i;
-  sink = (ap (λ b. option_or facts.sink (if b && bytes_eq (field 1 behind) (codes "t") then Some (number_at 0 behind) else None)) not-n ∙ or-none facts.sink) i;
-  arcs = (ap (λ b. facts.arcs ++ option_to_list (if b then Some (open_arc (number_at 0 behind) (number_at 1 behind) (number_at 2 behind)) else None)) not-a ∙
-      append-nil facts.arcs) i;
-}
+sound-nothing = record { counts = tt; source = tt; sink = tt; two = tt; arcs = record { each = All-nil _; few = omega arith; fits = omega arith } }
 
 -- ---- one good line more
 
 -- the first problem line
 sound-counted : (facts : Facts) (c : Counts) → Sound facts → facts.counts ≡ None → 2 ≤ c.nodes → c.nodes ≤ 2 ^ 24 → c.arcs ≤ 2 ^ 27
-    → Sound (record { counts = Some c; source = facts.source; sink = facts.sink; arcs = facts.arcs })
+    → Sound (record facts { counts = Some c })
 sound-counted facts c sound none low high most =
     let no-nodes : node_count facts ≡ 0 = ap (λ o. unwrap_or (option_map (λ (d : Counts). d.nodes) o) 0) none in
     let no-arcs : arc_count facts ≡ 0 = ap (λ o. unwrap_or (option_map (λ (d : Counts). d.arcs) o) 0) none in
-    let few = sound.few in
+    let few = sound.arcs.few in
     record {
-      counts = λ d is. (let same : c ≡ d = cc in subst (λ e. (2 ≤ e.nodes) × (e.nodes ≤ 2 ^ 24) × (e.arcs ≤ 2 ^ 27)) same (low, high, most));
-      source = λ v is. (let node = sound.source v is in absurd (omega (arith, node.from_one, node.to_last, no-nodes)));
-      sink = λ v is. (let node = sound.sink v is in absurd (omega (arith, node.from_one, node.to_last, no-nodes)));
+      counts = (low, high, most);
+      source = IfSome_then facts.source sound.source (λ v node. absurd (omega (arith, node.from_one, node.to_last, no-nodes)));
+      sink = IfSome_then facts.sink sound.sink (λ v node. absurd (omega (arith, node.from_one, node.to_last, no-nodes)));
       two = sound.two;
-      arcs = λ k d below. absurd (omega (arith, few, no-arcs, below));
-      few = omega (arith, few, no-arcs);
-      fits = sound.fits;
+      arcs = record { each = λ k d below. absurd (omega (arith, few, no-arcs, below)); few = omega (arith, few, no-arcs); fits = sound.arcs.fits };
     }
 
--- the first line of the source, and of the sink
-module _ (facts : Facts) (v : ℕ) (sound : Sound facts) (node : IsNode (node_count facts) v) where
-  sound-source : differs v facts.sink ≡ true → Sound (record { counts = facts.counts; source = Some v; sink = facts.sink; arcs = facts.arcs })
-  sound-source other-is = record {
-    counts = sound.counts;
-    source = λ w is. (let same : v ≡ w = cc in subst (IsNode (node_count facts)) same node);
-    sink = sound.sink;
-    two = λ x y is also e. (let same : v ≡ x = cc in let d : not (v == y) ≡ true = sym (ap (differs v) also) ∙ other-is in
-        eqb-false v y (not-true _ d) (same ∙ e));
-    arcs = sound.arcs;
-    few = sound.few;
-    fits = sound.fits;
-  }
-
-  sound-sink : differs v facts.source ≡ true → Sound (record { counts = facts.counts; source = facts.source; sink = Some v; arcs = facts.arcs })
-  sound-sink other-is = record {
-    counts = sound.counts;
-    source = sound.source;
-    sink = λ w is. (let same : v ≡ w = cc in subst (IsNode (node_count facts)) same node);
-    two = λ x y is also e. (let same : v ≡ y = cc in let d : not (v == x) ≡ true = sym (ap (differs v) is) ∙ other-is in
-        eqb-false v x (not-true _ d) (same ∙ sym e));
-    arcs = sound.arcs;
-    few = sound.few;
-    fits = sound.fits;
-  }
+-- If one number differs from another, so does the other from it.
+differs-back : (w : ℕ) (o : Option ℕ) → differs w o ≡ true → IfSome o (λ v. differs v (Some w) ≡ true)
+differs-back w None apart = tt
+differs-back w (Some v) apart = not_from_false _ (ne_eqb v w (λ same. eqb-false w v (not-true _ apart) (sym same)))
 
 -- one arc line more
-sound-with_arc : (facts : Facts) (arc : Arc) → Sound facts → IsArc (node_count facts) arc → length facts.arcs < arc_count facts
-    → capacity_sum facts.arcs + arc.cap < 2 ^ 64
-    → Sound (record { counts = facts.counts; source = facts.source; sink = facts.sink; arcs = facts.arcs ++ arc ∷ [] })
-sound-with_arc facts arc sound is fewer small = record {
-  counts = sound.counts;
-  source = sound.source;
-  sink = sound.sink;
-  two = sound.two;
-  arcs = All-push (IsArc (node_count facts)) facts.arcs arc sound.arcs is;
-  few = (let long = length-append facts.arcs (arc ∷ []) in omega (arith, long, fewer));
-  fits = (let sum = sum_by_push (λ (a : Arc). a.cap) facts.arcs arc in omega (arith, sum, small));
+arcs-more : (nodes most : ℕ) (arcs : List Arc) (arc : Arc) → AreArcs nodes most arcs → IsArc nodes arc → length arcs < most
+    → capacity_sum arcs + arc.cap < 2 ^ 64 → AreArcs nodes most (arcs ++ arc ∷ [])
+arcs-more nodes most arcs arc are is fewer small = record {
+  each = All-push (IsArc nodes) arcs arc are.each is;
+  few = (let long = length-append arcs (arc ∷ []) in omega (arith, long, fewer));
+  fits = (let sum = sum_by_push (λ (a : Arc). a.cap) arcs arc in omega (arith, sum, small));
 }
 
 module _ (facts : Facts) (behind : List (List ℕ)) (sound : Sound facts) where
@@ -173,16 +111,7 @@ module _ (facts : Facts) (behind : List (List ℕ)) (sound : Sound facts) where
       let nodes-is = spelled behind 1 nodes.value nodes.is in
       let arcs-is = spelled behind 2 arcs.value arcs.is in
       let counts : Counts = record { nodes = nodes.value; arcs = arcs.value } in
-      let now : with_line facts (codes "p" ∷ behind) ≡ record { counts = Some counts; source = facts.source; sink = facts.sink; arcs = facts.arcs } =
-      λ i. record {
-        counts = (ap (λ o. option_or o (Some (let c : Counts = record { nodes = number_at 1 behind; arcs = number_at 2 behind } in c))) none
-            ∙ ap (λ n. Some (let c : Counts = record { nodes = n; arcs = number_at 2 behind } in c)) nodes-is
-            ∙ ap (λ n. Some (let c : Counts = record { nodes = nodes.value; arcs = n } in c)) arcs-is) i;
-        source = or-none facts.source i;
-        sink = or-none facts.sink i;
-        arcs = append-nil facts.arcs i;
-      } in
-      subst Sound (sym now)
+      simp (none, nodes-is, arcs-is, or-none, append-nil)
       (sound-counted facts counts sound none
       (leb-true 2 nodes.value (and_parts _ _ range.0).0) (leb-true nodes.value (2 ^ 24) (and_parts _ _ range.0).1) (leb-true arcs.value (2 ^ 27) few.0))
 
@@ -199,24 +128,16 @@ module _ (facts : Facts) (behind : List (List ℕ)) (sound : Sound facts) where
       let tail-in = passed (is_node (node_count facts) tail.value) NodeOutOfRange _ tt cap.rest in
       let head-in = passed (is_node (node_count facts) head.value) NodeOutOfRange _ tt tail-in.1 in
       let small = held (nat_lt (capacity_sum facts.arcs + cap.value) (2 ^ 64)) SumTooLarge head-in.1 in
-      let now : with_line facts (codes "a" ∷ behind) ≡ record {
-        counts = facts.counts;
-        source = facts.source;
-        sink = facts.sink;
-        arcs =
-            facts.arcs ++ open_arc tail.value head.value cap.value ∷ [];
-      } = λ i. record {
-        counts = or-none facts.counts i;
-        source = or-none facts.source i;
-        sink = or-none facts.sink i;
-        arcs = (ap (λ n. facts.arcs ++ open_arc n (number_at 1 behind) (number_at 2 behind) ∷ []) (spelled behind 0 tail.value tail.is)
-            ∙ ap (λ n. facts.arcs ++ open_arc tail.value n (number_at 2 behind) ∷ []) (spelled behind 1 head.value head.is)
-            ∙ ap (λ n. facts.arcs ++ open_arc tail.value head.value n ∷ []) (spelled behind 2 cap.value cap.is)) i;
-      } in
-      subst Sound (sym now)
-      (sound-with_arc facts (open_arc tail.value head.value cap.value) sound
-      (record { tail = node-from _ _ tail-in.0; head = node-from _ _ head-in.0; closed = λ is. absurd (let no : ⊥ = cc in no) })
-      (ltb-true _ _ fewer.0) (ltb-true _ _ small))
+      simp (spelled behind 0 tail.value tail.is, spelled behind 1 head.value head.is, spelled behind 2 cap.value cap.is, or-none)
+      (record {
+        counts = sound.counts;
+        source = sound.source;
+        sink = sound.sink;
+        two = sound.two;
+        arcs = arcs-more _ _ facts.arcs (open_arc tail.value head.value cap.value) sound.arcs
+            (record { tail = node-from _ _ tail-in.0; head = node-from _ _ head-in.0; closed = λ is. absurd (let no : ⊥ = cc in no) })
+            (ltb-true _ _ fewer.0) (ltb-true _ _ small);
+      })
 
   -- a node line whose letter is this one
   module _ (node : ℕ) (node-is : number_at 0 behind ≡ node) (range : is_node (node_count facts) node ≡ true)
@@ -224,28 +145,16 @@ module _ (facts : Facts) (behind : List (List ℕ)) (sound : Sound facts) where
     sound-s : field 1 behind ≡ codes "s" → Sound (with_line facts (codes "n" ∷ behind))
     sound-s letter =
         let none = none-is facts.source (sym (ap (λ l. is_none (own l facts)) letter) ∙ once) in
-        let now : with_line facts (codes "n" ∷ behind) ≡ record { counts = facts.counts; source = Some node; sink = facts.sink; arcs = facts.arcs } =
-        λ i. record {
-          counts = or-none facts.counts i;
-          source = (ap (λ o. option_or o (if bytes_eq (field 1 behind) (codes "s") then Some (number_at 0 behind) else None)) none
-              ∙ ap (λ l. if bytes_eq l (codes "s") then Some (number_at 0 behind) else None) letter ∙ ap (λ n. Some n) node-is) i;
-          sink = (ap (λ l. option_or facts.sink (if bytes_eq l (codes "t") then Some (number_at 0 behind) else None)) letter ∙ or-none facts.sink) i;
-          arcs = append-nil facts.arcs i;
-        } in
-        subst Sound (sym now) (sound-source facts node sound (node-from _ _ range) (sym (ap (λ l. differs node (other l facts)) letter) ∙ apart))
+        let two = sym (ap (λ l. differs node (other l facts)) letter) ∙ apart in
+        simp (letter, node-is, none, or-none, append-nil)
+        (record { counts = sound.counts; source = node-from _ _ range; sink = sound.sink; two = two; arcs = sound.arcs })
 
     sound-t : field 1 behind ≡ codes "t" → Sound (with_line facts (codes "n" ∷ behind))
     sound-t letter =
         let none = none-is facts.sink (sym (ap (λ l. is_none (own l facts)) letter) ∙ once) in
-        let now : with_line facts (codes "n" ∷ behind) ≡ record { counts = facts.counts; source = facts.source; sink = Some node; arcs = facts.arcs } =
-        λ i. record {
-          counts = or-none facts.counts i;
-          source = (ap (λ l. option_or facts.source (if bytes_eq l (codes "s") then Some (number_at 0 behind) else None)) letter ∙ or-none facts.source) i;
-          sink = (ap (λ o. option_or o (if bytes_eq (field 1 behind) (codes "t") then Some (number_at 0 behind) else None)) none
-              ∙ ap (λ l. if bytes_eq l (codes "t") then Some (number_at 0 behind) else None) letter ∙ ap (λ n. Some n) node-is) i;
-          arcs = append-nil facts.arcs i;
-        } in
-        subst Sound (sym now) (sound-sink facts node sound (node-from _ _ range) (sym (ap (λ l. differs node (other l facts)) letter) ∙ apart))
+        let two = differs-back node facts.source (sym (ap (λ l. differs node (other l facts)) letter) ∙ apart) in
+        simp (letter, node-is, none, or-none, append-nil)
+        (record { counts = sound.counts; source = sound.source; sink = node-from _ _ range; two = two; arcs = sound.arcs })
 
   sound-terminal : judged_node facts behind ≡ Ok tt → Sound (with_line facts (codes "n" ∷ behind))
   unfolding judged_node node_named
@@ -262,25 +171,23 @@ module _ (facts : Facts) (behind : List (List ℕ)) (sound : Sound facts) where
       let once = passed (is_none (own (field 1 behind) facts)) SecondTerminal _ tt named.rest in
       let apart = held (differs named.value (other (field 1 behind) facts)) SameTerminals once.1 in
       ⊎_elim
-      (λ s. sound-s named.value node-is is-node once.0 apart (same_text (field 1 behind) (codes "s") s))
+      (λ s. sound-s named.value node-is is-node once.0 apart ((bytes_eq-Decides (field 1 behind) (codes "s")).0 s))
       (λ not-s. sound-t named.value node-is is-node once.0 apart
-      (same_text (field 1 behind) (codes "t") (sym (ap (λ b. b || bytes_eq (field 1 behind) (codes "t")) not-s) ∙ letter.0)))
+      ((bytes_eq-Decides (field 1 behind) (codes "t")).0 (sym (ap (λ b. b || bytes_eq (field 1 behind) (codes "t")) not-s) ∙ letter.0)))
       (cases_Bool (bytes_eq (field 1 behind) (codes "s")))
 
 -- a line of any kind
 sound-line : (facts : Facts) (line : Line) → Sound facts → judged facts line ≡ Ok tt → Sound (with_line facts line)
-sound-line facts [] sound good = subst Sound (sym (silent facts)) sound
+sound-line facts [] sound good = simp (or-none, append-nil) sound
 sound-line facts (kind ∷ behind) sound good =
-    let at : (letter : List ℕ) → kind ≡ letter → judged facts (letter ∷ behind) ≡ Ok tt = λ letter is. sym (ap (λ k. judged facts (k ∷ behind)) is) ∙ good in
-    let back : (letter : List ℕ) → kind ≡ letter → Sound (with_line facts (letter ∷ behind)) → Sound (with_line facts (kind ∷ behind)) =
-    λ letter is here. subst (λ k. Sound (with_line facts (k ∷ behind))) (sym is) here in
-    ⊎_elim
-    (λ a. let is = same_text kind (codes "a") a in back (codes "a") is (sound-arc facts behind sound (at (codes "a") is)))
-    (λ not-a. ⊎_elim
-    (λ n. let is = same_text kind (codes "n") n in back (codes "n") is (sound-terminal facts behind sound (at (codes "n") is)))
-    (λ not-n. ⊎_elim
-    (λ p. let is = same_text kind (codes "p") p in back (codes "p") is (sound-counts facts behind sound (at (codes "p") is)))
-    (λ not-p. subst Sound (sym (other-line facts kind behind not-a not-n not-p)) sound)
+    let at : (letter : List ℕ) → (judged facts (letter ∷ behind) ≡ Ok tt → Sound (with_line facts (letter ∷ behind))) → bytes_eq kind letter ≡ true
+    → Sound (with_line facts (kind ∷ behind))
+    = λ letter here same.
+    subst (λ k. judged facts (k ∷ behind) ≡ Ok tt → Sound (with_line facts (k ∷ behind))) (sym ((bytes_eq-Decides kind letter).0 same)) here good in
+    ⊎_elim (at (codes "a") (sound-arc facts behind sound))
+    (λ (not-a : bytes_eq kind (codes "a") ≡ false). ⊎_elim (at (codes "n") (sound-terminal facts behind sound))
+    (λ (not-n : bytes_eq kind (codes "n") ≡ false). ⊎_elim (at (codes "p") (sound-counts facts behind sound))
+    (λ (not-p : bytes_eq kind (codes "p") ≡ false). simp (not-a, not-n, not-p, or-none, append-nil) sound)
     (cases_Bool (bytes_eq kind (codes "p"))))
     (cases_Bool (bytes_eq kind (codes "n"))))
     (cases_Bool (bytes_eq kind (codes "a")))
@@ -293,65 +200,50 @@ idle-within [] = tt
 idle-within (arc ∷ arcs) = (omega arith, idle-within arcs)
 
 -- and its sums are 0
-nothing-either : (b : Bool) → ◌≡◌ {A = ℕ} (if b then 0 else 0) 0
-nothing-either true = refl
-nothing-either false = refl
-
 idle-flow : (end : Arc → ℕ) (arcs : List Arc) (v : ℕ) → flow_at end arcs (replicate (length arcs) 0) v ≡ 0
 idle-flow end [] v = refl
 idle-flow end (arc ∷ arcs) v =
     let f : Arc × ℕ → ℕ = λ p. if end p.0 == v then p.1 else 0 in
-    sum_by-cons f (arc, 0) (zip arcs (replicate (length arcs) 0))
-    ∙ ap (λ n. n + sum_by f (zip arcs (replicate (length arcs) 0))) (nothing-either (end arc == v)) ∙ zero-add _ ∙ idle-flow end arcs v
+    let none : f (arc, 0) ≡ 0 = cond_both (end arc == v) 0 0 (λ n. n ≡ 0) (λ _. refl) (λ _. refl) in
+    omega (arith, none, sum_by-cons f (arc, 0) (zip arcs (replicate (length arcs) 0)), idle-flow end arcs v)
 
-some-is : {A : Type 0} (o : Option A) → is_some o ≡ true → (x : A) × (o ≡ Some x)
-some-is None is = absurd (let no : ⊥ = cc in no)
-some-is (Some x) is = (x, refl)
-
-sound-state : (facts : Facts) → Sound facts → is_some facts.counts ≡ true → is_some facts.source ≡ true → is_some facts.sink ≡ true → IsState (state_of facts)
-sound-state facts sound counted source-named sink-named =
-    let counts = some-is facts.counts counted in
-    let source = some-is facts.source source-named in
-    let sink = some-is facts.sink sink-named in
-    let limits = sound.counts counts.0 counts.1 in
-    let nodes-are : node_count facts ≡ counts.0.nodes = ap (λ o. unwrap_or (option_map (λ (d : Counts). d.nodes) o) 0) counts.1 in
-    let arcs-are : arc_count facts ≡ counts.0.arcs = ap (λ o. unwrap_or (option_map (λ (d : Counts). d.arcs) o) 0) counts.1 in
-    let source-is : unwrap_or facts.source 0 ≡ source.0 = ap (λ o. unwrap_or o 0) source.1 in
-    let sink-is : unwrap_or facts.sink 0 ≡ sink.0 = ap (λ o. unwrap_or o 0) sink.1 in
-    let few = sound.few in
-    let out = idle-flow (λ (a : Arc). a.tail) facts.arcs in
-    let into = idle-flow (λ (a : Arc). a.head) facts.arcs in
-    record {
-      network = record {
-        at_least_two_nodes = omega (arith, limits.0, nodes-are);
-        at_most_nodes = omega (arith, limits.1, nodes-are);
-        source = subst (IsNode (node_count facts)) (sym source-is) (sound.source source.0 source.1);
-        sink = subst (IsNode (node_count facts)) (sym sink-is) (sound.sink sink.0 sink.1);
-        two_terminals = λ same. sound.two source.0 sink.0 source.1 sink.1 (sym source-is ∙ same ∙ sink-is);
-        arcs = sound.arcs;
-        at_most_arcs = omega (arith, limits.2, arcs-are, few);
-        capacities = sound.fits;
-      };
-      flow = record { within = idle-within facts.arcs; conserved = λ v inner. out v ∙ sym (into v) };
-      value_from_zero = omega (arith, ints, out (unwrap_or facts.source 0), into (unwrap_or facts.source 0));
-    }
+sound-state : (c : Counts) (source sink : ℕ) (arcs : List Arc)
+    → Sound (record { counts = Some c; source = Some source; sink = Some sink; arcs = arcs })
+    → IsState (state_of (record { counts = Some c; source = Some source; sink = Some sink; arcs = arcs }))
+sound-state c source sink arcs sound = record {
+  network = record {
+    at_least_two_nodes = sound.counts.0;
+    at_most_nodes = sound.counts.1;
+    source = sound.source;
+    sink = sound.sink;
+    two_terminals = eqb-false source sink (not-true _ sound.two);
+    arcs = sound.arcs.each;
+    at_most_arcs = omega (arith, sound.counts.2, sound.arcs.few);
+    capacities = sound.arcs.fits;
+  };
+  flow = record { within = idle-within arcs; conserved = λ v inner. idle-flow (λ a. a.tail) arcs v ∙ sym (idle-flow (λ a. a.head) arcs v) };
+  value_from_zero = omega (arith, ints, idle-flow (λ a. a.tail) arcs source, idle-flow (λ a. a.head) arcs source);
+}
 
 -- the end of a text without a fault
-ended-state : (facts : Facts) (s : NetworkState) → Sound facts → ended facts ≡ Ok s → IsState s
+ended-state : (counts : Option Counts) (source sink : Option ℕ) (arcs : List Arc) (s : NetworkState)
+    → Sound (record { counts = counts; source = source; sink = sink; arcs = arcs })
+    → ended (record { counts = counts; source = source; sink = sink; arcs = arcs }) ≡ Ok s → IsState s
 unfolding ended
-ended-state facts s sound good =
-    let counted = passed (is_some facts.counts) ProblemLineExpected _ s good in
-    let named = passed (is_some facts.source && is_some facts.sink) TerminalMissing _ s counted.1 in
-    let enough = passed (nat_le (arc_count facts) (length facts.arcs)) TooFewArcs (Ok (state_of facts)) s named.1 in
-    let is : state_of facts ≡ s = (let ok = enough.1 in cc) in
-    let terminals = and_parts _ _ named.0 in
-    subst IsState is (sound-state facts sound counted.0 terminals.0 terminals.1)
+ended-state None source sink arcs s sound good = absurd (let no : ⊥ = cc in no)
+ended-state (Some c) None sink arcs s sound good = absurd (let no : ⊥ = cc in no)
+ended-state (Some c) (Some v) None arcs s sound good = absurd (let no : ⊥ = cc in no)
+ended-state (Some c) (Some v) (Some w) arcs s sound good =
+    let enough = passed (nat_le c.arcs (length arcs)) TooFewArcs _ s good in
+    let is : state_of (record { counts = Some c; source = Some v; sink = Some w; arcs = arcs }) ≡ s = (let ok = enough.1 in cc) in
+    subst IsState is (sound-state c v w arcs sound)
 
 -- ---- the whole text
 
 accepted-after : (before more : List Line) (s : NetworkState) → Sound (facts_of before) → problem_after before more ≡ Ok s → IsState s
 unfolding outcome_after
-accepted-after before [] s sound good = ended-state (facts_of before) s sound (at-line problem_fault (length before + 1) (ended (facts_of before)) s good)
+accepted-after before [] s sound good =
+    ended-state _ _ _ _ s sound (at-line problem_fault (length before + 1) (ended (facts_of before)) s good)
 accepted-after before (line ∷ more) s sound good =
     let first = at-line-then problem_fault (length before + 1) (judged (facts_of before) line) (problem_after (before ++ line ∷ []) more) s good in
     accepted-after (before ++ line ∷ []) more s

@@ -1,9 +1,9 @@
 -- The fields of a line, one after the other.
-use Rattle.std.proofs.Common.{◌≡◌, ℕ, suc, ◌<◌, ◌≤◌, List, [], ◌∷◌, length, take, drop, get_or, Bool, true, false, not, filter, nat_lt, arith, refl, sym, ap}
-use Rattle.std.proofs.Common.{◌∙◌, ⊎_elim, take_all, length-take-le, length-take, length-drop, get_or-drop, add-zero}
+use Rattle.std.proofs.Common.{◌≡◌, ℕ, suc, ◌+◌, ◌<◌, ◌≤◌, List, [], ◌∷◌, length, take, drop, get_or, Bool, true, false, not, filter, nat_lt, arith, refl}
+use Rattle.std.proofs.Common.{sym, ap, ◌∙◌, ⊎_elim, take_all, length-take-le, length-take, length-drop, get_or-drop, add-zero}
 use Rattle.std.proofs.Math.Numerals.{one-add, add-one}
 use Rattle.std.proofs.Math.Seq.{drop-cons}
-use Rattle.std.proofs.lemmas.Bool.{cond-true, cond-false, cases_Bool, cases_lt, lt-ltb, not-false, not-true, both_ways}
+use Rattle.std.proofs.lemmas.Bool.{cond-true, cond_both, cases_lt, lt-ltb, not-false, not-true, both_ways}
 use Rattle.std.proofs.lemmas.List.{drop_all}
 use Rattle.std.proofs.lemmas.List.Sums.{prefix_len-le-length, prefix_len_passes, prefix_len_stops}
 use Rattle.std.proofs.lemmas.List.Splits.{slice_split-cons_yes, slice_split_first, slice_split_none}
@@ -28,12 +28,8 @@ fields-nil (b ∷ bs) none = absurd (omega arith)
 pub fields-skip : (bytes : List ℕ) → fields bytes ≡ fields (drop (prefix_len is_blank bytes) bytes)
 fields-skip [] = refl
 fields-skip (b ∷ bs) =
-    ⊎_elim
-    (λ blank.
-    fields-blank b bs blank ∙ fields-skip bs
-    ∙ ap fields (sym (ap (λ k. drop k (b ∷ bs)) (cond-true _ _ _ blank ∙ one-add (prefix_len is_blank bs)))))
-    (λ other. ap fields (sym (ap (λ k. drop k (b ∷ bs)) (cond-false _ _ _ other))))
-    (cases_Bool (is_blank b))
+    cond_both (is_blank b) (1 + prefix_len is_blank bs) 0 (λ k. fields (b ∷ bs) ≡ fields (drop k (b ∷ bs)))
+    (λ blank. rw one-add (fields-blank b bs blank ∙ fields-skip bs)) (λ _. refl)
 
 -- the first field ends at the first blank
 fields-ended : (bytes : List ℕ) → 0 < position_or_len is_blank bytes → position_or_len is_blank bytes < length bytes
@@ -64,9 +60,7 @@ fields-first bytes some =
     let most = prefix_len-le-length (λ b. not (is_blank b)) bytes in
     ⊎_elim
     (λ inside. fields-ended bytes some inside)
-    (λ whole. fields-whole bytes (omega arith) whole
-    ∙ sym (ap (λ field. field ∷ fields (drop n bytes)) (take_all n bytes whole) ∙ ap (λ more. bytes ∷ more)
-    (ap fields (drop_all n bytes whole) ∙ fields-nil [] refl)))
+    (λ whole. rw (take_all n bytes whole, drop_all n bytes whole, fields-nil [] refl) (fields-whole bytes (omega arith) whole))
     (cases_lt n (length bytes))
 
 -- past the leading blanks stands a field, or nothing
@@ -100,8 +94,7 @@ fields-split line field after split some =
     let rest = split.rest in
     let m = position_or_len is_blank rest in
     let long = ap length split.front ∙ length-take m rest in
-    fields-skip line ∙ ap fields (sym split.skipped) ∙ fields-first rest (omega arith)
-    ∙ ap (λ f. f ∷ fields (drop m rest)) (sym split.front) ∙ ap (λ a. field ∷ fields a) (sym split.back)
+    rw (split.front, split.back) (fields-skip line ∙ ap fields (sym split.skipped) ∙ fields-first rest (omega arith))
 
 -- and without one there are no fields.
 pub fields-split_none : (line field after : List ℕ) → IsSplit line field after → length field ≡ 0 → (fields line ≡ []) × (fields after ≡ [])

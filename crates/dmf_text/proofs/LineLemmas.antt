@@ -72,24 +72,23 @@ lines-agree zero (b ∷ bs) le = absurd (omega arith)
 lines-agree (suc fuel) (b ∷ bs) le =
     let text = b ∷ bs in
     let w = width text in
-    let first = ap (map without_terminator) (lines-step text (omega arith)) in
     ⊎_elim
     (λ inside.
     let feed = at-width text inside in
-    let step = line_len-at text w inside feed (before-width text) in
-    let rest = drop (w + 1) text in
     let left = length-drop (w + 1) text in
-    first ∙ ap (λ n. without_terminator (take n text) ∷ map without_terminator (lines_of (drop n text))) step
-    ∙ ap (λ line. line ∷ map without_terminator (lines_of rest)) (without-feed text w inside feed)
-    ∙ ap (λ more. strip_carriage_return (take w text) ∷ more) (lines-agree fuel rest (omega arith)) ∙ sym (lines-ended text inside))
+    rw (
+      lines-step text (omega arith),
+      line_len-at text w inside feed (before-width text),
+      without-feed text w inside feed,
+      lines-agree fuel (drop (w + 1) text) (omega arith),
+    )
+    (sym (lines-ended text inside)))
     (λ whole.
     let n = length text in
     let none : (k : ℕ) → k < n → slice_index text k ≢ 10 = λ k below. before-width text k (omega arith) in
-    first ∙ ap (λ m. without_terminator (take m text) ∷ map without_terminator (lines_of (drop m text))) (line_len-none text none)
-    ∙ ap (λ line. without_terminator line ∷ map without_terminator (lines_of (drop n text))) (take_all n text (omega arith))
-    ∙ ap (λ line. line ∷ map without_terminator (lines_of (drop n text))) (without-none text (none (n - 1) (omega arith)))
-    ∙ ap (λ more. text ∷ map without_terminator more) (lines-empty (drop n text) (ap length (drop_all n text (omega arith)))) ∙ sym
-    (lines-whole text (omega arith) whole))
+    rw (lines-step text (omega arith), line_len-none text none, lines-empty (drop n text) (ap length (drop_all n text (omega arith))))
+    (ap (λ line. line ∷ []) (ap without_terminator (take_all n text (omega arith)) ∙ without-none text (none (n - 1) (omega arith)))
+    ∙ sym (lines-whole text (omega arith) whole)))
     (cases_lt w (length text))
 
 -- The lines of a text are those of `bstr` without their terminators.

@@ -1,7 +1,8 @@
 -- Numbers read digit by digit, and where they exceed 64 bits.
 use Rattle.std.proofs.Common.{◌≡◌, ℕ, ◌+◌, ◌*◌, ◌^◌, ◌<◌, ◌≤◌, Option, Some, None, List, [], ◌∷◌, length, take, take_all, get_or}
 use Rattle.std.proofs.Common.{◌-◌, Bool, true, false, Err, ok_or, arith, sym, ap, ◌∙◌, ⊎_elim, refl, Ok, length-take-le, get_or-take}
-use Rattle.std.proofs.lemmas.Bool.{cond-true, cond-false, lt-ltb, le-ltb, cases_lt, and_right, and_from, and_parts, leb-true, ne_eqb, both_ways, cases_Bool}
+use Rattle.std.proofs.lemmas.Bool.{cond-true, cond-false, lt-ltb, le-ltb, cases_lt, and_right, and_from, and_parts, leb-true, ne_eqb, both_ways}
+use Rattle.std.proofs.lemmas.Bool.{true_from_ne_false}
 use Rattle.std.proofs.lemmas.List.Folds.{list_all_at, list_all_more}
 use Rattle.std.proofs.lemmas.Int.Digits.{digits_value_more}
 use Rattle.std.proofs.lemmas.Str.{digit_value_digit}
@@ -59,8 +60,7 @@ number_of-other field i below other = sym (cond-false _ _ _ (and_right _ _ (list
 
 -- what holds of all bytes holds of each
 pub all-at : (p : ℕ → Bool) (text : List ℕ) (k : ℕ) (d : ℕ) → list_all p text ≡ true → k < length text → p (get_or text k d) ≡ true
-all-at p text k d all below =
-    ⊎_elim (λ yes. yes) (λ no. absurd (both_ways _ (list_all_at p text k d below no) all)) (cases_Bool (p (get_or text k d)))
+all-at p text k d all below = true_from_ne_false _ (λ no. both_ways _ (list_all_at p text k d below no) all)
 
 -- Digits are a number, unless it is too large.
 pub number_of-digits : (field : List ℕ) → 0 < length field → list_all is_ascii_digit field ≡ true

@@ -1,5 +1,5 @@
 -- A line whose numbers have a fault.
-use Rattle.std.proofs.Common.{◌≡◌, ℕ, Bool, true, false, Result, Ok, Err, ap}
+use Rattle.std.proofs.Common.{◌≡◌, ℕ, Bool, true, false, Result, Ok, Err, refl}
 use Rattle.dmf_text.specs.declared.digits.NumberFault.{NumberFault}
 use Rattle.dmf_text.specs.declared.numbers.NumbersFault.{NumbersFault}
 use Rattle.dmf_text.specs.declared.numbers.NumbersFault.TheVariants.{FieldCount, Number}
@@ -21,12 +21,8 @@ line_judged count_kind number_kind are_three x y z next =
 pub numbers-bad : {Kind : Type 0} → (count_kind : Kind) (number_kind : NumberFault → Kind) (are_three : Bool) (x y z : Result ℕ NumberFault)
     (next : ℕ → ℕ → ℕ → Result (Unit {0}) Kind) (fault : NumbersFault) → together are_three x y z ≡ Err fault
     → line_judged count_kind number_kind are_three x y z next ≡ Err (numbers_kind count_kind number_kind fault)
-numbers-bad count_kind number_kind false x y z next fault is =
-    let same : FieldCount ≡ fault = cc in ap (λ f. Err (numbers_kind count_kind number_kind f)) same
-numbers-bad count_kind number_kind true (Err e) y z next fault is =
-    let same : Number e ≡ fault = cc in ap (λ f. Err (numbers_kind count_kind number_kind f)) same
-numbers-bad count_kind number_kind true (Ok a) (Err e) z next fault is =
-    let same : Number e ≡ fault = cc in ap (λ f. Err (numbers_kind count_kind number_kind f)) same
-numbers-bad count_kind number_kind true (Ok a) (Ok b) (Err e) next fault is =
-    let same : Number e ≡ fault = cc in ap (λ f. Err (numbers_kind count_kind number_kind f)) same
+numbers-bad count_kind number_kind false x y z next fault is = let same : FieldCount ≡ fault = cc in rw (← same) refl
+numbers-bad count_kind number_kind true (Err e) y z next fault is = let same : Number e ≡ fault = cc in rw (← same) refl
+numbers-bad count_kind number_kind true (Ok a) (Err e) z next fault is = let same : Number e ≡ fault = cc in rw (← same) refl
+numbers-bad count_kind number_kind true (Ok a) (Ok b) (Err e) next fault is = let same : Number e ≡ fault = cc in rw (← same) refl
 numbers-bad count_kind number_kind true (Ok a) (Ok b) (Ok c) next fault is = absurd (let no : ⊥ = cc in no)

@@ -1,13 +1,13 @@
 -- Lemmas on the pairs of arcs, and on the entries that are kept of them.
 use Rattle.std.proofs.Common.{◌≡◌, ℕ, zero, suc, ◌+◌, ◌-◌, ◌<◌, ◌≤◌, ◌^◌, ◌⊎◌, min, List, [], ◌∷◌, ◌++◌, length, take, drop, get_or, map, replicate, true}
 use Rattle.std.proofs.Common.{false, ◌||◌, if◌then◌else◌, Option, Some, None, is_some, Ok, Err, refl, sym, ap, ◌∙◌, subst, ⊎_elim, arith, drop-cons}
-use Rattle.std.proofs.lemmas.Bool.{cases_Bool, cond-true, cond-false, le-leb, lt-leb, or_left, or_right, true≢false}
+use Rattle.std.proofs.lemmas.Bool.{cases_Bool, false_from_ne_true, cond-true, cond-false, le-leb, lt-leb, or_left, or_right, true≢false}
 use Rattle.std.proofs.lemmas.List.{take_more}
 use Rattle.std.proofs.lemmas.List.Elements.{All-weaker}
 use Rattle.std.proofs.lemmas.List.Sorted.{list_any-IsPermutation}
-use Rattle.std.proofs.lemmas.List.Sums.{sum_by-append, sum_by-cons, sum_by_more_le_part}
+use Rattle.std.proofs.lemmas.List.Sums.{sum_by_push, sum_by_more_le_part}
 use Rattle.dmf_state.specs.declared.arc.Arc.{Arc}
-use Rattle.std.specs.List.{All, list_any, slice_get}
+use Rattle.std.specs.List.{All, list_any}
 use Rattle.std.specs.List.Sorted.{IsPermutation}
 use Rattle.dmf_state.specs.Arc.{IsArc, no_arc, capacity_sum}
 use Rattle.dmf_state.specs.Flow.{AreWithinCapacities}
@@ -23,20 +23,11 @@ use Rattle.dmf_text.proofs.PlaceLemmas.{same-is, same-self, some-kept, none-coun
 
 -- no arc has a pair with a number that is too large to be a node
 none-same : (arc : Arc) (pair : Pair) → HasSmallEnds arc → (2 ^ 32 ≤ pair.0) ⊎ (2 ^ 32 ≤ pair.1) → same_pair (ends arc) pair ≡ false
-none-same arc pair small large =
-    ⊎_elim
-    (λ (same : same_pair (ends arc) pair ≡ true).
+none-same arc pair small large = false_from_ne_true _ (λ same.
     let is = same-is (ends arc) pair same in
     let tail : arc.tail ≡ pair.0 = ap (λ (p : Pair). p.0) is in
     let head : arc.head ≡ pair.1 = ap (λ (p : Pair). p.1) is in
-    let tail_small : arc.tail < 2 ^ 32 = small.0 in
-    let head_small : arc.head < 2 ^ 32 = small.1 in
-    ⊎_elim
-    (λ (h : 2 ^ 32 ≤ pair.0). absurd (omega (arith, tail, tail_small, h)))
-    (λ (h : 2 ^ 32 ≤ pair.1). absurd (omega (arith, head, head_small, h)))
-    large)
-    (λ (other : same_pair (ends arc) pair ≡ false). other)
-    (cases_Bool (same_pair (ends arc) pair))
+    ⊎_elim (λ (past : 2 ^ 32 ≤ pair.0). omega arith) (λ (past : 2 ^ 32 ≤ pair.1). omega arith) large)
 
 -- No arc is between nodes past 32 bits.
 pub none-large : (arcs : List Arc) (pair : Pair) → All HasSmallEnds arcs → (2 ^ 32 ≤ pair.0) ⊎ (2 ^ 32 ≤ pair.1) → has_pair arcs pair ≡ false
@@ -53,24 +44,15 @@ small-ends nodes arcs few are = All-weaker (IsArc nodes) HasSmallEnds (λ (arc :
     let head = is.head.to_last in
     (omega (arith, few, tail), omega (arith, few, head))) arcs are
 
--- one more arc
-module _ (arcs : List Arc) (arc : Arc) where
-  -- adds its capacity to that between its ends.
-  pub capacity-more : (pair : Pair) → pair_capacity (arcs ++ arc ∷ []) pair ≡ pair_capacity arcs pair + (if same_pair (ends arc) pair then arc.cap else 0)
-  capacity-more pair =
-      let cap : Arc → ℕ = λ a. if same_pair (ends a) pair then a.cap else 0 in
-      let joined = sum_by-append cap arcs (arc ∷ []) in
-      let one = sum_by-cons cap arc [] in
-      omega (arith, joined, one)
+-- one more arc adds its capacity to that between its ends.
+pub capacity-more : (arcs : List Arc) (arc : Arc) (pair : Pair)
+    → pair_capacity (arcs ++ arc ∷ []) pair ≡ pair_capacity arcs pair + (if same_pair (ends arc) pair then arc.cap else 0)
+capacity-more arcs arc pair = sum_by_push (λ a. if same_pair (ends a) pair then a.cap else 0) arcs arc
 
 -- one more line
 flow-more : (flows : List (Pair × ℕ)) (pair : Pair) (flow : ℕ) (q : Pair)
     → pair_flow (flows ++ (pair, flow) ∷ []) q ≡ pair_flow flows q + (if same_pair pair q then flow else 0)
-flow-more flows pair flow q =
-    let part : Pair × ℕ → ℕ = λ flow. if same_pair flow.0 q then flow.1 else 0 in
-    let joined = sum_by-append part flows ((pair, flow) ∷ []) in
-    let one = sum_by-cons part (pair, flow) [] in
-    omega (arith, joined, one)
+flow-more flows pair flow q = sum_by_push (λ said. if same_pair said.0 q then said.1 else 0) flows (pair, flow)
 
 bad-at : (arcs : List Arc) (facts : Facts) (pair : Pair) (flow : ℕ) (kind : SolutionFaultKind) (known : Option PairFlow)
     → is_some known ≡ has_pair arcs pair → cap_of known ≡ pair_capacity arcs pair → flow_of known ≡ pair_flow facts.flows pair
@@ -102,36 +84,40 @@ pub keeps-none : (arcs : List Arc) (pairs : Pairs) → IsPermutation (map ends a
     → pairs.known.items ≡ replicate (length pairs.ends.items) (record { cap = 0; flow = 0 }) → KeepsCounted arcs [] (λ _. 0) pairs
 keeps-none arcs pairs same none =
     let kept : Pair → ℕ = keeper_of pairs.ends.items pairs.numbers.items in
-    let zeros = replicate (length pairs.ends.items) (record { cap = 0; flow = 0 }) in
-    let at : (pair : Pair) → known_of pairs pair ≡ slice_get zeros (kept pair) = λ pair. ap (λ l. slice_get l (kept pair)) none in
     record {
       there = λ pair. some-kept (map ends pairs.arcs.now) pairs.ends.items pairs.numbers.items pair pairs.known.items pairs.numbered pairs.one_each
           ∙ sym (list_any-IsPermutation (λ p. same_pair p pair) (map ends arcs) pairs.ends.items same) ∙ any-ends arcs pair;
-      caps = λ pair. ap cap_of (at pair) ∙ (none-counted (length pairs.ends.items) (kept pair)).0;
-      flows = λ pair. ap flow_of (at pair) ∙ (none-counted (length pairs.ends.items) (kept pair)).1;
+      caps = λ pair. rw none (none-counted (length pairs.ends.items) (kept pair)).0;
+      flows = λ pair. rw none (none-counted (length pairs.ends.items) (kept pair)).1;
     }
 
-module _ (arcs counted later : List Arc) (flow more : Pair → ℕ) (old new : Pairs) (pair : Pair) (known : PairFlow)
-    (kept : KeepsCounted arcs counted flow old) (updates : Updates old pair known new) where
-  -- The entry of one pair changes, and no other.
-  pub keeps-updated : has_pair arcs pair ≡ true → known.cap ≡ pair_capacity later pair → known.flow ≡ more pair
-      → ((q : Pair) → same_pair pair q ≡ false → pair_capacity counted q ≡ pair_capacity later q)
-      → ((q : Pair) → same_pair pair q ≡ false → flow q ≡ more q)
-      → KeepsCounted arcs later more new
-  keeps-updated has cap flow cap-others flow-others = record {
-    there = λ q. ⊎_elim
-        (λ here. subst (λ p. is_some (known_of new p) ≡ has_pair arcs p) (same-is pair q here) (ap is_some updates.here ∙ sym has))
-        (λ other. ap is_some (updates.others q other) ∙ kept.there q)
-        (cases_Bool (same_pair pair q));
-    caps = λ q. ⊎_elim
-        (λ here. subst (λ p. cap_of (known_of new p) ≡ pair_capacity later p) (same-is pair q here) (ap cap_of updates.here ∙ cap))
-        (λ other. ap cap_of (updates.others q other) ∙ kept.caps q ∙ cap-others q other)
-        (cases_Bool (same_pair pair q));
-    flows = λ q. ⊎_elim
-        (λ here. subst (λ p. flow_of (known_of new p) ≡ more p) (same-is pair q here) (ap flow_of updates.here ∙ flow))
-        (λ other. ap flow_of (updates.others q other) ∙ kept.flows q ∙ flow-others q other)
-        (cases_Bool (same_pair pair q));
-  }
+-- What holds of a pair, and of each other one, holds of all.
+of-each : (P : Pair → Type 0) (pair : Pair) → P pair → ((q : Pair) → same_pair pair q ≡ false → P q) → (q : Pair) → P q
+of-each P pair own others q = ⊎_elim (λ here. subst P (same-is pair q here) own) (others q) (cases_Bool (same_pair pair q))
+
+-- The entry of one pair changes, and no other.
+keeps-updated : (arcs counted later : List Arc) (flow more : Pair → ℕ) (old new : Pairs) (pair : Pair) (known : PairFlow)
+    → KeepsCounted arcs counted flow old → Updates old pair known new → has_pair arcs pair ≡ true
+    → known.cap ≡ pair_capacity later pair → known.flow ≡ more pair
+    → ((q : Pair) → same_pair pair q ≡ false → pair_capacity counted q ≡ pair_capacity later q)
+    → ((q : Pair) → same_pair pair q ≡ false → flow q ≡ more q)
+    → KeepsCounted arcs later more new
+keeps-updated arcs counted later flow more old new pair known kept updates has cap flow_is cap-others flow-others = record {
+  there = of-each (λ q. is_some (known_of new q) ≡ has_pair arcs q) pair (ap is_some updates.here ∙ sym has)
+      (λ q other. ap is_some (updates.others q other) ∙ kept.there q);
+  caps = of-each (λ q. cap_of (known_of new q) ≡ pair_capacity later q) pair (ap cap_of updates.here ∙ cap)
+      (λ q other. ap cap_of (updates.others q other) ∙ kept.caps q ∙ cap-others q other);
+  flows = of-each (λ q. flow_of (known_of new q) ≡ more q) pair (ap flow_of updates.here ∙ flow_is)
+      (λ q other. ap flow_of (updates.others q other) ∙ kept.flows q ∙ flow-others q other);
+}
+
+-- what is added to one pair, and to the others
+module _ (pair : Pair) (n : ℕ) where
+  added-here : (if same_pair pair pair then n else 0) ≡ n
+  added-here = cond-true _ _ _ (same-self pair)
+
+  added-else : (q : Pair) (before after : ℕ) → after ≡ before + (if same_pair pair q then n else 0) → same_pair pair q ≡ false → before ≡ after
+  added-else q before after is other = let none : (if same_pair pair q then n else 0) ≡ 0 = cond-false _ _ _ other in omega (arith, is, none)
 
 -- One more arc is counted.
 pub keeps-more : (arcs : List Arc) (i : ℕ) (old new : Pairs) → i < length arcs → KeepsCounted arcs (take i arcs) (λ _. 0) old
@@ -145,53 +131,41 @@ keeps-more arcs i old new below kept counts =
     let some = some-of (known_of old pair) (kept.there pair ∙ has) in
     let known = some.0 in
     let before : known.cap ≡ pair_capacity (take i arcs) pair = sym (ap cap_of some.1) ∙ kept.caps pair in
-    let none : known.flow ≡ 0 = sym (ap flow_of some.1) ∙ kept.flows pair in
     let longer : (q : Pair) → pair_capacity (take (i + 1) arcs) q ≡ pair_capacity (take i arcs) q + (if same_pair pair q then arc.cap else 0)
     = λ q. ap (λ l. pair_capacity l q) (take_more arcs i no_arc below) ∙ capacity-more (take i arcs) arc q in
-    let count = longer pair in
-    let full : (if same_pair pair pair then arc.cap else 0) ≡ arc.cap = cond-true _ _ _ (same-self pair) in
     keeps-updated arcs (take i arcs) (take (i + 1) arcs) (λ _. 0) (λ _. 0) old new pair (record { cap = known.cap + arc.cap; flow = known.flow })
-    kept (counts known some.1)
-    has
-    (omega (arith, before, count, full))
-    none
-    (λ q other. let more = longer q in
-    let nothing : (if same_pair pair q then arc.cap else 0) ≡ 0 = cond-false _ _ _ other in
-    omega (arith, more, nothing))
+    kept (counts known some.1) has
+    (omega (arith, before, longer pair, added-here pair arc.cap))
+    (sym (ap flow_of some.1) ∙ kept.flows pair)
+    (λ q other. added-else pair arc.cap q _ _ (longer q) other)
     (λ q other. refl)
 
--- A flow is added to the flow of its pair.
-pub keeps-added : (arcs : List Arc) (flows : List (Pair × ℕ)) (old new : Pairs) (pair : Pair) (flow : ℕ)
-    → KeepsPairs arcs (pair_flow flows) old → AddsFlow old pair flow new → KeepsPairs arcs (pair_flow (flows ++ (pair, flow) ∷ [])) new
-keeps-added arcs flows old new pair flow kept added =
-    let known = added.known in
-    let cap : known.cap ≡ pair_capacity arcs pair = sym (ap cap_of added.is_there) ∙ kept.caps pair in
-    let before : known.flow ≡ pair_flow flows pair = sym (ap flow_of added.is_there) ∙ kept.flows pair in
-    let count = flow-more flows pair flow pair in
-    let full : (if same_pair pair pair then flow else 0) ≡ flow = cond-true _ _ _ (same-self pair) in
-    keeps-updated arcs arcs arcs (pair_flow flows) (pair_flow (flows ++ (pair, flow) ∷ [])) old new pair (record { cap = known.cap; flow = known.flow + flow })
-    kept added.updates
-    (sym (kept.there pair) ∙ ap is_some added.is_there)
-    cap
-    (omega (arith, before, count, full))
-    (λ q other. refl)
-    (λ q other. let more = flow-more flows pair flow q in
-    let none : (if same_pair pair q then flow else 0) ≡ 0 = cond-false _ _ _ other in
-    omega (arith, more, none))
+-- a flow that was added, in a network with these arcs
+module _ (arcs : List Arc) (facts : Facts) (old new : Pairs) (pair : Pair) (flow : ℕ) (kept : KeepsPairs arcs (pair_flow facts.flows) old)
+    (added : AddsFlow old pair flow new) where
+  has : has_pair arcs pair ≡ true
+  has = sym (kept.there pair) ∙ ap is_some added.is_there
 
--- The judgement of a flow that was added,
-pub fits-good : (arcs : List Arc) (facts : Facts) (old new : Pairs) (pair : Pair) (flow : ℕ)
-    → KeepsPairs arcs (pair_flow facts.flows) old → AddsFlow old pair flow new → flow_fits arcs facts pair flow ≡ Ok tt
-fits-good arcs facts old new pair flow kept added =
-    let known = added.known in
-    let has : has_pair arcs pair ≡ true = sym (kept.there pair) ∙ ap is_some added.is_there in
-    let cap : known.cap ≡ pair_capacity arcs pair = sym (ap cap_of added.is_there) ∙ kept.caps pair in
-    let before : known.flow ≡ pair_flow facts.flows pair = sym (ap flow_of added.is_there) ∙ kept.flows pair in
-    let fits = added.fits in
-    let within : pair_flow facts.flows pair + flow ≤ pair_capacity arcs pair = omega (arith, cap, before, fits) in
-    rw (has, le-leb (pair_flow facts.flows pair + flow) (pair_capacity arcs pair) within) refl
+  cap : added.known.cap ≡ pair_capacity arcs pair
+  cap = sym (ap cap_of added.is_there) ∙ kept.caps pair
 
--- and of a flow that was not.
+  before : added.known.flow ≡ pair_flow facts.flows pair
+  before = sym (ap flow_of added.is_there) ∙ kept.flows pair
+
+  -- It is added to the flow of its pair,
+  pub keeps-added : KeepsPairs arcs (pair_flow (facts.flows ++ (pair, flow) ∷ [])) new
+  keeps-added =
+      keeps-updated arcs arcs arcs (pair_flow facts.flows) (pair_flow (facts.flows ++ (pair, flow) ∷ [])) old new pair
+      (record { cap = added.known.cap; flow = added.known.flow + flow }) kept added.updates has cap
+      (omega (arith, before, flow-more facts.flows pair flow pair, added-here pair flow))
+      (λ q other. refl)
+      (λ q other. added-else pair flow q _ _ (flow-more facts.flows pair flow q) other)
+
+  -- and fits.
+  pub fits-good : flow_fits arcs facts pair flow ≡ Ok tt
+  fits-good = rw (has, le-leb (pair_flow facts.flows pair + flow) (pair_capacity arcs pair) (omega (arith, cap, before, added.fits))) refl
+
+-- A flow that was not added has a fault.
 pub fits-bad : (arcs : List Arc) (facts : Facts) (old : Pairs) (pair : Pair) (flow : ℕ) (kind : SolutionFaultKind)
     → KeepsPairs arcs (pair_flow facts.flows) old → CannotAdd (known_of old pair) flow kind → flow_fits arcs facts pair flow ≡ Err kind
 fits-bad arcs facts old pair flow kind kept cannot =
@@ -219,11 +193,7 @@ pub put-more : (flows : List (Pair × ℕ)) (arcs : List Arc) (i : ℕ) (d : Arc
     ∷ put_behind flows (take (i + 1) arcs) (drop (i + 1) arcs)
 put-more flows arcs i d below =
     let next : suc i ≡ i + 1 = omega arith in
-    ap (put_behind flows (take i arcs)) (drop-cons arcs i d below)
-    ∙ ap (λ before. min (get_or arcs i d).cap (pair_flow flows (ends (get_or arcs i d)) - pair_capacity (take i arcs) (ends (get_or arcs i d)))
-    ∷ put_behind flows before (drop (suc i) arcs)) (sym (take_more arcs i d below))
-    ∙ ap (λ k. min (get_or arcs i d).cap (pair_flow flows (ends (get_or arcs i d)) - pair_capacity (take i arcs) (ends (get_or arcs i d)))
-    ∷ put_behind flows (take (i + 1) arcs) (drop k arcs)) next
+    rw (drop-cons arcs i d below, take_more arcs i d below, ← next) refl
 
 -- each is within the capacity of its arc
 pub put-within : (flows : List (Pair × ℕ)) (before arcs : List Arc) → AreWithinCapacities arcs (put_behind flows before arcs)

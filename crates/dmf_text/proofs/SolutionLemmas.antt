@@ -1,12 +1,10 @@
 -- What a solution text says, line by line, and its end.
-use Rattle.std.proofs.Common.{◌≡◌, ◌≢◌, ◌⊎◌, ◌≤◌, ◌^◌, ℕ, List, [], ◌∷◌, ◌++◌, Bool, true, false, Option, Some, None, Result, Ok, Err, MatchResult, refl, sym}
-use Rattle.std.proofs.Common.{ap, ◌∙◌, subst, inl, inr, ⊎_elim, arith, codes, pos}
-use Rattle.std.proofs.lemmas.Bool.{cases_Bool}
+use Rattle.std.proofs.Common.{◌≡◌, ◌≢◌, ◌⊎◌, ◌≤◌, ◌^◌, ℕ, List, [], ◌∷◌, ◌++◌, Bool, true, false, Option, Some, None, Result, Ok, Err, MatchResult, refl}
+use Rattle.std.proofs.Common.{ap, ◌∙◌, inl, inr, arith, codes, pos}
+use Rattle.std.proofs.lemmas.Bool.{false_from_ne_true}
 use Rattle.std.proofs.lemmas.Bool.Decides.{Decides-int_eq}
 use Rattle.std.proofs.lemmas.Int.{ints}
-use Rattle.std.proofs.lemmas.List.Elements.{filter_map-append}
-use Rattle.std.specs.List.{cons_option, filter_map}
-use Rattle.std.specs.Option.{option_map, option_or, option_to_list}
+use Rattle.std.specs.Option.{option_map, option_or}
 use Rattle.std.specs.Ordering.{int_eq}
 use Rattle.std.specs.Result.{IsErrOf}
 use Rattle.std.specs.Prelude.{int_lt, if◌then◌else◌}
@@ -20,51 +18,49 @@ use Rattle.dmf_state.specs.NetworkState.{NetworkState, with_flows}
 use Rattle.dmf_text.specs.declared.fault.SolutionFaultKind.{SolutionFaultKind}
 use Rattle.dmf_text.specs.declared.fault.SolutionFaultKind.TheVariants.{NoMemory, NoSuchPair, ValueDiffers}
 use Rattle.dmf_text.specs.declared.solution_reading.SolutionReading.{SolutionReading}
-use Rattle.dmf_text.specs.Number.{number_of}
+use Rattle.dmf_text.specs.Numbers.{AreSpelled}
 use Rattle.dmf_text.specs.Judging.{Line}
 use Rattle.dmf_text.specs.Solution.{Facts, facts_of, value_in, flow_in, flow_fits, judged_flow, put_on, ended}
 use Rattle.dmf_text.specs.SolutionReading.{flow_kind, known_of, AddsFlow, CannotAdd, Keeps, with_line, TakesLine}
-use Rattle.dmf_text.proofs.JudgingLemmas.{first_fact-push}
+use Rattle.dmf_text.proofs.JudgingLemmas.{or-none, first_fact-push, filter_map-push}
 use Rattle.dmf_text.proofs.PairLemmas.{keeps-added, fits-good, fits-bad, none-large, put-within}
 
 -- ---- lines
-
-or-nothing : {X : Type 0} (o : Option X) → option_or o None ≡ o
-or-nothing None = refl
-or-nothing (Some x) = refl
 
 -- what lines say, and one more line
 pub facts_of-push : (lines : List Line) (line : Line) → facts_of (lines ++ line ∷ []) ≡ with_line (facts_of lines) line
 facts_of-push lines line = λ i. record {
   value = first_fact-push value_in lines line i;
-  flows = (filter_map-append flow_in lines (line ∷ [])
-      ∙ ap (λ more. filter_map flow_in lines ++ more) (elim (flow_in line) as (λ o. cons_option o [] ≡ option_to_list o) [ None ↦ refl | Some x ↦ refl ])) i;
+  flows = filter_map-push flow_in lines line i;
 }
 
 -- a flow line with these numbers, by the result of adding its flow
-module _ (arcs : List Arc) (facts : Facts) (reading now : SolutionReading) (f g h : List ℕ) (tail head flow : ℕ)
-    (first : number_of f ≡ Ok tail) (second : number_of g ≡ Ok head) (third : number_of h ≡ Ok flow)
-    (kept : Keeps arcs facts reading) (value : now.value ≡ reading.value) where
-  line-judged : judged_flow arcs facts (f ∷ g ∷ h ∷ []) ≡ flow_fits arcs facts (tail, head) flow
+module _ (arcs : List Arc) (facts : Facts) (reading : SolutionReading) (behind : List (List ℕ)) (tail head flow : ℕ)
+    (three : AreSpelled behind tail head flow) (kept : Keeps arcs facts reading) where
+  line-judged : judged_flow arcs facts behind ≡ flow_fits arcs facts (tail, head) flow
   unfolding judged_flow
-  line-judged = rw (first, second, third) refl
+  line-judged = rw (three.are, three.first_is, three.second_is, three.third_is) refl
 
-  line-says : with_line facts (codes "f" ∷ f ∷ g ∷ h ∷ []) ≡ record { value = facts.value; flows = facts.flows ++ ((tail, head), flow) ∷ [] }
-  line-says = rw (first, second, third) (λ i. record { value = or-nothing facts.value i; flows = facts.flows ++ ((tail, head), flow) ∷ [] })
+  line-says : with_line facts (codes "f" ∷ behind) ≡ record facts { flows = facts.flows ++ ((tail, head), flow) ∷ [] }
+  line-says = rw (three.are, three.first_is, three.second_is, three.third_is, or-none) refl
 
   -- The flow was added, or the line has the fault.
-  pub line-taken : (result : Result (Unit {0}) SolutionFaultKind)
+  pub line-taken : (now : SolutionReading) → now.value ≡ reading.value → (result : Result (Unit {0}) SolutionFaultKind)
       → MatchResult result (λ _. AddsFlow reading.pairs (tail, head) flow now.pairs) (CannotAdd (known_of reading.pairs (tail, head)) flow)
-      → TakesLine arcs facts (codes "f" ∷ f ∷ g ∷ h ∷ []) (judged_flow arcs facts (f ∷ g ∷ h ∷ [])) now result
-  line-taken (Ok done) added =
-      let pairs = keeps-added arcs facts.flows reading.pairs now.pairs (tail, head) flow kept.pairs added in
-      let keeps : Keeps arcs (record { value = facts.value; flows = facts.flows ++ ((tail, head), flow) ∷ [] }) now =
-      record { ends = kept.ends; value = value ∙ kept.value; pairs = pairs } in
-      (line-judged ∙ fits-good arcs facts reading.pairs now.pairs (tail, head) flow kept.pairs added, subst (λ s. Keeps arcs s now) (sym line-says) keeps)
-  line-taken (Err kind) cannot = line-judged ∙ fits-bad arcs facts reading.pairs (tail, head) flow kind kept.pairs cannot
+      → TakesLine arcs facts (codes "f" ∷ behind) (judged_flow arcs facts behind) now result
+  line-taken now value (Ok done) added = (
+    line-judged ∙ fits-good arcs facts reading.pairs now.pairs (tail, head) flow kept.pairs added,
+    rw line-says
+        (record {
+          ends = kept.ends;
+          value = value ∙ kept.value;
+          pairs = keeps-added arcs facts reading.pairs now.pairs (tail, head) flow kept.pairs added;
+        }),
+  )
+  line-taken now value (Err kind) cannot = line-judged ∙ fits-bad arcs facts reading.pairs (tail, head) flow kind kept.pairs cannot
 
   -- A number of more than 32 bits is no node, so no arc's pair has it.
-  pub line-unknown : (2 ^ 32 ≤ tail) ⊎ (2 ^ 32 ≤ head) → judged_flow arcs facts (f ∷ g ∷ h ∷ []) ≡ Err NoSuchPair
+  pub line-unknown : (2 ^ 32 ≤ tail) ⊎ (2 ^ 32 ≤ head) → judged_flow arcs facts behind ≡ Err NoSuchPair
   line-unknown large = line-judged ∙ rw (none-large arcs (tail, head) kept.ends large) refl
 
 -- ---- the end
@@ -77,10 +73,11 @@ module _ (s : NetworkState) (facts : Facts) (value : ℕ) (told : facts.value �
   pub ended-differs : IsFlow s.network flows → flow_value s.network flows ≢ pos value → Err ValueDiffers ≡ ended s facts
   unfolding ended
   ended-differs flow differs =
-      let other : int_eq (flow_value s.network flows) (pos value) ≡ false =
-      ⊎_elim (λ same. absurd (differs ((Decides-int_eq (flow_value s.network flows) (pos value)).0 same))) (λ no. no)
-      (cases_Bool (int_eq (flow_value s.network flows) (pos value))) in
-      rw (told, none-unbalanced s.network flows flow, other) refl
+      rw (
+        told,
+        none-unbalanced s.network flows flow,
+        false_from_ne_true _ (λ same. differs ((Decides-int_eq (flow_value s.network flows) (pos value)).0 same)),
+      ) refl
 
   -- no fault
   pub ended-good : IsFlow s.network flows → flow_value s.network flows ≡ pos value → Ok (with_flows s flows) ≡ ended s facts
@@ -100,8 +97,7 @@ module _ (s : NetworkState) (facts : Facts) (value : ℕ) (told : facts.value �
       let is : why ≡ fault.Negative = cc in
       let below = below-told (flow_value s.network flows) less in
       let other : int_eq (flow_value s.network flows) (pos value) ≡ false =
-      ⊎_elim (λ same. let equal = (Decides-int_eq (flow_value s.network flows) (pos value)).0 same in absurd (omega (arith, ints, below, equal))) (λ no. no)
-      (cases_Bool (int_eq (flow_value s.network flows) (pos value))) in
+      false_from_ne_true _ (λ same. let equal = (Decides-int_eq (flow_value s.network flows) (pos value)).0 same in omega (arith, ints, below, equal)) in
       rw (is, told, found, other) refl
   refused-by why None false found less fault_is = absurd (cc)
 

@@ -1,6 +1,6 @@
 -- The bytes of written lines.
 use Rattle.std.proofs.Common.{◌≡◌, ℕ, suc, ◌+◌, ◌-◌, subst, ◌<◌, ◌≤◌, List, [], ◌∷◌, ◌++◌, length, take, drop, get_or, slice_get, Some, arith, map, filter}
-use Rattle.std.proofs.Common.{nat_abs, Bool, true, false, not, if◌then◌else◌, codes, refl, sym, ap, ◌∙◌, append_assoc, append-nil, decimal, take-append-drop}
+use Rattle.std.proofs.Common.{Bool, true, false, not, if◌then◌else◌, codes, refl, sym, ap, ◌∙◌, append_assoc, append-nil, decimal, take-append-drop}
 use Rattle.std.proofs.Common.{length-drop, pos}
 use Rattle.std.proofs.Math.Numerals.{add-one}
 use Rattle.std.proofs.Math.Seq.{drop-cons}
@@ -16,8 +16,12 @@ use Rattle.dmf_state.specs.Network.{Network}
 use Rattle.dmf_state.specs.NetworkState.{NetworkState}
 use Rattle.dmf_state.specs.Side.{CutSide}
 use Rattle.std.specs.List.{zip, join_with_byte}
+use Rattle.std.proofs.KnownBytes.{Appends-trans}
+use Rattle.std.specs.Io.KnownBytes.{Appends}
 use Rattle.dmf_text.specs.Judging.{Line}
+use Rattle.dmf_text.specs.Streams.{Writer}
 use Rattle.dmf_text.specs.Written.{written_line, written, flow_fields, arcs_text, flows_text, nodes_text, problem_text, solution_text, cut_text}
+use Rattle.dmf_text.proofs.WritingLemmas.{PutsFront, front-of, front-after}
 
 -- a line, field by field
 pub line-none : written_line [] ≡ 10 ∷ []
@@ -40,8 +44,7 @@ module _ {X : Type 0} (bytes : X → List ℕ) (fields : List X) (i : ℕ) (d : 
 
   -- The last field ends the line.
   pub line-last : length fields ≤ i + 1 → written_line (map bytes (drop i fields)) ≡ bytes (get_or fields i d) ++ 10 ∷ []
-  line-last last =
-      ap written_line (from-one ∙ ap (λ l. bytes (get_or fields i d) ∷ map bytes l) (drop_all (i + 1) fields last)) ∙ line-one (bytes (get_or fields i d))
+  line-last last = rw (from-one, drop_all (i + 1) fields last, line-one) refl
 
   -- Behind each other field stand a blank and the fields after it.
   pub line-from : i + 1 < length fields
@@ -49,41 +52,6 @@ module _ {X : Type 0} (bytes : X → List ℕ) (fields : List X) (i : ℕ) (d : 
   line-from more =
       let long = length-map (drop (i + 1) fields) bytes ∙ length-drop (i + 1) fields in
       ap written_line from-one ∙ line-more (bytes (get_or fields i d)) (map bytes (drop (i + 1) fields)) (omega (arith, long))
-
--- The lines of a list's elements that are to be written: open arcs, or open arcs with their flows.
-module _ {X : Type 0} (is_kept : X → Bool) (fields : X → Line) where
-  abbrev pub kept_text : List X → List ℕ
-  kept_text xs = written (map fields (filter is_kept xs))
-
-  -- None have no lines,
-  pub kept-nil : kept_text [] ≡ []
-  unfolding written
-  kept-nil = refl
-
-  -- and one has its line where it is to be written.
-  pub kept-one : (x : X) → kept_text (x ∷ []) ≡ (if is_kept x then written_line (fields x) else [])
-  unfolding written
-  kept-one x = elim (is_kept x) as (λ b. written (map fields (if b then x ∷ [] else [])) ≡ (if b then written_line (fields x) else []))
-      [ true ↦ append-nil (written_line (fields x)) | false ↦ refl ]
-
-  pub kept-append : (xs ys : List X) → kept_text (xs ++ ys) ≡ kept_text xs ++ kept_text ys
-  unfolding written
-  kept-append xs ys =
-      ap (λ zs. written (map fields zs)) (filter-append is_kept xs ys)
-      ∙ ap written (map-append fields (filter is_kept xs) (filter is_kept ys))
-      ∙ flat_map-append written_line (map fields (filter is_kept xs)) (map fields (filter is_kept ys))
-
-  -- the lines of the elements before one, of this one, and of those after it
-  pub kept-more : (xs : List X) (i : ℕ) (d : X) → i < length xs → kept_text (take (i + 1) xs) ≡ kept_text (take i xs) ++ kept_text (get_or xs i d ∷ [])
-  kept-more xs i d below = ap kept_text (take_more xs i d below) ∙ kept-append (take i xs) (get_or xs i d ∷ [])
-
-  -- The lines are those before an item, its own, and those after it.
-  pub kept-split : (xs : List X) (i : ℕ) (d : X) → i < length xs
-      → kept_text xs ≡ kept_text (take i xs) ++ (kept_text (get_or xs i d ∷ []) ++ kept_text (drop (suc i) xs))
-  kept-split xs i d below =
-      ap kept_text (sym (take-append-drop i xs) ∙ ap (λ l. take i xs ++ l) (drop-cons xs i d below))
-      ∙ kept-append (take i xs) (get_or xs i d ∷ drop (suc i) xs)
-      ∙ ap (λ l. kept_text (take i xs) ++ l) (kept-append (get_or xs i d ∷ []) (drop (suc i) xs))
 
 -- The lines of all elements of a list.
 module _ {X : Type 0} (fields : X → Line) where
@@ -105,13 +73,39 @@ module _ {X : Type 0} (fields : X → Line) where
 
   -- the lines of a list with one element at its end, and with one in its middle
   pub all-last : (xs : List X) (x : X) → all_text (xs ++ x ∷ []) ≡ all_text xs ++ written_line (fields x)
-  all-last xs x = all-append xs (x ∷ []) ∙ ap (λ l. all_text xs ++ l) (all-one x)
+  all-last xs x = rw (all-append xs (x ∷ []), all-one x) refl
 
   -- The lines are those before an item, its own, and those after it.
   pub all-split : (xs : List X) (x : X) (ys : List X) → all_text (xs ++ x ∷ ys) ≡ all_text xs ++ (written_line (fields x) ++ all_text ys)
-  all-split xs x ys =
-      all-append xs (x ∷ ys)
-      ∙ ap (λ l. all_text xs ++ l) (all-append (x ∷ []) ys ∙ ap (λ l. l ++ all_text ys) (all-one x))
+  all-split xs x ys = rw (all-append xs (x ∷ ys), all-append (x ∷ []) ys, all-one x) refl
+
+-- The lines of a list's elements that are to be written: open arcs, or open arcs with their flows.
+module _ {X : Type 0} (is_kept : X → Bool) (fields : X → Line) where
+  abbrev pub kept_text : List X → List ℕ
+  kept_text xs = all_text fields (filter is_kept xs)
+
+  -- One has its line where it is to be written.
+  pub kept-one : (x : X) → kept_text (x ∷ []) ≡ (if is_kept x then written_line (fields x) else [])
+  kept-one x = elim (is_kept x) as (λ b. all_text fields (if b then x ∷ [] else []) ≡ (if b then written_line (fields x) else []))
+      [ true ↦ all-one fields x | false ↦ all-nil fields ]
+
+  kept-append : (xs ys : List X) → kept_text (xs ++ ys) ≡ kept_text xs ++ kept_text ys
+  kept-append xs ys = ap (all_text fields) (filter-append is_kept xs ys) ∙ all-append fields (filter is_kept xs) (filter is_kept ys)
+
+  -- The elements before one were put, and now this one's text.
+  module _ (xs : List X) (i : ℕ) (d : X) (below : i < length xs) (text : List ℕ) (is : kept_text (get_or xs i d ∷ []) ≡ text) (a b c : Writer)
+      (held : Appends a.contents b.contents (kept_text (take i xs))) where
+    -- It was put, so those up to it are.
+    pub kept-put : Appends b.contents c.contents text → Appends a.contents c.contents (kept_text (take (i + 1) xs))
+    kept-put put = rw (take_more xs i d below, kept-append (take i xs) (get_or xs i d ∷ []), is) (Appends-trans _ _ _ _ _ held put)
+
+    -- It failed, so a prefix of all is put.
+    pub kept-failed : PutsFront b c text → PutsFront a c (kept_text xs)
+    kept-failed put_front =
+        let parts = sym (take-append-drop i xs) ∙ ap (λ l. take i xs ++ l) (drop-cons xs i d below) in
+        let rest = drop (suc i) xs in
+        rw (parts, kept-append (take i xs) (get_or xs i d ∷ rest), kept-append (get_or xs i d ∷ []) rest, is)
+        (front-after a b c (kept_text (take i xs)) _ held (front-of b c text (kept_text rest) put_front))
 
 -- Whether an arc is open,
 abbrev pub is_open : Arc → Bool
@@ -127,10 +121,9 @@ pub flow-line : (arcs : List Arc) (flows : List ℕ) (i flow : ℕ) (d : Arc) �
     → flows_text (get_or (zip arcs flows) i (d, 0) ∷ [])
     ≡ (if is_open (get_or arcs i d) then written_line (flow_fields (get_or arcs i d, flow)) else [])
 flow-line arcs flows i flow d one_each below is =
-    ap (λ p. flows_text (p ∷ []))
-    (get_or-zip arcs flows i (d, 0) below (omega (arith, one_each, below))
-    ∙ ap (λ x. (get_or arcs i d, x)) (get_or_from_slice_get flows i flow 0 (subst (λ k. slice_get flows k ≡ Some flow) (omega arith) is)))
-    ∙ kept-one is_open_flow flow_fields (get_or arcs i d, flow)
+    let read : slice_get flows i ≡ Some flow = subst (λ k. slice_get flows k ≡ Some flow) (omega arith) is in
+    rw (get_or-zip arcs flows i (d, 0) below (omega (arith, one_each, below)), get_or_from_slice_get flows i flow 0 read)
+    (kept-one is_open_flow flow_fields (get_or arcs i d, flow))
 
 -- There are as many arcs with their flows as arcs.
 pub zip-long : (arcs : List Arc) (flows : List ℕ) → length flows ≡ length arcs → length (zip arcs flows) ≡ length arcs
@@ -148,11 +141,10 @@ problem_text-lines n = refl
 pub solution_text-lines : (s : NetworkState) (value : ℕ) → pos value ≡ flow_value s.network s.flows → solution_text s
     ≡ written_line (codes "s" ∷ decimal value ∷ []) ++ flows_text (zip s.network.arcs s.flows)
 unfolding written
-solution_text-lines s value is =
-    ap (λ n. written_line (codes "s" ∷ decimal (nat_abs n) ∷ []) ++ flows_text (zip s.network.arcs s.flows)) (sym is)
+solution_text-lines s value is = rw (← is) refl
 
 -- the text of a cut, line by line
 pub cut_text-lines : (side : CutSide) (capacity : ℕ) → capacity ≡ side.capacity → cut_text side
     ≡ written_line (codes "c" ∷ codes "cut" ∷ decimal capacity ∷ []) ++ nodes_text side.ids
 unfolding written
-cut_text-lines side capacity is = ap (λ n. written_line (codes "c" ∷ codes "cut" ∷ decimal n ∷ []) ++ nodes_text side.ids) (sym is)
+cut_text-lines side capacity is = rw is refl

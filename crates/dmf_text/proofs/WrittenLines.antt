@@ -1,7 +1,7 @@
 -- Reading written lines again.
 use Rattle.std.proofs.Common.{◌≡◌, ◌≢◌, ℕ, ◌-◌, ◌^◌, ◌<◌, ◌==◌, ◌&&◌, List, [], ◌∷◌, ◌++◌, length, slice_index, map, filter, nat_lt, Bool, true, false}
 use Rattle.std.proofs.Common.{not, Ok, ok_or, decimal, arith, refl, ap, ◌∙◌, append_assoc}
-use Rattle.std.proofs.lemmas.Bool.{cond-true, cond-false, and_parts, and_from, or_from, not-true, not_from_false, lt-ltb, le-leb, leb-true}
+use Rattle.std.proofs.lemmas.Bool.{cond-true, cond-false, and_parts, and_from, not-true, lt-ltb, le-leb, leb-true}
 use Rattle.std.proofs.lemmas.Bool.{eqb-false, ne_eqb}
 use Rattle.std.proofs.lemmas.List.Folds.{list_all-append}
 use Rattle.std.proofs.lemmas.List.Splits.{slice_split_none, slice_split_at}
@@ -42,6 +42,7 @@ AreFields line = AllByRecursion IsField line
 not-blank : (text : List ℕ) → list_all plain text ≡ true → All (λ b. is_blank b ≡ false) text
 not-blank text all = λ k d below. not-true _ (and_parts _ _ (all-at plain text k d all below)).0
 
+-- Fields that are joined by spaces are the fields of the line.
 pub fields-join : (line : Line) → AreFields line → fields (join_with_byte 32 line) ≡ line
 unfolding fields
 fields-join [] are = refl
@@ -59,6 +60,7 @@ inner-all (b ∷ bs) all =
     let parts = and_parts _ _ all in
     and_from _ _ (and_parts _ _ parts.0).1 (inner-all bs parts.1)
 
+-- No byte of such a line ends it.
 pub inner-join : (line : Line) → AreFields line → list_all inner (join_with_byte 32 line) ≡ true
 inner-join [] are = refl
 inner-join (f ∷ []) are = inner-all f are.0.all
@@ -93,9 +95,7 @@ lines-written (l ∷ ls) are =
 plain-digit : (c : ℕ) → IsInRange 48 57 c → plain c ≡ true
 plain-digit c range =
     let low = range.0 in
-    and_from _ _
-    (not_from_false _ (or_from _ _ (ne_eqb c 32 (λ e. omega arith)) (ne_eqb c 9 (λ e. omega arith))))
-    (and_from _ _ (not_from_false _ (ne_eqb c 10 (λ e. omega arith))) (not_from_false _ (ne_eqb c 13 (λ e. omega arith))))
+    rw (ne_eqb c 32 (λ e. omega arith), ne_eqb c 9 (λ e. omega arith), ne_eqb c 10 (λ e. omega arith), ne_eqb c 13 (λ e. omega arith)) refl
 
 -- Digits can stand in a field.
 pub plain-digits : (ds : List ℕ) → list_all is_ascii_digit ds ≡ true → list_all plain ds ≡ true
@@ -111,16 +111,17 @@ ascii-digits (c ∷ cs) are =
     let range = digit_from_value c are.0 in
     and_from _ _ (and_from _ _ (le-leb 48 c range.0) (le-leb c 57 range.1)) (ascii-digits cs are.1)
 
--- A decimal number can stand as a field.
-pub decimal-field : (n : ℕ) → n < 2 ^ 64 → IsField (decimal n)
-decimal-field n small = record {
-  some = decimal_nonempty n small;
-  all = plain-digits (decimal n) (ascii-digits (decimal n) (decimal_is_IsNumeral n small).0.1);
-}
+-- A decimal number can stand as a field, and is read as the number.
+pub record IsWritten (n : ℕ) : Type 0 where
+  pub field : IsField (decimal n)
+  pub reads : number_of (decimal n) ≡ Ok n
 
--- A decimal number is read as the number.
-pub number_of-decimal : (n : ℕ) → n < 2 ^ 64 → number_of (decimal n) ≡ Ok n
-number_of-decimal n small =
+-- Each number of 64 bits is.
+pub is-written : (n : ℕ) → n < 2 ^ 64 → IsWritten n
+is-written n small =
     let numeral = decimal_is_IsNumeral n small in
-    number_of-digits (decimal n) numeral.0.0 (ascii-digits (decimal n) numeral.0.1)
-    ∙ ap (λ o. ok_or o TooLarge) (ap within numeral.1 ∙ within-below n small)
+    let digits = ascii-digits (decimal n) numeral.0.1 in
+    record {
+      field = record { some = decimal_nonempty n small; all = plain-digits (decimal n) digits };
+      reads = number_of-digits (decimal n) numeral.0.0 digits ∙ ap (λ o. ok_or o TooLarge) (ap within numeral.1 ∙ within-below n small);
+    }

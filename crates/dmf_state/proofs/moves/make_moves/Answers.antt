@@ -13,48 +13,44 @@ pub loop-m-init : goal.loop-m-init
 loop-m-init c = moved-none _ _ _ _ _ c.requires.fit c.requires.within c.requires.at_node
 
 pub overflow_sub-i : goal.overflow_sub-i
-overflow_sub-i c = (next-move _ _ _ _ _ _ _ _
-    (stands (goal.at.overflow_sub-i c).After-step-step) c.loop-m.invariant).from_one
+overflow_sub-i c = (next-move (stands (goal.at.overflow_sub-i c).After-step-step) c.loop-m.invariant).from_one
 
 pub bounds-arcs-i : goal.bounds-arcs-i
-bounds-arcs-i c = (next-move _ _ _ _ _ _ _ _
-    (stands (goal.at.bounds-arcs-i c).After-step-step) c.loop-m.invariant).in_arcs
+bounds-arcs-i c = (next-move (stands (goal.at.bounds-arcs-i c).After-step-step) c.loop-m.invariant).in_arcs
 
 pub sum_after-at_node-requires-clause-part : goal.sum_after-at_node-requires-clause-part
 sum_after-at_node-requires-clause-part c = λ here.
-    rw c.loop-m.invariant.at_node.leaving (part-of_sum _ _ _ _ _ _ _ _
-    (stands (goal.at.sum_after-at_node-requires-clause-part c).After-step-step) c.loop-m.invariant (λ (a : Arc). a.tail) here)
+    rw c.loop-m.invariant.at_node.leaving
+    (part-of_sum (stands (goal.at.sum_after-at_node-requires-clause-part c).After-step-step) c.loop-m.invariant (λ (a : Arc). a.tail) here)
 
 pub sum_after-at_node-requires-clause-small : goal.sum_after-at_node-requires-clause-small
 sum_after-at_node-requires-clause-small c = λ here.
     rw c.loop-m.invariant.at_node.leaving
-    (small-after _ _ _ _ _ _ _ _ (stands (goal.at.sum_after-at_node-requires-clause-small c).After-step-step) c.loop-m.invariant
+    (small-after (stands (goal.at.sum_after-at_node-requires-clause-small c).After-step-step) c.loop-m.invariant
     (λ (a : Arc). a.tail) c.requires.within_after c.requires.capacities here)
 
 pub sum_after-at_node-requires-in-loop-m-clause-part :
     goal.sum_after-at_node-requires-in-loop-m-clause-part
 sum_after-at_node-requires-in-loop-m-clause-part c = λ here.
-    rw c.loop-m.invariant.at_node.entering (part-of_sum _ _ _ _ _ _ _ _
-    (stands (goal.at.sum_after-at_node-requires-in-loop-m-clause-part c).After-step-step) c.loop-m.invariant (λ (a : Arc). a.head) here)
+    rw c.loop-m.invariant.at_node.entering
+    (part-of_sum (stands (goal.at.sum_after-at_node-requires-in-loop-m-clause-part c).After-step-step) c.loop-m.invariant (λ (a : Arc). a.head) here)
 
 pub sum_after-at_node-requires-in-loop-m-clause-small :
     goal.sum_after-at_node-requires-in-loop-m-clause-small
 sum_after-at_node-requires-in-loop-m-clause-small c = λ here.
     rw c.loop-m.invariant.at_node.entering
-    (small-after _ _ _ _ _ _ _ _ (stands (goal.at.sum_after-at_node-requires-in-loop-m-clause-small c).After-step-step) c.loop-m.invariant
+    (small-after (stands (goal.at.sum_after-at_node-requires-in-loop-m-clause-small c).After-step-step) c.loop-m.invariant
     (λ (a : Arc). a.head) c.requires.within_after c.requires.capacities here)
 
 pub bounds-flows-i : goal.bounds-flows-i
-bounds-flows-i c = (next-move _ _ _ _ _ _ _ _
-    (stands (goal.at.bounds-flows-i c).After-step-step) c.loop-m.invariant).in_flows
+bounds-flows-i c = (next-move (stands (goal.at.bounds-flows-i c).After-step-step) c.loop-m.invariant).in_flows
 
 pub loop-m-preserved : goal.loop-m-preserved
 loop-m-preserved c =
-    moved-more _ _ _ _ _ _ _ _
-    (stands (goal.at.loop-m-preserved c).After-step-step) c.loop-m.invariant _ c.requires.within_after (record {
-      leaving = sum-after _ _ _ _ _ _ _ _ (stands (goal.at.loop-m-preserved c).After-step-step) c.loop-m.invariant
+    moved-more (stands (goal.at.loop-m-preserved c).After-step-step) c.loop-m.invariant _ c.requires.within_after (record {
+      leaving = sum-after (stands (goal.at.loop-m-preserved c).After-step-step) c.loop-m.invariant
           (λ (a : Arc). a.tail) _ c.loop-m.invariant.at_node.leaving _ c.sum_after-at_node.ensures;
-      entering = sum-after _ _ _ _ _ _ _ _ (stands (goal.at.loop-m-preserved c).After-step-step) c.loop-m.invariant
+      entering = sum-after (stands (goal.at.loop-m-preserved c).After-step-step) c.loop-m.invariant
           (λ (a : Arc). a.head) _ c.loop-m.invariant.at_node.entering _ c.sum_after-at_node-in-loop-m.ensures;
     })
 

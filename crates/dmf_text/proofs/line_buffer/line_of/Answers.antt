@@ -1,4 +1,5 @@
-use Rattle.std.proofs.Common.{◌≡◌, ℕ, ◌+◌, ◌-◌, ◌<◌, ◌≤◌, List, ◌∷◌, ◌++◌, length, map, take, take_all, drop, get_or, arith, ap, ◌∙◌, sym}
+use Rattle.std.proofs.Common.{◌≡◌, ◌⊎◌, ℕ, ◌+◌, ◌-◌, ◌<◌, ◌≤◌, List, ◌∷◌, ◌++◌, length, map, take, take_all, drop, get_or, arith, ap, ◌∙◌}
+use Rattle.std.proofs.Common.{sym, inl, inr, refl, ⊎_elim}
 use Rattle.std.proofs.lemmas.List.{drop_all}
 use Rattle.std.proofs.lemmas.List.Sums.{sum_by_more}
 use Rattle.dmf_text.specs.declared.line_buffer.LineField.{LineField}
@@ -9,28 +10,24 @@ use Rattle.dmf_text.proofs.line_buffer.line_of.Goals as goal
 use Rattle.dmf_text.proofs.line_buffer.line_of.Goals.{then-i-fields, else-i-fields}
 
 -- one more field: `line` stood before, `next` is `line` with or without a space in front, and `new` also has the field in front
-module _ (fields : List LineField) (i n : ℕ) (d : LineField) (is : n ≡ i + 1) (below : i < length fields) (line next new : List ℕ)
-    (stands : line ≡ written_line (map field_bytes (drop n fields))) (added : new ≡ field_bytes (get_or fields i d) ++ next) where
-  after-space : i + 1 < length fields → next ≡ 32 ∷ line → new ≡ written_line (map field_bytes (drop i fields))
-  after-space more space =
-      added
-      ∙ ap (λ l. field_bytes (get_or fields i d) ++ l) (space ∙ ap (λ l. 32 ∷ l) (stands ∙ ap (λ k. written_line (map field_bytes (drop k fields))) is))
-      ∙ sym (line-from field_bytes fields i d below more)
-
-  at-end : length fields ≤ i + 1 → next ≡ line → new ≡ written_line (map field_bytes (drop i fields))
-  at-end last same =
-      added
-      ∙ ap (λ l. field_bytes (get_or fields i d) ++ l)
-      (same ∙ stands ∙ ap (λ k. written_line (map field_bytes (drop k fields))) is ∙ ap (λ l. written_line (map field_bytes l))
-      (drop_all (i + 1) fields last) ∙ line-none)
-      ∙ sym (line-last field_bytes fields i d below last)
-
-  within : length line + most_line_bytes (take n fields) ≤ 80 → length new ≤ most_bytes (get_or fields i d) + length next → length next ≤ length line + 1
-      → length new + most_line_bytes (take i fields) ≤ 80
-  within fits few short =
-      let sum = sum_by_more (λ (f : LineField). most_bytes f + 1) fields i d below in
-      let same = ap (λ k. most_line_bytes (take k fields)) is in
-      omega (arith, sum, same, fits, few, short)
+one-more : (fields : List LineField) (i n : ℕ) (d : LineField) (line next new : List ℕ) → n ≡ i + 1 → i < length fields
+    → line ≡ written_line (map field_bytes (drop n fields)) → length line + most_line_bytes (take n fields) ≤ 80
+    → new ≡ field_bytes (get_or fields i d) ++ next → length new ≤ most_bytes (get_or fields i d) + length next
+    → ((i + 1 < length fields) × (next ≡ 32 ∷ line)) ⊎ ((length fields ≤ i + 1) × (next ≡ line))
+    → (new ≡ written_line (map field_bytes (drop i fields))) × (length new + most_line_bytes (take i fields) ≤ 80)
+one-more fields i n d line next new is below stands fits added few side =
+    let sum = sum_by_more (λ (f : LineField). most_bytes f + 1) fields i d below in
+    let same = ap (λ k. most_line_bytes (take k fields)) is in
+    ⊎_elim
+    (λ (w : (i + 1 < length fields) × (next ≡ 32 ∷ line)). (
+      rw (line-from field_bytes fields i d below w.0, ← is, added, w.1, stands) refl,
+      let longer = ap length w.1 in omega (arith, sum, same, fits, few, longer),
+    ))
+    (λ (w : (length fields ≤ i + 1) × (next ≡ line)). (
+      rw (line-last field_bytes fields i d below w.0, added, w.1, stands, is, drop_all (i + 1) fields w.0, line-none) refl,
+      let long = ap length w.1 in omega (arith, sum, same, fits, few, long),
+    ))
+    side
 
 pub loop-i-init : goal.loop-i-init
 loop-i-init c =
@@ -49,23 +46,11 @@ loop-i-preserved c =
     let i = n - 1 in
     let is : n ≡ i + 1 = omega (arith, c.loop-i-test.true) in
     let below : i < length fields = omega (arith, c.loop-i-test.true, c.loop-i.auto.i) in
-    let before = c.loop-i.invariant in
-    elim c.if-i-fields.branch [
-      | then-i-fields w ↦ (
-          let space = w.line-is ∙ w.add_text.ensures in
-          let longer = ap length space in
-          record {
-            text = after-space fields i n _ is below c.loop-i.line c.if-i-fields.line c.add.new.self before.text c.add.ensures.text
-                (omega (arith, w.if-i-fields.true)) space;
-            fits = within fields i n _ is below c.loop-i.line c.if-i-fields.line c.add.new.self before.text c.add.ensures.text before.fits c.add.ensures.len
-                (omega (arith, longer));
-          })
-      | else-i-fields w ↦ (
-          let long = ap length w.line-is in
-          record {
-            text = at-end fields i n _ is below c.loop-i.line c.if-i-fields.line c.add.new.self before.text c.add.ensures.text
-                (omega (arith, w.if-i-fields.false)) w.line-is;
-            fits = within fields i n _ is below c.loop-i.line c.if-i-fields.line c.add.new.self before.text c.add.ensures.text before.fits c.add.ensures.len
-                (omega (arith, long));
-          })
-    ]
+    let side = elim c.if-i-fields.branch as (λ _. ((i + 1 < length fields) × (c.if-i-fields.line ≡ 32 ∷ c.loop-i.line))
+    ⊎ ((length fields ≤ i + 1) × (c.if-i-fields.line ≡ c.loop-i.line))) [
+      | then-i-fields w ↦ inl (omega (arith, w.if-i-fields.true), w.line-is ∙ w.add_text.ensures)
+      | else-i-fields w ↦ inr (omega (arith, w.if-i-fields.false), w.line-is)
+    ] in
+    let more = one-more fields i n _ c.loop-i.line c.if-i-fields.line c.add.new.self is below c.loop-i.invariant.text c.loop-i.invariant.fits c.add.ensures.text
+    c.add.ensures.len side in
+    record { text = more.0; fits = more.1 }

@@ -1,4 +1,4 @@
-use Rattle.std.proofs.Common.{◌≡◌, ◌||◌, ◌∷◌, [], ℕ, List, true, false, Ok, Err, arith, codes, refl, sym, ◌∙◌, subst}
+use Rattle.std.proofs.Common.{◌≡◌, ◌||◌, ◌∷◌, [], ℕ, List, true, false, Ok, Err, arith, codes, refl, sym, ◌∙◌}
 use Rattle.std.proofs.lemmas.Bool.{and_from, and_left, and_right, le-leb, lt-leb}
 use Rattle.std.specs.Str.{bytes_eq}
 use Rattle.dmf_node.specs.Node.{is_node}
@@ -32,9 +32,7 @@ module _ (nodes : ℕ) (f g : List ℕ) (node : ℕ) (number : number_of f ≡ O
 
 pub returns-in_default : goal.returns-in_default
 returns-in_default c =
-    subst (λ behind. node_named c.args.nodes behind ≡ Err NotSourceOrSink) (sym c.in_ok-node.ensures)
-    (other-letter c.args.nodes c.in_ok-node.node.now c.in_ok-node.letter.now c.in_ok-node-2.node
-    (sym c.in_ok-node-2.ensures) c.in_default.ensures.0 c.in_default.ensures.1)
+    rw c.in_ok-node.ensures (other-letter c.args.nodes _ _ _ (sym c.in_ok-node-2.ensures) c.in_default.ensures.0 c.in_default.ensures.1)
 
 pub returns-then-node-lt1 : goal.returns-then-node-lt1
 returns-then-node-lt1 c =
@@ -43,13 +41,11 @@ returns-then-node-lt1 c =
       | then-node-lt1-via-then-node-lt1 w ↦ and_left _ _ (lt-leb 1 node w.if-node-lt1.true)
       | then-node-lt1-via-else-node-lt1+then-node-from w ↦ and_right _ _ (lt-leb node c.args.nodes (omega (arith, w.from.ensures, w.if-node-from.true)))
     ] in
-    subst (λ behind. node_named c.args.nodes behind ≡ Err NodeOutOfRange) (sym c.in_ok-node.ensures)
-    (out-of-range c.args.nodes c.in_ok-node.node.now c.in_ok-node.letter.now node (sym c.in_ok-node-2.ensures) c.in-Some.terminal c.in-Some.ensures no-node)
+    rw c.in_ok-node.ensures (out-of-range c.args.nodes _ _ node (sym c.in_ok-node-2.ensures) c.in-Some.terminal c.in-Some.ensures no-node)
 
 pub returns : goal.returns
 returns c =
     let node = c.in_ok-node-2.node in
     let range : is_node c.args.nodes node ≡ true = and_from _ _ (le-leb 1 node c.if-node-lt1.false)
     (le-leb node c.args.nodes (omega (arith, c.from.ensures, c.if-node-from.false))) in
-    subst (λ behind. Names c.args.nodes behind c.in-Some.terminal node) (sym c.in_ok-node.ensures)
-    (names c.args.nodes c.in_ok-node.node.now c.in_ok-node.letter.now node (sym c.in_ok-node-2.ensures) c.in-Some.terminal c.in-Some.ensures range)
+    rw c.in_ok-node.ensures (names c.args.nodes _ _ node (sym c.in_ok-node-2.ensures) c.in-Some.terminal c.in-Some.ensures range)

@@ -1,10 +1,9 @@
-use Rattle.std.proofs.Common.{◌≡◌, [], ◌∷◌, ◌++◌, refl, ◌∙◌, ap, sym, subst, append-nil, append_assoc}
+use Rattle.std.proofs.Common.{◌≡◌, [], ◌∷◌, ◌++◌, refl, ◌∙◌, ap, sym, append-nil, append_assoc}
 use Rattle.std.proofs.lemmas.Result.{err_from_is_err_and}
 use Rattle.std.proofs.KnownBytes.{Appends-nil, Appends-trans}
-use Rattle.std.specs.Io.KnownBytes.{Appends}
 use Rattle.dmf_text.specs.Written.{nodes_text, side_fields, written_line}
 use Rattle.dmf_text.proofs.WrittenLemmas.{all-nil, all-last, all-split}
-use Rattle.dmf_text.proofs.WritingLemmas.{PutsFront, front-of, front-after}
+use Rattle.dmf_text.proofs.WritingLemmas.{front-of, front-after}
 use Rattle.dmf_text.proofs.written.put_nodes.Goals as goal
 
 pub loop-id-init : goal.loop-id-init
@@ -21,16 +20,14 @@ returns-in_err-put_line g c =
     let given = c.loop-id.yielded in
     let left = c.next.new.self in
     let all : given ++ (id ∷ left) ≡ c.args.ids = ap (λ ids. given ++ ids) (sym c.in-Some.ensures.steps) ∙ c.loop-id.invariant.given in
-    let put_front = subst (λ n. PutsFront (g.W.Sink.written c.loop-id.out) (g.W.Sink.written c.put_line.new.out) (written_line (side_fields n))) c.from.ensures
-    c.in_err-put_line.ensures in
+    let put_front = rw c.from.ensures at c.in_err-put_line.ensures in
     rw (failed.1, sym all, all-split side_fields given id left)
     (front-after (g.W.Sink.written c.args.out.now) (g.W.Sink.written c.loop-id.out) _ (nodes_text given) _ c.loop-id.invariant.held
     (front-of (g.W.Sink.written c.loop-id.out) _ (written_line (side_fields id)) (nodes_text left) put_front))
 
 pub loop-id-preserved : goal.loop-id-preserved
 loop-id-preserved g c =
-    let put = subst (λ n. Appends (g.W.Sink.written c.loop-id.out).contents (g.W.Sink.written c.put_line.new.out).contents (written_line (side_fields n)))
-    c.from.ensures c.in_ok-put_line.ensures.0 in
+    let put = rw c.from.ensures at c.in_ok-put_line.ensures.0 in
     record {
       given = append_assoc c.loop-id.yielded (c.in-Some.id ∷ []) c.next.new.self
           ∙ ap (λ ids. c.loop-id.yielded ++ ids) (sym c.in-Some.ensures.steps) ∙ c.loop-id.invariant.given;
@@ -41,7 +38,5 @@ loop-id-preserved g c =
 pub returns : goal.returns
 returns g c =
     let all : c.loop-id.yielded ≡ c.args.ids =
-    sym (append-nil c.loop-id.yielded) ∙ ap (λ ids. c.loop-id.yielded ++ ids) (sym c.in-None.ensures.steps.0) ∙ c.loop-id.invariant.given in (
-      subst (λ ids. Appends (g.W.Sink.written c.args.out.now).contents (g.W.Sink.written c.loop-id.out).contents (nodes_text ids)) all c.loop-id.invariant.held,
-      c.loop-id.invariant.mark,
-    )
+    sym (append-nil c.loop-id.yielded) ∙ ap (λ ids. c.loop-id.yielded ++ ids) (sym c.in-None.ensures.steps.0) ∙ c.loop-id.invariant.given in
+    rw (← all) (c.loop-id.invariant.held, c.loop-id.invariant.mark)

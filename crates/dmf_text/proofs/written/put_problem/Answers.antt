@@ -1,4 +1,4 @@
-use Rattle.std.proofs.Common.{◌≡◌, [], ◌∷◌, ◌++◌, codes, decimal, ap, ◌∙◌, sym, subst}
+use Rattle.std.proofs.Common.{◌≡◌, ℕ, List, [], ◌∷◌, ◌++◌, codes, decimal, refl, subst}
 use Rattle.dmf_text.specs.Writing.{Writes}
 use Rattle.dmf_text.specs.Written.{written_line, arcs_text, problem_text}
 use Rattle.dmf_text.proofs.WrittenLemmas.{problem_text-lines}
@@ -7,34 +7,24 @@ use Rattle.dmf_text.proofs.written.put_problem.Given.{Over}
 use Rattle.dmf_text.proofs.written.put_problem.Goals as goal
 use Rattle.dmf_text.proofs.written.put_problem.Goals.{After-put_line, After-put_terminal, After-put_terminal-2}
 
+-- the node line of a terminal
+abbrev node_line : ℕ → List ℕ → List ℕ
+node_line v letter = written_line (codes "n" ∷ decimal v ∷ letter ∷ [])
+
 -- the text is the three lines, and the arcs after them
-first : (g : Over) (c : After-put_line g) → problem_text c.args.state.now.network
+first : (g : Over) (c : After-put_line g) → let n = c.args.state.now.network in problem_text n
     ≡ written_line (codes "p" ∷ codes "max" ∷ decimal c.from-nodes.result ∷ decimal c.from-arcs.result ∷ [])
-    ++ (written_line (codes "n" ∷ decimal c.args.state.now.network.source ∷ codes "s" ∷ [])
-    ++ (written_line (codes "n" ∷ decimal c.args.state.now.network.sink ∷ codes "t" ∷ []) ++ arcs_text c.args.state.now.network.arcs))
-first g c =
-    let n = c.args.state.now.network in
-    let behind = written_line (codes "n" ∷ decimal n.source ∷ codes "s" ∷ []) ++
-    (written_line (codes "n" ∷ decimal n.sink ∷ codes "t" ∷ []) ++ arcs_text n.arcs) in
-    problem_text-lines n
-    ∙ sym (ap (λ k. written_line (codes "p" ∷ codes "max" ∷ decimal k ∷ decimal c.from-arcs.result ∷ []) ++ behind)
-    (c.from-nodes.ensures ∙ c.nodes.ensures.value)
-    ∙ ap (λ k. written_line (codes "p" ∷ codes "max" ∷ decimal n.nodes ∷ decimal k ∷ []) ++ behind) (c.from-arcs.ensures ∙ c.open_count.ensures.value))
+    ++ (node_line n.source (codes "s") ++ (node_line n.sink (codes "t") ++ arcs_text n.arcs))
+first g c = rw (c.from-nodes.ensures, c.nodes.ensures.value, c.from-arcs.ensures, c.open_count.ensures.value) (problem_text-lines c.args.state.now.network)
 
-second : (g : Over) (c : After-put_terminal g)
-    → written_line (codes "n" ∷ decimal c.args.state.now.network.source ∷ codes "s" ∷ [])
-    ++ (written_line (codes "n" ∷ decimal c.args.state.now.network.sink ∷ codes "t" ∷ []) ++ arcs_text c.args.state.now.network.arcs)
-    ≡ written_line (codes "n" ∷ decimal c.source.result ∷ codes "s" ∷ [])
-    ++ (written_line (codes "n" ∷ decimal c.args.state.now.network.sink ∷ codes "t" ∷ []) ++ arcs_text c.args.state.now.network.arcs)
-second g c =
-    let n = c.args.state.now.network in
-    ap (λ k. written_line (codes "n" ∷ decimal k ∷ codes "s" ∷ []) ++ (written_line (codes "n" ∷ decimal n.sink ∷ codes "t" ∷ []) ++ arcs_text n.arcs))
-    (sym c.source.ensures.value)
+second : (g : Over) (c : After-put_terminal g) → let n = c.args.state.now.network in
+    node_line n.source (codes "s") ++ (node_line n.sink (codes "t") ++ arcs_text n.arcs)
+    ≡ node_line c.source.result (codes "s") ++ (node_line n.sink (codes "t") ++ arcs_text n.arcs)
+second g c = rw c.source.ensures.value refl
 
-third : (g : Over) (c : After-put_terminal-2 g)
-    → written_line (codes "n" ∷ decimal c.args.state.now.network.sink ∷ codes "t" ∷ []) ++ arcs_text c.args.state.now.network.arcs
-    ≡ written_line (codes "n" ∷ decimal c.sink.result ∷ codes "t" ∷ []) ++ arcs_text c.args.state.now.network.arcs
-third g c = ap (λ k. written_line (codes "n" ∷ decimal k ∷ codes "t" ∷ []) ++ arcs_text c.args.state.now.network.arcs) (sym c.sink.ensures.value)
+third : (g : Over) (c : After-put_terminal-2 g) → let n = c.args.state.now.network in
+    node_line n.sink (codes "t") ++ arcs_text n.arcs ≡ node_line c.sink.result (codes "t") ++ arcs_text n.arcs
+third g c = rw c.sink.ensures.value refl
 
 pub returns-in_err-put_line-clause-written : goal.returns-in_err-put_line-clause-written
 returns-in_err-put_line-clause-written g c =

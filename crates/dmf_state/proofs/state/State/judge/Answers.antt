@@ -1,4 +1,4 @@
-use Rattle.std.proofs.Common.{◌≡◌, ◌⊎◌, ℕ, List, Some, Err, inr, refl, sym, subst}
+use Rattle.std.proofs.Common.{◌≡◌, ◌⊎◌, ℕ, List, Some, Err, inr, sym, subst}
 use Rattle.std.specs.Result.{IsErrOf}
 use Rattle.dmf_state.specs.declared.fault.FlowFault.{FlowFault}
 use Rattle.dmf_state.specs.declared.fault.FlowFault.TheVariants.{OverCapacity, NotConserved, Negative, NoMemory}
@@ -10,7 +10,7 @@ use Rattle.dmf_state.specs.FlowFault.{flow_fault}
 use Rattle.dmf_state.specs.FlowSums.{IsLeast, IsOverCapacity, IsNodeFlow}
 use Rattle.dmf_state.specs.NetworkState.{IsState, with_flows}
 use Rattle.dmf_state.proofs.FlowFaults.{fault-over, fault-unbalanced, fault-negative, fault-none}
-use Rattle.dmf_state.proofs.Balance.{AreBothSums, AreBothSums-of_parts, conserved-from_sums, least_unbalanced, at_source-from_sums, negative-from_source}
+use Rattle.dmf_state.proofs.Balance.{AreBothSums, conserved-from_sums, least_unbalanced, at_source-from_sums, negative-from_source}
 use Rattle.dmf_state.proofs.Balance.{IsState-from_source}
 use Rattle.dmf_state.proofs.state.State.judge.Goals as goal
 use Rattle.dmf_state.proofs.state.State.judge.Goals.{After-first_unbalanced, After-at-at_source}
@@ -31,7 +31,7 @@ within c = subst (λ arcs. AreWithinCapacities arcs c.args.flows.now) c.deref.en
 -- the outflow and inflow of each node
 sums : (c : After-first_unbalanced)
     → AreBothSums (the_view c.self.inside).network c.args.flows.now c.in_ok-sums.sums.leaving.items c.in_ok-sums.sums.entering.items
-sums c = AreBothSums-of_parts _ _ _ _ _ _ refl c.deref-2.ensures.value c.in_ok-sums.ensures.leaving c.in_ok-sums.ensures.entering
+sums c = rw (← c.deref-2.ensures.value) (record { tails = c.in_ok-sums.ensures.leaving; heads = c.in_ok-sums.ensures.entering })
 
 flow : (c : After-at-at_source) → IsFlow (the_view c.self.inside).network c.args.flows.now
 flow c =
@@ -42,14 +42,14 @@ flow c =
 source : (c : After-at-at_source)
     → IsNodeFlow (the_view c.self.inside).network.arcs c.args.flows.now (the_view c.self.inside).network.source c.at-at_source.result
 source c =
-    at_source-from_sums _ _ _ _ _ (sums (goal.at.After-at-at_source c).After-first_unbalanced) c.self.invariant.state.network.source
+    at_source-from_sums _ _ _ _ (sums (goal.at.After-at-at_source c).After-first_unbalanced) _ c.self.invariant.state.network.source
     c.at-at_source.ensures.leaving c.at-at_source.ensures.entering
 
 pub returns-in-Some-first_unbalanced-clause-refused :
     goal.returns-in-Some-first_unbalanced-clause-refused
 returns-in-Some-first_unbalanced-clause-refused c =
     let before = (goal.at.returns-in-Some-first_unbalanced-clause-refused c).After-first_unbalanced in
-    let least = least_unbalanced _ _ _ _ _ (sums before) c.in-Some-first_unbalanced.ensures in
+    let least = least_unbalanced _ _ _ _ (sums before) _ c.in-Some-first_unbalanced.ensures in
     subst (λ s. Told (NotConserved c.in-Some-first_unbalanced.node) s.network c.args.flows.now) c.self.view_is
     (inr (sym (fault-unbalanced _ _ _ (within before) least)))
 

@@ -1,6 +1,6 @@
 use Rattle.std.proofs.Common.{◌≡◌, ◌<◌, ◌+◌, ◌^◌, ◌&&◌, ◌⊎◌, ◌∷◌, ◌++◌, [], ℕ}
 use Rattle.std.proofs.Common.{List, Bool, true, false, Some, None, Result, Ok, Err, MatchOption, MatchResult}
-use Rattle.std.proofs.Common.{IsOkUnless, arith, codes, length, refl, sym, ap, ◌∙◌, subst, inl, inr, if◌then◌else◌, nat_lt}
+use Rattle.std.proofs.Common.{IsOkUnless, arith, codes, length, refl, sym, ap, inl, inr, if◌then◌else◌, nat_lt}
 use Rattle.std.proofs.lemmas.Bool.{lt-ltb}
 use Rattle.std.proofs.lemmas.Result.{err_from_is_err_and}
 use Rattle.dmf_node.specs.Node.{is_node}
@@ -9,13 +9,12 @@ use Rattle.dmf_state.specs.declared.fault.NetFault.{NetFault}
 use Rattle.dmf_state.specs.declared.fault.NetFault.TheVariants as net
 use Rattle.dmf_state.specs.Arc.{open_arc, capacity_sum}
 use Rattle.dmf_state.specs.ArcFault.{arc_fault, net_fault}
-use Rattle.dmf_state.specs.NetworkState.{NetworkState}
 use Rattle.dmf_text.specs.declared.fault.ProblemFaultKind.{ProblemFaultKind}
 use Rattle.dmf_text.specs.declared.fault.ProblemFaultKind.TheVariants.{NodeOutOfRange, SumTooLarge, NoMemory}
 use Rattle.dmf_text.specs.declared.reading.Body.{Body}
-use Rattle.dmf_text.specs.Number.{number_of}
+use Rattle.dmf_text.specs.Numbers.{AreSpelled}
 use Rattle.dmf_text.specs.Judging.{◌>>◌, expect}
-use Rattle.dmf_text.specs.Problem.{Facts, judged_arc}
+use Rattle.dmf_text.specs.Problem.{judged_arc}
 use Rattle.dmf_text.specs.Reading.{arc_kind, facts_in_body, with_line}
 use Rattle.dmf_text.proofs.reading.Body.push.Goals as goal
 
@@ -30,44 +29,26 @@ same-told : (from to fits : Bool) (outcome : Result (Unit {0}) NetFault)
     → MatchResult outcome (λ _. judgement from to fits ≡ Ok tt) (λ fault. (arc_kind fault ≡ NoMemory) ⊎ (judgement from to fits ≡ Err (arc_kind fault)))
 same-told true true true (Ok done) told = refl
 same-told true true true (Err fault) told = inl (ap arc_kind told)
-same-told true true false (Ok done) told = absurd (let no : ⊥ = cc in no)
-same-told true true false (Err fault) told = inr (let is : fault ≡ net.SumTooLarge = cc in ap (λ f. Err (arc_kind f)) (sym is))
-same-told true false fits (Ok done) told = absurd (let no : ⊥ = cc in no)
-same-told true false fits (Err fault) told = inr (let is : fault ≡ net.NoSuchNode = cc in ap (λ f. Err (arc_kind f)) (sym is))
-same-told false to fits (Ok done) told = absurd (let no : ⊥ = cc in no)
-same-told false to fits (Err fault) told = inr (let is : fault ≡ net.NoSuchNode = cc in ap (λ f. Err (arc_kind f)) (sym is))
-
--- what the lines say, where this is the network so far
-abbrev facts_at : ℕ → NetworkState → Facts
-facts_at arcs state = record {
-  counts = Some (record { nodes = state.network.nodes; arcs = arcs });
-  source = Some state.network.source;
-  sink = Some state.network.sink;
-  arcs = state.network.arcs;
-}
+same-told true true false outcome told = rw told (inr refl)
+same-told true false fits outcome told = rw told (inr refl)
+same-told false to fits outcome told = rw told (inr refl)
 
 -- an arc line whose numbers are these
-module _ (body : Body) (f g h : List ℕ) (tail head cap : ℕ) (fewer : length body.state.network.arcs < body.arcs)
-    (first : number_of f ≡ Ok tail) (second : number_of g ≡ Ok head) (third : number_of h ≡ Ok cap) where
-  line-judged : judged_arc (facts_in_body body) (f ∷ g ∷ h ∷ [])
+module _ (body : Body) (behind : List (List ℕ)) (tail head cap : ℕ) (fewer : length body.state.network.arcs < body.arcs)
+    (three : AreSpelled behind tail head cap) where
+  line-judged : judged_arc (facts_in_body body) behind
       ≡ judgement (is_node body.state.network.nodes tail) (is_node body.state.network.nodes head) (nat_lt (capacity_sum body.state.network.arcs + cap) (2 ^ 64))
   unfolding judged_arc
-  line-judged = rw (lt-ltb _ _ fewer, first, second, third) refl
+  line-judged = rw (three.are, lt-ltb _ _ fewer, three.first_is, three.second_is, three.third_is) refl
 
-  line-says : with_line (facts_in_body body) (codes "a" ∷ f ∷ g ∷ h ∷ [])
-      ≡ record {
-        counts = Some (record { nodes = body.state.network.nodes; arcs = body.arcs });
-        source = Some body.state.network.source;
-        sink =
-            Some body.state.network.sink;
-        arcs = body.state.network.arcs ++ open_arc tail head cap ∷ [];
-      }
-  line-says = rw (first, second, third) refl
+  line-says : with_line (facts_in_body body) (codes "a" ∷ behind)
+      ≡ record (facts_in_body body) { arcs = body.state.network.arcs ++ open_arc tail head cap ∷ [] }
+  line-says = rw (three.are, three.first_is, three.second_is, three.third_is) refl
 
   line-told : (outcome : Result (Unit {0}) NetFault)
       → MatchOption (arc_fault body.state.network tail head cap) (IsOkUnless outcome net.NoMemory) (λ fault. outcome ≡ Err (net_fault fault))
-      → MatchResult outcome (λ _. judged_arc (facts_in_body body) (f ∷ g ∷ h ∷ []) ≡ Ok tt)
-      (λ fault. (arc_kind fault ≡ NoMemory) ⊎ (judged_arc (facts_in_body body) (f ∷ g ∷ h ∷ []) ≡ Err (arc_kind fault)))
+      → MatchResult outcome (λ _. judged_arc (facts_in_body body) behind ≡ Ok tt)
+      (λ fault. (arc_kind fault ≡ NoMemory) ⊎ (judged_arc (facts_in_body body) behind ≡ Err (arc_kind fault)))
   line-told outcome told =
       let few : nat_lt (length body.state.network.arcs) (2 ^ 27) ≡ true = lt-ltb _ _ (omega (arith, fewer, body.at_most_arcs)) in
       rw line-judged
@@ -76,23 +57,13 @@ module _ (body : Body) (f g h : List ℕ) (tail head cap : ℕ) (fewer : length 
 
 pub returns-in_err-push_arc : goal.returns-in_err-push_arc
 returns-in_err-push_arc c = λ behind three.
-    let body = c.args.self.now in
     let failed = err_from_is_err_and c.from_residual.result c.from_residual.ensures.1 in
-    let told = line-told body three.first three.second three.third c.args.arc.tail c.args.arc.head c.args.arc.cap c.requires
-    three.first_is three.second_is three.third_is (Err c.in_err-push_arc.field-0.0) c.in_err-push_arc.ensures.refused in
     rw (failed.1, failed.2)
-    (subst (λ behind. (arc_kind c.in_err-push_arc.field-0.0 ≡ NoMemory) ⊎ (judged_arc (facts_in_body body) behind ≡ Err (arc_kind c.in_err-push_arc.field-0.0)))
-    (sym three.are) told)
+    (line-told c.args.self.now behind c.args.arc.tail c.args.arc.head c.args.arc.cap c.requires three (Err c.in_err-push_arc.field-0.0)
+    c.in_err-push_arc.ensures.refused)
 
 pub returns : goal.returns
-returns c = λ behind three.
-    let body = c.args.self.now in
-    let tail = c.args.arc.tail in
-    let head = c.args.arc.head in
-    let cap = c.args.arc.cap in
-    let told = line-told body three.first three.second three.third tail head cap c.requires three.first_is three.second_is three.third_is
-    (Ok tt) c.in_ok-push_arc.ensures.refused in
-    let says = line-says body three.first three.second three.third tail head cap c.requires three.first_is three.second_is three.third_is in
-    subst (λ behind. (judged_arc (facts_in_body body) behind ≡ Ok tt) ×
-    (facts_at body.arcs c.push_arc.new.self ≡ with_line (facts_in_body body) (codes "a" ∷ behind))) (sym three.are)
-    (told, ap (facts_at body.arcs) c.in_ok-push_arc.ensures.ok ∙ sym says)
+returns c = λ behind three. (
+  line-told c.args.self.now behind c.args.arc.tail c.args.arc.head c.args.arc.cap c.requires three (Ok tt) c.in_ok-push_arc.ensures.refused,
+  rw c.in_ok-push_arc.ensures.ok (sym (line-says c.args.self.now behind c.args.arc.tail c.args.arc.head c.args.arc.cap c.requires three)),
+)

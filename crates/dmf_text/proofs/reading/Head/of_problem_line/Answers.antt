@@ -1,5 +1,5 @@
-use Rattle.std.proofs.Common.{◌≡◌, ◌≤◌, ◌^◌, ◌&&◌, ◌∷◌, [], ℕ, List, true, false, Some, None, Ok, Err, arith, codes, refl, sym, ap, ◌∙◌, nat_le}
-use Rattle.std.proofs.lemmas.Bool.{and_from, and_left, and_right, le-leb, lt-leb, not-true, not-false}
+use Rattle.std.proofs.Common.{◌≡◌, ◌^◌, ◌&&◌, ◌∷◌, [], ℕ, List, true, false, Some, None, Ok, Err, arith, codes, refl, sym, ap, ◌∙◌, nat_le}
+use Rattle.std.proofs.lemmas.Bool.{and_left, and_right, le-leb, lt-leb, not-true, not-false}
 use Rattle.std.specs.Str.{bytes_eq}
 use Rattle.dmf_text.specs.declared.fault.ProblemFaultKind.TheVariants.{NotMax, CountOutOfRange}
 use Rattle.dmf_text.specs.Number.{number_of}
@@ -37,15 +37,6 @@ module _ (f g h : List ℕ) (nodes arcs : ℕ) (is : Reads f g h nodes arcs) whe
   unfolding counts_named
   line-judged = rw (is.word, ← is.first, ← is.second) refl
 
-  good-counts : (nat_le 2 nodes && nat_le nodes (2 ^ 24)) ≡ true → nat_le arcs (2 ^ 27) ≡ true → counts_named (f ∷ g ∷ h ∷ []) ≡ Ok counts
-  good-counts range few = line-judged ∙ rw (range, few) refl
-
-  other-nodes : (nat_le 2 nodes && nat_le nodes (2 ^ 24)) ≡ false → counts_named (f ∷ g ∷ h ∷ []) ≡ Err CountOutOfRange
-  other-nodes range = line-judged ∙ rw range refl
-
-  other-arcs : (nat_le 2 nodes && nat_le nodes (2 ^ 24)) ≡ true → nat_le arcs (2 ^ 27) ≡ false → counts_named (f ∷ g ∷ h ∷ []) ≡ Err CountOutOfRange
-  other-arcs range many = line-judged ∙ rw (range, many) refl
-
   line-says : ◌≡◌ {A = Facts} (record { counts = Some counts; source = None; sink = None; arcs = [] }) (with_line no_facts (codes "p" ∷ f ∷ g ∷ h ∷ []))
   line-says = rw (← is.first, ← is.second) refl
 
@@ -60,16 +51,17 @@ returns-then-nodes-lt2 c =
     let nodes = c.in_ok-nodes.nodes in
     let arcs = c.in_ok-arcs.arcs in
     let is = reads (goal.at.returns-then-nodes-lt2 c).In_ok-arcs in
-    let bad-nodes = other-nodes _ _ _ _ _ is in
-    let bad-arcs = other-arcs _ _ _ _ _ is in
-    rw c.in_ok-word.ensures
+    rw (c.in_ok-word.ensures, line-judged _ _ _ _ _ is)
     (elim c.then-nodes-lt2.branch [
-      | then-nodes-lt2-via-then-nodes-lt2 w ↦ bad-nodes (and_left _ _ (lt-leb 2 nodes w.if-nodes-lt2.true))
-      | then-nodes-lt2-via-else-nodes-lt2+then-nodes-from w ↦ bad-nodes
-          (and_right _ _ (lt-leb nodes (2 ^ 24) (omega (arith, w.from.ensures, w.if-nodes-from.true))))
+      | then-nodes-lt2-via-then-nodes-lt2 w ↦ rw (and_left _ _ (lt-leb 2 nodes w.if-nodes-lt2.true)) refl
+      | then-nodes-lt2-via-else-nodes-lt2+then-nodes-from w ↦
+          rw (and_right _ _ (lt-leb nodes (2 ^ 24) (omega (arith, w.from.ensures, w.if-nodes-from.true)))) refl
       | then-nodes-lt2-via-else-nodes-lt2+else-nodes-from+then-arcs-from w ↦
-          bad-arcs (and_from _ _ (le-leb 2 nodes w.if-nodes-lt2.false) (le-leb nodes (2 ^ 24) (omega (arith, w.from.ensures, w.if-nodes-from.false))))
-          (lt-leb arcs (2 ^ 27) (omega (arith, w.from-else-nodes-from.ensures, w.if-arcs-from.true)))
+          rw (
+            le-leb 2 nodes w.if-nodes-lt2.false,
+            le-leb nodes (2 ^ 24) (omega (arith, w.from.ensures, w.if-nodes-from.false)),
+            lt-leb arcs (2 ^ 27) (omega (arith, w.from-else-nodes-from.ensures, w.if-arcs-from.true)),
+          ) refl
     ])
 
 pub returns : goal.returns
@@ -77,10 +69,7 @@ returns c =
     let is = reads (goal.at.returns c).In_ok-arcs in
     let nodes = c.in_ok-nodes.nodes in
     let arcs = c.in_ok-arcs.arcs in
-    let low : 2 ≤ nodes = c.if-nodes-lt2.false in
-    let high : nodes ≤ 2 ^ 24 = omega (arith, c.from.ensures, c.if-nodes-from.false) in
-    let few : arcs ≤ 2 ^ 27 = omega (arith, c.from-else-nodes-from.ensures, c.if-arcs-from.false) in
-    rw c.in_ok-word.ensures (
-      good-counts _ _ _ _ _ is (and_from _ _ (le-leb 2 nodes low) (le-leb nodes (2 ^ 24) high)) (le-leb arcs (2 ^ 27) few),
-      line-says _ _ _ _ _ is,
-    )
+    let low = le-leb 2 nodes c.if-nodes-lt2.false in
+    let high = le-leb nodes (2 ^ 24) (omega (arith, c.from.ensures, c.if-nodes-from.false)) in
+    let few = le-leb arcs (2 ^ 27) (omega (arith, c.from-else-nodes-from.ensures, c.if-arcs-from.false)) in
+    rw c.in_ok-word.ensures (line-judged _ _ _ _ _ is ∙ rw (low, high, few) refl, line-says _ _ _ _ _ is)
