@@ -12,6 +12,7 @@ use Rattle.dmf_state.specs.Arc.{open_arc}
 use Rattle.dmf_state.specs.NetworkState.{NetworkState, IsState}
 use Rattle.dmf_state.specs.Edit.{applied, Fits, AddsArc}
 use Rattle.dmf_state.specs.Revert.{reverted, Stands}
+use Rattle.dmf_history.specs.Timeline.{Timeline}
 use Rattle.dmf_history.specs.Timeline.{IsTimeline, IsPresent, future_of, extended, forgotten, back, forward, FitsPresent, Appends, AddsArcs, LeadsBack, LeadsOn}
 use Rattle.dmf_history.proofs.Appending.{one-present, within_bound-past, appends-all}
 use Rattle.dmf_history.specs.Delta.{before, after, states_from, timeline_of, AreEdits, AreWithinBound}
@@ -52,7 +53,7 @@ next edits k edit is =
 
 after-next : (edits : List Edit) (s : NetworkState) (k : ℕ) (edit : Edit) → slice_get edits k ≡ Some edit
     → after (take (k + 1) edits) s ≡ applied edit (after (take k edits) s)
-after-next edits s k edit is = ap (λ es. after es s) (next edits k edit is) ∙ after-push (take k edits) edit s
+after-next edits s k edit is = rw (next edits k edit is) (after-push (take k edits) edit s)
 
 before-next : (edits : List Edit) (s : NetworkState) (k : ℕ) (edit : Edit) → slice_get edits k ≡ Some edit
     → before (take (k + 1) edits) s ≡ before (take k edits) (reverted edit s)
@@ -123,6 +124,7 @@ forgotten-first : GivesBack → (present : NetworkState) (place : ℕ) (edit : E
 forgotten-first law present place edit edits are =
     ap (before (take place edits)) (sym are.present_is) ∙ before-after law edits (applied edit are.first) place (λ j e is. are.fit (suc j) e is)
 
+-- Dropping the oldest edit leaves edits of the present state,
 forgotten-next : GivesBack → (present : NetworkState) (place : ℕ) (edits : List Edit) → AreEdits present edits (suc place)
     → AreEdits present (drop 1 edits) place
 forgotten-next law present place [] are = absurd (omega (arith, are.within))
@@ -136,11 +138,7 @@ forgotten-next law present place (edit ∷ edits) are =
       present_is = are.present_is;
     }
 
--- Dropping the oldest edit leaves edits of the present state, and forgets the oldest state of the timeline.
-forgotten-edits : GivesBack → (present : NetworkState) (place : ℕ) (edits : List Edit) (next : ℕ) → next ≡ suc place → AreEdits present edits next
-    → AreEdits present (drop 1 edits) place
-forgotten-edits law present place edits next is are = forgotten-next law present place edits (subst (AreEdits present edits) is are)
-
+-- and forgets the oldest state of the timeline.
 forgotten-rest : GivesBack → (present : NetworkState) (place bound : ℕ) (edits : List Edit) → AreEdits present edits (suc place)
     → timeline_of present (drop 1 edits) place bound ≡ forgotten (timeline_of present edits (suc place) bound)
 forgotten-rest law present place bound [] are = absurd (omega (arith, are.within))
@@ -150,41 +148,34 @@ forgotten-rest law present place bound (edit ∷ edits) are =
     let fewer : place ≡ suc place - 1 = omega arith in
     λ i. record { states = states_from (first i) edits; place = fewer i; bound = bound }
 
-forgotten-timeline : GivesBack → (present : NetworkState) (place bound : ℕ) (edits : List Edit) (next : ℕ) → next ≡ suc place → AreEdits present edits next
-    → timeline_of present (drop 1 edits) place bound ≡ forgotten (timeline_of present edits next bound)
-forgotten-timeline law present place bound edits next is are =
-    forgotten-rest law present place bound edits (subst (AreEdits present edits) is are)
-    ∙ ap (λ n. forgotten (timeline_of present edits n bound)) (sym is)
+module _ {present : NetworkState} {edits : List Edit} {place bound : ℕ} (kept : AreWithinBound present edits place bound) where
+  abbrev are : AreEdits present edits place
+  are = kept.are
 
-module _ (present : NetworkState) (edits : List Edit) (place bound : ℕ) (are : AreEdits present edits place) where
-  -- the timeline from the first state on
-  from-first : timeline_of present edits place bound ≡ record { states = states_from are.first edits; place = place; bound = bound }
-  from-first = ap (λ s. record { states = states_from s edits; place = place; bound = bound }) are.first_is
+  abbrev timeline : Timeline
+  timeline = timeline_of present edits place bound
 
   -- The states that the edits lead through are a timeline.
-  pub is-timeline : length edits ≤ bound → bound ≤ 1000000 → IsTimeline (timeline_of present edits place bound)
-  is-timeline at_most limit =
+  pub is-timeline : IsTimeline timeline
+  is-timeline =
       let long = length-states_from edits (before (take place edits) present) in
-      record { place = omega (arith, long, are.within); at_most = omega (arith, long, at_most); bound = limit }
+      record { place = omega (arith, long, are.within); at_most = omega (arith, long, kept.at_most); bound = kept.limit }
 
   -- As many states are past the present one as edits are behind its place.
-  pub future-is : future_of (timeline_of present edits place bound) ≡ length edits - place
+  pub future-is : future_of timeline ≡ length edits - place
   future-is = omega (arith, length-states_from edits (before (take place edits) present))
 
   -- The present state is that at the timeline's place.
-  pub is-present : IsPresent (timeline_of present edits place bound) present
-  is-present =
-      subst (λ t. IsPresent t present) (sym from-first)
-      (states_from-at edits are.first place are.within ∙ ap (λ s. Some s) are.present_is)
+  pub is-present : IsPresent timeline present
+  is-present = rw are.first_is (states_from-at edits are.first place are.within ∙ ap (λ s. Some s) are.present_is)
 
   -- The edits before a place make a state.
   IsState-after : (k : ℕ) → k ≤ length edits → IsState (after (take k edits) are.first)
   IsState-after zero h = are.state
   IsState-after (suc k) h = ⊎_elim
       (λ found.
-      let one_more : k + 1 ≡ suc k = omega arith in
-      subst (λ n. IsState (after (take n edits) are.first)) one_more
-      (subst IsState (sym (after-next edits are.first k found.0 found.2)) (are.fit k found.0 found.2).applied))
+      let one_more : suc k ≡ k + 1 = omega arith in
+      rw (one_more, after-next edits are.first k found.0 found.2) (are.fit k found.0 found.2).applied)
       (λ past. absurd (omega (arith, past.0, h)))
       (slice_get_cases edits k).1
 
@@ -212,35 +203,37 @@ module _ (present : NetworkState) (edits : List Edit) (place bound : ℕ) (are :
     unmade law = sym (law edit (after (take k edits) are.first) (are.fit k edit is)) ∙ ap (reverted edit) made
 
     -- After a step back the edits still lead from state to state.
-    pub undone : GivesBack → AreEdits (reverted edit present) edits k
+    pub undone : GivesBack → AreWithinBound (reverted edit present) edits k bound
     undone law = record {
-      within = omega (arith, last, are.within);
-      first = are.first;
-      state = are.state;
-      first_is = sym same-first ∙ are.first_is;
-      fit = are.fit;
-      present_is = unmade law;
+      are = record {
+        within = omega (arith, last, are.within);
+        first = are.first;
+        state = are.state;
+        first_is = sym same-first ∙ are.first_is;
+        fit = are.fit;
+        present_is = unmade law;
+      };
+      at_most = kept.at_most;
+      limit = kept.limit;
     }
 
     -- A step back is that of the timeline.
-    pub undone-back : timeline_of (reverted edit present) edits k bound ≡ back (timeline_of present edits place bound) 1
+    pub undone-back : timeline_of (reverted edit present) edits k bound ≡ back timeline 1
     undone-back =
         let fewer : k ≡ place - 1 = omega (arith, last) in
         λ i. record { states = states_from (sym same-first i) edits; place = fewer i; bound = bound }
 
     -- The edit before the place leads back to the state before.
-    pub leads-back : GivesBack → LeadsBack edit (timeline_of present edits place bound)
-    leads-back law = record {
-      state = present;
-      present = is-present;
-      steps = omega (arith, last);
-      stands = stands;
-      before =
-          let fewer : k ≡ place - 1 = omega (arith, last) in
-          subst (λ t. slice_get t.states (place - 1) ≡ Some (reverted edit present)) (sym from-first)
-          (subst (λ n. slice_get (states_from are.first edits) n ≡ Some (reverted edit present)) fewer
-          (states_from-at edits are.first k (omega (arith, last, are.within)) ∙ ap (λ s. Some s) (unmade law)));
-    }
+    pub leads-back : GivesBack → LeadsBack edit timeline
+    leads-back law =
+        let fewer : place - 1 ≡ k = omega (arith, last) in
+        record {
+          state = present;
+          present = is-present;
+          steps = omega (arith, last);
+          stands = stands;
+          before = rw (are.first_is, fewer) (states_from-at edits are.first k (omega (arith, last, are.within)) ∙ ap (λ s. Some s) (unmade law));
+        }
 
   -- ---- one step forward
 
@@ -253,56 +246,63 @@ module _ (present : NetworkState) (edits : List Edit) (place bound : ℕ) (are :
     same-first-forward law =
         before-next edits (applied edit present) place edit is ∙ ap (before (take place edits)) (law edit present fits)
 
+    forward-present : after (take (place + 1) edits) are.first ≡ applied edit present
+    forward-present = after-next edits are.first place edit is ∙ ap (applied edit) are.present_is
+
     -- After a step forward the edits still lead from state to state.
-    pub redone : GivesBack → AreEdits (applied edit present) edits (place + 1)
+    pub redone : GivesBack → AreWithinBound (applied edit present) edits (place + 1) bound
     redone law = record {
-      within = omega (arith, slice_get_within edits place edit is);
-      first = are.first;
-      state = are.state;
-      first_is = same-first-forward law ∙ are.first_is;
-      fit = are.fit;
-      present_is = after-next edits are.first place edit is ∙ ap (applied edit) are.present_is;
+      are = record {
+        within = omega (arith, slice_get_within edits place edit is);
+        first = are.first;
+        state = are.state;
+        first_is = same-first-forward law ∙ are.first_is;
+        fit = are.fit;
+        present_is = forward-present;
+      };
+      at_most = kept.at_most;
+      limit = kept.limit;
     }
 
     -- A step forward is that of the timeline.
-    pub redone-forward : GivesBack → timeline_of (applied edit present) edits (place + 1) bound ≡ forward (timeline_of present edits place bound) 1
+    pub redone-forward : GivesBack → timeline_of (applied edit present) edits (place + 1) bound ≡ forward timeline 1
     redone-forward law = λ i. record { states = states_from (same-first-forward law i) edits; place = place + 1; bound = bound }
 
-    next-is : IsPresent (forward (timeline_of present edits place bound) 1) (applied edit present)
+    next-is : IsPresent (forward timeline 1) (applied edit present)
     next-is =
-        subst (λ t. slice_get t.states (place + 1) ≡ Some (applied edit present)) (sym from-first)
-        (states_from-at edits are.first (place + 1) (omega (arith, slice_get_within edits place edit is))
-        ∙ ap (λ s. Some s) (after-next edits are.first place edit is ∙ ap (applied edit) are.present_is))
+        let within = slice_get_within edits place edit is in
+        rw are.first_is (states_from-at edits are.first (place + 1) (omega (arith, within)) ∙ ap (λ s. Some s) forward-present)
 
     -- The edit at the place leads on to the next state.
-    pub leads-on : LeadsOn edit (timeline_of present edits place bound)
+    pub leads-on : LeadsOn edit timeline
     leads-on = record { state = present; present = is-present; fits = fits; after = next-is }
 
     -- Where the edit at the place adds an arc, so does the timeline's next step.
-    pub adds-arcs : AddsArc edit → AddsArcs (timeline_of present edits place bound) place
-    adds-arcs adds =
-        record {
-          before = present;
-          after = applied edit present;
-          before_is = is-present;
-          after_is = next-is;
-          more = more-arcs edit present adds;
-        }
+    pub adds-arcs : AddsArc edit → AddsArcs timeline place
+    adds-arcs adds = record {
+      before = present;
+      after = applied edit present;
+      before_is = is-present;
+      after_is = next-is;
+      more = more-arcs edit present adds;
+    }
 
   -- ---- an edit replaces those past the present state
 
-  module _ (edit : Edit) (accepted : FitsPresent edit (timeline_of present edits place bound)) where
+  module _ (edit : Edit) (t : Timeline) (seen : timeline ≡ t) (accepted : FitsPresent edit t) where
     -- An edit that fits the timeline's present state fits the present state.
     pub fits-present : Fits edit present
-    fits-present = subst (Fits edit) (one-present (timeline_of present edits place bound) accepted.state present accepted.present is-present) accepted.fits
+    fits-present = rw (one-present t present accepted.state (rw (← seen) is-present) accepted.present) accepted.fits
 
     abbrev pub put : List Edit
     put = take place edits ++ edit ∷ []
 
+    take-all : take (place + 1) put ≡ put
+    take-all = take_all (place + 1) put (omega (arith, length-put edits place edit are.within))
+
     same-first-put : GivesBack → before (take (place + 1) put) (applied edit present) ≡ before (take place edits) present
     same-first-put law =
-        ap (λ es. before es (applied edit present)) (take_all (place + 1) put (omega (arith, length-put edits place edit are.within)))
-        ∙ before-push (take place edits) edit (applied edit present)
+        ap (λ es. before es (applied edit present)) take-all ∙ before-push (take place edits) edit (applied edit present)
         ∙ ap (before (take place edits)) (law edit present fits-present)
 
     put-edits : GivesBack → AreEdits (applied edit present) put (place + 1)
@@ -311,57 +311,48 @@ module _ (present : NetworkState) (edits : List Edit) (place bound : ℕ) (are :
       first = are.first;
       state = are.state;
       first_is = same-first-put law ∙ are.first_is;
-      fit = put-fit edits place edit are.first are.within are.fit (subst (Fits edit) (sym are.present_is) fits-present);
-      present_is =
-          ap (λ es. after es are.first) (take_all (place + 1) put (omega (arith, length-put edits place edit are.within)))
-          ∙ after-push (take place edits) edit are.first ∙ ap (applied edit) are.present_is;
+      fit = put-fit edits place edit are.first are.within are.fit (rw are.present_is fits-present);
+      present_is = ap (λ es. after es are.first) take-all ∙ after-push (take place edits) edit are.first ∙ ap (applied edit) are.present_is;
     }
 
     -- Where the place is below the bound, it moves on with the edit that was put.
-    pub put-within_bound : GivesBack → place < bound → bound ≤ 1000000 → AreWithinBound (applied edit present) put (place + 1) bound
-    put-within_bound law fewer limit = record {
-      are = put-edits law;
-      at_most = omega (arith, length-put edits place edit are.within, fewer);
-      limit = limit;
-    }
+    pub put-within_bound : GivesBack → place < bound → AreWithinBound (applied edit present) put (place + 1) bound
+    put-within_bound law fewer =
+        record { are = put-edits law; at_most = omega (arith, length-put edits place edit are.within, fewer); limit = kept.limit }
+
+    put-edits-suc : GivesBack → AreEdits (applied edit present) put (suc place)
+    put-edits-suc law =
+        let same : place + 1 ≡ suc place = omega arith in
+        rw same at (put-edits law)
 
     -- Else the oldest edit is forgotten, and the place stays.
-    pub put-forgets-within_bound : GivesBack → length edits ≤ bound → bound ≤ 1000000 → AreWithinBound (applied edit present) (drop 1 put) place bound
-    put-forgets-within_bound law at_most limit = record {
-      are = forgotten-edits law (applied edit present) place put (place + 1) (omega arith) (put-edits law);
-      at_most = omega (arith, length-put edits place edit are.within, length-drop 1 put, are.within, at_most);
-      limit = limit;
+    pub put-forgets-within_bound : GivesBack → AreWithinBound (applied edit present) (drop 1 put) place bound
+    put-forgets-within_bound law = record {
+      are = forgotten-next law (applied edit present) place put (put-edits-suc law);
+      at_most = omega (arith, length-put edits place edit are.within, length-drop 1 put, are.within, kept.at_most);
+      limit = kept.limit;
     }
 
-    put-extends : GivesBack → timeline_of (applied edit present) put (place + 1) bound ≡ extended (timeline_of present edits place bound) (applied edit present)
+    put-extends : GivesBack → timeline_of (applied edit present) put (place + 1) bound ≡ extended timeline (applied edit present)
     put-extends law =
-        let next_place : suc place ≡ place + 1 = omega arith in
-        let states : states_from are.first put ≡ take (place + 1) (states_from are.first edits) ++ applied edit present ∷ [] =
-        states_from-put edits are.first place edit are.within
-        ∙ ap (λ n. take n (states_from are.first edits) ++ applied edit (after (take place edits) are.first) ∷ []) next_place
-        ∙ ap (λ s. take (place + 1) (states_from are.first edits) ++ applied edit s ∷ []) are.present_is in
-        let first : before (take (place + 1) put) (applied edit present) ≡ are.first = same-first-put law ∙ are.first_is in
+        let next_place : place + 1 ≡ suc place = omega arith in
         let gives : states_from (before (take (place + 1) put) (applied edit present)) put ≡ take (place + 1)
         (states_from (before (take place edits) present) edits) ++ applied edit present ∷ [] =
-        ap (λ s. states_from s put) first ∙ states
-        ∙ ap (λ s. take (place + 1) (states_from s edits) ++ applied edit present ∷ []) (sym are.first_is) in
+        cc (same-first-put law, are.first_is, states_from-put edits are.first place edit are.within, next_place, are.present_is) in
         λ i. record { states = gives i; place = place + 1; bound = bound }
 
     -- The edit is appended, if the bound allows one more state before the present one.
-    pub put-appends : GivesBack → place < bound → Appends edit (timeline_of present edits place bound)
-        (timeline_of (applied edit present) put (place + 1) bound)
-    put-appends law fewer =
-        subst (Appends edit (timeline_of present edits place bound)) (sym (put-extends law))
-        (appends-all edit (timeline_of present edits place bound) present is-present fewer)
+    pub put-appends : GivesBack → place < bound → Appends edit t (timeline_of (applied edit present) put (place + 1) bound)
+    put-appends law fewer = rw (← seen, put-extends law) (appends-all edit timeline present is-present fewer)
 
     -- If it does not, the oldest edit is dropped.
-    pub put-forgets : GivesBack → bound ≤ place → Appends edit (timeline_of present edits place bound)
-        (timeline_of (applied edit present) (drop 1 put) place bound)
-    put-forgets law full = record {
-      state = present;
-      present = is-present;
-      gives =
-          forgotten-timeline law (applied edit present) place bound put (place + 1) (omega arith) (put-edits law)
-          ∙ ap forgotten (put-extends law)
-          ∙ sym (within_bound-past (extended (timeline_of present edits place bound) (applied edit present)) (omega (arith, full)));
-    }
+    pub put-forgets : GivesBack → bound ≤ place → Appends edit t (timeline_of (applied edit present) (drop 1 put) place bound)
+    put-forgets law full =
+        let same : suc place ≡ place + 1 = omega arith in
+        let rest = rw same at (forgotten-rest law (applied edit present) place bound put (put-edits-suc law)) in
+        rw (← seen) (record {
+          state = present;
+          present = is-present;
+          gives = rest ∙ ap forgotten (put-extends law)
+              ∙ sym (within_bound-past (extended timeline (applied edit present)) (omega (arith, full)));
+        })

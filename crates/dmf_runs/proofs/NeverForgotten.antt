@@ -10,7 +10,7 @@ use Rattle.dmf_runs.specs.Laws.{ForgetsNothing, AnswersForgettingNothing, Millio
 use Rattle.dmf_session.proofs.Growing.{Grows, same}
 use Rattle.dmf_session.proofs.EachCommand.{steps-grow}
 use Rattle.dmf_runs.proofs.LineLemmas.{answers-cases}
-use Rattle.dmf_runs.proofs.Running.{RunsAll-implied}
+use Rattle.dmf_runs.proofs.Running.{RunsAll-lead}
 
 -- The timeline before this line: its list has at most as many states as the line's number.
 record Stands (number : ℕ) (t : Timeline) : Type 0 where
@@ -31,8 +31,11 @@ answer-stands want_cut number t u command result stands answers =
 
 -- No run of at most 1,000,000 lines forgets a state.
 pub never-forgotten : MillionIsNeverForgotten
-never-forgotten want_cut brief s given text refused = RunsAll-implied brief Stands (Answers want_cut)
+never-forgotten want_cut brief s given text refused =
+    RunsAll-lead brief Stands (Answers want_cut) (AnswersForgettingNothing want_cut) 1000000
     (λ number t stands. record { place = stands.place; at_most = omega (arith, stands.at_most); bound = stands.bound })
-    (answer-stands want_cut) (AnswersForgettingNothing want_cut) 1000000
-    (λ number t u command result few stands answers. record { answers = answers; forgets_nothing = forgets-nothing number t stands few })
+    (λ number t u command result few stands answers. (
+      record { answers = answers; forgets_nothing = forgets-nothing number t stands few },
+      answer-stands want_cut number t u command result stands answers,
+    ))
     (start 1000000 s) given text refused (record { place = omega arith; at_most = omega arith; bound = refl })

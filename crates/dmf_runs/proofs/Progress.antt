@@ -1,5 +1,5 @@
 -- A run of command lines, up to some line, and its end.
-use Rattle.std.proofs.Common.{ℕ, ◌≡◌, ◌+◌, List, [], ◌∷◌, ◌++◌, length, Bool, true, false, ◌||◌, Option, Result, refl, sym, ap, ◌∙◌, subst, arith, append-nil}
+use Rattle.std.proofs.Common.{ℕ, ◌≡◌, ◌+◌, List, [], ◌∷◌, ◌++◌, length, Bool, true, false, ◌||◌, Option, Result, refl, ap, ◌∙◌, arith, append-nil}
 use Rattle.std.specs.List.{All}
 use Rattle.std.specs.Io.KnownBytes.{Appends}
 use Rattle.std.proofs.KnownBytes.{Consumes-nil, Appends-nil, Appends-trans}
@@ -14,7 +14,7 @@ use Rattle.dmf_runs.specs.declared.reply.SolveReply.{SolveReply}
 use Rattle.dmf_text.specs.Streams.{Writer}
 use Rattle.dmf_runs.specs.Streams.{Streams}
 use Rattle.dmf_streams.specs.KeptLine.{Kept}
-use Rattle.dmf_runs.specs.Line.{Means, with_line_feeds, line_meaning}
+use Rattle.dmf_runs.specs.Line.{Means, with_line_feeds}
 use Rattle.dmf_streams.specs.Input.{HasNoLineFeed, InputState, Takes, TakesLine, left}
 use Rattle.dmf_runs.specs.Run.{LineRuns, Runs}
 use Rattle.dmf_streams.proofs.TakingLemmas.{Takes-trans}
@@ -71,27 +71,25 @@ pub record Carried (wanted : SolveReply) (u : Timeline) (meaning : Result (Optio
   pub writer : next.has_failed ≡ holds.has_failed
 
 -- One line more is progress by one.
-abbrev pub Progress-more : (wanted : SolveReply) (t : Timeline) (before now then : InputState) (held holds next : Writer) (number : ℕ) (u : Timeline)
-    (is_refused : Bool)
-    (meaning : Result (Option Command) Refusal) (kept : Kept) (refused : Bool) (v : Timeline)
+abbrev pub Progress-more : {wanted : SolveReply} {t : Timeline} {before now : InputState} {held holds : Writer} {number : ℕ} {u : Timeline} {is_refused : Bool}
+    (then : InputState) (next : Writer) (meaning : Result (Option Command) Refusal) (kept : Kept) (refused : Bool) (v : Timeline)
     → Progress wanted t before now held holds number u is_refused → TakesLine now then kept true → Means kept true meaning
     → Carried wanted u meaning number holds next refused v
     → Progress wanted t before then held next (number + 1) v (is_refused || refused)
-Progress-more wanted t before now then held holds next number u is_refused meaning kept refused v p gave means c =
+Progress-more {wanted = wanted} {t = t} {before = before} {now = now} {number = number} {u = u} {is_refused = is_refused} then next meaning kept refused v p
+    gave means c =
     let line = gave.line in
-    let place : 1 + length p.lines ≡ number = omega (arith, p.counted) in
-    let runs = subst (λ m. LineRuns wanted.brief (Answers wanted.cut) number u m c.text refused v) (means line gave.keeps) c.runs in
+    let place : number ≡ 1 + length p.lines = omega (arith, p.counted) in
     record {
       fresh = p.fresh;
       lines = p.lines ++ line ∷ [];
       each = All-push HasNoLineFeed p.lines line p.each gave.no_line_feed;
       counted = omega (arith, length_push p.lines line, p.counted);
-      takes = subst (λ bytes. Takes before then bytes) (sym (with_line_feeds-push p.lines line))
-          (Takes-trans before now then (with_line_feeds p.lines) (line ++ 10 ∷ []) p.takes gave.takes);
+      takes = rw (with_line_feeds-push p.lines line) (Takes-trans before now then (with_line_feeds p.lines) (line ++ 10 ∷ []) p.takes gave.takes);
       reader = gave.mark ∙ p.reader;
       written = p.written ++ c.text;
       appends = Appends-trans _ _ _ p.written c.text p.appends c.appends;
       writer = c.writer ∙ p.writer;
-      runs = Runs-push wanted 1 t p.lines p.written is_refused u line c.text refused v p.runs
-          (subst (λ n. LineRuns wanted.brief (Answers wanted.cut) n u (line_meaning true line) c.text refused v) (sym place) runs);
+      runs = Runs-push wanted.brief (Answers wanted.cut) 1 t p.lines p.written is_refused u line c.text refused v p.runs
+          (rw (place, means line gave.keeps) at c.runs);
     }

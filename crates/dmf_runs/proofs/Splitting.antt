@@ -63,13 +63,12 @@ no-line_feed (byte ∷ front) behind each = no-line_feed front behind (All-tail 
 one-first : (line other behind after : List ℕ) → HasNoLineFeed line → HasNoLineFeed other → line ++ 10 ∷ behind ≡ other ++ 10 ∷ after
     → (line ≡ other) × (behind ≡ after)
 one-first [] [] behind after none also e = (refl, cc)
-one-first [] (c ∷ other) behind after none also e = let same : 10 ≡ c = cc in absurd (All-head (λ (b : ℕ). b ≢ 10) c other also (sym same))
-one-first (b ∷ line) [] behind after none also e = let same : b ≡ 10 = cc in absurd (All-head (λ (b : ℕ). b ≢ 10) b line none same)
+one-first [] (c ∷ other) behind after none also e = absurd (All-head (λ (b : ℕ). b ≢ 10) c other also (cc))
+one-first (b ∷ line) [] behind after none also e = absurd (All-head (λ (b : ℕ). b ≢ 10) b line none (cc))
 one-first (b ∷ line) (c ∷ other) behind after none also e =
-    let same : b ≡ c = cc in
     let more : line ++ 10 ∷ behind ≡ other ++ 10 ∷ after = cc in
     let rest = one-first line other behind after (All-tail (λ (b : ℕ). b ≢ 10) b line none) (All-tail (λ (b : ℕ). b ≢ 10) c other also) more in
-    (ap (λ x. x ∷ line) same ∙ ap (λ x. c ∷ x) rest.0, rest.1)
+    (cc, rest.1)
 
 -- the bytes of the lines, with the line feed of the first
 with_line_feeds-first : (line : List ℕ) (lines : List (List ℕ)) (rest : List ℕ)
@@ -89,7 +88,7 @@ one-lines (line ∷ lines) (other ∷ others) rest last each also none bare e =
     (All-head HasNoLineFeed other others also)
     (sym (with_line_feeds-first line lines rest) ∙ e ∙ with_line_feeds-first other others last) in
     let more = one-lines lines others rest last (All-tail HasNoLineFeed line lines each) (All-tail HasNoLineFeed other others also) none bare first.1 in
-    (ap (λ x. x ∷ lines) first.0 ∙ ap (λ x. other ∷ x) more.0, more.1)
+    (cc, more.1)
 
 -- Any two ways to split a text agree.
 pub one-split : (text : List ℕ) (lines others : List (List ℕ)) (rest last : List ℕ) → IsSplit text lines rest → IsSplit text others last

@@ -15,7 +15,7 @@ use Rattle.dmf_session.specs.AppendedEdit.{AnswersAppended}
 use Rattle.dmf_session.specs.declared.command.Refusal.{Refusal}
 use Rattle.dmf_session.specs.declared.command.Refusal.TheVariants as refusal
 use Rattle.dmf_history.specs.Timeline.{Timeline, IsPresent, Appends}
-use Rattle.dmf_session.specs.Step.{Changes, IsAccepted, IsChanged, IsRefused, refusal_of, value_of}
+use Rattle.dmf_session.specs.Step.{Changes, IsAccepted, IsChanged, value_of}
 use Rattle.dmf_session.specs.Laws.{HasStates}
 use Rattle.dmf_history.proofs.Appending.{one-present, now-present, appends-applied}
 
@@ -60,40 +60,20 @@ no-fault : (edit : Edit) (fault : Option PlanFault) → MatchOption fault (IsOkU
 no-fault edit None planned = refl
 no-fault edit (Some f) planned = absurd (cc)
 
-planned-changes : (t u : Timeline) (s : NetworkState) (edit : Edit) (change : Change) (reply : NetworkState → Reply) (result : Result Reply Refusal)
-    (fault : Option PlanFault) → MatchOption fault (IsOkUnless (Ok edit) NoMemory) (λ f. Ok edit ≡ Err f) → IsChanged t s change reply result u
-    → MatchOption fault (IsChanged t s change reply result u) (λ f. IsRefused t (refusal_of f) result u)
-planned-changes t u s edit change reply result None planned changed = changed
-planned-changes t u s edit change reply result (Some f) planned changed = absurd (cc)
-
 -- A change was planned on the present state, unless memory was refused, and its edit was appended. Then a command that asks for it has
 -- its answer.
-answers-at : (t u : Timeline) (s : NetworkState) (edit : Edit) (change : Change) (IsAnswer : Result Reply Refusal → Type 0) (result : Result Reply Refusal)
-    → IsPresent t s → MatchOption (change_fault s change) (IsOkUnless (Ok edit) NoMemory) (λ f. Ok edit ≡ Err f) → Becomes s change (applied edit s)
-    → AnswersAppended edit t result u
-    → ((value : ℕ) → (s : NetworkState) × IsPresent t s × Changes t s change (λ new. Value (value_of new)) (Ok (Value value)) u → IsAnswer (Ok (Value value)))
-    → (IsAccepted t change × (u ≡ t) → IsAnswer (Err refusal.NoMemory)) → IsAnswer result
-answers-at t u s edit change IsAnswer (Ok (Value value)) present planned becomes a answered refused =
-    answered value (
-      s,
-      present,
-      planned-changes t u s edit change (λ new. Value (value_of new)) (Ok (Value value)) (change_fault s change) planned
-          (IsChanged-told t u s a.state edit change (λ new. Value (value_of new)) (Value value) present becomes a.appends a.present
-          (ap (λ n. Value n) (ap nat_abs a.value_is))),
-    )
-answers-at t u s edit change IsAnswer (Err refusal.NoMemory) present planned becomes a answered refused =
-    refused ((s, present, no-fault edit (change_fault s change) planned), a)
-answers-at t u s edit change IsAnswer result present planned becomes a answered refused = absurd a
-
--- The same for a history, under both of its names.
-pub answers-appended : {X : Type 0} (timeline : X → Timeline) (inside seen : X) → inside ≡ seen → (u : Timeline) (s : NetworkState) (edit : Edit)
-    (change : Change) (IsAnswer : Timeline → Result Reply Refusal → Timeline → Type 0) (result : Result Reply Refusal) → IsPresent (timeline inside) s
+pub answers-appended : (t u : Timeline) (s : NetworkState) (edit : Edit) (change : Change)
+    (IsAnswer : Timeline → Result Reply Refusal → Timeline → Type 0) (result : Result Reply Refusal) → IsPresent t s
     → MatchOption (change_fault s change) (IsOkUnless (Ok edit) NoMemory) (λ f. Ok edit ≡ Err f) → Becomes s change (applied edit s)
-    → AnswersAppended edit (timeline inside) result u
-    → ((t : Timeline) (value : ℕ) → (s : NetworkState) × IsPresent t s × Changes t s change (λ new. Value (value_of new)) (Ok (Value value)) u
+    → AnswersAppended edit t result u
+    → ((value : ℕ) → (s : NetworkState) × IsPresent t s × Changes t s change (λ new. Value (value_of new)) (Ok (Value value)) u
     → IsAnswer t (Ok (Value value)) u)
-    → ((t : Timeline) → IsAccepted t change × (u ≡ t) → IsAnswer t (Err refusal.NoMemory) u) → IsAnswer (timeline seen) result u
-answers-appended timeline inside seen same u s edit change IsAnswer result present planned becomes appended answered refused =
-    subst (λ h. IsAnswer (timeline h) result u) same
-    (answers-at (timeline inside) u s edit change (λ r. IsAnswer (timeline inside) r u) result present planned becomes appended
-    (answered (timeline inside)) (refused (timeline inside)))
+    → (IsAccepted t change × (u ≡ t) → IsAnswer t (Err refusal.NoMemory) u) → IsAnswer t result u
+answers-appended t u s edit change IsAnswer (Ok (Value value)) present planned becomes a answered refused =
+    let none = no-fault edit (change_fault s change) planned in
+    let changed = IsChanged-told t u s a.state edit change (λ new. Value (value_of new)) (Value value) present becomes a.appends a.present
+    (ap (λ n. Value n) (ap nat_abs a.value_is)) in
+    answered value (s, present, rw none changed)
+answers-appended t u s edit change IsAnswer (Err refusal.NoMemory) present planned becomes a answered refused =
+    refused ((s, present, no-fault edit (change_fault s change) planned), a)
+answers-appended t u s edit change IsAnswer result present planned becomes a answered refused = absurd a

@@ -1,17 +1,15 @@
 -- By how much a step lengthens a timeline.
-use Rattle.std.proofs.Common.{ℕ, ◌≡◌, ◌+◌, ◌<◌, ◌≤◌, List, length, take, Bool, true, false, Option, Some, None, Result, ◌⊎◌, inl, inr, ⊎_elim, refl, sym}
-use Rattle.std.proofs.Common.{subst, arith, nat_le}
+use Rattle.std.proofs.Common.{◌≡◌, ◌+◌, ◌<◌, ◌≤◌, List, length, take, Bool, true, false, Option, Some, None, Result, refl, sym}
+use Rattle.std.proofs.Common.{subst, arith}
 use Rattle.std.specs.Bool.{MatchBool}
 use Rattle.std.specs.Option.{MatchOption}
 use Rattle.std.proofs.lemmas.List.{length_push, length-take-le, length-drop}
-use Rattle.std.proofs.lemmas.Bool.{leb-true}
 use Rattle.dmf_state.specs.NetworkState.{NetworkState}
 use Rattle.dmf_solver.specs.declared.fault.PlanFault.{PlanFault}
 use Rattle.dmf_solver.specs.Change.{Change}
 use Rattle.dmf_session.specs.declared.command.Reply.{Reply}
 use Rattle.dmf_session.specs.declared.command.Refusal.{Refusal}
-use Rattle.dmf_session.specs.declared.command.Refusal.TheVariants.{NothingToUndo, NothingToRedo}
-use Rattle.dmf_history.specs.Timeline.{Timeline, extended, appended, back, forward, future_of}
+use Rattle.dmf_history.specs.Timeline.{Timeline, extended, appended}
 use Rattle.dmf_session.specs.Step.{IsChanged, IsRefused, IsMoved, refusal_of}
 use Rattle.dmf_history.proofs.Appending.{within_bound-keeps}
 
@@ -23,7 +21,7 @@ pub record Grows (t u : Timeline) : Type 0 where
 
 -- A timeline that stays has grown by none.
 pub same : (t u : Timeline) → t.place < length t.states → u ≡ t → Grows t u
-same t u within e = subst (λ v. Grows t v) (sym e) (record { place = within; at_most = omega arith; bound = refl })
+same t u within e = rw e (record { place = within; at_most = omega arith; bound = refl })
 
 -- With one state appended it has grown by one.
 pub appended-grows : (t u : Timeline) (s : NetworkState) → t.place < length t.states → u ≡ appended t s → Grows t u
@@ -43,24 +41,8 @@ pub change-grows : (t u : Timeline) (s : NetworkState) (made : Change) (reply : 
 change-grows t u s made reply result None within m = appended-grows t u m.new within m.appends
 change-grows t u s made reply result (Some f) within m = same t u within m.unchanged
 
--- one to an undo,
-pub undo-grows : (t u : Timeline) (steps : ℕ) (result : Result Reply Refusal) (b : Bool) → t.place < length t.states
-    → MatchBool b (IsMoved (back t steps) result u) (IsRefused t NothingToUndo result u) → Grows t u
-undo-grows t u steps result true within m = subst (λ v. Grows t v) (sym m.moves) (record { place = omega arith; at_most = omega arith; bound = refl })
-undo-grows t u steps result false within m = same t u within m.unchanged
-
-test-cases : (m n : ℕ) → ((nat_le m n ≡ true) × (m ≤ n)) ⊎ (nat_le m n ≡ false)
-test-cases m n = elim (nat_le m n) as (λ b. (nat_le m n ≡ b → (b ≡ true → m ≤ n) → ((b ≡ true) × (m ≤ n)) ⊎ (b ≡ false)))
-    [ true ↦ λ e f. inl (refl, f refl) | false ↦ λ e f. inr refl ] refl (leb-true m n)
-
--- and one to a redo by none.
-pub redo-grows : (t u : Timeline) (steps : ℕ) (result : Result Reply Refusal) → t.place < length t.states
-    → MatchBool (nat_le steps (future_of t)) (IsMoved (forward t steps) result u) (IsRefused t NothingToRedo result u) → Grows t u
-redo-grows t u steps result within m = ⊎_elim
-    (λ (yes : (nat_le steps (future_of t) ≡ true) × (steps ≤ future_of t)).
-    let moved = subst (λ b. MatchBool b (IsMoved (forward t steps) result u) (IsRefused t NothingToRedo result u)) yes.0 m in
-    subst (λ v. Grows t v) (sym moved.moves) (record { place = omega (arith, yes.1); at_most = omega arith; bound = refl }))
-    (λ (no : nat_le steps (future_of t) ≡ false).
-    let refused = subst (λ b. MatchBool b (IsMoved (forward t steps) result u) (IsRefused t NothingToRedo result u)) no m in
-    same t u within refused.unchanged)
-    (test-cases steps (future_of t))
+-- and one to a step back or forward as its move does, or by none.
+pub move-grows : (t u moved : Timeline) (refusal : Refusal) (result : Result Reply Refusal) (may : Bool) → t.place < length t.states
+    → (may ≡ true → Grows t moved) → MatchBool may (IsMoved moved result u) (IsRefused t refusal result u) → Grows t u
+move-grows t u moved refusal result true within grows m = rw m.moves (grows refl)
+move-grows t u moved refusal result false within grows m = same t u within m.unchanged

@@ -21,13 +21,6 @@ before-appended t s new present some =
     within_bound-keeps (λ u. IsPresent (back u 1) s) (extended t new) before
     (λ past. forgotten-present (back (extended t new) 1) s before (omega (arith, past, some)))
 
-steps-back : (t : Timeline) (new : NetworkState) → 0 < t.bound → 1 ≤ (appended t new).place
-steps-back t new some = within_bound-keeps (λ u. 1 ≤ u.place) (extended t new) (omega arith) (λ past. omega (arith, past, some))
-
-nothing-before : (t : Timeline) (new : NetworkState) → t.place ≡ 0 → t.bound ≡ 0 → (appended t new).place ≡ 0
-nothing-before t new first none =
-    ap (λ u. u.place) (within_bound-past (extended t new) (omega (arith, none))) ∙ omega (arith, first)
-
 undone : (t v : Timeline) (s new : NetworkState) (result : Result Reply Refusal) → IsTimeline t → IsPresent t s
     → MatchBool (nat_le 1 (appended t new).place) (IsMoved (back (appended t new) 1) result v) (IsRefused (appended t new) NothingToUndo result v)
     → UndoesChange t.bound s result v
@@ -35,11 +28,13 @@ undone t v s new result is present m =
     let u : Timeline = appended t new in
     record {
       kept = λ some.
-          let moved : IsMoved (back u 1) result v = when_true _ _ (le-leb 1 u.place (steps-back t new some)) m in
+          let place : 1 ≤ u.place = within_bound-keeps (λ w. 1 ≤ w.place) (extended t new) (omega arith) (λ past. omega (arith, past, some)) in
+          let moved : IsMoved (back u 1) result v = when_true _ _ (le-leb 1 u.place place) m in
           let same : moved.state ≡ s = one-present (back u 1) moved.state s moved.present (before-appended t s new present some) in
           (moved.told ∙ ap (λ x. Ok (Value (value_of x))) same, subst (λ w. IsPresent w s) (sym moved.moves) (before-appended t s new present some));
       forgotten = λ none.
-          let zero_place : u.place ≡ 0 = nothing-before t new (omega (arith, is.place, is.at_most, none)) none in
+          let forgets = within_bound-past (extended t new) (omega (arith, none)) in
+          let zero_place : u.place ≡ 0 = ap (λ w. w.place) forgets ∙ omega (arith, is.place, is.at_most, none) in
           let refused : IsRefused u NothingToUndo result v = when_false _ _ (lt-leb 1 u.place (omega (arith, zero_place))) m in
           refused.told;
     }

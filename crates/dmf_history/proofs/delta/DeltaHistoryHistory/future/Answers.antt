@@ -5,9 +5,8 @@ use Rattle.dmf_history.proofs.delta.DeltaHistoryHistory.future.Goals as goal
 
 pub returns-clause-count : goal.returns-clause-count
 returns-clause-count c =
-    let future = ap future_of (sym c.self.view_is) ∙ future-is _ _ _ c.self.inside.bound c.self.invariant.are in
+    let future = ap future_of (sym c.self.view_is) ∙ future-is c.self.invariant in
     omega (arith, future, c.len.ensures, c.self.inside.edits.ok.0)
 
 pub returns-clause-timeline : goal.returns-clause-timeline
-returns-clause-timeline c = subst IsTimeline c.self.view_is (is-timeline _ _ _ c.self.inside.bound c.self.invariant.are c.self.invariant.at_most
-    c.self.invariant.limit)
+returns-clause-timeline c = subst IsTimeline c.self.view_is (is-timeline c.self.invariant)

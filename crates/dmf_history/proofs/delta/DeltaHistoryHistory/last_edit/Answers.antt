@@ -11,4 +11,4 @@ returns-clause-edit c =
     let last : a.place ≡ k + 1 = omega (arith, c.in_ok-last.ensures.0, c.in_ok-last.ensures.1) in
     subst (λ t. IfSome c.get.result (λ edit. LeadsBack edit.now t)) c.self.view_is
     (IfSome_then c.get.result (found a.edits.items k c.get.result c.get.ensures.item.3)
-    (λ edit is. leads-back a.present a.edits.items a.place a.bound c.self.invariant.are k edit.now last is c.reverting_gives_back.ensures))
+    (λ edit is. leads-back c.self.invariant k edit.now last is c.reverting_gives_back.ensures))

@@ -9,11 +9,11 @@ returns-clause-edit c =
     let a = c.self.inside in
     subst (λ t. IfSome c.get.result (λ edit. LeadsOn edit.now t)) c.self.view_is
     (IfSome_then c.get.result (found a.edits.items a.place c.get.result c.get.ensures.item.3)
-    (λ edit is. leads-on a.present a.edits.items a.place a.bound c.self.invariant.are edit.now is))
+    (λ edit is. leads-on c.self.invariant edit.now is))
 
 pub returns-clause-none : goal.returns-clause-none
 returns-clause-none c =
     let a = c.self.inside in
     let none = none-past a.edits.items a.place c.get.result c.get.ensures.item.3 in
-    let future = ap future_of (sym c.self.view_is) ∙ future-is a.present a.edits.items a.place a.bound c.self.invariant.are in
+    let future = ap future_of (sym c.self.view_is) ∙ future-is c.self.invariant in
     (λ e. omega (arith, future, none.0 e), λ last. none.1 (omega (arith, future, last)))

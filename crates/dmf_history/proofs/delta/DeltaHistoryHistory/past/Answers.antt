@@ -4,5 +4,4 @@ use Rattle.dmf_history.proofs.Edits.{is-timeline}
 use Rattle.dmf_history.proofs.delta.DeltaHistoryHistory.past.Goals as goal
 
 pub returns-clause-timeline : goal.returns-clause-timeline
-returns-clause-timeline c = subst IsTimeline c.self.view_is (is-timeline _ _ _ c.self.inside.bound c.self.invariant.are c.self.invariant.at_most
-    c.self.invariant.limit)
+returns-clause-timeline c = subst IsTimeline c.self.view_is (is-timeline c.self.invariant)

@@ -4,8 +4,7 @@ use Rattle.dmf_history.proofs.Edits.{is-timeline, is-present}
 use Rattle.dmf_history.proofs.delta.DeltaHistoryHistory.present.Goals as goal
 
 pub returns-clause-state : goal.returns-clause-state
-returns-clause-state c = subst (λ t. IsPresent t c.self.inside.present) c.self.view_is (is-present _ _ _ c.self.inside.bound c.self.invariant.are)
+returns-clause-state c = subst (λ t. IsPresent t c.self.inside.present) c.self.view_is (is-present c.self.invariant)
 
 pub returns-clause-timeline : goal.returns-clause-timeline
-returns-clause-timeline c = subst IsTimeline c.self.view_is (is-timeline _ _ _ c.self.inside.bound c.self.invariant.are c.self.invariant.at_most
-    c.self.invariant.limit)
+returns-clause-timeline c = subst IsTimeline c.self.view_is (is-timeline c.self.invariant)

@@ -23,43 +23,38 @@ next c =
 
 pub returns-then-self-len-clause-last : goal.returns-then-self-len-clause-last
 returns-then-self-len-clause-last c =
-    let future = ap future_of (sym c.self.view_is) ∙ future-is _ _ _ c.self.inside.bound c.self.invariant.are in
+    let future = ap future_of (sym c.self.view_is) ∙ future-is c.self.invariant in
     (λ _. omega (arith, future, c.if-self-len.true, c.len.ensures, c.self.inside.edits.ok.0), λ _. refl)
 
 pub apply-requires : goal.apply-requires
 apply-requires c =
-    let a = c.self.inside in
     let is = next (goal.at.apply-requires c).After-index in
-    fits a.present a.edits.items a.place a.bound c.self.invariant.are c.index.result.now is
+    fits c.self.invariant c.index.result.now is
 
 pub returns-in_err-apply-clause-last : goal.returns-in_err-apply-clause-last
 returns-in_err-apply-clause-last c =
-    let future = ap future_of (sym c.self.view_is) ∙ future-is _ _ _ c.self.inside.bound c.self.invariant.are in (
+    let future = ap future_of (sym c.self.view_is) ∙ future-is c.self.invariant in (
       λ e. absurd (differs c.from_residual.result c.from_residual.ensures.1 e),
       λ none. absurd (omega (arith, future, none, c.if-self-len.false, c.len.ensures, c.self.invariant.are.within, c.self.inside.edits.ok.0)),
     )
 
 pub returns-in_err-apply-clause-memory : goal.returns-in_err-apply-clause-memory
 returns-in_err-apply-clause-memory c = λ e.
-    let a = c.self.inside in
     let is = next (goal.at.returns-in_err-apply-clause-memory c).After-index in
-    rw (← c.self.view_is) (adds-arcs a.present a.edits.items a.place a.bound c.self.invariant.are c.index.result.now is c.in_err-apply.ensures.refused)
+    rw (← c.self.view_is) (adds-arcs c.self.invariant c.index.result.now is c.in_err-apply.ensures.refused)
 
 pub invariant_of-self-2 : goal.invariant_of-self-2
 invariant_of-self-2 c =
-    let a = c.self.inside in
     let is = next (goal.at.invariant_of-self-2 c).After-index in
-    let are = redone a.present a.edits.items a.place a.bound c.self.invariant.are c.index.result.now is c.reverting_gives_back.ensures in
-    rw c.in_ok-apply.ensures.ok (record { are = are; at_most = c.self.invariant.at_most; limit = c.self.invariant.limit })
+    rw c.in_ok-apply.ensures.ok (redone c.self.invariant c.index.result.now is c.reverting_gives_back.ensures)
 
 pub returns-clause-last : goal.returns-clause-last
 returns-clause-last c =
-    let future = ap future_of (sym c.self.view_is) ∙ future-is _ _ _ c.self.inside.bound c.self.invariant.are in
+    let future = ap future_of (sym c.self.view_is) ∙ future-is c.self.invariant in
     (λ e. absurd (cc), λ none. absurd (omega (arith, future, none, c.if-self-len.false, c.len.ensures, c.self.invariant.are.within, c.self.inside.edits.ok.0)))
 
 pub returns-clause-ok : goal.returns-clause-ok
 returns-clause-ok c =
-    let a = c.self.inside in
     let is = next (goal.at.returns-clause-ok c).After-index in
     rw (← c.self.view_is, c.in_ok-apply.ensures.ok)
-    (redone-forward a.present a.edits.items a.place a.bound c.self.invariant.are c.index.result.now is c.reverting_gives_back.ensures)
+    (redone-forward c.self.invariant c.index.result.now is c.reverting_gives_back.ensures)

@@ -18,21 +18,16 @@ last c =
 
 pub revert-requires : goal.revert-requires
 revert-requires c =
-    let a = c.self.inside in
     let last = last (goal.at.revert-requires c).After-index in
-    stands a.present a.edits.items a.place a.bound c.self.invariant.are (a.place - 1) c.index.result.now last.0 last.1
+    stands c.self.invariant _ c.index.result.now last.0 last.1
 
 pub invariant_of-self : goal.invariant_of-self
 invariant_of-self c =
-    let a = c.self.inside in
     let last = last (goal.at.invariant_of-self c).After-index in
-    let are = undone a.present a.edits.items a.place a.bound c.self.invariant.are (a.place - 1) c.index.result.now last.0 last.1
-    c.reverting_gives_back.ensures in
-    rw c.revert.ensures (record { are = are; at_most = c.self.invariant.at_most; limit = c.self.invariant.limit })
+    rw c.revert.ensures (undone c.self.invariant _ c.index.result.now last.0 last.1 c.reverting_gives_back.ensures)
 
 pub returns-clause-ok : goal.returns-clause-ok
 returns-clause-ok c =
-    let a = c.self.inside in
     let last = last (goal.at.returns-clause-ok c).After-index in
     rw (← c.self.view_is, c.revert.ensures)
-    (undone-back a.present a.edits.items a.place a.bound c.self.invariant.are (a.place - 1) c.index.result.now last.0 last.1)
+    (undone-back c.self.invariant _ c.index.result.now last.0 last.1)

@@ -6,6 +6,6 @@ use Rattle.dmf_session.proofs.session.Session.close.Goals as goal
 
 pub returns-clause-answer : goal.returns-clause-answer
 returns-clause-answer g c want_cut =
-    answers-appended g.H.History.timeline c.self.inside.history c.args.self.now c.self.view_is (g.H.History.timeline c.change.new.self) _ _
+    rw (← c.self.view_is) (answers-appended (g.H.History.timeline c.self.inside.history) (g.H.History.timeline c.change.new.self) _ _
     (change.Close c.args.arc) (λ t result u. Answers want_cut t (Close c.args.arc) result u) _ c.present.ensures.state
-    c.in_ok-edit.ensures.refused c.in_ok-edit.ensures.plan.becomes c.change.ensures (λ t value is. is) (λ t is. is)
+    c.in_ok-edit.ensures.refused c.in_ok-edit.ensures.plan.becomes c.change.ensures (λ value is. is) (λ is. is))
