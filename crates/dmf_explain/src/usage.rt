@@ -7,9 +7,20 @@ use std::fmt;
 #[derive(Clone, Copy)]
 pub enum Meant<'a> {
     /// To solve the problem in this file, which has to come from standard input.
-    Solve { with_cut: bool, file: &'a str },
+    Solve {
+        with_cut: bool,
+        file: &'a str,
+    },
+    /// To check a problem's solution, or to run commands on a problem, from this file, which has to come from standard input.
+    Input {
+        command: &'a str,
+        problem: &'a str,
+        file: &'a str,
+    },
     /// A bound of the history.
-    History { most: u32 },
+    History {
+        most: u32,
+    },
 }
 
 impl fmt::Display for Meant<'_> {
@@ -19,6 +30,15 @@ impl fmt::Display for Meant<'_> {
                 let cut = if *with_cut { "--cut " } else { "" };
                 let shown = Shown(file.as_bytes());
                 write!(f, "dmf solve {cut}<{shown}")
+            }
+            Meant::Input {
+                command,
+                problem,
+                file,
+            } => {
+                let problem = Shown(problem.as_bytes());
+                let shown = Shown(file.as_bytes());
+                write!(f, "dmf {command} {problem} <{shown}")
             }
             Meant::History { most } => write!(f, "N is a whole number from 0 to {most}"),
         }
@@ -32,14 +52,26 @@ pub fn meant_by<'a>(words: &'a [String], most: u32) -> Option<Meant<'a>> {
     }
     match words {
         [_, command, rest @ ..] if command.as_str() == "solve" => solve_of(rest),
-        [_, file] if is_plain(file.as_str()) && !file.as_str().starts_with("-") => Some(
-            Meant::Solve {
-                with_cut: false,
-                file: file.as_str(),
-            },
-        ),
+        [_, command, problem, file] => input_of(command.as_str(), problem.as_str(), file.as_str()),
+        [_, file] if is_file_name(file.as_str()) => Some(Meant::Solve {
+            with_cut: false,
+            file: file.as_str(),
+        }),
         _ => None,
     }
+}
+
+/// The check or the session that a command with two files may mean.
+fn input_of<'a>(command: &'a str, problem: &'a str, file: &'a str) -> Option<Meant<'a>> {
+    let takes_input = command == "check" || command == "session";
+    if takes_input && is_file_name(problem) && is_file_name(file) {
+        return Some(Meant::Input {
+            command,
+            problem,
+            file,
+        });
+    }
+    None
 }
 
 /// The solve that the words after `solve` may mean: they have one file beside the flags, whose name needs no quotes.
@@ -51,14 +83,17 @@ fn solve_of(words: &[String]) -> Option<Meant<'_>> {
         match word {
             "--cut" => with_cut = true,
             "--progress" => {}
-            file if meant.is_none() && is_plain(file) && !file.starts_with("-") => meant = Some(
-                file,
-            ),
+            file if meant.is_none() && is_file_name(file) => meant = Some(file),
             _ => return None,
         }
     }
     let file = meant?;
     Some(Meant::Solve { with_cut, file })
+}
+
+/// Whether the word may name a file, by a name that needs no quotes.
+fn is_file_name(word: &str) -> bool {
+    is_plain(word) && !word.starts_with("-")
 }
 
 /// Whether a shell passes the word on unchanged.
