@@ -351,7 +351,7 @@ def build(told: Told) -> None:
             return  # The call that this one waited for has built it.
         begun = time.time()
         crates = read_crates()
-        if all(it.is_kept for it in crates.values() if it.name != PROGRAM):
+        if before is not None and all(it.is_kept for it in crates.values() if it.name != PROGRAM):
             told.line("a source has changed since the program was built. What depends on it is proved and built again.")
         else:
             told.line("the program is proved and built. This happens once, and takes 9 to 15 minutes on 4 idle processors.")
