@@ -9,7 +9,6 @@ import os
 import signal
 import subprocess
 import sys
-import time
 from collections.abc import Iterator
 from contextlib import contextmanager
 from pathlib import Path
@@ -35,11 +34,14 @@ def folder(tmp_path: Path, monkeypatch: pytest.MonkeyPatch) -> Path:
     return tmp_path
 
 
-def run_tool(*words: str, before: str = "") -> subprocess.CompletedProcess[str]:
-    """Runs the tool, or a script that carries it out after something else."""
+def command(*words: str, before: str = "") -> list[str]:
+    """The words that run the tool, or a script that carries it out after something else."""
     script = f"import sys, runpy\n{before}\nsys.argv[1:2] = []\nrunpy.run_path({TOOL[1]!r}, run_name='__main__')"
-    command = [sys.executable, "-c", script, "dmf-sweep"] if before else TOOL
-    return subprocess.run([*command, *words], capture_output=True, text=True, timeout=SECONDS)
+    return [*([sys.executable, "-c", script, "dmf-sweep"] if before else TOOL), *words]
+
+
+def run_tool(*words: str, before: str = "") -> subprocess.CompletedProcess[str]:
+    return subprocess.run(command(*words, before=before), capture_output=True, text=True, timeout=SECONDS)
 
 
 def judge_table() -> None:
@@ -51,16 +53,30 @@ def judge_table() -> None:
     ]
 
 
+# It stops when it has written some lines of the table.
+STOPPING = """
+import os, signal
+write = os.write
+count = 0
+def written(file, data):
+    global count
+    size = write(file, data)
+    if os.readlink(f"/proc/self/fd/{file}").endswith("table.csv"):
+        count += 1
+        if count == 9:
+            os.kill(os.getpid(), signal.SIGSTOP)
+    return size
+os.write = written
+"""
+
+
 @contextmanager
 def begun() -> Iterator[subprocess.Popen[str]]:
-    """A sweep that has tried some cases, and waits at most so long as the block takes."""
-    command = [*TOOL, *INTO_TABLE]
-    with subprocess.Popen(command, stderr=subprocess.PIPE, text=True, preexec_fn=heed_interrupts) as process:
-        deadline = time.monotonic() + SECONDS
-        while not (Path("table.csv").exists() and Path("table.csv").read_bytes().count(b"\n") > 2):
-            assert time.monotonic() < deadline and process.poll() is None
-            time.sleep(0.001)
-        process.send_signal(signal.SIGSTOP)
+    """A sweep that has tried some cases, and waits as long as the block takes."""
+    words = command(*INTO_TABLE, before=STOPPING)
+    with subprocess.Popen(words, stderr=subprocess.PIPE, text=True, preexec_fn=heed_interrupts) as process:
+        how = os.waitid(os.P_PID, process.pid, os.WSTOPPED | os.WEXITED | os.WNOWAIT)
+        assert how and how.si_code == os.CLD_STOPPED
         try:
             yield process
         finally:
@@ -80,10 +96,11 @@ def test_two_at_once() -> None:
 
 
 def test_two_that_begin_at_once() -> None:
-    """One of them writes the table, whichever it is."""
-    both = [subprocess.Popen([*TOOL, *INTO_TABLE], stderr=subprocess.PIPE, text=True) for _ in range(2)]
+    """One of them writes the table, whichever it is; the other is refused, or comes when all is done."""
+    both = [subprocess.Popen(command(*INTO_TABLE), stderr=subprocess.PIPE, text=True) for _ in range(2)]
     told = [process.communicate(timeout=SECONDS)[1] for process in both]
-    assert sorted(process.returncode for process in both) == [0, 4], told
+    statuses = {process.returncode for process in both}
+    assert 0 in statuses and statuses <= {0, 4}, told
     judge_table()
 
 

@@ -4,11 +4,13 @@ from __future__ import annotations
 
 import csv
 import io
+import shutil
 from pathlib import Path
 
 import pytest
-from client_shared import dmf
+from client_shared import dmf, needs
 from desk_shared import run
+from dmf.board_picture import Picture
 from dmf.desk import Desk
 from dmf.desk_file import Subject
 from dmf.desk_text import picture_text
@@ -133,7 +135,11 @@ def test_dmf_plan(tmp_path: Path, is_table: bool) -> None:
     assert f'  label="{NOTE[:-1]}"\n' in drawn
 
 
-def test_a_picture_of_a_desk() -> None:
-    desk = Desk(Subject("a test", PLAIN.encode()))
-    assert NOTE[:-1] not in picture_text(desk)
+@needs(shutil.which("dot"), "graphviz", "no picture of a board was drawn")
+@pytest.mark.parametrize("scale", ["", "100"])
+def test_pictures_of_a_desk(scale: str) -> None:
+    """Those of a board, too."""
+    desk = Desk(Subject("a test", PLAIN.encode(), scale=scale), with_solve=True)
+    for drawn in picture_text(desk), Picture(desk).svg((), [1, 2], to_take=True):
+        assert (NOTE[:-1] in drawn) == bool(scale)
     desk.end()

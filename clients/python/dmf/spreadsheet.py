@@ -9,7 +9,6 @@ Only names are written and read in this way, so numbers stay numbers.
 from __future__ import annotations
 
 import csv
-import io
 import re
 from collections.abc import Iterable, Sequence
 from typing import NamedTuple
@@ -32,12 +31,29 @@ def name_in(cell: str, *, is_raw: bool = False) -> str:
     return cell[1:] if not is_raw and _PROTECTED.match(cell) else cell
 
 
+class _Lines:
+    """Takes the lines that a writer of the module `csv` makes, each at once."""
+
+    END = "\r\n"
+
+    def __init__(self) -> None:
+        self.lines: list[str] = []
+
+    def write(self, text: str) -> None:
+        self.lines.append(text.removesuffix(self.END) + "\n")
+
+
+def lines(rows: Iterable[Sequence[object]]) -> str:
+    """The lines of a table with these cells."""
+    written = _Lines()
+    # With this end of a line, a carriage return in a name is quoted; without quotes it would be read as the end of a line.
+    csv.writer(written, lineterminator=_Lines.END).writerows(rows)
+    return "".join(written.lines)
+
+
 def line(cells: Sequence[object]) -> str:
     """A line of a table."""
-    text = io.StringIO()
-    # With this end of a line, a carriage return in a name is quoted; without quotes it would be read as the end of a line.
-    csv.writer(text, lineterminator="\r\n").writerow(cells)
-    return text.getvalue().removesuffix("\r\n") + "\n"
+    return lines([cells])
 
 
 class ArcRow(NamedTuple):
@@ -55,12 +71,14 @@ class ArcRow(NamedTuple):
 
 def plan_table(rows: Iterable[ArcRow], scale: str, *, raw_names: bool) -> str:
     """The table of a plan, whose titles tell its scale. `raw_names` says that names stand in it as they are."""
-    lines = [line(["number", "name", "from", "to", scaled("flow", scale), scaled("capacity", scale), "full", "in cut"])]
-    for row in rows:
-        names = (cell_of(name, is_raw=raw_names) for name in (row.name, row.tail, row.head))
+
+    def cells(row: ArcRow) -> list[object]:
+        names = [cell_of(name, is_raw=raw_names) for name in (row.name, row.tail, row.head)]
         in_cut = "" if row.is_in_cut is None else _yes(row.is_in_cut)
-        lines.append(line([row.number, *names, row.flow, row.capacity, _yes(row.flow == row.capacity), in_cut]))
-    return "".join(lines)
+        return [row.number, *names, row.flow, row.capacity, _yes(row.flow == row.capacity), in_cut]
+
+    titles = ["number", "name", "from", "to", scaled("flow", scale), scaled("capacity", scale), "full", "in cut"]
+    return lines([titles]) + lines(map(cells, rows))
 
 
 def _yes(is_so: bool) -> str:
