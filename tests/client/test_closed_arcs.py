@@ -2,12 +2,14 @@
 
 from __future__ import annotations
 
+import json
 from concurrent.futures import ThreadPoolExecutor
 from typing import Any
 
 import pytest
 from client_shared import dmf, pipes
 from desk_shared import run
+from dmf.board import Board
 from dmf.desk import Desk, Trial
 from dmf.desk_file import Subject
 
@@ -64,6 +66,17 @@ def test_a_desk() -> None:
     desk.solve()
     # Each of the two that are open is in the cut. A second one beside the large arc would be past 64 bits.
     assert list(desk.sweep([2, 3])) == [Trial(2, HALF, HALF + 2), Trial(3, 1, None)]
+    desk.end()
+
+
+def test_a_board() -> None:
+    desk = Desk(Subject("a test", BESIDE.encode()), with_solve=True)
+    board = Board(desk)
+    for what in "close", "open":
+        assert board.post("do", {"what": what, "arc": 1}).status == 200
+    answer = board.post("sweep", {"arcs": [2, 3]})
+    trials = [(it["number"], it["closed"], it["doubled"]) for it in json.loads(answer.body)["trials"]]
+    assert (answer.status, trials) == (200, [(2, str(HALF), str(HALF + 2)), (3, "1", "")])
     desk.end()
 
 
