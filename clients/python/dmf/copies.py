@@ -86,8 +86,8 @@ class Copy:
         self._program = program
         self._is_over = False
         self._lock = threading.Lock()
-        # What may be added to the capacities, at the least.
-        self._room = LARGEST - sum(kept.capacities)
+        # What may be added to the capacities.
+        self._room = LARGEST - sum(kept.written())
         self.network: Network[Any] | None = None
         self.used = time.monotonic()
 

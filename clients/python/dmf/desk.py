@@ -21,7 +21,7 @@ from .errors import CapacitiesPast64Bits, Error, FlowIsNotGreatest, Refused, Ses
 from .process import Program
 from .table_problem import near
 from .tables import cleaned, shown
-from .text import display, read_names
+from .text import LARGEST, display, read_names
 
 Node = Union[int, str]
 MOST_LISTED = 6
@@ -417,8 +417,8 @@ class Desk:
         return self.lines[number - 1]
 
     def problem(self) -> str:
-        """The problem of the open arcs, with the names of places and arcs."""
-        return self._network.problem()
+        """The problem of the open arcs, with the names of places and arcs; what cannot be written of one is escaped."""
+        return self._network.problem(escapes=True)
 
     # What can be done.
 
@@ -542,7 +542,8 @@ class Desk:
         for number in wanted:
             self._open_line(number)
         # Closing an arc that carries nothing leaves the flow as it is. A second arc beside one that is not in the cut leaves the cut
-        # as it is, and so the value.
+        # as it is, and so the value, if there is room for its capacity.
+        room = LARGEST - sum(line.capacity for line in self.lines if not line.is_closed)
         carrying = {number for number in wanted if self.flow(number)}
         cases: list[list[tuple[object, ...]]] = []
         for number in wanted:
@@ -555,7 +556,8 @@ class Desk:
         with contextlib.closing(sweep(self._network, cases, jobs=jobs)) as results:
             for number in wanted:
                 closed = _greatest(next(results)) if number in carrying else self.value
-                doubled = _greatest(next(results)) if number in cut else self.value
+                beside = self.value if self.lines[number - 1].capacity <= room else None
+                doubled = _greatest(next(results)) if number in cut else beside
                 assert closed is not None
                 yield Trial(number, closed, doubled)
 

@@ -17,6 +17,7 @@ from .desk_text import picture_text, problem, table
 from .errors import Error, Refused, SessionEnded
 from .tables import LARGEST, cleaned, shown, whole_number
 from .text import display
+from .tool import write_file
 
 try:
     import readline
@@ -440,8 +441,7 @@ class Plan(cmd.Cmd):
 
     def _put(self, path: str, data: bytes) -> None:
         try:
-            with open(path, "wb") as file:
-                file.write(data)
+            write_file(path, data)
         except (OSError, ValueError) as error:
             why = error.strerror if isinstance(error, OSError) else error
             raise DeskFault(f"cannot write {shown(path)}: {why}") from None
