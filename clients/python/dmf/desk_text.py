@@ -38,13 +38,15 @@ def _yes(is_so: bool) -> str:
 
 
 def problem(desk: Desk) -> str:
-    """The problem of the open arcs, with the names of places and arcs in comments."""
+    """The problem of the open arcs, with the names of places and arcs in comments. It needs no session, so that it can be had where
+    that has ended."""
     names = desk.names
-    opened = [number for number, line in enumerate(desk.lines, 1) if not line.is_closed]
+    opened = {number: line for number, line in enumerate(desk.lines, 1) if not line.is_closed}
     labels = ((number, names.node(number)) for number in range(1, len(names.nodes) + 1))
     nodes = "".join(f"c node {number} {label}\n" for number, label in labels if label != str(number))
     arcs = "".join(f"c arc {place} {names.arc_name(number)}\n" for place, number in enumerate(opened, 1) if names.arc_name(number))
-    return nodes + arcs + desk.problem()
+    head = f"p max {len(names.nodes)} {len(opened)}\nn {desk.source} s\nn {desk.sink} t\n"
+    return nodes + arcs + head + "".join(f"a {line.tail} {line.head} {line.capacity}\n" for line in opened.values())
 
 
 def drawing(desk: Desk) -> Drawing:
