@@ -726,6 +726,13 @@ class Desk:
         self._seen = _Seen()
 
 
+def unforeseen(error: BaseException) -> str:
+    """Why something came to no end, also for an error that nothing foresaw."""
+    if isinstance(error, (Error, DeskFault, OSError)):
+        return str(error)
+    return f"that came to no end ({type(error).__name__}{f': {error}' if str(error) else ''})"
+
+
 def _greatest(result: SweepResult[Node]) -> int:
     """The greatest value of a case."""
     if result.value is None:

@@ -12,9 +12,9 @@ from collections.abc import Callable, Iterable, Iterator
 from pathlib import Path
 from typing import NamedTuple
 
-from .desk import Desk, DeskFault, Place, Trial
+from .desk import Desk, DeskFault, Place, Trial, unforeseen
 from .desk_text import picture_text, problem, table
-from .errors import Error, Refused, SessionEnded
+from .errors import Error, Refused
 from .tables import LARGEST, cleaned, shown, whole_number
 from .text import display
 from .tool import ToolFault
@@ -178,8 +178,6 @@ class Plan(cmd.Cmd):
             self.refuse("broken off")
         except Refused as refused:
             self.refuse(_spoken(refused))
-        except (DeskFault, SessionEnded) as fault:
-            self.refuse(str(fault))
         except Exception as error:
             self.refuse(unforeseen(error))
         if self.desk.has_ended:
@@ -577,12 +575,6 @@ def _count(words: list[str], command: str) -> int:
     if len(words) > 1:
         raise DeskFault(f"wanted is: {COMMANDS[command].form}")
     return _number(words[0]) if words else 1
-
-
-def unforeseen(error: BaseException) -> str:
-    """Why something came to no end, for errors that nothing foresaw too."""
-    known = isinstance(error, (Error, OSError, DeskFault))
-    return str(error) if known else f"that came to no end ({type(error).__name__}{f': {error}' if str(error) else ''})"
 
 
 def _spoken(refused: Refused) -> str:
