@@ -138,11 +138,12 @@ def test_side_doors() -> None:
     with board(PIPES) as it:
         opened = {"Sec_Fetch_Site": "cross-site", "Sec_Fetch_Mode": "navigate", "Sec_Fetch_Dest": "document"}
         assert it.ask(it.root, **opened)[0] == 200
-        for path, body, changed in (
-            (it.root + "state", None, {}), (it.root, None, {"Sec_Fetch_Dest": "iframe"}), (it.root, None, {"Sec_Fetch_Mode": "no-cors"}),
-            (it.root + "do", b'{"what": "close", "arc": 1, "turn": 1}', {}), ("/", None, {}),
-        ):  # fmt: skip
-            assert it.ask(path, body, **{**opened, **changed, **JSON})[0] == 403, (path, changed)
+        wrong: list[tuple[str, Optional[bytes], dict[str, Any]]]
+        wrong = [(it.root + "state", None, {}), (it.root + "do", b'{"what": "close", "arc": 1, "turn": 1}', {}), ("/", None, {})]
+        wrong += [(it.root, None, {"Sec_Fetch_Dest": "iframe"}), (it.root, None, {"Sec_Fetch_Mode": "no-cors"})]
+        for path, body, changed in wrong:
+            headers: dict[str, Any] = {**opened, **changed, **JSON}
+            assert it.ask(path, body, **headers)[0] == 403, (path, changed)
         assert it.state()["value"] == "165"
 
 
@@ -420,8 +421,10 @@ def test_turns() -> None:
         assert it.do(what="close", arc=12)["turn"] > first
         second = it.turn()
         assert it.do(what="close", arc=10)["turn"] > second
+        done: list[dict[str, Any]] = [{"what": "go", "step": 0}, {"what": "close", "arc": 5}, {"what": "again"}]
+        done += [{"what": "add", "tail": 1, "head": "Mill", "capacity": "5", "name": ""}]
         for turn in first, second:
-            for content in {"what": "go", "step": 0}, {"what": "close", "arc": 5}, {"what": "again"}, {"what": "add", "tail": 1, "head": "Mill", "capacity": "5", "name": ""}:
+            for content in done:
                 told = it.do(**content, turn=turn)
                 assert (told["error"], told["turn"]) == ("the network has changed in another tab: look again", it.turn()), content
             assert b"look again" in it.post("sweep", arcs=[1], turn=turn)[1]
@@ -481,12 +484,12 @@ def test_session_that_ends() -> None:
         os.kill(session, signal.SIGKILL)
         status, told = it.post("do", what="close", arc=1)
         said = json.loads(told)["error"]
-        assert (status, "SIGKILL. It was begun again, with the steps that were made" in said) == (409, True), told
-        os.kill(*it.sessions(), signal.SIGKILL)
+        assert (status, "SIGKILL. The session was begun again, with the steps that were made" in said) == (409, True), told
+        os.kill(it.sessions()[0], signal.SIGKILL)
         # What changes nothing is answered, and this is told with it.
         state = it.state()
         assert (state["value"], state["at"], len(state["steps"]), state["turn"]) == ("155", 1, 2, turn), f"begun again: {state}"
-        assert "SIGKILL. It was begun again" in state["told"] and not it.state()["told"]
+        assert "SIGKILL. The session was begun again" in state["told"] and not it.state()["told"]
         _, sent, table = it.ask(it.root + f"plan.csv?turn={turn}")
         rows = list(csv.DictReader(io.StringIO(table.decode())))
         assert (len(rows), sum(int(row["flow"]) for row in rows if row["to"] == "Harbour")) == (13, 155), f"the table: {table!r}"
@@ -502,9 +505,10 @@ def test_no_new_session(tmp_path: Path, monkeypatch: pytest.MonkeyPatch) -> None
     with board(PIPES) as it:
         turn = it.do(what="close", arc=10)["turn"]
         program.unlink()
-        os.kill(*it.sessions(), signal.SIGKILL)
-        for what in {"what": "close", "arc": 1}, {"what": "again"}:
-            status, told = it.post("do", **what)
+        os.kill(it.sessions()[0], signal.SIGKILL)
+        done: list[dict[str, Any]] = [{"what": "close", "arc": 1}, {"what": "again"}]
+        for content in done:
+            status, told = it.post("do", **content)
             said = json.loads(told)
             assert (status, said["steps"], "could not be begun again" in said["ended"]) == (410, 1, True), told
         assert b"p max 9 13" in it.ask(it.root + f"problem.max?turn={turn}")[2]
@@ -528,9 +532,9 @@ def test_unforeseen(monkeypatch: pytest.MonkeyPatch, error: Exception) -> None:
     def failing(*_: object, **__: object) -> None:
         raise error
 
-    for at, name, path, content in (
-        (Network, "shut", "do", {"what": "shut", "node": 5}), (desk, "sweep", "sweep", {"arcs": [1, 2, 3]}), (Network, "solve", "do", {"what": "close", "arc": 3}),
-    ):  # fmt: skip
+    asked: list[tuple[object, str, str, dict[str, Any]]] = [(Network, "shut", "do", {"what": "shut", "node": 5})]
+    asked += [(desk, "sweep", "sweep", {"arcs": [1, 2, 3]}), (Network, "solve", "do", {"what": "close", "arc": 3})]
+    for at, name, path, content in asked:
         with monkeypatch.context() as patched:
             patched.setattr(at, name, failing)
             if name == "solve":
@@ -559,7 +563,7 @@ def test_stop() -> None:
             assert not shut.done()
             it.post("stop", turn=0)
             status, told = shut.result(SECONDS)
-            assert (status, json.loads(told)["error"]) == (409, "it was stopped. It was begun again, with the steps that were made"), told
+            assert (status, json.loads(told)["error"]) == (409, "it was stopped. The session was begun again, with the steps that were made"), told
             assert it.state() == state
             (session,) = it.sessions()
             os.kill(session, signal.SIGSTOP)

@@ -189,7 +189,7 @@ def judge_sessions(page: Page, it: Board) -> None:
     (session,) = it.sessions()
     os.kill(session, signal.SIGKILL)
     page.press("Close it")
-    page.wait(lambda: "SIGKILL. It was begun again, with the steps that were made." in page.text("#trouble"))
+    page.wait(lambda: "SIGKILL. The session was begun again, with the steps that were made." in page.text("#trouble"))
     page.settle()
     assert page.value() == 120, f"begun again: {page.value()}"
     page.after(lambda: page.press("Close it"))
@@ -259,7 +259,7 @@ def test_long(driver: Any) -> None:
         stop = driver.find_element(By.ID, "end")
         page.wait(stop.is_displayed)
         stop.click()
-        page.wait(lambda: "It was stopped. It was begun again" in page.text("#trouble"))
+        page.wait(lambda: "It was stopped. The session was begun again" in page.text("#trouble"))
         page.settle()
         assert (page.value(), stop.is_displayed(), it.state()["at"]) == (155, False, 1)
         assert page.after(lambda: page.press("Shut it")) < 155
@@ -315,7 +315,7 @@ def test_names(driver: Any) -> None:
 def test_widths(driver: Any) -> None:
     """Nothing but the picture and the tables goes past a narrow page."""
     with board(PIPES) as it:
-        for width in 400, 1280:
+        for width in 400, 768, 1280:
             driver.execute_cdp_cmd(
                 "Emulation.setDeviceMetricsOverride", {"width": width, "height": 900, "deviceScaleFactor": 1, "mobile": width == 400}
             )

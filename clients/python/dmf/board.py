@@ -107,7 +107,7 @@ class Board:
         what = content.pop("what", None)
         if not isinstance(what, str) or what not in FORMS:
             raise WrongForm(f"what is to be done is one of {', '.join(FORMS)}")
-        form = {**FORMS[what], "turn": int}
+        form: dict[str, type] = {**FORMS[what], "turn": int}
         if set(content) != set(form):
             raise WrongForm(f"wanted are the fields {sorted(form)}, and given {sorted(content)}")
         for name, kind in form.items():
@@ -138,7 +138,7 @@ class Board:
                 why = unforeseen(error)
             tries -= 1
             if self.desk.has_ended:
-                told = f"{why}. It was begun again, with the steps that were made"
+                told = f"{why}. The session was begun again, with the steps that were made"
                 try:
                     with self._stoppable():
                         self.desk.begin_again()

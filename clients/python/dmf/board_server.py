@@ -46,10 +46,10 @@ NO_FILE_LEFT = (errno.EMFILE, errno.ENFILE, errno.ENOBUFS, errno.ENOMEM)
 # How many ports the system is asked for, if the one that it gives is taken by another user in the other family of addresses.
 MOST_PORTS = 20
 _HOW_TO_GET_IN = """<!DOCTYPE html>
-<html lang="en"><meta charset="utf-8"><title>dmf-board</title>
+<html lang="en"><meta charset="utf-8"><meta name="viewport" content="width=device-width, initial-scale=1"><title>dmf-board</title>
 <h1>This is a dmf-board</h1>
 <p>{why}.</p>
-<p>The board printed its address where it was started: {address}. Open the whole of it.</p>
+<p>The board printed its address where it was started, as in {address}. Open the whole of it.</p>
 """
 _WAY_IN = """<!DOCTYPE html>
 <html lang="en"><meta charset="utf-8"><meta name="referrer" content="no-referrer">
@@ -243,6 +243,7 @@ class Handler(BaseHTTPRequestHandler):
     wbufsize = 1 << 16
     disable_nagle_algorithm = True
     server: Server
+    raw_requestline: bytes
     FIXED: ClassVar[dict[str, str]] = {
         "Cache-Control": "no-store",
         "X-Content-Type-Options": "nosniff",
@@ -391,5 +392,5 @@ class Handler(BaseHTTPRequestHandler):
 
 def _outside(why: str) -> Answer:
     """A page for those who may not ask."""
-    address = f"http://{LOOPBACK}:PORT/TOKEN/"
+    address = f"http://{LOOPBACK}:8000/tsCcyvcFxpZj3dU0/"
     return Answer(403, "text/html; charset=utf-8", _HOW_TO_GET_IN.format(why=why, address=address).encode())
