@@ -136,7 +136,7 @@ def test_strangers() -> None:
 def test_side_doors() -> None:
     """What leads to a page of the board from another site may show the page, and do nothing else."""
     with board(PIPES) as it:
-        opened = {"Sec_Fetch_Site": "cross-site", "Sec_Fetch_Mode": "navigate", "Sec_Fetch_Dest": "document"}
+        opened: dict[str, Any] = {"Sec_Fetch_Site": "cross-site", "Sec_Fetch_Mode": "navigate", "Sec_Fetch_Dest": "document"}
         assert it.ask(it.root, **opened)[0] == 200
         wrong: list[tuple[str, Optional[bytes], dict[str, Any]]]
         wrong = [(it.root + "state", None, {}), (it.root + "do", b'{"what": "close", "arc": 1, "turn": 1}', {}), ("/", None, {})]

@@ -202,6 +202,8 @@ class Plan(cmd.Cmd):
 
     def begin_again(self) -> None:
         """Begins a new session, with the steps that were made."""
+        if self.is_typed:
+            self.tell("a new session begins, with the steps that were made ..")
         try:
             self.desk.begin_again()
             self.tell(f"begun again, with the steps that were made: {self._value()}")
@@ -463,7 +465,8 @@ class Plan(cmd.Cmd):
 
     def _put(self, path: str, data: bytes) -> None:
         try:
-            with open(path, "wb") as file:
+            # A new file is none that somebody else put there meanwhile, nor a link to one.
+            with open(path, "wb" if os.path.realpath(path) in self._written else "xb") as file:
                 file.write(data)
         except (OSError, ValueError) as error:
             why = error.strerror if isinstance(error, OSError) else error
