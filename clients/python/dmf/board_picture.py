@@ -10,7 +10,7 @@ from collections.abc import Iterator
 from dataclasses import dataclass
 from xml.etree import ElementTree
 
-from .desk import Desk
+from .desk import Desk, DeskFault
 from .picture import CUT, SIDE, UNUSED, drawn_line, quoted
 from .text import scale_note
 
@@ -36,7 +36,7 @@ text {{ font-family: Helvetica, Arial, sans-serif; }}
 _NO_XML = re.compile("[\ufffe\uffff]")
 
 
-class NoPicture(Exception):
+class NoPicture(DeskFault):
     """Why there is no picture."""
 
 

@@ -6,9 +6,10 @@ from typing import cast
 
 from . import timeline
 from .desk import Desk, Line
+from .names import written
 from .picture import Drawing, nearest, picture
 from .spreadsheet import ArcRow, plan_table
-from .text import Problem, scale_comment
+from .text import ARC, NODE, Problem, scale_comment
 
 MOST_DRAWN = 300
 
@@ -28,13 +29,17 @@ def table(desk: Desk) -> str:
 
 
 def problem(desk: Desk) -> str:
-    """The problem of the open arcs, with its scale and the names of places and arcs in comments."""
+    """The problem of the open arcs, with its scale and the names of places and arcs in comments; what cannot be written of a name is
+    escaped. It needs no session, so that it can be had where that has ended."""
     names = desk.names
-    # To the network the nodes of one place are numbers.
-    halves = {number: names.node(number) for node, number in names.nodes.items() if not isinstance(node, str)}
-    nodes = "".join(f"c node {number} {label}\n" for number, label in halves.items() if label != str(number))
-    scale = scale_comment(desk.subject.scale)
-    return scale + nodes + desk.problem().removeprefix(scale)
+    opened = {number: line for number, line in enumerate(desk.lines, 1) if not line.is_closed}
+    labels = ((number, names.given_node(number)) for number in range(1, len(names.nodes) + 1))
+    nodes = "".join(f"c node {number} {written(NODE, number, label)}\n" for number, label in labels if label != str(number))
+    keys = ((place, names.given_arc(number)) for place, number in enumerate(opened, 1))
+    arcs = "".join(f"c arc {place} {written(ARC, place, key)}\n" for place, key in keys if key.strip(" \t"))
+    head = f"p max {len(names.nodes)} {len(opened)}\nn {desk.source} s\nn {desk.sink} t\n"
+    lines = "".join(f"a {line.tail} {line.head} {line.capacity}\n" for line in opened.values())
+    return scale_comment(desk.subject.scale) + nodes + arcs + head + lines
 
 
 def drawing(desk: Desk) -> Drawing:

@@ -2,6 +2,7 @@
 
 from __future__ import annotations
 
+import contextlib
 from collections import Counter
 from collections.abc import Hashable, Iterable, Mapping
 
@@ -17,20 +18,21 @@ def comments(nodes: Mapping[int, Hashable], arcs: Mapping[int, Hashable], *, esc
     names = {NODE: _not_blank(node_names), ARC: _not_blank({number: str(key) for number, key in arcs.items()})}
     for kind, named in names.items():
         for number, name in named.items():
-            try:
+            if escapes:
+                named[number] = written(kind, number, name)
+            else:
                 _judge(kind, number, name)
-            except NameNotWritable:
-                if not escapes:
-                    raise
-                named[number] = _escaped(name)
     twice = [name for name, count in Counter(names[NODE].values()).items() if count > 1]
     if twice:
         raise NameNotWritable(f"name not writable: two nodes are called {shown(twice[0])}")
     return "".join(_comment(kind, number, name) for kind, named in names.items() for number, name in named.items())
 
 
-def _escaped(name: str) -> str:
-    """A name in a form that a comment can have."""
+def written(kind: str, number: int, name: str) -> str:
+    """A name as the comment of this node or arc can have it: as it is, or escaped."""
+    with contextlib.suppress(NameNotWritable):
+        _judge(kind, number, name)
+        return name
     shown = display(name)
     before, after = len(shown) - len(shown.lstrip(" ")), len(shown) - len(shown.rstrip(" "))
     return r"\x20" * before + shown.strip(" ") + r"\x20" * after

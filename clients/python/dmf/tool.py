@@ -111,9 +111,12 @@ def read_file(path: str, status: int = 1) -> bytes:
         raise ToolFault(f"cannot read {path}: no path has a NUL", status) from None
 
 
-def write_file(path: str, data: bytes) -> None:
+def write_file(path: str, data: bytes, *, is_new: bool = False) -> None:
     """Writes a file whole: beside it at first, so that an older one stays as it is if that fails, and keeps its mode if not. What can
-    have no file beside it, such as a pipe or standard output, is written as it is. Raises an OSError."""
+    have no file beside it, such as a pipe or standard output, is written as it is. Raises an OSError, also where there is a file or a link
+    already that has to be new."""
+    if is_new and os.path.lexists(path):
+        raise FileExistsError(errno.EEXIST, os.strerror(errno.EEXIST), path)
     try:
         old = os.stat(path)
     except FileNotFoundError:
@@ -123,7 +126,7 @@ def write_file(path: str, data: bytes) -> None:
         with open(path if stream is None else os.dup(stream), "wb") as file:
             file.write(data)
         return
-    path = os.path.realpath(path)
+    path = os.path.abspath(path) if is_new else os.path.realpath(path)
     beside = os.path.join(os.path.dirname(path), f".dmf-{secrets.token_hex(8)}")
     try:
         with open(os.open(beside, os.O_WRONLY | os.O_CREAT | os.O_EXCL, 0o666), "wb") as file:
@@ -134,7 +137,7 @@ def write_file(path: str, data: bytes) -> None:
             file.write(data)
             file.flush()
             _sync(file.fileno())
-        os.replace(beside, path)
+        _put(beside, path, is_new)
     except BaseException:
         with contextlib.suppress(OSError):
             os.remove(beside)
@@ -145,6 +148,21 @@ def write_file(path: str, data: bytes) -> None:
             os.fsync(folder)
         finally:
             os.close(folder)
+
+
+def _put(beside: str, path: str, is_new: bool) -> None:
+    """Gives a file its name. A new one takes no name that somebody else has put there meanwhile, if the file system has links."""
+    if is_new:
+        try:
+            os.link(beside, path)
+        except FileExistsError:
+            raise
+        except OSError:
+            pass
+        else:
+            os.remove(beside)
+            return
+    os.replace(beside, path)
 
 
 def _standard(file: os.stat_result) -> int | None:
