@@ -44,7 +44,7 @@ def test_dmf_problem(tools: Tools, tmp_path: Path) -> None:
     ("text", "scale"),
     [
         (SCALE, "100"), (SCALE.replace("\n", "\r\n"), "100"), (f"c of today\n\n  {SCALE}p max 2 0\n", "100"), (SCALE[:-1], "100"),
-        (SCALE.replace("100", "0.5"), "0.5"), (SCALE.replace("100", "ten"), ""), (f"c node 1 {SCALE}", ""), (PLAIN, ""), ("", ""),
+        (SCALE.replace("100", "0.5"), "0.5"), (SCALE.replace("100", "ten"), ""), (f"c node 1 {SCALE}", ""), (f"c node 1 {SCALE}x {SCALE}{SCALE}", "100"), (PLAIN, ""), ("", ""),
     ],
 )  # fmt: skip
 def test_comment(text: str, scale: str) -> None:

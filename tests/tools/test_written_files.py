@@ -6,6 +6,7 @@ import errno
 import io
 import os
 import resource
+import shutil
 import stat
 import subprocess
 import sys
@@ -17,6 +18,7 @@ from pathlib import Path
 import pytest
 from client_shared import CLIENT, dmf
 from desk_shared import run
+from dmf.board import Board
 from dmf.desk import Desk
 from dmf.desk_file import Subject
 from dmf.desk_text import problem, table
@@ -152,6 +154,30 @@ def test_names_of_added_arcs(name: str) -> None:
     # Each name is told once, as dmf-dot wants it.
     assert text.count(b"\nc arc 2 ") == 1
     table(desk).encode()
+    desk.end()
+
+
+def test_the_name_of_an_arc_that_is_opened_again() -> None:
+    """It is the one that the arc had, and not as it was shown."""
+    desk = Desk(Subject("a test", PROBLEM.replace("canal", "ca\rnal\u2028").encode()), with_solve=True)
+    before = problem(desk)
+    desk.close(1)
+    desk.open(1)
+    assert problem(desk) == before
+    assert "ca\rnal\u2028" in before
+    desk.end()
+
+
+@pytest.mark.parametrize("name", HALVES)
+def test_names_on_a_board(name: str) -> None:
+    """Each of its pages and files has the name, escaped."""
+    desk = Desk(Subject("a test", PROBLEM.encode()), with_solve=True)
+    board = Board(desk)
+    added = board.post("do", {"what": "add", "tail": 1, "head": "sea", "capacity": "4", "name": name})
+    assert added.status == 200
+    for page in "state", "plan.csv", "problem.max", *["picture.svg"] * bool(shutil.which("dot")):
+        got = board.get(page, {"near": ""} if page == "picture.svg" else {})
+        assert (got.status, repr(name)[1:-1].encode() in got.body.replace(rb"\\", b"\\")) == (200, True), page
     desk.end()
 
 

@@ -10,7 +10,7 @@ from __future__ import annotations
 import contextlib
 import os
 import tempfile
-from collections.abc import Generator, Iterable, Iterator, Sequence
+from collections.abc import Generator, Hashable, Iterable, Iterator, Sequence
 from dataclasses import dataclass, field
 from typing import NamedTuple, Union
 
@@ -670,7 +670,7 @@ class Desk:
             return [self._added(Line(change.tail, change.head, change.capacity), change.name)]
         if isinstance(change, Reopen):
             line = self.lines[change.arc - 1]
-            added = self._added(Line(line.tail, line.head, line.capacity), self.names.arc_name(change.arc) or None)
+            added = self._added(Line(line.tail, line.head, line.capacity), self._handles[change.arc].given_key)
             self.names.drop(change.arc)
             return [added, self._put(change.arc, line._replace(is_shut=False, is_replaced=True))]
         if isinstance(change, Shut):
@@ -687,7 +687,7 @@ class Desk:
         self.lines[number - 1] = line
         return was
 
-    def _added(self, line: Line, name: str | None) -> Was:
+    def _added(self, line: Line, name: Hashable) -> Was:
         nodes = self._nodes
         handle = self._network.add(nodes[line.tail - 1], nodes[line.head - 1], line.capacity, name)
         self._handles[handle.number] = handle

@@ -32,7 +32,8 @@ _NAMED = {
     for kind in (NODE, ARC)
 }
 # A comment that tells the scale of all numbers of a problem.
-_SCALE = re.compile(rb"^[ \t]*c capacities are those of the table times ([0-9]+(?:\.[0-9]+)?)[ \t]*\r?$", re.MULTILINE)
+SCALE_WORDS = "c capacities are those of the table times"
+_SCALE = re.compile(rf"[ \t]*{SCALE_WORDS} ([0-9]+(?:\.[0-9]+)?)[ \t]*\r?(?:\n|\Z)".encode())
 # The size of the pieces that are searched for names, in bytes.
 PIECE = 1 << 16
 # Control characters of a terminal, ends of lines, and marks that turn the direction in which text is shown; halves of characters.
@@ -127,13 +128,19 @@ def _escaped(found: re.Match[str]) -> str:
 
 def scale_comment(scale: str) -> str:
     """The comment that tells the scale of a problem; nothing without one."""
-    return f"c capacities are those of the table times {scale}\n" if scale else ""
+    return f"{SCALE_WORDS} {scale}\n" if scale else ""
 
 
 def read_scale(text: bytes) -> str:
     """What the numbers of a table were multiplied by, as a comment of its problem tells it; nothing without that comment."""
-    found = _SCALE.search(text)
-    return found[1].decode() if found else ""
+    # To look for these words is many times as fast as to look for the pattern.
+    at = text.find(SCALE_WORDS.encode())
+    while at >= 0:
+        found = _SCALE.match(text, text.rfind(b"\n", 0, at) + 1)
+        if found:
+            return found[1].decode()
+        at = text.find(SCALE_WORDS.encode(), at + 1)
+    return ""
 
 
 def scaled(title: str, scale: str) -> str:
