@@ -212,31 +212,43 @@ print(found, flush=True)
 """
 
 
-def test_opening(tmp_path: Path) -> None:
-    """The browser is started with a file that leads to the page, and that no other user can read. Nothing that others can read of any
-    process has the token."""
-    browser = tmp_path / "browser"
-    os.mkfifo(tmp_path / "opened")
-    browser.write_text(f'#!/bin/sh\nexec >/dev/null 2>&1\necho "$1" >{tmp_path}/opened\nsleep 5\n')
+@contextlib.contextmanager
+def opened(folder: Path) -> Iterator[tuple[str, str]]:
+    """The address of a board, and the one that its browser was given, while both run."""
+    browser = folder / "browser"
+    os.mkfifo(folder / "opened")
+    browser.write_text(f'#!/bin/sh\nexec >/dev/null 2>&1\necho "$1" >{folder}/opened\nsleep 5\n')
     browser.chmod(0o755)
     pipe = subprocess.PIPE
     words = [str(ROOT / "tools/dmf-board"), PIPES]
     environment = {**os.environ, "DISPLAY": ":99", "BROWSER": str(browser)}
     with subprocess.Popen(words, stdout=pipe, stderr=pipe, text=True, cwd=ROOT, env=environment, preexec_fn=heed_interrupts) as process:
-        assert process.stdout
-        address = process.stdout.readline().strip()
-        token = urlsplit(address).path.strip("/")
-        opened = urlsplit((tmp_path / "opened").read_text().strip())
-        door = Path(opened.path)
-        assert opened.scheme == "file" and token not in opened.path
+        try:
+            assert process.stdout
+            yield process.stdout.readline().strip(), (folder / "opened").read_text().strip()
+        finally:
+            process.send_signal(signal.SIGINT)
+
+
+def test_opening(tmp_path: Path) -> None:
+    """The browser is started with a file that leads to the page, which its user alone may read, and which is removed at the end."""
+    with opened(tmp_path) as (address, given):
+        door = Path(urlsplit(given).path)
+        assert given == door.as_uri() and urlsplit(address).path.strip("/") not in given
         assert (door.stat().st_mode & 0o777, door.parent.stat().st_mode & 0o777) == (0o600, 0o700)
         assert f'content="0; url={address}"' in door.read_text()
-        if not os.getuid():
-            with another(LOOK, token, door) as found:
-                assert found == "['PermissionError']"
-        process.send_signal(signal.SIGINT)
-        process.communicate(timeout=SECONDS)
     assert not door.parent.exists()
+
+
+def test_opening_to_others(tmp_path: Path) -> None:
+    """Nothing that another user can read of any process has the token, and they cannot read the file."""
+    with opened(tmp_path) as (address, given), another(LOOK, urlsplit(address).path.strip("/"), urlsplit(given).path) as found:
+        assert found == "['PermissionError']"
+    # It would see the token among the words of a process.
+    with subprocess.Popen(["sleep", "60", "0.0000000123"]) as process:
+        with another(LOOK, "0.0000000123", "/nowhere") as found:
+            assert str(process.pid) in found
+        process.kill()
 
 
 # Opens so many connections, sends a piece of a request on each, and waits. Then it sends a byte now and then.
@@ -354,6 +366,20 @@ def test_port_is_taken() -> None:
                 assert taken == "[]"
 
 
+def test_taken_port() -> None:
+    """A board begins at no port where somebody else listens, under any name of this machine."""
+    for family, host in (socket.AF_INET, "127.0.0.1"), (socket.AF_INET6, "::1"):
+        with socket.socket(family) as other:
+            try:
+                other.bind((host, 0))
+            except OSError:
+                # This machine has no such address.
+                continue
+            other.listen()
+            ran = run("dmf-board", "--no-browser", "--port", str(other.getsockname()[1]), PIPES)
+            assert (ran.returncode, ran.stdout, "cannot listen on port" in ran.stderr) == (4, "", True), ran
+
+
 def test_ends() -> None:
     """An interrupt ends the board and its session; so does the end of the last page, but not that of one of two."""
     for by in signal.SIGINT, signal.SIGTERM, signal.SIGHUP:
@@ -452,6 +478,14 @@ def test_sweep() -> None:
         assert {row["name"]: (int(row["closed"]), int(row["doubled"])) for row in rows} == swept()
 
 
+def portion(it: Board, arcs: list[int]) -> Any:
+    """The next results of a sweep."""
+    while True:
+        told = json.loads(it.post("sweep", arcs=arcs)[1])
+        if told["trials"]:
+            return told
+
+
 def test_sweep_in_portions(tmp_path: Path) -> None:
     """The copies of the network go on from portion to portion, and end with the next change."""
     table = tmp_path / "large.csv"
@@ -459,20 +493,32 @@ def test_sweep_in_portions(tmp_path: Path) -> None:
     table.write_text("".join(f"S,P{n},{n % 7 + 1}\nP{n},T,{n % 5 + 1}\n" for n in range(10_000)))
     count = 5_000
     with board(str(table)) as it:
-        arcs = list(range(1, count + 1))
-        told = json.loads(it.post("sweep", arcs=arcs)[1])
+        told = portion(it, list(range(1, count + 1)))
         assert 0 < len(told["left"]) == count - len(told["trials"])
         copies = it.sessions()[1:]
         assert copies
-        again = json.loads(it.post("sweep", arcs=told["left"])[1])
+        again = portion(it, told["left"])
         assert again["left"]
         assert (it.sessions()[1:], again["trials"][0]["number"]) == (copies, told["left"][0])
         # What flows on an arc alone is what is lost without it.
         value = int(told["value"])
         for row in told["trials"] + again["trials"]:
             assert int(row["closed"]) == value - int(row["flow"])
-        it.do(what="close", arc=1)
-        assert len(it.sessions()) == 1
+        # Where the copies come to no result, nobody waits for one.
+        for copy in copies:
+            os.kill(copy, signal.SIGSTOP)
+        try:
+            begin = time.monotonic()
+            while again["trials"]:
+                again = json.loads(it.post("sweep", arcs=again["left"])[1])
+            assert (again["left"][-1], it.do(what="close", arc=1)["at"], time.monotonic() - begin < 20) == (count, 1, True)
+        finally:
+            for copy in copies:
+                os.kill(copy, signal.SIGCONT)
+        until = time.monotonic() + SECONDS
+        while len(it.sessions()) > 1:
+            assert time.monotonic() < until, "the copies go on after a change"
+            time.sleep(0.05)
 
 
 def test_session_that_ends() -> None:

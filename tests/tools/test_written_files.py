@@ -173,10 +173,12 @@ def test_names_on_a_board(name: str) -> None:
     """Each of its pages and files has the name, escaped."""
     desk = Desk(Subject("a test", PROBLEM.encode()), with_solve=True)
     board = Board(desk)
-    added = board.post("do", {"what": "add", "tail": 1, "head": "sea", "capacity": "4", "name": name})
+    added = board.post("do", {"what": "add", "tail": 1, "head": "sea", "capacity": "4", "name": name, "turn": desk.turn})
     assert added.status == 200
+    asked = {"turn": str(desk.turn)}
+    words: dict[str, dict[str, str]] = {"state": {}, "plan.csv": asked, "problem.max": asked, "picture.svg": {**asked, "near": ""}}
     for page in "state", "plan.csv", "problem.max", *["picture.svg"] * bool(shutil.which("dot")):
-        got = board.get(page, {"near": ""} if page == "picture.svg" else {})
+        got = board.get(page, words[page])
         assert (got.status, repr(name)[1:-1].encode() in got.body.replace(rb"\\", b"\\")) == (200, True), page
     desk.end()
 

@@ -9,6 +9,7 @@ from __future__ import annotations
 
 import contextlib
 import json
+import queue
 import re
 import threading
 import time
@@ -25,8 +26,9 @@ from .tables import whole_number
 
 # How long a request may sweep before it answers with the results so far, in seconds.
 PORTION = 0.25
-# How long a sweep waits for the next such request before it ends its copies of the network, in seconds.
-PATIENCE = 5.0
+# How long a sweep waits for the next such request before it ends its copies of the network, and how long its end is waited for, in
+# seconds.
+PATIENCE, ENDING = 5.0, 0.5
 MOST_LISTED, MOST_SIDE, MOST_FOUND, MOST_SWEPT = 300, 30, 20, 5_000
 LONGEST_TEXT = 4_000
 CHANGED = "the network has changed in another tab: look again"
@@ -57,6 +59,44 @@ def answer(content: Json, status: int = 200) -> Answer:
     return Answer(status, "application/json", json.dumps(content).encode())
 
 
+class Sweep:
+    """A sweep in a thread of its own, so that nobody has to wait for a result that takes long."""
+
+    def __init__(self, trials: Generator[Trial, None, None]) -> None:
+        self._trials = trials
+        self._found: queue.SimpleQueue[Trial | Exception] = queue.SimpleQueue()
+        self._is_over = False
+        self._thread = threading.Thread(target=self._run, daemon=True)
+        self._thread.start()
+
+    def _run(self) -> None:
+        try:
+            with contextlib.closing(self._trials):
+                for trial in self._trials:
+                    self._found.put(trial)
+                    if self._is_over:
+                        return
+        except Exception as error:
+            self._found.put(error)
+
+    def portion(self, most: int) -> list[Trial]:
+        """The next results, as many as come in the time of a portion. Raises what the sweep raises."""
+        until = time.monotonic() + PORTION
+        trials: list[Trial] = []
+        with contextlib.suppress(queue.Empty):
+            while len(trials) < most:
+                found = self._found.get(timeout=max(until - time.monotonic(), 0))
+                if isinstance(found, Exception):
+                    raise found
+                trials.append(found)
+        return trials
+
+    def end(self) -> None:
+        """Ends it, with its next result at the latest."""
+        self._is_over = True
+        self._thread.join(ENDING)
+
+
 class Board:
     """What a board shows of a desk, and does for its page. All numbers of flows are texts, since a script rounds the larger ones."""
 
@@ -64,7 +104,7 @@ class Board:
         self.desk = desk
         self.picture = Picture(desk)
         # A sweep that has not ended, and the arcs that it has not tried yet.
-        self._sweep: Generator[Trial, None, None] | None = None
+        self._sweep: Sweep | None = None
         self._left: list[int] = []
         self._sweep_lock = threading.Lock()
         self._sweep_end = threading.Timer(0, self.end_sweep)
@@ -289,7 +329,7 @@ class Board:
         with self._sweep_lock:
             self._sweep_end.cancel()
             if self._sweep:
-                self._sweep.close()
+                self._sweep.end()
             self._sweep, self._left = None, []
 
     def _portion(self, numbers: list[int]) -> list[Trial]:
@@ -297,18 +337,13 @@ class Board:
         the network, if it is asked for in time."""
         if not self._left or numbers[: len(self._left)] != self._left:
             self.end_sweep()
-        until = time.monotonic() + PORTION
         with self._sweep_lock:
             self._sweep_end.cancel()
-            going_on = self._sweep or self.desk.sweep(numbers)
+            going_on = self._sweep or Sweep(self.desk.sweep(numbers))
             left = self._left or numbers
             # If this raises, the sweep is over.
             self._sweep, self._left = None, []
-            trials: list[Trial] = []
-            for trial in going_on:
-                trials.append(trial)
-                if time.monotonic() > until:
-                    break
+            trials = going_on.portion(len(left))
             if len(trials) < len(left):
                 self._sweep, self._left = going_on, left[len(trials) :]
                 self._sweep_end = threading.Timer(PATIENCE, self.end_sweep)

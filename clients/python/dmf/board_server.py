@@ -134,7 +134,7 @@ class Server(ThreadingHTTPServer):
         """Raises an OSError if the port is taken."""
         super().__init__((LOOPBACK, port), Handler, bind_and_activate=False)
         self.strangers = Strangers()
-        self._other = socket.socket(socket.AF_INET6) if socket.has_ipv6 else None
+        self._other: socket.socket | None = None
         try:
             self._listen(port)
         except OSError:
@@ -160,8 +160,8 @@ class Server(ThreadingHTTPServer):
             self.server_address = LOOPBACK, port
             self.server_bind()
             try:
-                if self._other:
-                    self._other.bind((LOOPBACK_6, self.server_address[1]))
+                self._other = self._other or socket.socket(socket.AF_INET6)
+                self._other.bind((LOOPBACK_6, self.server_address[1]))
             except OSError as error:
                 # Else there is no such family here.
                 if error.errno == errno.EADDRINUSE:

@@ -568,8 +568,8 @@ class Desk:
 
     def sweep(self, numbers: Iterable[int]) -> Generator[Trial, None, None]:
         """What each of these arcs means for the greatest value: if it alone is closed, and if it alone has a second one beside it.
-        Tries each on a copy of the network, on all processors. Raises a `DeskFault` unless the flow is greatest and the arcs are
-        open. The network must not change meanwhile."""
+        Tries each on a copy of the network as it is at the call, on all processors. Raises a `DeskFault` unless the flow is greatest
+        and the arcs are open."""
         if not self.is_greatest:
             raise DeskFault("the flow is not greatest, so nothing can be compared with it; `solve` first")
         cut, wanted = set(self.cut_arcs()), list(numbers)
@@ -587,12 +587,19 @@ class Desk:
             if number in cut:
                 cases.append([("add", arc.tail, arc.head, self.lines[number - 1].capacity)])
         jobs = max(1, min(len(cases), len(os.sched_getaffinity(0))))
-        with contextlib.closing(sweep(self._network, cases, jobs=jobs)) as results:
-            for number in wanted:
-                closed = _greatest(next(results)) if number in carrying else self.value
-                beside = self.value if self.lines[number - 1].capacity <= room else None
-                doubled = _greatest_or_none(next(results)) if number in cut else beside
-                yield Trial(number, closed, doubled)
+        # The desk may change before the trials are asked for; each is of the network as it is now.
+        results, value = sweep(self._network, cases, jobs=jobs), self.value
+        capacities = {number: self.lines[number - 1].capacity for number in wanted}
+
+        def trials() -> Generator[Trial, None, None]:
+            with contextlib.closing(results):
+                for number in wanted:
+                    closed = _greatest(next(results)) if number in carrying else value
+                    beside = value if capacities[number] <= room else None
+                    doubled = _greatest_or_none(next(results)) if number in cut else beside
+                    yield Trial(number, closed, doubled)
+
+        return trials()
 
     def the_arc(self, text: str, *, is_closed: bool = False) -> int:
         """The arc that a text means: the open one, or else the closed one. Raises a `DeskFault` if it means none, or several."""
