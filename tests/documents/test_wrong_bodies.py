@@ -70,15 +70,21 @@ def test_a_clause_without_an_edit_is_told(tmp_path: Path) -> None:
 
 
 def unmade(edit: Path) -> Iterator[str]:
-    """Why an edit cannot be made."""
-    said, text = edit.read_text(), ""
-    if edit.suffix != ".edit" or not re.search("^# .*\\n(covers: .*\\n)*file: .*\\nold: .*\\nnew:", said, re.MULTILINE):
+    """Why an edit cannot be made: it replaces one text after the other, each in what those before it have left."""
+    said, file, old = edit.read_text(), edit, ""
+    texts: dict[Path, str] = {}
+    if edit.suffix != ".edit" or not re.match("# .*\\n(covers: .*\\n)*(# .*\\n)*file: .*\\nold: .*\\nnew:", said):
         yield f"{edit}: not of the form of an edit"
-    for kind, value in re.findall("^(file|old): (.*)$", said, re.MULTILINE):
+    for kind, value in re.findall("^(file|old|new): ?(.*)$", said, re.MULTILINE):
         if kind == "file":
-            text = (edit.parents[1] / value).read_text()
-        elif text.count(value) != 1:
-            yield f"{edit}: this stands {text.count(value)} times in its file: {value}"
+            file = edit.parents[1] / value
+        elif kind == "old":
+            old = value
+            texts.setdefault(file, file.read_text())
+            if texts[file].count(old) != 1:
+                yield f"{edit}: this stands {texts[file].count(old)} times in its file: {old}"
+        else:
+            texts[file] = texts[file].replace(old, value)
 
 
 def test_each_edit_can_be_made() -> None:
