@@ -13,7 +13,7 @@ import sys
 from pathlib import Path
 
 import pytest
-from client_shared import BUILT, CLIENT, dmf, pipes, script
+from client_shared import BUILT, CLIENT, ROOT, dmf, pipes, script
 
 SECONDS = 20
 REAL = f'#!/bin/sh\nexec {BUILT} "$@"\n'
@@ -205,6 +205,15 @@ def test_as_a_module(tmp_path: Path) -> None:
     assert ran.stderr == "dmf: DMF names /nowhere/dmf, which is no program that can be run\n"
     ran = as_module(DMF=str(put(tmp_path / "dmf", "no program\n")))
     assert (ran.returncode, ran.stderr) == (70, f"dmf: {tmp_path}/dmf cannot be run: Exec format error; {OTHER}\n")
+
+
+@pytest.mark.parametrize("tool", ["dmf-board", "dmf-plan", "dmf-sweep"])
+def test_a_tool_without_a_program(tool: str) -> None:
+    words = [f"{ROOT}/tools/{tool}", f"{ROOT}/examples/a.max", *(["--close-each"] if tool == "dmf-sweep" else [])]
+    environment = {**os.environ, "DMF": "/nowhere/dmf"}
+    ran = subprocess.run(words, env=environment, stdin=subprocess.DEVNULL, capture_output=True, text=True, timeout=SECONDS)
+    assert (ran.stdout, ran.stderr) == ("", f"{tool}: DMF names /nowhere/dmf, which is no program that can be run\n")
+    assert ran.returncode in (1, 4)
 
 
 def test_in_place_of_python(tmp_path: Path) -> None:

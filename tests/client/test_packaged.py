@@ -21,7 +21,7 @@ import pytest
 from built import heed_interrupts
 from client_shared import BUILT, CLIENT, dmf, needs
 from conftest import ROOT, shared
-from sources import LISTED
+from trees import copy_tracked
 
 pytestmark = [
     needs(importlib.util.find_spec("ensurepip"), "python3-venv", "the package was not installed in an environment"),
@@ -31,17 +31,6 @@ SECONDS = 60
 TOOLS = sorted(path.name for path in (ROOT / "tools").glob("dmf-*"))
 TABLE = str(ROOT / "examples/water/pipes.csv")
 BUILD = "import build_wheel, sys; print(build_wheel.{}(sys.argv[1]))"
-
-
-def copy_tracked(folder: Path) -> None:
-    """Copies the tree as git tracks it, and beside it the program that was built of it."""
-    names = subprocess.run(LISTED, cwd=ROOT, capture_output=True, text=True, check=True).stdout.split("\0")
-    for name in filter(None, names):
-        if (ROOT / name).is_file():
-            (folder / name).parent.mkdir(parents=True, exist_ok=True)
-            shutil.copy2(ROOT / name, folder / name)
-    (folder / "crates/dmf/out").mkdir()
-    shutil.copy(BUILT, folder / "crates/dmf/out/dmf")
 
 
 def build(folder: Path, target: Path, what: str = "build_wheel", check: bool = True, **environment: str) -> subprocess.CompletedProcess[str]:
