@@ -59,10 +59,14 @@ def executable() -> dict[str, bytes]:
         told = subprocess.run([call, "--version"], stdin=subprocess.DEVNULL, stdout=subprocess.PIPE).stdout
     except OSError:
         told = b""
-    if told == f"dmf {version()}\n".encode():
-        return {INSIDE: path.read_bytes()}
-    print("dmf: there is no program for this machine, so what is made has none", file=sys.stderr)
-    return {}
+    if told != f"dmf {version()}\n".encode():
+        print("dmf: there is no program for this machine, so what is made has none", file=sys.stderr)
+        return {}
+    if not path.is_file():
+        # In a repository that cannot be written it is put elsewhere.
+        take = subprocess.run([ROOT / "tools/prebuilt", "take"], stdout=subprocess.PIPE, text=True, check=True)
+        path = Path(take.stdout.rstrip("\n"))
+    return {INSIDE: path.read_bytes()}
 
 
 def tools() -> dict[str, bytes]:

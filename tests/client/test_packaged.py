@@ -254,6 +254,16 @@ def test_without_the_program(folder: Path, tmp_path: Path) -> None:
     assert (ran.returncode, ran.stdout) == (70, "") and ran.stderr.startswith("dmf: there is no program dmf: ")
 
 
+def test_a_repository_that_cannot_be_written(wheel: Path, tmp_path: Path) -> None:
+    """The executable is where tools/prebuilt puts it then."""
+    copy_tracked(tmp_path / "tree")
+    elsewhere = (tmp_path / "tree/crates/dmf/out/dmf").rename(tmp_path / "a program")
+    for script, text in ("dmf", f'exec "{elsewhere}" "$@"'), ("tools/prebuilt", f'echo "{elsewhere}"'):
+        (tmp_path / "tree" / script).write_text(f"#!/bin/sh\n{text}\n")
+    name = build(tmp_path / "tree/clients/python", tmp_path / "wheel").stdout.strip()
+    assert (tmp_path / "wheel" / name).read_bytes() == wheel.read_bytes()
+
+
 def test_out_of_its_repository(tmp_path: Path) -> None:
     """As pip before 21.3 copies it."""
     shutil.copytree(CLIENT, tmp_path / "copied", ignore=shutil.ignore_patterns("__pycache__"))
