@@ -34,7 +34,7 @@ class Network(Generic[Node]):
     `program` is the path of the program, and `history` the most changes that can be undone, from 0 to 1,000,000.
 
     Raises a `Refused` if the problem has a fault, `NotAnArc` for a row of another form, `HistoryOutOfRange`, `SessionEnded` if the
-    program fails, and an OSError if it is not found. Each method that asks the program raises `SessionEnded` if the program has
+    program fails, and `NoProgram` if none is found that fits. Each method that asks the program raises `SessionEnded` if the program has
     ended, and `UsedByTwoThreads` if another thread is using the network.
     """
 
