@@ -251,7 +251,7 @@ def test_opening_to_others(tmp_path: Path) -> None:
         process.kill()
 
 
-# Opens so many connections, sends a piece of a request on each, and waits. Then it sends a byte now and then.
+# Opens so many connections, sends a piece of a request on each, or a request, and waits. On some it sends a byte now and then.
 CROWD = """
 import socket, sys, time
 count, port = int(sys.argv[1]), int(sys.argv[2])
@@ -259,18 +259,24 @@ held = []
 for _ in range(count):
     try:
         held.append(socket.create_connection(("127.0.0.1", port), 2))
-        held[-1].send(b"GET /")
+        held[-1].send(b"GET /" if len(held) % 2 else b"GET / HTTP/1.1\\r\\n\\r\\n")
     except OSError:
         pass
 print(len(held), flush=True)
 for _ in range(600):
-    for one in held:
+    for one in held[::3]:
         try:
             one.send(b"x")
         except OSError:
             pass
     time.sleep(0.1)
 """
+
+
+def ports_held(port: int) -> int:
+    """How many ports another user's ends of connections to a port have."""
+    rows = [line.split() for line in Path("/proc/net/tcp").read_text().splitlines()[1:]]
+    return sum(row[2] == f"0100007F:{port:04X}" and row[7] == str(NOBODY) for row in rows)
 
 
 def test_crowd() -> None:
@@ -284,11 +290,11 @@ def test_crowd() -> None:
                 assert time.monotonic() - begin < 10
             files, threads = (len(list(Path(f"/proc/{it.process.pid}/{kind}").iterdir())) for kind in ("fd", "task"))
             assert files < 50 and threads < 50, f"{files} files and {threads} threads for strangers"
-            # Those that send a byte now and then may not stay either.
-            until = time.monotonic() + 15
-            while len(list(Path(f"/proc/{it.process.pid}/task").iterdir())) > 4 and time.monotonic() < until:
+            # Those that send a byte now and then may not stay either, and hold no port of this machine.
+            until = time.monotonic() + SECONDS
+            while len(list(Path(f"/proc/{it.process.pid}/task").iterdir())) > 4 or ports_held(it.port):
+                assert time.monotonic() < until, f"strangers stay, with {ports_held(it.port)} ports"
                 time.sleep(0.1)
-            assert time.monotonic() < until, "strangers stay"
 
 
 # Comes and goes as often as it can, for some seconds.

@@ -198,8 +198,12 @@ def judge_sessions(page: Page, it: Board) -> None:
 
 
 def test_opening(driver: Any) -> None:
-    """The file that a browser is started with leads to the page."""
+    """The file that a browser is started with leads to the page. Without the token there is a page that says how to get in."""
     with board(PIPES) as it:
+        driver.get(f"http://{it.host}/")
+        assert "The board printed its address where it was started" in driver.find_element(By.TAG_NAME, "body").text
+        # The browser says that it was refused.
+        assert len(driver.get_log("browser")) == 1
         door = Door(it.address)
         try:
             driver.get(door.address)
