@@ -279,6 +279,7 @@ def ports_held(port: int) -> int:
     return sum(row[2] == f"0100007F:{port:04X}" and row[7] == str(NOBODY) for row in rows)
 
 
+@pytest.mark.seconds(8)
 def test_crowd() -> None:
     """A thousand idle connections of another user keep no page out, and the board holds a few of them, for some seconds."""
     with board(PIPES) as it:
@@ -311,6 +312,7 @@ while time.monotonic() < until:
 """
 
 
+@pytest.mark.seconds(5)
 def test_flood() -> None:
     """A page gets in also while another user comes as often as possible."""
     with board(PIPES) as it:
@@ -625,9 +627,10 @@ def test_stop() -> None:
             with contextlib.suppress(OSError, http.client.HTTPException):
                 shut.result(SECONDS)
         until = time.monotonic() + SECONDS
-        while Path(f"/proc/{session}").exists() and b") Z " not in Path(f"/proc/{session}/stat").read_bytes():
-            assert time.monotonic() < until, "a session stays behind"
-            time.sleep(0.05)
+        with contextlib.suppress(OSError):
+            while b") Z " not in Path(f"/proc/{session}/stat").read_bytes():
+                assert time.monotonic() < until, "a session stays behind"
+                time.sleep(0.05)
 
 
 def test_large() -> None:

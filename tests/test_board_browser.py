@@ -234,7 +234,11 @@ def test_two_tabs(driver: Any) -> None:
         page.wait(lambda: page.text("#trouble") == "The network has changed in another tab: look again.")
         page.wait(lambda: page.value() == 110)
         assert (it.state()["at"], len(it.state()["steps"]), "Mill Lane" in page.text("#way")) == (2, 3, True)
-        assert page.undo() == 155
+        # Of two clicks at once the second is none.
+        driver.execute_script("at('undo').click(); at('undo').click()")
+        page.wait(lambda: page.value() == 155)
+        page.settle()
+        assert (page.text("#trouble"), it.state()["at"]) == ("", 1)
         # What is asked of a state that has passed shows the present one.
         it.do(what="go", step=0)
         page.driver.execute_script("choose({ arc: 9 })")
