@@ -16,7 +16,7 @@ from typing import Any
 
 import pytest
 from board_running import Board, board
-from desk_shared import ODD, PIPES, ROOT, SCRIPT, STORY, run, swept
+from desk_shared import ODD, PIPES, ROOT, SCRIPT, STORY, run, swept, wait_until_asked
 from dmf.board_server import Door
 
 for program in "chromium", "chromedriver", "dot":
@@ -266,6 +266,7 @@ def test_long(driver: Any) -> None:
         page.press("Shut it")
         stop = driver.find_element(By.ID, "end")
         page.wait(stop.is_displayed)
+        wait_until_asked(session)
         stop.click()
         page.wait(lambda: "It was stopped. The session was begun again" in page.text("#trouble"))
         page.settle()

@@ -16,7 +16,7 @@ from pathlib import Path
 from typing import Any
 
 import pytest
-from desk_shared import ODD, PIPES, ROOT, SCRIPT, SECONDS, STORY, greatest, run, sessions_of, swept, water
+from desk_shared import ODD, PIPES, ROOT, SCRIPT, SECONDS, STORY, greatest, run, sessions_of, swept, wait_until_asked, water
 from built import BUILT
 from dmf import Network
 from dmf.desk import Desk, DeskFault, Place
@@ -410,7 +410,7 @@ def test_broken_off() -> None:
         (session,) = sessions_of(terminal.pid)
         os.kill(session, signal.SIGSTOP)
         terminal.type('shut "South Tower"\n')
-        terminal.wait('"South Tower"\r\n')
+        wait_until_asked(session)
         wait_until_asleep(terminal.pid)
         terminal.type("\x03")
         told = terminal.wait("try, 155, greatest> ")
