@@ -27,7 +27,7 @@ from xml.etree import ElementTree
 import pytest
 from board_running import JSON, Board, board
 from built import BUILT, heed_interrupts
-from desk_shared import ODD, PIPES, ROOT, SECONDS, run, swept
+from desk_shared import ODD, PIPES, ROOT, SECONDS, run, swept, wait_until_asked
 from dmf import Network, desk
 from dmf.board import Answer
 from dmf.board import Board as InBoard
@@ -251,7 +251,7 @@ def test_opening_to_others(tmp_path: Path) -> None:
         process.kill()
 
 
-# Opens so many connections, sends a piece of a request on each, and waits. Then it sends a byte now and then.
+# Opens so many connections, sends a piece of a request on each, or a request, and waits. On some it sends a byte now and then.
 CROWD = """
 import socket, sys, time
 count, port = int(sys.argv[1]), int(sys.argv[2])
@@ -259,12 +259,12 @@ held = []
 for _ in range(count):
     try:
         held.append(socket.create_connection(("127.0.0.1", port), 2))
-        held[-1].send(b"GET /")
+        held[-1].send(b"GET /" if len(held) % 2 else b"GET / HTTP/1.1\\r\\n\\r\\n")
     except OSError:
         pass
 print(len(held), flush=True)
 for _ in range(600):
-    for one in held:
+    for one in held[::3]:
         try:
             one.send(b"x")
         except OSError:
@@ -273,6 +273,13 @@ for _ in range(600):
 """
 
 
+def ports_held(port: int) -> int:
+    """How many ports another user's ends of connections to a port have."""
+    rows = [line.split() for line in Path("/proc/net/tcp").read_text().splitlines()[1:]]
+    return sum(row[2] == f"0100007F:{port:04X}" and row[7] == str(NOBODY) for row in rows)
+
+
+@pytest.mark.seconds(8)
 def test_crowd() -> None:
     """A thousand idle connections of another user keep no page out, and the board holds a few of them, for some seconds."""
     with board(PIPES) as it:
@@ -284,11 +291,11 @@ def test_crowd() -> None:
                 assert time.monotonic() - begin < 10
             files, threads = (len(list(Path(f"/proc/{it.process.pid}/{kind}").iterdir())) for kind in ("fd", "task"))
             assert files < 50 and threads < 50, f"{files} files and {threads} threads for strangers"
-            # Those that send a byte now and then may not stay either.
-            until = time.monotonic() + 15
-            while len(list(Path(f"/proc/{it.process.pid}/task").iterdir())) > 4 and time.monotonic() < until:
+            # Those that send a byte now and then may not stay either, and hold no port of this machine.
+            until = time.monotonic() + SECONDS
+            while len(list(Path(f"/proc/{it.process.pid}/task").iterdir())) > 4 or ports_held(it.port):
+                assert time.monotonic() < until, f"strangers stay, with {ports_held(it.port)} ports"
                 time.sleep(0.1)
-            assert time.monotonic() < until, "strangers stay"
 
 
 # Comes and goes as often as it can, for some seconds.
@@ -305,6 +312,7 @@ while time.monotonic() < until:
 """
 
 
+@pytest.mark.seconds(5)
 def test_flood() -> None:
     """A page gets in also while another user comes as often as possible."""
     with board(PIPES) as it:
@@ -312,7 +320,7 @@ def test_flood() -> None:
             begin = time.monotonic()
             for _ in range(20):
                 assert it.state()["value"] == "165"
-            assert time.monotonic() - begin < 10
+            assert time.monotonic() - begin < SECONDS
 
 
 def test_no_file_left() -> None:
@@ -605,8 +613,7 @@ def test_stop() -> None:
         os.kill(session, signal.SIGSTOP)
         with ThreadPoolExecutor() as threads:
             shut = threads.submit(it.post, "do", what="shut", node=5, turn=state["turn"])
-            time.sleep(0.5)
-            assert not shut.done()
+            wait_until_asked(session)
             it.post("stop", turn=0)
             status, told = shut.result(SECONDS)
             assert (status, json.loads(told)["error"]) == (409, "it was stopped. The session was begun again, with the steps that were made"), told
@@ -614,14 +621,15 @@ def test_stop() -> None:
             (session,) = it.sessions()
             os.kill(session, signal.SIGSTOP)
             shut = threads.submit(it.post, "do", what="shut", node=5, turn=state["turn"])
-            time.sleep(0.5)
+            wait_until_asked(session)
             assert it.end() == 130
             with contextlib.suppress(OSError, http.client.HTTPException):
                 shut.result(SECONDS)
         until = time.monotonic() + SECONDS
-        while Path(f"/proc/{session}").exists() and b") Z " not in Path(f"/proc/{session}/stat").read_bytes():
-            assert time.monotonic() < until, "a session stays behind"
-            time.sleep(0.05)
+        with contextlib.suppress(OSError):
+            while b") Z " not in Path(f"/proc/{session}/stat").read_bytes():
+                assert time.monotonic() < until, "a session stays behind"
+                time.sleep(0.05)
 
 
 def test_large() -> None:

@@ -16,7 +16,7 @@ from typing import Any
 
 import pytest
 from board_running import Board, board
-from desk_shared import ODD, PIPES, ROOT, SCRIPT, STORY, run, swept
+from desk_shared import ODD, PIPES, ROOT, SCRIPT, STORY, run, swept, wait_until_asked
 from dmf.board_server import Door
 
 for program in "chromium", "chromedriver", "dot":
@@ -198,8 +198,12 @@ def judge_sessions(page: Page, it: Board) -> None:
 
 
 def test_opening(driver: Any) -> None:
-    """The file that a browser is started with leads to the page."""
+    """The file that a browser is started with leads to the page. Without the token there is a page that says how to get in."""
     with board(PIPES) as it:
+        driver.get(f"http://{it.host}/")
+        assert "The board printed its address where it was started" in driver.find_element(By.TAG_NAME, "body").text
+        # The browser says that it was refused.
+        assert len(driver.get_log("browser")) == 1
         door = Door(it.address)
         try:
             driver.get(door.address)
@@ -230,7 +234,11 @@ def test_two_tabs(driver: Any) -> None:
         page.wait(lambda: page.text("#trouble") == "The network has changed in another tab: look again.")
         page.wait(lambda: page.value() == 110)
         assert (it.state()["at"], len(it.state()["steps"]), "Mill Lane" in page.text("#way")) == (2, 3, True)
-        assert page.undo() == 155
+        # Of two clicks at once the second is none.
+        driver.execute_script("at('undo').click(); at('undo').click()")
+        page.wait(lambda: page.value() == 155)
+        page.settle()
+        assert (page.text("#trouble"), it.state()["at"]) == ("", 1)
         # What is asked of a state that has passed shows the present one.
         it.do(what="go", step=0)
         page.driver.execute_script("choose({ arc: 9 })")
@@ -258,6 +266,7 @@ def test_long(driver: Any) -> None:
         page.press("Shut it")
         stop = driver.find_element(By.ID, "end")
         page.wait(stop.is_displayed)
+        wait_until_asked(session)
         stop.click()
         page.wait(lambda: "It was stopped. The session was begun again" in page.text("#trouble"))
         page.settle()

@@ -16,7 +16,7 @@ from pathlib import Path
 from typing import Any
 
 import pytest
-from desk_shared import ODD, PIPES, ROOT, SCRIPT, SECONDS, STORY, greatest, run, sessions_of, swept, water
+from desk_shared import ODD, PIPES, ROOT, SCRIPT, SECONDS, STORY, greatest, run, sessions_of, swept, wait_until_asked, water
 from built import BUILT
 from dmf import Network
 from dmf.desk import Desk, DeskFault, Place
@@ -343,6 +343,28 @@ def test_files() -> None:
     assert run("dmf-plan").returncode == 2
 
 
+def test_no_other_file(tmp_path: Path, monkeypatch: pytest.MonkeyPatch) -> None:
+    """What somebody else puts at the path of a new file, after it was found to be free, stays as it is."""
+    plan = Plan(desk_of(WATER), is_typed=False, write=lambda _: None)
+    victim, path = tmp_path / "victim.max", tmp_path / "new.max"
+    victim.write_text("as it was")
+    save = plan._put
+
+    def late(path: str, data: bytes) -> None:
+        Path(path).symlink_to(victim)
+        save(path, data)
+
+    monkeypatch.setattr(plan, "_put", late)
+    plan.onecmd(f"save {path}")
+    assert (victim.read_text(), plan.refused) == ("as it was", 1)
+    monkeypatch.undo()
+    path.unlink()
+    # Its own file it writes as often as it is asked.
+    plan.run_script([f"save {path}", f"save {path}"])
+    assert (plan.refused, path.read_text().count("p max")) == (1, 1)
+    plan.desk.end()
+
+
 class Terminal:
     """The tool on a terminal of its own."""
 
@@ -388,7 +410,7 @@ def test_broken_off() -> None:
         (session,) = sessions_of(terminal.pid)
         os.kill(session, signal.SIGSTOP)
         terminal.type('shut "South Tower"\n')
-        terminal.wait('"South Tower"\r\n')
+        wait_until_asked(session)
         wait_until_asleep(terminal.pid)
         terminal.type("\x03")
         told = terminal.wait("try, 155, greatest> ")

@@ -75,22 +75,37 @@ class Door:
 
 
 class Strangers:
-    """The connections that have not shown the token. If there are too many, one of another user's goes first, and else the oldest."""
+    """The connections that have not shown the token. If there are too many, one of another user's goes first, and else the oldest. The end
+    of one is a reset, after which its user holds no port of this machine for it: else no page might find one."""
 
     def __init__(self) -> None:
         self._waiting: dict[socket.socket, tuple[bool, float]] = {}
         self._lock = threading.Lock()
 
     def take(self, connection: socket.socket, is_own: bool) -> None:
+        _reset_at_end(connection, True)
         with self._lock:
             self._waiting[connection] = is_own, time.monotonic()
             if len(self._waiting) > MOST_STRANGERS:
                 self._end(min(self._waiting, key=self._waiting.__getitem__))
 
-    def drop(self, connection: socket.socket) -> None:
-        """The connection has shown the token, or has ended."""
+    def admit(self, connection: socket.socket) -> None:
+        """The connection has shown the token."""
+        if self.drop(connection):
+            _reset_at_end(connection, False)
+
+    def drop(self, connection: socket.socket) -> bool:
+        """Forgets a connection. Returns whether it was one of these."""
         with self._lock:
-            self._waiting.pop(connection, None)
+            return self._waiting.pop(connection, None) is not None
+
+    def part(self, connection: socket.socket) -> None:
+        """Lets a connection of these read what it was answered, and waits for its end."""
+        if connection in self._waiting:
+            with contextlib.suppress(OSError):
+                connection.shutdown(socket.SHUT_WR)
+                while connection.recv(1 << 12):
+                    pass
 
     def end_late(self, patience: float = PATIENCE) -> None:
         """Ends those that have waited for so long."""
@@ -104,6 +119,11 @@ class Strangers:
         del self._waiting[connection]
         with contextlib.suppress(OSError):
             connection.shutdown(socket.SHUT_RDWR)
+
+
+def _reset_at_end(connection: socket.socket, is_so: bool) -> None:
+    with contextlib.suppress(OSError):
+        connection.setsockopt(socket.SOL_SOCKET, socket.SO_LINGER, struct.pack("ii", is_so, 0))
 
 
 def user_of(client: tuple[str, int], server: tuple[str, int]) -> int | None:
@@ -271,8 +291,12 @@ class Handler(BaseHTTPRequestHandler):
             self.close_connection = True
             self._send(_outside("The address has not the token that the board told when it began"))
             return False
-        self.server.strangers.drop(self.connection)
+        self.server.strangers.admit(self.connection)
         return super().parse_request()
+
+    def finish(self) -> None:
+        super().finish()
+        self.server.strangers.part(self.connection)
 
     def _serve(self, make: Callable[[str], Answer | None]) -> None:
         """Answers a request that may be answered."""
