@@ -13,7 +13,9 @@ from oracle import program
 from oracle.program import Outcome
 from oracle.session import Refusals
 
-BUILT = os.path.join(os.path.dirname(os.path.dirname(os.path.abspath(__file__))), "crates", "dmf", "out", "dmf")
+ROOT = os.path.dirname(os.path.dirname(os.path.abspath(__file__)))
+# tests/mutants names a faulty copy of the program in place of it.
+BUILT = os.environ.get("DMF_BUILT") or os.path.join(ROOT, "crates", "dmf", "out", "dmf")
 PROBLEM = b"problem.max"
 SECONDS = 60
 # How much a pipe takes that nobody reads, in bytes.

@@ -14,6 +14,7 @@ from itertools import islice
 from pathlib import Path
 from typing import NamedTuple
 
+import built
 import pytest
 from _pytest.terminal import TerminalReporter
 from hypothesis import settings
@@ -27,7 +28,7 @@ ROOT = Path(__file__).resolve().parent.parent
 # tests, or one for so many seeded cases where --cases tells how many those are.
 GATE_CASES, LONG_CASES, BATCH = 6_000, 600_000, 50
 GATE_DRAWN, LONG_DRAWN, CASES_A_DRAWN = 120, 100_000, 50
-BUILT = ROOT / "crates" / "dmf" / "out" / "dmf"
+BUILT = Path(built.BUILT)
 
 
 def pytest_addoption(parser: pytest.Parser) -> None:

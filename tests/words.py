@@ -62,6 +62,7 @@ REFUSED = [
     ("check P Q", "unexpected argument 'Q' found"),
     ("wash", "unrecognized subcommand 'wash'"),
     ("Solve", "unrecognized subcommand 'Solve'"),
+    ("session --Cut P", "unexpected argument '--Cut' found"),
     ("solve --cut --cut", "cannot be used multiple times"),
     ("solve --cut=yes", "unexpected value 'yes' for '--cut' found"),
     ("solve --version", "unexpected argument '--version' found"),
@@ -80,6 +81,7 @@ REFUSED = [
 # Words with a bound that is refused, each with a part of the text that tells it.
 BOUNDS = [
     ("session --history 1000001 P", "invalid value '1000001' for '--history <N>'"),
+    ("session --history ++1 P", "invalid value '++1' for '--history <N>'"),
     ("session --history x P", "invalid value 'x' for '--history <N>'"),
     ("session --history 1 --history", "a value is required for '--history <N>' but none was supplied"),
 ]
@@ -121,7 +123,7 @@ VERSIONS = [("--version", "dmf 0.1.0\n"), ("-V", "dmf 0.1.0\n")]
 PARTS = ("--brief",), ("--cut",), ("--history", "1"), ("--progress",), (PROBLEM.decode(),)
 # What else may stand after `session`: other ways to write a bound, and paths that look like other words. Of these paths only one has
 # a file.
-SESSION_WORDS = "--history=+1 problem.max", "--history 0 problem.max", "-- problem.max", "-- --cut", "-", "solve"
+SESSION_WORDS = "--history=+1 problem.max", "--history +1 problem.max", "--history 01 problem.max", "--history 0 problem.max", "-- problem.max", "-- --cut", "-", "solve"
 # What is on standard input after each command, from which it shows what was asked for.
 INPUTS = {"solve": text(CROSSED), "session": b"solve\ncap 5 1\nundo\nundo\n", "check": text(CROSSED_FLOW)}
 

@@ -161,6 +161,11 @@ SESSIONS = [
     held("no command", CROSSED, "", ""),
     held("a comment and a blank line", CROSSED, b"c hello\n\ncNote\n", "c refused 3 unknown command"),
     held("too long a line", CROSSED, f"{'x' * 4097} / print flow", f"c refused 1 line too long / {NO_FLOW}"),
+    held("words in capitals", CROSSED, "UNDO / Print flow / print Flow", "c refused 1 unknown command / c refused 2 unknown command / c refused 3 unknown command"),
+    # Without a line feed at its end.
+    held("the last line as long as may be", CROSSED, b"undo".ljust(4096), "c refused 1 nothing to undo"),
+    held("too long a last line", CROSSED, b"undo".ljust(4097), "c refused 1 line too long"),
+    held("a last line too long by its carriage return", CROSSED, b"undo".ljust(4096) + b"\r", "c refused 1 line too long"),
     held(
         "lines of the greatest length and longer ones",
         CROSSED,

@@ -1,5 +1,5 @@
 """Puts faults into a copy of the program where no proof sees them, builds each, and runs the test that must fail for it. A build takes
-minutes, so only `--long` does this. That each fault can still be put in is tried each time."""
+minutes, so only `--long` does this; tests/mutants does it for those of `main`. That each fault can still be put in is tried each time."""
 
 from __future__ import annotations
 
@@ -11,13 +11,12 @@ from pathlib import Path
 
 import pytest
 from conftest import ROOT, shared
-from mutants import MUTANTS, Mutant
+from mutants import MAIN_MUTANTS, MUTANTS, Mutant
 
 FAILED = 1
-mutants = pytest.mark.parametrize("mutant", [pytest.param(it, id=it.name) for it in MUTANTS])
 
 
-@mutants
+@pytest.mark.parametrize("mutant", [pytest.param(it, id=it.name) for it in MAIN_MUTANTS + MUTANTS])
 def test_place(mutant: Mutant) -> None:
     """The text stands once in its file, and the test is there."""
     assert (ROOT / mutant.file).read_text().count(mutant.old) == 1
@@ -27,7 +26,7 @@ def test_place(mutant: Mutant) -> None:
 
 @pytest.mark.long
 @pytest.mark.seconds(300)
-@mutants
+@pytest.mark.parametrize("mutant", [pytest.param(it, id=it.name) for it in MUTANTS])
 def test_killed(tmp_path_factory: pytest.TempPathFactory, mutant: Mutant) -> None:
     """In one copy of the repository with what was built, one fault after the other."""
     with shared(tmp_path_factory, "copy") as copy:

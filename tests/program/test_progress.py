@@ -201,6 +201,30 @@ def test_slow_problem(tmp_path: Path) -> None:
         assert (running.returncode, out, tasks_of(terminal.close())) == (0, SMALL_SOLUTION, ["reading"])
 
 
+def test_asked_while_waiting(small: Path) -> None:
+    """Asked for on a terminal, what was shown of the problem is erased while the session waits."""
+    words = [str(BUILT), "session", "--progress", str(small)]
+    with Terminal() as terminal, subprocess.Popen(words, stdin=subprocess.PIPE, stdout=subprocess.DEVNULL, stderr=terminal.end) as running:
+        is_told = terminal.wait_for(lambda told: "reading" in told)
+        time.sleep(PAUSE)
+        shown = terminal.told()
+        running.communicate(b"")
+    assert is_told and tasks_of(shown) == ["reading"]
+
+
+@pytest.mark.seconds(3)
+def test_slow_fault(tmp_path: Path) -> None:
+    """What a session showed of a problem is erased before the problem's fault is told."""
+    pipe = tmp_path / "slow.max"
+    os.mkfifo(pipe)
+    with Terminal() as terminal:
+        running = subprocess.Popen([str(BUILT), "session", str(pipe)], stdin=subprocess.DEVNULL, stderr=terminal.end)
+        feed(open(pipe, "wb"), SMALL + b"x\n")
+        assert running.wait(timeout=SECONDS) == 3
+        shown, _, told = terminal.close().rpartition(ERASED)
+        assert tasks_of(shown + ERASED) == ["reading"] and told.startswith("dmf: line 5: unknown line\n")
+
+
 @pytest.mark.seconds(5)
 def test_check(small: Path) -> None:
     status, verdict, told = slowly(["check", str(small)], SMALL_SOLUTION, both=False)
@@ -253,6 +277,14 @@ def test_long_drain(tmp_path: Path, name: str) -> None:
     assert (places[0], taken[0]) == (1, 1) and taken[-1] <= HUB_FLOW
     assert {*places} == {1} if arcs_in == 1 else places == taken
     assert told.endswith(ERASED)
+
+
+def test_asked_on_terminal(tmp_path: Path) -> None:
+    """Asked for on a terminal, progress is shown from the start, and its line is erased before each reply."""
+    (tmp_path / "pipes.max").write_bytes(TWO_PIPES)
+    status, told = typed(["session", "--progress", "--brief", str(tmp_path / "pipes.max")], [b"solve\nclose 2\n"])
+    assert status == 0 and "solving" in told and "draining" in told
+    assert re.sub(r"\r\x1b\[K(dmf: [^\r\n]*(?=\r\x1b\[K))?", "", told) == "c solve value 4\nc close value 0\n"
 
 
 @pytest.mark.seconds(3)

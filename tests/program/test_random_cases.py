@@ -15,18 +15,17 @@ from random import Random
 import built
 import pytest
 import strategies
-from built import PROBLEM, Case, Run
+from built import PROBLEM, Case
 from commands import COMMANDS
+from compared import compared, judge, judge_seeded, with_arcs_left, with_later_path
 from conftest import BATCH, GATE_CASES, batches
 from found import FOUND
 from hypothesis import given
 from hypothesis import strategies as st
 from kept import Found, shown_cases, with_cases
-from oracle import changes, network, session
-from oracle.network import State, Step
 from random_cases import random_case
 from reduced import reduced
-from refused import REFUSED, wanted_without, ways_of
+from refused import REFUSED, ways_of
 from traits import TRAITS, traits
 
 # Texts of the documents, each of which some of these cases is to meet: all but want of memory and the limits of size.
@@ -41,36 +40,6 @@ NO_MEMORY = "no memory"
 REPLIES = {re.split(" [A-Z]", it.reply)[0] for it in COMMANDS.values() if it.reply.startswith("c ")}
 ALL_TEXTS = {*re.split(r",\s+", TEXTS), *REPLIES}
 ALL = ALL_TEXTS | TRAITS | {NO_MEMORY}
-
-
-def compared(case: Case) -> tuple[Run, str | None]:
-    """A run of a case, and what it differs in, if in anything."""
-    built.put_problem(case)
-    wanted, run = wanted_without(case, ()), built.run(case)
-    if wanted.allows(*run):
-        return run, None
-    return run, f"the program ends with {run.status}, writes {run.out!r} and tells {run.err!r}; wanted is {wanted}"
-
-
-def difference(found: Found, library: str = "") -> str | None:
-    """What a run of a case differs in, of which a request for memory may be refused."""
-    if not found.refused:
-        return compared(found.case)[1]
-    built.put_problem(found.case)
-    run, _ = built.watch(found.case, library, CALL="memory", AT=found.refused)
-    return None if ways_of(found.case, run, 1) else f"with request {found.refused} refused the program ends so: {run}"
-
-
-def judge(found: Found, library: str = "") -> None:
-    wrong = difference(found, library)
-    assert not wrong, f"{wrong}\n\n    {found}"
-
-
-def judge_seeded(found: Found, library: str, wrong: object) -> None:
-    """Fails with a smaller case, where a case fails."""
-    if wrong:
-        judge(found._replace(case=reduced(found.case, lambda it: difference(found._replace(case=it), library) is not None)), library)
-        pytest.fail(f"it failed once, and not again: {wrong}\n\n    {found}")
 
 
 def pytest_generate_tests(metafunc: pytest.Metafunc) -> None:
@@ -153,29 +122,6 @@ def shown_case(fault: str) -> Case:
 def size(case: Case) -> int:
     """How many lines a case has."""
     return sum(len(text.splitlines()) for text in {case.problem, case.input})
-
-
-def with_later_path(monkeypatch: pytest.MonkeyPatch) -> None:
-    """Of the shortest paths the second implementation takes one that need not be the first."""
-    least_path = network.least_path
-
-    def least_path_backwards(steps: list[Step], start: int, goal: int) -> list[Step] | None:
-        path = least_path([step._replace(rank=-step.rank) for step in steps], start, goal)
-        return path and [step._replace(rank=-step.rank) for step in path]
-
-    monkeypatch.setattr(network, "least_path", least_path_backwards)
-
-
-def with_arcs_left(monkeypatch: pytest.MonkeyPatch) -> None:
-    """A shut of the second implementation leaves the arcs open that enter the node."""
-
-    def shut(state: State, node: int) -> State:
-        for number, arc in enumerate(state.arcs, 1):
-            if arc.tail == node and not arc.is_closed:
-                state = changes.close(state, number)
-        return state
-
-    monkeypatch.setattr(session, "CHANGES", {**session.CHANGES, "shut": shut})
 
 
 @pytest.mark.seconds(2)

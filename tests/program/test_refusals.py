@@ -25,12 +25,13 @@ ADDING = "add 1 4 7 / add 2 4 1 / undo 2 / redo 2 / undo / add 1 3 9 / redo / pr
 SHUTTING = "solve / shut 3 / undo / shut 2 / solve / undo 2 / redo 2 / shut 1 / print flow"
 KEEPING = "solve / cap 5 1 / solve / cap 5 3 / close 1 / solve / print cut / add 1 4 2 / solve / shut 3 / solve / print cut / undo / solve"
 CUTTING = "solve / print cut / undo / print cut / solve / print cut"
+KEEPING_CASE = Case("one solve comes after the other", (b"session", PROBLEM), text(CROSSED), text(KEEPING))
 # Draining, undoing, closing and solving in turn.
 LONG = SESSIONS[-1].case.input
 MORE = [
     Case("arcs are added, taken back and added again", (b"session", PROBLEM), text(CROSSED), text(ADDING)),
     Case("nodes are shut", (b"session", PROBLEM), text(CROSSED), text(SHUTTING)),
-    Case("one solve comes after the other", (b"session", PROBLEM), text(CROSSED), text(KEEPING)),
+    KEEPING_CASE,
     Case("one solve comes after the other, each with its cut", (b"session", b"--cut", PROBLEM), text(CROSSED), text(KEEPING)),
     Case("cuts are printed", (b"session", b"--cut", PROBLEM), text(CROSSED), text(CUTTING)),
     Case("no state is kept", (b"session", b"--history", b"0", PROBLEM), text(CROSSED), text(ADDING)),
@@ -73,3 +74,4 @@ def test_refusals(case: Case, row: int, faults: str) -> None:
         ways.update(ended)
     assert built.wanted(case).allows(*run), f"with ample memory the run ends so: {run}"
     assert {"nothing", *searches(case)} <= ways, "a refused request is told each way"
+    assert (case, row) != (KEEPING_CASE, 1) or "ample" in ways, "without what the session only keeps to be quick it answers as ever"

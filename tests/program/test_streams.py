@@ -9,8 +9,10 @@ import subprocess
 from collections.abc import Iterator
 from pathlib import Path
 
+import built
 import pytest
 from conftest import BUILT, ROOT
+from worked import WORKED
 
 SECONDS = 120
 A = (ROOT / "examples" / "a.max").read_bytes()
@@ -20,8 +22,9 @@ NO_FLOW = b"s 0\nf 1 2 0\nf 1 3 0\nf 2 3 0\nf 2 4 0\nf 3 4 0\n"
 FAULTY = b"p max 2 2\nn 1 s\nn 2 t\na 1 2 18446744073709551615\na 1 2 1\n"
 READ_FAILED, WRITE_FAILED = b"dmf: read failed\n", b"dmf: write failed\n"
 INPUT, OUTPUT, ERROR = 0, 1, 2
-# A soft limit of the stack, in bytes. No room that the program needs lies on the stack in more than a few KiB.
+# The least stack that docs/FORMATS.md promises to be enough, in bytes. The arguments and the environment, here of this size at least, lie there too.
 SMALL_STACK = 64 * 1024
+ENVIRONMENT = 8 * 1024
 
 
 @pytest.fixture
@@ -135,13 +138,16 @@ def test_too_large(folder: Path, words: str, given: bytes) -> None:
     assert run_without(folder, set(), words, given) == (4, b"", b"dmf: too much input\n")
 
 
-def run_small(words: str, given: bytes = b"") -> tuple[int, bytes, bytes]:
-    """Runs the program at the root on a small stack."""
+def limit() -> None:
+    resource.setrlimit(resource.RLIMIT_STACK, (SMALL_STACK, resource.getrlimit(resource.RLIMIT_STACK)[1]))
 
-    def limit() -> None:
-        resource.setrlimit(resource.RLIMIT_STACK, (SMALL_STACK, resource.getrlimit(resource.RLIMIT_STACK)[1]))
 
-    ran = subprocess.run([BUILT, *words.split()], cwd=ROOT, input=given, capture_output=True, timeout=SECONDS, preexec_fn=limit)
+def run_small(words: str | tuple[bytes, ...], given: bytes = b"", folder: Path = ROOT) -> tuple[int, bytes, bytes]:
+    """Runs the program on a small stack, at the root or in a folder."""
+    split = tuple(map(os.fsencode, words.split())) if isinstance(words, str) else words
+    whole: list[Path | bytes] = [BUILT, *split]
+    environment = {**os.environ, "FILLER": "x" * ENVIRONMENT}
+    ran = subprocess.run(whole, cwd=folder, input=given, capture_output=True, timeout=SECONDS, preexec_fn=limit, env=environment)
     return ran.returncode, ran.stdout, ran.stderr
 
 
@@ -170,6 +176,18 @@ def test_small_stack_of_larger_problem() -> None:
     value = solution.partition(b"\n")[0].removeprefix(b"s ")
     assert (status, told) == (0, b"")
     assert run_small("check examples/levels.max", solution) == (0, b"c greatest %s\n" % value, b"")
+
+
+@pytest.mark.seconds(1)
+def test_small_stack_of_cases(case_folder: Path) -> None:
+    """The cases that were worked out by hand."""
+    for case, wanted in WORKED:
+        built.put_problem(case)
+        assert wanted.allows(*run_small(case.words, case.input, case_folder)), case.name
+
+
+def test_small_stack_is_promised() -> None:
+    assert f"a stack of {SMALL_STACK // 1024} KiB" in (ROOT / "docs" / "FORMATS.md").read_text()
 
 
 def test_small_stack_of_words() -> None:
