@@ -47,7 +47,7 @@ class Clone:
             (self.root / "crates" / crate / "src" / "lib.rt").write_text(f"// {crate}\n")
         for folder in self.bin, self.home, self.rt.parent, self.root / "tools", self.root / ".ci":
             folder.mkdir()
-        for script in "dmf", "prove", ".ci/run", "tools/build.py", "tools/prebuilt", "tools/count.sh":
+        for script in "dmf", "prove", ".ci/run", "tools/build.py", "tools/prebuilt", "tools/count.sh", "tools/packages.sh":
             shutil.copy(ROOT / script, self.root / script)
         (self.root / "crates.txt").write_text("# Crates.\nlow:\ndmf: low # and no other\ntest_low: low\n")
         for tool in FEW:

@@ -17,11 +17,14 @@ SKIPPING = "import pytest\n\n\ndef test_one() -> None:\n    pytest.skip('no tool
 
 @pytest.fixture
 def clone(tmp_path: Path) -> Clone:
-    """A clone whose ./test and tools/all_edits.py write $TEST and $EDITS."""
+    """A clone whose ./test and tools/all_edits.py write $TEST and $EDITS, and that has one mutant."""
     clone = Clone(tmp_path)
     clone.renew()
     (clone.root / "test").write_text("#!/bin/sh\necho \"$TEST\"\n")
     (clone.root / "test").chmod(0o755)
+    (clone.root / "tests/mutants").mkdir(parents=True)
+    (clone.root / "tests/mutants/test_main.py").write_text("def test_one() -> None:\n    pass\n")
+    (clone.root / "tests/conftest.py").write_text("def pytest_unconfigure() -> None:\n    print('1 passed, 0 failed')\n")
     (clone.root / "tools/all_edits.py").write_text("import os\nprint(os.environ['EDITS'])\n")
     return clone
 
@@ -34,14 +37,15 @@ def ended(clone: Clone, *words: str, said: str = SAID, test: str = SAID) -> tupl
 
 
 def test_all_well(clone: Clone) -> None:
-    """Tests, proofs, and two comparisons: that prebuilt/ is of these sources, and what they make."""
+    """Tests, proofs, a mutant, and two comparisons: that prebuilt/ is of these sources, and what they make."""
     status, lines = ended(clone, ".ci/run")
-    assert (status, lines[-1], lines.count(SAID)) == (0, "6 passed, 0 failed", 2)
+    assert (status, lines[-1], lines.count(SAID)) == (0, "7 passed, 0 failed", 2)
 
 
 def test_all_edits(clone: Clone) -> None:
-    assert ended(clone, "./prove") == (0, [*ended(clone, "./prove")[1][:1], SAID, "3 passed, 0 failed"])
-    assert ended(clone, "./prove", "--all-edits")[1][-1] == "10 passed, 0 failed"
+    status, lines = ended(clone, "./prove")
+    assert (status, lines[1], lines[-1]) == (0, SAID, "4 passed, 0 failed")
+    assert ended(clone, "./prove", "--all-edits")[1][-1] == "11 passed, 0 failed"
     assert ended(clone, "./prove", "--edits") == (2, ["Usage: prove [--all-edits]"])
 
 
@@ -49,9 +53,9 @@ def test_all_edits(clone: Clone) -> None:
 def test_failures(clone: Clone, said: str) -> None:
     """A part that tells a failure, or that tells nothing."""
     missing = said != "1 passed, 1 failed"
-    assert ended(clone, ".ci/run", said=said)[1][-1] == f"{4 + (not missing)} passed, 1 failed"
+    assert ended(clone, ".ci/run", said=said)[1][-1] == f"{5 + (not missing)} passed, 1 failed"
     status, lines = ended(clone, ".ci/run", test=said)
-    assert (status, lines[-1]) == (1, f"{4 + (not missing)} passed, 1 failed")
+    assert (status, lines[-1]) == (1, f"{5 + (not missing)} passed, 1 failed")
 
 
 def test_other_sources(clone: Clone) -> None:
@@ -65,7 +69,7 @@ def test_another_executable(clone: Clone) -> None:
     clone.made.write_text(clone.made.read_text() + "\n")
     status, lines = ended(clone, ".ci/run")
     said = "prebuilt/ has another executable than crates/dmf/out/dmf: `tools/prebuilt renew` makes it anew"
-    assert (status, lines[-1], said in lines) == (1, "5 passed, 1 failed", True)
+    assert (status, lines[-1], said in lines) == (1, "6 passed, 1 failed", True)
 
 
 def skipping(tmp_path: Path, **environment: str) -> tuple[int, str]:
