@@ -76,13 +76,13 @@ class Clone:
     def words(self, *words: str, by: tuple[str, ...] = ()) -> list[str]:
         return [*by, str(self.root / "dmf"), *words]
 
-    def environment(self, **more: str) -> dict[str, str]:
-        return {"PATH": str(self.bin), "HOME": str(self.home), **more}
+    def environment(self) -> dict[str, str]:
+        return {"PATH": str(self.bin), "HOME": str(self.home)}
 
-    def call(self, *words: str, by: tuple[str, ...] = (), **more: str) -> Ended:
+    def call(self, *words: str, by: tuple[str, ...] = (), environment: dict[str, str] | None = None) -> Ended:
         """Calls ./dmf where there is no toolchain, no Python and no compiler."""
-        command = self.words(*words, by=by)
-        ran = subprocess.run(command, env=self.environment(**more), stdin=subprocess.DEVNULL, capture_output=True, text=True, timeout=SECONDS)
+        command, environment = self.words(*words, by=by), {**self.environment(), **(environment or {})}
+        ran = subprocess.run(command, env=environment, stdin=subprocess.DEVNULL, capture_output=True, text=True, timeout=SECONDS)
         return Ended(ran.returncode, ran.stdout, ran.stderr)
 
     def check(self, *words: str) -> tuple[int, str]:

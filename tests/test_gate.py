@@ -76,7 +76,7 @@ def skipping(tmp_path: Path, **environment: str) -> tuple[int, str]:
     """How pytest ends on a test that is skipped and one that passes."""
     (tmp_path / "test_skipping.py").write_text(SKIPPING)
     path = os.pathsep.join(str(ROOT / folder) for folder in ("tests", "tests/cases", "clients/python"))
-    words = [sys.executable, "-m", "pytest", "-p", "no:xdist", "-p", "conftest", "-c", ROOT / "setup.cfg", tmp_path / "test_skipping.py"]
+    words = [sys.executable, "-m", "pytest", "-p", "no:xdist", "-p", "conftest", "-c", str(ROOT / "setup.cfg"), str(tmp_path)]
     plain = {name: value for name, value in os.environ.items() if not name.startswith("PYTEST_") and name != "CI"}
     ran = subprocess.run(words, env={**plain, "PYTHONPATH": path, **environment}, capture_output=True, text=True, timeout=SECONDS)
     (line,) = [line for line in ran.stdout.splitlines() if " passed, " in line and " failed" in line]

@@ -61,33 +61,44 @@ def test_the_program_itself(tmp_path: Path) -> None:
     assert after.ru_utime + after.ru_stime - before.ru_utime - before.ru_stime < 1
 
 
-def test_other_sources(clone: Clone) -> None:
-    """A source that says something else: nothing old runs, whatever the times of files say. A newer time alone changes nothing, nor does
-    a crate of tests, or a file that is no source."""
+def test_a_newer_time(clone: Clone) -> None:
+    """A newer time of a source alone changes nothing, nor does a crate of tests, or a file that is no source."""
     (clone.root / "crates/test_low/src/lib.rt").write_text("// Changed.\n")
     (clone.root / "crates/low/src/notes.txt").write_text("a note\n")
     assert clone.call().out == "ran the first\n"
-    source = clone.root / "crates/low/src/lib.rt"
-    os.utime(source, (2**31, 2**31))
+    os.utime(clone.root / "crates/low/src/lib.rt", (2**31, 2**31))
     (clone.root / "crates/dmf/out/dmf").write_text("#!/bin/sh\necho an older program\n")
     assert clone.call().out == "ran the first\n"
-    for change in (
-        lambda: source.write_text("// Changed.\n"),
-        lambda: source.rename(source.with_name("other.rt")),
-        lambda: (clone.root / "crates/dmf/specs").mkdir() or (clone.root / "crates/dmf/specs/New.antt").write_text("New : Type\n"),
-    ):
-        clone.renew()
-        assert clone.check() == (0, "")
-        change()
-        assert refused(clone.call(), r"dmf: prebuilt/ is of other sources")
-        assert clone.check() == (1, "prebuilt/ is of other sources: `tools/prebuilt renew` makes it anew\n")
+
+
+def change(source: Path) -> None:
+    source.write_text("// Changed.\n")
+
+
+def rename(source: Path) -> None:
+    source.rename(source.with_name("other.rt"))
+
+
+def add_one(source: Path) -> None:
+    specs = source.parents[1] / "specs"
+    specs.mkdir()
+    (specs / "New.antt").write_text("New : Type\n")
+
+
+@pytest.mark.parametrize("edit", [change, rename, add_one], ids=lambda edit: str(edit.__name__))
+def test_other_sources(clone: Clone, edit: Callable[[Path], None]) -> None:
+    """A source that says something else: nothing old runs, whatever the times of files say."""
+    assert clone.check() == (0, "")
+    edit(clone.root / "crates/low/src/lib.rt")
+    assert refused(clone.call(), r"dmf: prebuilt/ is of other sources")
+    assert clone.check() == (1, "prebuilt/ is of other sources: `tools/prebuilt renew` makes it anew\n")
 
 
 def test_built_where_it_can_be(clone: Clone) -> None:
     """With the toolchain, other sources are built, after a line that says why."""
     (clone.root / "crates/low/src/lib.rt").write_text("// Changed.\n")
     clone.made.write_text(PROGRAM.format("the second"))
-    ended = clone.call("solve", **clone.with_toolchain())
+    ended = clone.call("solve", environment=clone.with_toolchain())
     assert (ended.status, ended.out) == (0, "ran the second solve\n")
     first, second, *_ = ended.err.splitlines()
     assert first == "dmf: prebuilt/ is of other sources." and second.startswith("dmf: the program is proved and built. This happens once")
@@ -201,7 +212,7 @@ def test_read_only(read_only: Clone) -> None:
     assert clone.call("solve", by=by) == (0, "ran the first solve\n", "")
     assert stat.S_IMODE(kept.stat().st_mode) == 0o755
     elsewhere = clone.home / "elsewhere"
-    assert clone.call("solve", by=by, XDG_CACHE_HOME=str(elsewhere)).status == 0
+    assert clone.call("solve", by=by, environment={"XDG_CACHE_HOME": str(elsewhere)}).status == 0
     assert [*elsewhere.glob("dmf/*/dmf")]
 
 
@@ -210,7 +221,7 @@ def test_nowhere_to_write(read_only: Clone) -> None:
     clone.home.chmod(0o555)
     ended = clone.call("solve", by=by)
     assert refused(ended, "dmf: neither .*/crates/dmf/out nor .*/home/.cache/dmf/.* can be written; XDG_CACHE_HOME can name another folder")
-    assert refused(clone.call("solve", by=by, HOME=""), "dmf: .*/crates/dmf/out cannot be written, and neither HOME nor XDG_CACHE_HOME names a folder")
+    assert refused(clone.call("solve", by=by, environment={"HOME": ""}), "dmf: .*/crates/dmf/out cannot be written, and neither HOME nor XDG_CACHE_HOME names a folder")
 
 
 def test_compared(clone: Clone) -> None:
@@ -234,6 +245,6 @@ def test_of_what_it_was_made(clone: Clone) -> None:
 
 def test_words(clone: Clone) -> None:
     """A command that is none, or with words too many, is refused."""
-    for words in [], ["wash"], ["take", "it"], ["renew", "it"], ["check", "a", "b"]:
+    for words in (), ("wash",), ("take", "it"), ("renew", "it"), ("check", "a", "b"):
         ran = subprocess.run([clone.root / "tools/prebuilt", *words], capture_output=True, text=True, timeout=SECONDS)
         assert (ran.returncode, ran.stdout, ran.stderr[:5]) == (2, "", "Usage"), words
