@@ -86,7 +86,7 @@ def test_a_program_that_cannot_be_built(tmp_path: Path) -> None:
     program = put(tmp_path / "dmf", "#!/bin/sh\necho no rt >&2\nexit 70\n")
     ran = ask(tmp_path / "clients/python/dmf")
     assert ran.stderr.startswith("no rt\n")
-    assert ran.stderr.endswith(f"\ndmf.NoProgram: there is no program: {program} ended with status 70\n")
+    assert ran.stderr.endswith(f"\ndmf.NoProgram: there is no program: {program} ended with status 70; {OTHER}\n")
 
 
 def test_a_lost_mode(tmp_path: Path) -> None:
@@ -214,6 +214,14 @@ def test_a_tool_without_a_program(tool: str) -> None:
     ran = subprocess.run(words, env=environment, stdin=subprocess.DEVNULL, capture_output=True, text=True, timeout=SECONDS)
     assert (ran.stdout, ran.stderr) == ("", f"{tool}: DMF names /nowhere/dmf, which is no program that can be run\n")
     assert ran.returncode in (1, 4)
+
+
+def test_the_command_of_a_package_without_the_executable() -> None:
+    """It does not run another program in its place."""
+    environment = {"PYTHONPATH": CLIENT, "PATH": "", "DMF": BUILT}
+    ran = subprocess.run([sys.executable, f"{CLIENT}/command.py"], env=environment, input="", capture_output=True, text=True)
+    assert (ran.returncode, ran.stdout) == (70, "")
+    assert ran.stderr == f"dmf: {CLIENT}/dmf/bin/dmf cannot be run: No such file or directory\n"
 
 
 def test_in_place_of_python(tmp_path: Path) -> None:

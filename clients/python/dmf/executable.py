@@ -61,8 +61,8 @@ def _own() -> str | None:
 
 @functools.cache
 def _beside() -> str | None:
-    """The program of the repository, or of the install, that this package lies in. In a repository the first call proves and builds
-    it, and reports on standard error how far it is. Raises `NoProgram` if it cannot be built."""
+    """The program of the repository, or of the install, that this package lies in. In a repository the first call builds it, if need
+    be, and reports on standard error how far it is. Raises `NoProgram` if it cannot be built."""
     for place, name in PLACES.items():
         path = Path(*PACKAGE.parts[: -len(place)]) / name
         if PACKAGE.parts[-len(place) :] == place and path.is_file():
@@ -72,7 +72,7 @@ def _beside() -> str | None:
                 refuse_unrun(str(path), error)
                 raise
             if status:
-                raise NoProgram(f"there is no program: {path} {ended(status)}")
+                raise NoProgram(f"there is no program: {path} {ended(status)}; {OTHER}")
             return str(path)
     return None
 
