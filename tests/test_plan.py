@@ -289,6 +289,14 @@ def test_scripts() -> None:
     assert ran.stdout.count("solve: value 165") == 1, f"what-if leaves steps: {ran.stdout}"
 
 
+@pytest.mark.parametrize("closing", ["2>&-", "2>/dev/full"])
+def test_nowhere_to_tell(closing: str) -> None:
+    """Where a refusal cannot be told, what comes after it is carried out all the same."""
+    words = ["sh", "-c", f"exec tools/dmf-plan {PIPES} Reservoir Harbour {closing}"]
+    ran = subprocess.run(words, input="close rubbish\nsolve\n", stdout=subprocess.PIPE, text=True, timeout=SECONDS, cwd=ROOT)
+    assert (ran.returncode, values(ran.stdout)) == (1, [165]), ran
+
+
 def test_what_is_typed_otherwise() -> None:
     """Commands in capitals, ends as they are printed, and the number that an arc had before it was opened again."""
     typed = "SOLVE\nsolve\nadd Mill -> Station 25\nsolve\nclose #9\nopen Mill Lane\nclose #9\nclose #16\n"

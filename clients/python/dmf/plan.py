@@ -197,8 +197,10 @@ class Plan(cmd.Cmd):
         """Says why a line is refused. Nothing has changed."""
         self.refused += 1
         where = "" if self.is_typed else f"dmf-plan: line {self.line_number}: "
-        sys.stderr.write(display(where + why) + "\n")
-        sys.stderr.flush()
+        if sys.stderr:
+            with contextlib.suppress(OSError):
+                sys.stderr.write(display(where + why) + "\n")
+                sys.stderr.flush()
 
     def begin_again(self) -> None:
         """Begins a new session, with the steps that were made."""
