@@ -73,8 +73,8 @@ def test_a_board() -> None:
     desk = Desk(Subject("a test", BESIDE.encode()), with_solve=True)
     board = Board(desk)
     for what in "close", "open":
-        assert board.post("do", {"what": what, "arc": 1}).status == 200
-    answer = board.post("sweep", {"arcs": [2, 3]})
+        assert board.post("do", {"what": what, "arc": 1, "turn": desk.turn}).status == 200
+    answer = board.post("sweep", {"arcs": [2, 3], "turn": desk.turn})
     trials = [(it["number"], it["closed"], it["doubled"]) for it in json.loads(answer.body)["trials"]]
     assert (answer.status, trials) == (200, [(2, str(HALF), str(HALF + 2)), (3, "1", "")])
     desk.end()
