@@ -106,6 +106,8 @@ def pytest_terminal_summary(terminalreporter: TerminalReporter) -> None:
     passed = len(stats.get("passed", []))
     failed = len(stats.get("failed", [])) + len(stats.get("error", []))
     skipped = [re.sub("^Skipped: ", "", report.longrepr[2]) for report in stats.get("skipped", [])]
+    if "DMF_BUILT" in os.environ:
+        skipped.append(f"the built program, since DMF_BUILT names {BUILT}")
     for report in stats.get("passed", []) + stats.get("failed", []):
         told = dict(report.user_properties)
         if "cases" in told:

@@ -8,6 +8,7 @@ tries more cases, and puts into the corpus those that show new behaviour, reduce
 from __future__ import annotations
 
 from collections.abc import Callable
+from pathlib import Path
 from random import Random
 
 import built
@@ -80,6 +81,15 @@ def test_corpus() -> None:
     kept = corpus.cases()
     assert 50 <= len(kept) <= corpus.MOST_FILES and sum(map(corpus.size, kept)) <= corpus.MOST_BYTES
     assert {*corpus.least((case, behaviour(case)) for case in kept)} == {*kept}
+
+
+def test_write(tmp_path: Path, monkeypatch: pytest.MonkeyPatch) -> None:
+    """What is written is what is read, and a case that is left out goes."""
+    kept = corpus.cases()[:3]
+    monkeypatch.setattr(corpus, "CORPUS", tmp_path)
+    corpus.write(kept)
+    corpus.write(kept[1:])
+    assert sorted(it[1:] for it in corpus.cases()) == sorted(it[1:] for it in kept[1:])
 
 
 @pytest.mark.usefixtures("case_folder")
