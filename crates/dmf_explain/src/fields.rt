@@ -1,6 +1,6 @@
 //! Which field of a line a fault is about.
-ghost use Rattle.std.specs.Prelude.{◌≡◌, ◌↔◌, ◌≤◌, Err, IfSome, IsTrue};
-ghost use Rattle.dmf_text.specs.Number.{number_of};
+ghost use Rattle.std.specs.Prelude.{◌↔◌, ◌≤◌, ℕ, List, IfSome, IsSomeAnd, IsTrue};
+ghost use Rattle.dmf_explain.specs.Fields.{IsFaulty};
 
 use dmf_text::{Fields, NumberFault, number};
 
@@ -58,7 +58,8 @@ pub fn count(line: &[u8]) -> u64 {
 
 /// The first field at these places that has this fault.
 pub fn first_fault<'a>(line: &'a [u8], places: Places, fault: NumberFault) -> Option<Placed<'a>>
-    ensures { IfSome result (λ placed. (number_of placed.field.now ≡ Err fault) × (places.first ≤ placed.place) × (placed.place ≤ places.last)) }
+    ensures faulty { IfSome result (λ placed. IsFaulty line.now places fault placed.place placed.field.now) }
+    ensures first { (place : ℕ) (field : List ℕ) → IsFaulty line.now places fault place field → IsSomeAnd result (λ placed. placed.place ≤ place) }
 {
     let mut place = 0usize;
     for field in Fields::new(line) {

@@ -6,7 +6,7 @@ ghost use Rattle.dmf_session.specs.Step.{Answers};
 ghost use Rattle.dmf_session.specs.AppendedEdit.{AnswersAppended};
 ghost use Rattle.dmf_session.specs.Kept.{KeepsPresent, KeepsApplied};
 ghost use Rattle.dmf_session.specs.Optimal.{HasOptimalPresent};
-ghost use Rattle.dmf_session.specs.Telling.{TellsDrains, TellsStep};
+ghost use Rattle.dmf_session.specs.Telling.{TellsDraining, TellsStep};
 ghost use Rattle.dmf_solver.specs.Told.{AreTold};
 
 use crate::command::{Command, Refusal, Reply};
@@ -113,7 +113,7 @@ impl<H: History> Session<H> {
         ensures answer { Answers want_cut (H.timeline self.old) command result (H.timeline self.new) }
         ensures optimal { command ≡ Solve → OnOk result (HasOptimalPresent (H.timeline self.new)) }
         ensures told { TellsStep (H.timeline self.old) command result (H.timeline self.new) (W.told watch.old) (W.told watch.new) }
-        ensures drained { TellsDrains (H.timeline self.old) command (W.drained watch.old) (W.drained watch.new) }
+        ensures drained { TellsDraining (H.timeline self.old) command result (H.timeline self.new) (W.drained watch.old) (W.drained watch.new) }
     {
         let answer = self.carry_out(alloc, command, want_cut, watch);
         self.drop_if_refused(&answer);
@@ -130,7 +130,7 @@ impl<H: History> Session<H> {
         ensures answer { Answers want_cut (H.timeline self.old) command result (H.timeline self.new) }
         ensures optimal { command ≡ Solve → OnOk result (HasOptimalPresent (H.timeline self.new)) }
         ensures told { TellsStep (H.timeline self.old) command result (H.timeline self.new) (W.told watch.old) (W.told watch.new) }
-        ensures drained { TellsDrains (H.timeline self.old) command (W.drained watch.old) (W.drained watch.new) }
+        ensures drained { TellsDraining (H.timeline self.old) command result (H.timeline self.new) (W.drained watch.old) (W.drained watch.new) }
     {
         match command {
             Command::Cap { arc, cap } => self.cap(alloc, NewCap { arc, cap }, watch),
@@ -149,7 +149,7 @@ impl<H: History> Session<H> {
     fn cap<W: Watch>(&mut self, alloc: Global, new: NewCap, watch: &mut W) -> Result<Reply, Refusal>
         ensures answer { (want_cut : Bool) → Answers want_cut (H.timeline self.old) (Cap new.arc new.cap) result (H.timeline self.new) }
         ensures told { AreTold (W.told watch.old) (W.told watch.new) [] }
-        ensures drained { TellsDrains (H.timeline self.old) (Cap new.arc new.cap) (W.drained watch.old) (W.drained watch.new) }
+        ensures drained { TellsDraining (H.timeline self.old) (Cap new.arc new.cap) result (H.timeline self.new) (W.drained watch.old) (W.drained watch.new) }
     {
         let edit = plan_cap_watched(alloc, self.history.present(), new, &mut self.kept, watch)?;
         let kept = self.kept.take();
@@ -169,7 +169,7 @@ impl<H: History> Session<H> {
     fn close<W: Watch>(&mut self, alloc: Global, arc: u64, watch: &mut W) -> Result<Reply, Refusal>
         ensures answer { (want_cut : Bool) → Answers want_cut (H.timeline self.old) (Close arc) result (H.timeline self.new) }
         ensures told { AreTold (W.told watch.old) (W.told watch.new) [] }
-        ensures drained { TellsDrains (H.timeline self.old) (Close arc) (W.drained watch.old) (W.drained watch.new) }
+        ensures drained { TellsDraining (H.timeline self.old) (Close arc) result (H.timeline self.new) (W.drained watch.old) (W.drained watch.new) }
     {
         let edit = plan_close_watched(alloc, self.history.present(), arc, &mut self.kept, watch)?;
         let kept = self.kept.take();
@@ -179,7 +179,7 @@ impl<H: History> Session<H> {
     fn shut<W: Watch>(&mut self, alloc: Global, node: u64, watch: &mut W) -> Result<Reply, Refusal>
         ensures answer { (want_cut : Bool) → Answers want_cut (H.timeline self.old) (Shut node) result (H.timeline self.new) }
         ensures told { AreTold (W.told watch.old) (W.told watch.new) [] }
-        ensures drained { TellsDrains (H.timeline self.old) (Shut node) (W.drained watch.old) (W.drained watch.new) }
+        ensures drained { TellsDraining (H.timeline self.old) (Shut node) result (H.timeline self.new) (W.drained watch.old) (W.drained watch.new) }
     {
         let edit = plan_shut_watched(alloc, self.history.present(), node, &mut self.kept, watch)?;
         let kept = self.kept.take();
@@ -196,7 +196,7 @@ impl<H: History> Session<H> {
         ensures answer { Answers want_cut (H.timeline self.old) Solve result (H.timeline self.new) }
         ensures optimal { OnOk result (HasOptimalPresent (H.timeline self.new)) }
         ensures told { TellsStep (H.timeline self.old) Solve result (H.timeline self.new) (W.told watch.old) (W.told watch.new) }
-        ensures drained { W.drained watch.new ≤ W.drained watch.old }
+        ensures drained { AreTold (W.drained watch.old) (W.drained watch.new) [] }
     {
         greatest_is_optimal();
         let network = self.take_network(alloc)?;

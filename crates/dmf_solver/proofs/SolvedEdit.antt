@@ -1,7 +1,5 @@
 -- The edit of a solve: its moves name the arcs whose flow differs in what the search has reached.
-use Rattle.std.proofs.Common.{ℕ, ◌≡◌, ◌∙◌, List, Option, IfSome, Result, Ok, Err, MatchResult, Vec, Global, ap, inl, inr, pos, refl, subst, sym}
-use Rattle.std.specs.Prelude.{IsErr}
-use Rattle.std.proofs.lemmas.Bool.{false≢true}
+use Rattle.std.proofs.Common.{◌≡◌, ◌∙◌, List, Option, IfSome, Vec, Global, ap, pos, refl, subst, sym}
 use Rattle.dmf_solver.specs.declared.solve.Solved.{Solved}
 use Rattle.dmf_state.specs.declared.edit.Move.{Move}
 use Rattle.dmf_state.specs.declared.edit.Edit.TheVariants as edit
@@ -15,8 +13,7 @@ use Rattle.dmf_solver.specs.Pairs.{IsSolved, reached_flows}
 use Rattle.dmf_solver.specs.Planning.{PlansSolve}
 use Rattle.dmf_solver.specs.ResidualNetwork.{IsResidualOf, residual_search}
 use Rattle.dmf_solver.specs.Solve.{Solves}
-use Rattle.dmf_solver.specs.Told.{Told, MayTellSolve, TellsSolve}
-use Rattle.dmf_solver.proofs.Solving.{AreTold-none}
+use Rattle.dmf_solver.specs.Told.{Told, TellsSolve}
 use Rattle.dmf_solver.proofs.GreatestFlow.{greatest-from_no_path, cut-from_no_path}
 use Rattle.dmf_state.proofs.Moving.{AreMovesBetween, moves-between, flows-long}
 
@@ -59,15 +56,3 @@ module _ (s : NetworkState) (solved : Solved) (moves : Vec Move Global) (state :
   -- and the search has the links of the residual network.
   pub residual-listed : IsResidualOf (applied (edit.Solve moves) s) solved.search
   residual-listed = is.search_is ∙ ap (residual_search s.network) (sym flows-listed)
-
--- If memory is refused before the search begins, nothing was reported.
-pub told-nothing : {A E : Type 0} (s : NetworkState) (result : Result A E) (P : A → Type 0) (before : Option (List Told)) → IsErr result
-    → MatchResult result P (λ _. MayTellSolve s before before)
-told-nothing s (Ok x) P before refused = absurd (false≢true refused)
-told-nothing s (Err fault) P before refused = inl (AreTold-none before)
-
--- If memory is refused afterwards, the search's report was made.
-pub told-refused : {A E : Type 0} (s : NetworkState) (last : List ℕ) (result : Result A E) (P : A → Type 0) (before after : Option (List Told))
-    → IsErr result → TellsSolve s last before after → MatchResult result P (λ _. MayTellSolve s before after)
-told-refused s last (Ok x) P before after refused told = absurd (false≢true refused)
-told-refused s last (Err fault) P before after refused told = inr (last, told)

@@ -1,5 +1,7 @@
 -- Augmenting along least paths, one after the other: the flow stays a flow, and its value grows up to a bound.
-use Rattle.std.proofs.Common.{ℕ, ◌≡◌, List, [], ◌∷◌, ◌++◌, length, Option, Some, None, ap, subst, sym, ◌∙◌, arith, append_assoc, append-nil}
+use Rattle.std.proofs.Common.{ℕ, ◌≡◌, List, [], ◌∷◌, ◌++◌, length, Option, Some, None, Result, Ok, Err, MatchResult, ap, subst, sym, ◌∙◌, arith, append_assoc, append-nil}
+use Rattle.std.specs.Prelude.{IsErr}
+use Rattle.std.proofs.lemmas.Bool.{false≢true}
 use Rattle.std.proofs.lemmas.Int.{ints}
 use Rattle.dmf_path.specs.Step.{Step}
 use Rattle.dmf_state.specs.Network.{Network}
@@ -56,13 +58,18 @@ told_of-push n flows (first ∷ paths) last path augments =
     (told_of-push n (augmented first flows) paths last path augments.1)
 
 -- What is reported after these is reported after all of them.
-pub AreTold-trans : (a b c : Option (List Told)) (these more : List Told) → AreTold a b these → AreTold b c more → AreTold a c (these ++ more)
+pub AreTold-trans : {A : Type 0} (a b c : Option (List A)) (these more : List A) → AreTold a b these → AreTold b c more → AreTold a c (these ++ more)
 AreTold-trans a b None these more p q = tt
 AreTold-trans a None (Some z) these more p q = absurd q
 AreTold-trans None (Some y) (Some z) these more p q = absurd p
 AreTold-trans (Some x) (Some y) (Some z) these more p q = q ∙ ap (λ told. told ++ more) p ∙ append_assoc x these more
 
 -- If nothing is reported, the report stays as it was.
-pub AreTold-none : (a : Option (List Told)) → AreTold a a []
+pub AreTold-none : {A : Type 0} (a : Option (List A)) → AreTold a a []
 AreTold-none None = tt
 AreTold-none (Some x) = sym (append-nil x)
+
+-- What was reported before a refusal is what holds for the refusal.
+pub told-refused : {A E : Type 0} (result : Result A E) (P : A → Type 0) (Q : Type 0) → IsErr result → Q → MatchResult result P (λ _. Q)
+told-refused (Ok x) P Q refused told = absurd (false≢true refused)
+told-refused (Err fault) P Q refused told = told

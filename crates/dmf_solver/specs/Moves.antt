@@ -1,11 +1,13 @@
 -- The moves that drain an arc.
 -- Private: only contracts inside the crate and proofs use this.
-use Rattle.std.specs.Prelude.{ℕ, ◌≡◌, ◌≢◌, ◌+◌, ◌-◌, ◌≤◌, List, [], ◌∷◌, length, slice_index, IfSome}
+use Rattle.std.specs.Prelude.{ℕ, ◌≡◌, ◌≢◌, ◌+◌, ◌-◌, ◌≤◌, List, [], ◌∷◌, length, slice_index, IfSome, Option, Result, MatchResult}
 use Rattle.dmf_path.specs.Search.{Covers}
 use Rattle.dmf_state.specs.declared.edit.Move.{Move}
 use Rattle.dmf_solver.specs.declared.drain.Drained.{Drained}
 use Rattle.dmf_solver.specs.CarryingNetwork.{MayCarry}
+use Rattle.dmf_solver.specs.declared.watch.Turn.{Turn}
 use Rattle.dmf_solver.specs.Drain.{Drains, TakesOff}
+use Rattle.dmf_solver.specs.Turns.{Taken, TellsDrains, MayTellDrains}
 use Rattle.dmf_state.specs.Flow.{flow_on, flow_on_all}
 use Rattle.dmf_state.specs.Edit.{moved, MovesFit, differences}
 use Rattle.dmf_state.specs.Network.{Network}
@@ -31,6 +33,13 @@ pub record AreDrainingMoves (s : NetworkState) (j limit : ℕ) (moves : List Mov
   pub drains : Drains s.network j limit s.flows (moved moves s.flows)
   pub state : IsState (with_flows s (moved moves s.flows))
   pub takes_off : TakesOff s.network (flow_on s.flows j - limit) s.flows (moved moves s.flows)
+
+-- Draining these arcs had this result. The drains were reported, up to the flows after the moves; if memory was refused, they were or
+-- nothing was.
+abbrev pub TellsMoves : {E : Type 0} → NetworkState → List Turn → Result Drained E → Option (List Taken) → Option (List Taken) → Type 0
+TellsMoves s turns result before after =
+    MatchResult result (λ drained. TellsDrains s.network turns s.flows (moved drained.moves.items s.flows) before after)
+    (λ _. MayTellDrains s.network turns s.flows before after)
 
 -- If there is a search, it is over the carrying steps of the flow after the moves, with any room of the return link.
 abbrev pub CarriesMoved : NetworkState → Drained → Type 0

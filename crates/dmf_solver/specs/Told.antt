@@ -21,7 +21,7 @@ told_of n flows (path ∷ paths) =
 
 -- What the watch knows afterwards is what it knew before, with these reports after it. Or it knows nothing afterwards: it keeps no
 -- record, or had no memory for one.
-abbrev pub AreTold : Option (List Told) → Option (List Told) → List Told → Type 0
+abbrev pub AreTold : {A : Type 0} → Option (List A) → Option (List A) → List A → Type 0
 AreTold before None these = ⊤
 AreTold None (Some after) these = ⊥
 AreTold (Some before) (Some after) these = after ≡ before ++ these

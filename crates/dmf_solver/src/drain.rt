@@ -1,14 +1,14 @@
-ghost use Rattle.std.specs.Prelude.{◌≡◌, ◌≢◌, ◌+◌, ◌-◌, ◌≤◌, ℕ, true, List, [], ◌∷◌, length, IfOk, IsOk};
+ghost use Rattle.std.specs.Prelude.{◌≡◌, ◌≢◌, ◌+◌, ◌≤◌, ℕ, true, List, [], ◌∷◌, IfOk, IsOk};
 ghost use Rattle.dmf_state.specs.Network.{arc_number, has_arc};
 ghost use Rattle.dmf_state.specs.Flow.{flow_on};
 ghost use Rattle.dmf_state.specs.NetworkState.{IsState};
 ghost use Rattle.dmf_path.specs.Touched.{Touches};
 ghost use Rattle.dmf_solver.specs.CarryingNetwork.{IsCarryingOf};
-ghost use Rattle.dmf_solver.specs.Drain.{Drains};
 ghost use Rattle.dmf_solver.specs.KeptNetwork.{Keeps};
-ghost use Rattle.dmf_solver.specs.Moves.{AreDrainingMoves, CarriesMoved};
+ghost use Rattle.dmf_solver.specs.Moves.{AreDrainingMoves, CarriesMoved, TellsMoves};
 ghost use Rattle.dmf_solver.specs.Pairs.{Along, IsCarryingSearch, flows_read};
 ghost use Rattle.dmf_solver.specs.Told.{AreTold};
+ghost use Rattle.dmf_solver.specs.Turns.{TellsDrain};
 
 use crate::drained_flows::DrainedFlows;
 use crate::moves::list_moves;
@@ -44,7 +44,7 @@ pub fn drain<W: Watch>(
     ensures carrying { IfOk result (CarriesMoved state.now) }
     ensures kept { Keeps state.now kept.new }
     ensures told { AreTold (W.told watch.old) (W.told watch.new) [] }
-    ensures drained { W.drained watch.new ≤ W.drained watch.old + (flow_on state.now.flows turn.arc - turn.limit) }
+    ensures drained { TellsMoves state.now (turn ∷ []) result (W.drained watch.old) (W.drained watch.new) }
 {
     let Turn { arc: j, limit, .. } = turn;
     let flow = state.flows()[j as usize - 1];
@@ -57,6 +57,7 @@ pub fn drain<W: Watch>(
     let arc = state.arc(j);
     if arc.tail == arc.head {
         let moves = loop_moves(alloc, j, flow, limit)?;
+        watch.lowered(turn, flow - limit);
         return Ok(Drained {
             moves,
             carrying: None,
@@ -110,7 +111,7 @@ fn drain_by<W: Watch>(
     ensures moves { IfOk result (λ drained. AreDrainingMoves state.now turn.arc turn.limit drained.moves.items) }
     ensures carrying { IfOk result (CarriesMoved state.now) }
     ensures told { AreTold (W.told watch.old) (W.told watch.new) [] }
-    ensures drained { W.drained watch.new ≤ W.drained watch.old + (flow_on state.now.flows turn.arc - turn.limit) }
+    ensures drained { TellsMoves state.now (turn ∷ []) result (W.drained watch.old) (W.drained watch.new) }
 {
     let before = state.flows();
     let mut touched = carrying.none_touched(alloc, state.nodes() as usize / 8)?;
@@ -144,10 +145,9 @@ pub fn drain_along<W: Watch>(
     ensures touched { Touches touched.old touched.new search.old.pairs search.new.pairs }
     ensures drains { (unpaired : List ℕ) → IsCarryingSearch state.now unpaired search.old →
         IsCarryingSearch state.now unpaired search.new
-        × Drains state.now.network turn.arc turn.limit (flows_read Along unpaired search.old.pairs) (flows_read Along unpaired search.new.pairs) }
+        × TellsDrain state.now.network turn (flows_read Along unpaired search.old.pairs) (flows_read Along unpaired search.new.pairs)
+        (W.drained watch.old) (W.drained watch.new) }
     ensures told { AreTold (W.told watch.old) (W.told watch.new) [] }
-    ensures drained { (unpaired : List ℕ) → IsCarryingSearch state.now unpaired search.old →
-        W.drained watch.new ≤ W.drained watch.old + (flow_on (flows_read Along unpaired search.old.pairs) turn.arc - turn.limit) }
 {
     let i = turn.arc as usize - 1;
     let mut left = search.along(i).unwrap_or(0).saturating_sub(turn.limit);

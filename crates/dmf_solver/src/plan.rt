@@ -10,6 +10,7 @@ ghost use Rattle.dmf_solver.specs.KeptNetwork.{Keeps};
 ghost use Rattle.dmf_solver.specs.Planning.{EditTakesOff, IsRefusedFor, IsSideWanted, Plans, PlansSolve};
 ghost use Rattle.dmf_state.specs.Side.{IsSmallestSide};
 ghost use Rattle.dmf_solver.specs.Told.{AreTold, TellsSolve, MayTellSolve};
+ghost use Rattle.dmf_solver.specs.Turns.{TellsPlan};
 
 use crate::drain::drain;
 use crate::fault::PlanFault;
@@ -70,7 +71,7 @@ pub fn plan_cap_watched<W: Watch>(
     ensures kept_if_refused { OnErr result (Keeps state.now kept.new) }
     ensures same_if_refused { IfErr result (λ fault. fault ≢ PlanFault.NoMemory → kept.new ≡ kept.old) }
     ensures told { AreTold (W.told watch.old) (W.told watch.new) [] }
-    ensures drained { W.drained watch.new ≤ W.drained watch.old + (flow_on state.now.flows wanted.arc - wanted.cap) }
+    ensures drained { TellsPlan state.now (Cap wanted.arc wanted.cap) result (W.drained watch.old) (W.drained watch.new) }
 {
     let (arc, old) = open_arc(state, wanted.arc)?;
     let cap = wanted.cap;
@@ -119,7 +120,7 @@ pub fn plan_close_watched<W: Watch>(
     ensures kept_if_refused { OnErr result (Keeps state.now kept.new) }
     ensures same_if_refused { IfErr result (λ fault. fault ≢ PlanFault.NoMemory → kept.new ≡ kept.old) }
     ensures told { AreTold (W.told watch.old) (W.told watch.new) [] }
-    ensures drained { W.drained watch.new ≤ W.drained watch.old + flow_on state.now.flows j }
+    ensures drained { TellsPlan state.now (Close j) result (W.drained watch.old) (W.drained watch.new) }
 {
     let (arc, old) = open_arc(state, j)?;
     let drained = drain(alloc, state, Turn::only(arc, 0), kept, watch)?;
@@ -165,7 +166,7 @@ pub fn plan_shut_watched<W: Watch>(
     ensures kept_if_refused { OnErr result (Keeps state.now kept.new) }
     ensures same_if_refused { IfErr result (λ fault. fault ≢ PlanFault.NoMemory → kept.new ≡ kept.old) }
     ensures told { AreTold (W.told watch.old) (W.told watch.new) [] }
-    ensures drained { W.drained watch.new ≤ W.drained watch.old + flow_on_all state.now.flows (open_arcs_at v 1 state.now.network.arcs) }
+    ensures drained { TellsPlan state.now (Shut v) result (W.drained watch.old) (W.drained watch.new) }
 {
     if v < 1 || v > u64::from(state.nodes()) {
         return Err(PlanFault::NoSuchNode);
@@ -260,7 +261,7 @@ pub fn plan_solve_watched<W: Watch>(
     ensures told { MatchResult result
         (λ planned. TellsSolve state.now (applied planned.0 state.now).flows (W.told watch.old) (W.told watch.new))
         (λ _. MayTellSolve state.now (W.told watch.old) (W.told watch.new)) }
-    ensures drained { W.drained watch.new ≤ W.drained watch.old }
+    ensures drained { AreTold (W.drained watch.old) (W.drained watch.new) [] }
 {
     let search = residual_search(alloc, state)?;
     let solved = solve(search, state, Touched::all(), watch);

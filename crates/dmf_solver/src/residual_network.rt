@@ -1,4 +1,4 @@
-ghost use Rattle.std.specs.Prelude.{◌≡◌, ◌≤◌, ◌↔◌, None, pos, IfOk, IfSome, IsOkUnless, MatchResult};
+ghost use Rattle.std.specs.Prelude.{◌≡◌, ◌↔◌, [], None, pos, IfOk, IfSome, IsOkUnless, MatchResult};
 ghost use Rattle.dmf_state.specs.Direction.{edited_along, FitsAlong, HasIdleLast};
 ghost use Rattle.dmf_state.specs.Edit.{applied, differences, AddsArc, Fits};
 ghost use Rattle.dmf_state.specs.Flow.{flow_value};
@@ -10,7 +10,7 @@ ghost use Rattle.dmf_solver.specs.KeptNetwork.{IsNetworkOf, Keeps};
 ghost use Rattle.dmf_solver.specs.ResidualNetwork.{IsResidualOf};
 ghost use Rattle.dmf_state.specs.Revert.{reverted, without_last, Stands};
 ghost use Rattle.dmf_solver.specs.SmallestSide.{TellsSide};
-ghost use Rattle.dmf_solver.specs.Told.{TellsSolve, MayTellSolve};
+ghost use Rattle.dmf_solver.specs.Told.{AreTold, TellsSolve, MayTellSolve};
 
 use crate::carrying_pairs::CarryingPairs;
 use crate::fault::{CutFault, PlanFault};
@@ -87,7 +87,7 @@ impl ResidualNetwork {
         ensures told { MatchResult result
             (λ planned. TellsSolve state.now (applied planned.0 state.now).flows (W.told watch.old) (W.told watch.new))
             (λ _. MayTellSolve state.now (W.told watch.old) (W.told watch.new)) }
-        ensures drained { W.drained watch.new ≤ W.drained watch.old }
+        ensures drained { AreTold (W.drained watch.old) (W.drained watch.new) [] }
     {
         let ResidualNetwork {
             mut search,

@@ -1,16 +1,16 @@
 //! Closing every open arc at a node.
-ghost use Rattle.std.specs.Prelude.{◌≡◌, ◌+◌, ◌≤◌, ℕ, true, [], length, map, IfOk};
+ghost use Rattle.std.specs.Prelude.{◌≡◌, true, [], IfOk};
 ghost use Rattle.dmf_state.specs.Arc.{open_arcs_at};
 ghost use Rattle.dmf_solver.specs.CarryingNetwork.{IsCarryingOf};
-ghost use Rattle.dmf_solver.specs.Drain.{Drains};
 ghost use Rattle.dmf_solver.specs.KeptNetwork.{Keeps};
 ghost use Rattle.dmf_state.specs.Edit.{AreOpenWith, numbers};
-ghost use Rattle.dmf_state.specs.Flow.{flow_on, flow_on_all};
-ghost use Rattle.dmf_solver.specs.Moves.{AreShuttingMoves, CarriesMoved};
+ghost use Rattle.dmf_state.specs.Flow.{flow_on_all};
+ghost use Rattle.dmf_solver.specs.Moves.{AreShuttingMoves, CarriesMoved, TellsMoves};
 ghost use Rattle.dmf_state.specs.Network.{has_arc};
 ghost use Rattle.dmf_state.specs.NetworkState.{IsState};
 ghost use Rattle.dmf_solver.specs.Pairs.{Along, IsCarryingSearch, flows_read};
 ghost use Rattle.dmf_solver.specs.Told.{AreTold};
+ghost use Rattle.dmf_solver.specs.Turns.{TellsDrain, turns_to_zero};
 
 use crate::drain::{Drained, drain_along, take_carrying};
 use crate::drained_flows::DrainedFlows;
@@ -57,7 +57,7 @@ pub fn drain_all<W: Watch>(
     ensures carrying { IfOk result (CarriesMoved state.now) }
     ensures kept { Keeps state.now kept.new }
     ensures told { AreTold (W.told watch.old) (W.told watch.new) [] }
-    ensures drained { W.drained watch.new ≤ W.drained watch.old + flow_on_all state.now.flows (numbers arcs.now) }
+    ensures drained { TellsMoves state.now (turns_to_zero (numbers arcs.now)) result (W.drained watch.old) (W.drained watch.new) }
 {
     if are_without_flow(state, arcs) {
         return Ok(Drained {
@@ -94,16 +94,14 @@ fn drain_all_by<W: Watch>(
     ensures moves { IfOk result (λ drained. AreShuttingMoves state.now (numbers arcs.now) drained.moves.items) }
     ensures carrying { IfOk result (CarriesMoved state.now) }
     ensures told { AreTold (W.told watch.old) (W.told watch.new) [] }
-    ensures drained { W.drained watch.new ≤ W.drained watch.old + flow_on_all state.now.flows (numbers arcs.now) }
+    ensures drained { TellsMoves state.now (turns_to_zero (numbers arcs.now)) result (W.drained watch.old) (W.drained watch.new) }
 {
     let mut unpaired = Vec::from_slice(alloc, state.flows())?;
-    let mut place = 0usize;
-    for shutting in arcs {
-        place = place.wrapping_add(1);
+    for (i, shutting) in arcs.iter().enumerate() {
         let turn = Turn {
             arc: shutting.arc,
             limit: 0,
-            place,
+            place: i + 1,
             count: arcs.len(),
         };
         drain_in_turn(state, turn, &mut search, &mut unpaired, watch);
@@ -133,8 +131,8 @@ fn are_without_flow(state: &State, arcs: &[Shutting]) -> bool
     true
 }
 
-/// Drains the arc whose turn it is to 0, in the search and the list that have the flows. The search drains an arc that is no self loop.
-/// A self loop has no pair: its flow in the list becomes 0.
+/// Drains the arc whose turn it is to the limit, in the search and the list that have the flows. The search drains an arc that is no
+/// self loop. A self loop has no pair: its flow in the list is lowered.
 fn drain_in_turn<W: Watch>(
     state: &State,
     turn: Turn,
@@ -142,17 +140,21 @@ fn drain_in_turn<W: Watch>(
     unpaired: &mut [u64],
     watch: &mut W,
 )
-    requires to_zero { turn.limit ≡ 0 }
     requires is_there { has_arc state.now.network turn.arc ≡ true }
     requires carrying { IsCarryingSearch state.now unpaired.old search.old }
     ensures carrying { IsCarryingSearch state.now unpaired.new search.new }
-    ensures drains { Drains state.now.network turn.arc 0 (flows_read Along unpaired.old search.old.pairs) (flows_read Along unpaired.new search.new.pairs) }
+    ensures drains { TellsDrain state.now.network turn (flows_read Along unpaired.old search.old.pairs) (flows_read Along unpaired.new search.new.pairs)
+        (W.drained watch.old) (W.drained watch.new) }
     ensures told { AreTold (W.told watch.old) (W.told watch.new) [] }
-    ensures drained { W.drained watch.new ≤ W.drained watch.old + flow_on (flows_read Along unpaired.old search.old.pairs) turn.arc }
 {
     let arc = state.arc(turn.arc);
     if arc.tail == arc.head {
-        unpaired[turn.arc as usize - 1] = 0;
+        let i = turn.arc as usize - 1;
+        let flow = unpaired[i];
+        if flow > turn.limit {
+            watch.lowered(turn, flow - turn.limit);
+            unpaired[i] = turn.limit;
+        }
     } else {
         drain_along(state, turn, search, &mut Touched::all(), watch);
     }

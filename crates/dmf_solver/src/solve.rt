@@ -1,10 +1,10 @@
-ghost use Rattle.std.specs.Prelude.{◌≡◌, ◌+◌, ◌≤◌, ◌↔◌, false, length, IfOk, IsTrue};
+ghost use Rattle.std.specs.Prelude.{◌≡◌, ◌+◌, ◌↔◌, false, [], length, IfOk, IsTrue};
 ghost use Rattle.dmf_path.specs.Touched.{AreBelow};
 ghost use Rattle.dmf_state.specs.NetworkState.{IsState};
 ghost use Rattle.dmf_solver.specs.Greatest.{IsGreatest, IsSurpassed};
 ghost use Rattle.dmf_solver.specs.Pairs.{reached_flows, IsSolved};
 ghost use Rattle.dmf_solver.specs.ResidualNetwork.{IsResidualOf};
-ghost use Rattle.dmf_solver.specs.Told.{TellsSolve};
+ghost use Rattle.dmf_solver.specs.Told.{AreTold, TellsSolve};
 
 use crate::enclosed::is_enclosed;
 use crate::residual::residual_search;
@@ -33,7 +33,7 @@ pub fn solve<W: Watch>(
     requires below { AreBelow (length state.now.network.arcs + 1) touched }
     ensures solved { IsSolved state.now result }
     ensures told { TellsSolve state.now (reached_flows state.now result.search) (W.told watch.old) (W.told watch.new) }
-    ensures drained { W.drained watch.new ≤ W.drained watch.old }
+    ensures drained { AreTold (W.drained watch.old) (W.drained watch.new) [] }
     ensures state { IsState state.now }
 {
     let mut value = state.value();

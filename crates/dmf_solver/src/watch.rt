@@ -1,5 +1,6 @@
-ghost use Rattle.std.specs.Prelude.{◌∷◌, ◌≡◌, ◌+◌, ◌≤◌, ℕ, List, [], Option, None, pos};
+ghost use Rattle.std.specs.Prelude.{◌∷◌, ◌≡◌, List, [], Option, None, pos};
 ghost use Rattle.dmf_solver.specs.Told.{Told, AreTold};
+ghost use Rattle.dmf_solver.specs.Turns.{Taken, only_turn};
 
 use dmf_state::State;
 
@@ -11,26 +12,25 @@ pub trait Watch {
     // The reports of solves, in order, if they are known. A watch that keeps no record knows none.
     ghost told: { Self → Option (List Told) } = { λ _. None };
 
-    // The flow that drains took off, as far as the watch knows: at most the sum of their reports. A watch that does not add them up knows 0.
-    ghost drained: { Self → ℕ } = { λ _. 0 };
+    // The reports of drains, likewise.
+    ghost drained: { Self → Option (List Taken) } = { λ _. None };
 
     /// A run begins to solve this state. This reports no path.
     fn begun(&mut self, _state: &State)
         ensures told { AreTold (told self.old) (told self.new) [] }
-        ensures drained { drained self.new ≤ drained self.old }
+        ensures drained { AreTold (drained self.old) (drained self.new) [] }
     {}
 
     /// The flow was augmented along one more path, of so many links, and now has this value. No path of a solve has fewer links than
     /// the one before; a path with more links begins a phase.
     fn augmented(&mut self, value: u64, links: u32)
         ensures told { AreTold (told self.old) (told self.new) (record { value = pos value; links = links } ∷ []) }
-        ensures drained { drained self.new ≤ drained self.old };
+        ensures drained { AreTold (drained self.old) (drained self.new) [] };
 
-    /// A path that comes back to the arc whose turn it is took so much flow off it. A self loop is drained without a report.
-    fn lowered(&mut self, _turn: Turn, amount: u64)
+    /// A path that comes back to the arc whose turn it is took so much flow off it.
+    fn lowered(&mut self, turn: Turn, amount: u64)
         ensures told { AreTold (told self.old) (told self.new) [] }
-        ensures drained { drained self.new ≤ drained self.old + amount }
-    {}
+        ensures drained { AreTold (drained self.old) (drained self.new) (record { turn = turn; amount = amount } ∷ []) };
 }
 
 /// An arc whose turn it is to be drained.
@@ -49,8 +49,7 @@ pub struct Turn {
 impl Turn {
     /// The turn of the one arc that a change drains.
     pub(crate) fn only(arc: u32, limit: u64) -> Turn
-        ensures arc { result.arc ≡ arc }
-        ensures limit { result.limit ≡ limit }
+        ensures { result ≡ only_turn arc limit }
     {
         Turn {
             arc,
@@ -67,4 +66,6 @@ pub struct Unwatched;
 
 impl Watch for Unwatched {
     fn augmented(&mut self, _value: u64, _links: u32) {}
+
+    fn lowered(&mut self, _turn: Turn, _amount: u64) {}
 }

@@ -4,7 +4,7 @@ ghost use Rattle.std.specs.Prelude.{map, pos, Some, None, if◌then◌else◌};
 use crate::tests::texts::NETWORK_A;
 use dmf_history::MAX_BOUND;
 use dmf_runs::{SolveReply, Status, run_session_watched};
-use dmf_solver::Watch;
+use dmf_solver::{Turn, Watch};
 use dmf_text::{StdSink, StdSource};
 use std::test::Fail;
 
@@ -22,6 +22,8 @@ impl Watch for Paths {
     fn augmented(&mut self, value: u64, links: u32) {
         self.is_whole = self.is_whole && self.told.push((value, links)).is_ok();
     }
+
+    fn lowered(&mut self, _turn: Turn, _amount: u64) {}
 }
 
 /// The first solve goes along 1 2 4, 1 3 4 and 1 2 3 4; the second along the new arc before these.

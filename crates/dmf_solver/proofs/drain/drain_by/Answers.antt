@@ -1,13 +1,15 @@
-use Rattle.std.proofs.Common.{◌+◌, ◌≡◌, ◌∙◌, length, sym, subst, arith}
+use Rattle.std.proofs.Common.{[], ◌∷◌, ◌+◌, ◌≡◌, ◌∙◌, inl, inr, length, refl, sym, subst, arith}
 use Rattle.std.proofs.lemmas.Slice.Zip.{AllZip-long}
 use Rattle.dmf_path.specs.Search.{indices_of}
 use Rattle.dmf_path.specs.Touched.{AreBelow}
 use Rattle.dmf_solver.specs.Pairs.{Along, IsCarryingSearch, flows_read}
 use Rattle.dmf_solver.proofs.DrainingSearch.{carrying-first, carries-moved, length-carries, one_each}
-use Rattle.dmf_solver.proofs.DrainingWalk.{draining-moves}
+use Rattle.dmf_solver.specs.Turns.{TellsDrains}
+use Rattle.dmf_solver.proofs.DrainingWalk.{draining-moves, tells-moved}
+use Rattle.dmf_solver.proofs.Solving.{AreTold-none, told-refused}
 use Rattle.dmf_solver.proofs.Untouched.{changed-cover, keeps-sorted}
 use Rattle.dmf_solver.proofs.drain.drain_by.Goals as goal
-use Rattle.dmf_solver.proofs.drain.drain_by.Goals.{In_ok-touched}
+use Rattle.dmf_solver.proofs.drain.drain_by.Goals.{In_ok-touched, After-drain_along}
 
 -- The search carries the state's flow.
 begun : (g : _) (c : In_ok-touched g) → IsCarryingSearch c.args.state.now c.args.state.now.flows c.args.carrying
@@ -61,7 +63,7 @@ returns-clause-moves g c =
     let s = c.args.state.now in
     let listed = rw c.flows-before.ensures.value at c.in_ok-moves.ensures in
     let here = begun g (goal.at.returns-clause-moves g c).In_ok-touched in
-    let drains = rw here.1 at (c.drain_along.ensures.drains s.flows here.0).1 in
+    let drains = rw here.1 at (c.drain_along.ensures.drains s.flows here.0).1.drains in
     draining-moves s c.args.turn.arc c.args.turn.limit (flows_read Along s.flows c.drain_along.new.search.pairs)
     c.in_ok-moves.moves.items c.flows-before.ensures.state
     c.requires.is_there drains listed
@@ -74,12 +76,27 @@ returns-clause-carrying g c =
     carries-moved s s.flows c.in_ok-moves.moves.items c.drain_along.new.search c.flows-before.ensures.state
     (c.drain_along.ensures.drains s.flows here.0).0 listed
 
-pub returns-clause-drained : goal.returns-clause-drained
-returns-clause-drained g c =
-    let here = begun g (goal.at.returns-clause-drained g c).In_ok-touched in
-    rw here.1 at (c.drain_along.ensures.drained c.args.state.now.flows here.0)
+-- The drain was reported, up to the flows of the search.
+told : (g : _) (c : After-drain_along g) → TellsDrains c.args.state.now.network (c.args.turn ∷ []) c.args.state.now.flows
+    (flows_read Along c.args.state.now.flows c.drain_along.new.search.pairs) (g.W.Watch.drained c.args.watch.now)
+    (g.W.Watch.drained c.drain_along.new.watch)
+told g c =
+    let here = begun g (goal.at.After-drain_along g c).In_ok-touched in
+    (_, _, rw here.1 at (c.drain_along.ensures.drains c.args.state.now.flows here.0).1, (refl, AreTold-none _))
+
+pub returns-in_err-touched-clause-drained : goal.returns-in_err-touched-clause-drained
+returns-in_err-touched-clause-drained g c = told-refused _ _ _ c.from_residual.ensures.0 (inl (AreTold-none _))
 
 pub returns-in_err-moves-clause-drained : goal.returns-in_err-moves-clause-drained
-returns-in_err-moves-clause-drained g c =
-    let here = begun g (goal.at.returns-in_err-moves-clause-drained g c).In_ok-touched in
-    rw here.1 at (c.drain_along.ensures.drained c.args.state.now.flows here.0)
+returns-in_err-moves-clause-drained g c = told-refused _ _ _ c.from_residual-in_err-moves.ensures.0
+    (inr (_, told g (goal.at.returns-in_err-moves-clause-drained g c).After-drain_along))
+
+pub returns-clause-drained : goal.returns-clause-drained
+returns-clause-drained g c =
+    let s = c.args.state.now in
+    let listed = rw c.flows-before.ensures.value at c.in_ok-moves.ensures in
+    let here = begun g (goal.at.returns-clause-drained g c).In_ok-touched in
+    let carries = (c.drain_along.ensures.drains s.flows here.0).0 in
+    tells-moved s (c.args.turn ∷ []) (flows_read Along s.flows c.drain_along.new.search.pairs) c.in_ok-moves.moves.items _ _
+    (one_each s s.flows _ c.drain_along.new.search carries ∙ sym (AllZip-long _ s.network.arcs s.flows c.flows-before.ensures.state.flow.within)) listed
+    (told g (goal.at.returns-clause-drained g c).After-drain_along)

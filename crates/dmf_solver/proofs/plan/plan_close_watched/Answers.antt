@@ -4,14 +4,14 @@ use Rattle.dmf_solver.proofs.plan.plan_close_watched.Goals as goal
 pub follow_drained-requires-clause-fits : goal.follow_drained-requires-clause-fits
 follow_drained-requires-clause-fits g c =
     (close-plans c.args.state.now c.in_ok-arc.arc c.in_ok-arc.old c.args.j c.in_ok-drained.drained.moves c.in_ok-arc.ensures.arc.0 c.in_ok-arc.ensures.arc.1
-    (rw (c.only.ensures.arc, c.only.ensures.limit) at c.in_ok-drained.ensures.moves)).fits
+    (rw c.only.ensures at c.in_ok-drained.ensures.moves)).fits
 
 pub returns-clause-plan : goal.returns-clause-plan
 returns-clause-plan g c =
     close-plans c.args.state.now c.in_ok-arc.arc c.in_ok-arc.old c.args.j c.in_ok-drained.drained.moves c.in_ok-arc.ensures.arc.0 c.in_ok-arc.ensures.arc.1
-    (rw (c.only.ensures.arc, c.only.ensures.limit) at c.in_ok-drained.ensures.moves)
+    (rw c.only.ensures at c.in_ok-drained.ensures.moves)
 
 pub returns-clause-takes_off : goal.returns-clause-takes_off
 returns-clause-takes_off g c =
     takes-all_off c.args.state.now c.in_ok-arc.arc c.in_ok-arc.old c.args.j c.in_ok-drained.drained.moves c.in_ok-arc.ensures.arc.0
-    c.in_ok-arc.ensures.arc.1 (rw (c.only.ensures.arc, c.only.ensures.limit) at c.in_ok-drained.ensures.moves)
+    c.in_ok-arc.ensures.arc.1 (rw c.only.ensures at c.in_ok-drained.ensures.moves)

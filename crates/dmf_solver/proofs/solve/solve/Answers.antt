@@ -1,4 +1,4 @@
-use Rattle.std.proofs.Common.{[], refl, ap, arith}
+use Rattle.std.proofs.Common.{[], refl, ap}
 use Rattle.dmf_path.specs.Search.{Searched}
 use Rattle.dmf_solver.proofs.Solving.{AreTold-none, AreTold-trans}
 use Rattle.dmf_solver.proofs.SolvingSearch.{solving-more, solving-done, solving-told}
@@ -26,7 +26,7 @@ loop-found-init g c = record {
     value_is = c.value-value.ensures.value;
   };
   told = AreTold-none _;
-  drained = omega arith;
+  drained = AreTold-none _;
   kept = keeps-same _ _ _ (ap (λ (o : Searched). o.pairs) c.requires.residual);
   below = c.requires.below;
 }
@@ -41,7 +41,7 @@ loop-found-preserved g c =
     record {
       solving = more.solving;
       told = rw more.told (AreTold-trans _ _ _ _ _ is.told c.augmented.ensures.told);
-      drained = omega (arith, is.drained, c.augmented.ensures.drained);
+      drained = AreTold-trans _ _ _ [] [] is.drained c.augmented.ensures.drained;
       kept = keeps-next c.loop-found.touched c.augment.new.touched _ c.loop-found.search.pairs c.augment.new.self.pairs is.kept touches;
       below = below-next s c.loop-found.value c.loop-found.search c.loop-found.touched c.augment.new.touched is.solving touches.below is.below;
     }

@@ -1,4 +1,4 @@
-use Rattle.std.proofs.Common.{◌+◌, ◌≤◌, length}
+use Rattle.std.proofs.Common.{[], ◌+◌, length}
 use Rattle.dmf_path.specs.Touched.{AreBelow, KeepsUntouched}
 use Rattle.dmf_solver.specs.ResidualNetwork.{network_pairs}
 use Rattle.dmf_solver.specs.Told.{told_of, AreTold}
@@ -10,7 +10,7 @@ abbrev pub invariant-loop-found : goal.invariant-loop-found
 invariant-loop-found g l = record {
   solving : IsSolving l.state l.search l.value;
   told : AreTold (g.W.Watch.told l.initial.watch) (g.W.Watch.told l.watch) (told_of l.state.network l.state.flows solving.reached.paths);
-  drained : g.W.Watch.drained l.watch ≤ g.W.Watch.drained l.initial.watch;
+  drained : AreTold (g.W.Watch.drained l.initial.watch) (g.W.Watch.drained l.watch) [];
   kept : KeepsUntouched l.touched (network_pairs l.state.network l.state.flows) l.search.pairs;
   below : AreBelow (length l.state.network.arcs + 1) l.touched;
 }

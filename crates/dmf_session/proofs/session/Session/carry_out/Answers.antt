@@ -1,4 +1,3 @@
-use Rattle.std.proofs.Common.{arith}
 use Rattle.dmf_session.proofs.session.Session.carry_out.Goals as goal
 
 pub returns-in-Undo-clause-answer : goal.returns-in-Undo-clause-answer
@@ -11,4 +10,4 @@ pub returns-in-Solve-clause-told : goal.returns-in-Solve-clause-told
 returns-in-Solve-clause-told g c = rw c.in-Solve.is c.solve.ensures.told
 
 pub returns-in-Solve-clause-drained : goal.returns-in-Solve-clause-drained
-returns-in-Solve-clause-drained g c = λ s present. omega (arith, c.solve.ensures.drained)
+returns-in-Solve-clause-drained g c = rw c.in-Solve.is c.solve.ensures.drained

@@ -1,19 +1,21 @@
-use Rattle.dmf_solver.proofs.SolvedEdit.{PlansSolve-listed, value-listed, told-listed, told-nothing, told-refused, residual-listed}
+use Rattle.std.proofs.Common.{inl, inr}
+use Rattle.dmf_solver.proofs.SolvedEdit.{PlansSolve-listed, value-listed, told-listed, residual-listed}
+use Rattle.dmf_solver.proofs.Solving.{AreTold-none, told-refused}
 use Rattle.dmf_solver.proofs.residual_network.ResidualNetwork.plan_solve.Goals as goal
 
 pub returns-in_err-looks-clause-told : goal.returns-in_err-looks-clause-told
-returns-in_err-looks-clause-told g c = told-nothing c.args.state.now c.from_residual.result _ _ c.from_residual.ensures.0
+returns-in_err-looks-clause-told g c = told-refused c.from_residual.result _ _ c.from_residual.ensures.0 (inl (AreTold-none _))
 
 pub returns-in_err-touched-clause-told : goal.returns-in_err-touched-clause-told
-returns-in_err-touched-clause-told g c = told-nothing c.args.state.now c.from_residual-in_err-touched.result _ _ c.from_residual-in_err-touched.ensures.0
+returns-in_err-touched-clause-told g c = told-refused c.from_residual-in_err-touched.result _ _ c.from_residual-in_err-touched.ensures.0 (inl (AreTold-none _))
 
 pub returns-in_err-side-clause-told : goal.returns-in_err-side-clause-told
 returns-in_err-side-clause-told g c =
-    told-refused c.args.state.now _ c.from_residual-in_err-side.result _ _ _ c.from_residual-in_err-side.ensures.0 c.solve-solved.ensures.told
+    told-refused c.from_residual-in_err-side.result _ _ c.from_residual-in_err-side.ensures.0 (inr (_, c.solve-solved.ensures.told))
 
 pub returns-in_err-moves-clause-told : goal.returns-in_err-moves-clause-told
 returns-in_err-moves-clause-told g c =
-    told-refused c.args.state.now _ c.from_residual-in_err-moves.result _ _ _ c.from_residual-in_err-moves.ensures.0 c.solve-solved.ensures.told
+    told-refused c.from_residual-in_err-moves.result _ _ c.from_residual-in_err-moves.ensures.0 (inr (_, c.solve-solved.ensures.told))
 
 pub returns-clause-edit : goal.returns-clause-edit
 returns-clause-edit g c =
@@ -42,3 +44,9 @@ pub returns-clause-told : goal.returns-clause-told
 returns-clause-told g c =
     told-listed c.args.state.now c.solve-solved.result c.in_ok-moves.moves c.solve-solved.ensures.state c.solve-solved.ensures.solved c.in_ok-moves.ensures
     _ _ c.solve-solved.ensures.told
+
+pub returns-in_err-looks-clause-drained : goal.returns-in_err-looks-clause-drained
+returns-in_err-looks-clause-drained g c = AreTold-none _
+
+pub returns-in_err-touched-clause-drained : goal.returns-in_err-touched-clause-drained
+returns-in_err-touched-clause-drained g c = AreTold-none _
