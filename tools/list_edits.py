@@ -52,12 +52,13 @@ REASONS = {
     "Session::new": "a body has no other history to give than the one that it gets",
     **{f"Watch::{call} ({name})": FOR_CALLERS for call in ("begun", "augmented", "lowered") for name in ("told", "drained")},
 }
-# What is so plain that the gate leaves its edit out.
+# Clauses so plain that the gate leaves their edits out.
 ONE_FIELD = "left out, since the body gives or sets one field"
 LEFT_OUT = {
     *(f"State::{field} (value)" for field in ("nodes", "source", "sink", "arcs", "flows")),
     *(f"{history}::{field} (count)" for history in ("History", "Session") for field in ("past", "bound")),
     *(f"{stream}::new ({part})" for stream in ("StdSource", "StdSink") for part in ("bytes", "mark")),
+    *("Source::read (mark)", "Sink::put (mark)", "Sink::flush (mark)"),
     *("Side::new", "Side::capacity", "Arc::with_cap", "Arc::closed", "LineBuffer::as_bytes"),
 }
 # A clause which tells that the value that a call reads is one of its type.
@@ -197,6 +198,8 @@ def main() -> None:
         sys.exit(f"list_edits.py: callers have no call {call} with a contract")
     for clause in edits.keys() - clauses.keys():
         sys.exit(f"list_edits.py: {', '.join([*edits[clause].kept, *edits[clause].more])} covers {clause}, and callers have no such clause")
+    for name in {*REASONS, *LEFT_OUT} - {*map(str, clauses)}:
+        sys.exit(f"list_edits.py: it gives a reason for {name}, and callers have no such clause")
     print("| Call | Clause | Edits |\n| --- | --- | --- |", *rows(clauses, edits, wanted), sep="\n")
 
 
