@@ -21,7 +21,7 @@ from built import Case
 from odd_texts import ODD_BYTES
 from oracle import program
 from oracle.program import Outcome
-from random_cases import Lines, random_case, with_fault, words_of
+from random_cases import plain_text, random_case, with_fault, words_of
 from traits import fields_of, traits
 
 CORPUS = Path(__file__).resolve().parent / "corpus"
@@ -129,16 +129,12 @@ def write(chosen: Iterable[Case]) -> None:
         (CORPUS / name).write_text(text)
 
 
-def lines_text(lines: Lines) -> bytes:
-    return b"".join(b" ".join(fields) + b"\n" for fields in lines)
-
-
 def mutated_text(text: bytes, other: bytes, random: Random) -> bytes:
     """A text with a few changes: faults in lines or bytes, some lines again, or some of another text of its kind."""
     for _ in range(random.choice([1, 1, 2, 4])):
         kind = random.randrange(8)
         if kind < 4:
-            text = lines_text(with_fault(fields_of(text)[:-1], random))
+            text = plain_text(with_fault(fields_of(text)[:-1], random))
         elif kind < 7:
             source = random.choice([text, other, other]).splitlines(keepends=True)
             begin = random.randint(0, len(source))

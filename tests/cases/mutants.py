@@ -1,5 +1,5 @@
 """Faults in parts of the program that no proof sees, each with the test that must fail for it. `old` stands once in its file. tests/mutants
-builds those of `main` in the gate, and `--long` the others."""
+builds WIRINGS in the gate, and `--long` the others."""
 
 from __future__ import annotations
 
@@ -34,39 +34,58 @@ ASKED = "program/test_progress.py::test_asked_session"
 SINK, COMMANDS = "WatchedSink::new(out, &progress)", "WatchedCommands::new(StdSource::new(rt.stdin()), &progress)"
 HOLD = "hold_session(\n            rt,\n            problem.as_str(),\n            SolveReply { cut, brief },\n            progress,\n            history,\n        )"
 SILENT = "let silent = Progress::new(rt, false);\n    "
-# Each wiring of `main`: what is called for which words, and what goes where.
-MAIN_MUTANTS = in_file(
-    "dmf/src/main.rt",
-    ("nothing says why a run ends", "let _ = tell(&rt, fault);", "", ENDED),
-    ("a fault is not explained", "explain(&rt, fault);", "if let Fault::Usage(_) = fault { explain(&rt, fault); }", "program/test_terminal.py::test_folder"),
-    ("a status is another", "program_status(outcome)", "program_status(outcome) / 2", ENDED),
-    ("the help is a fault", "print(rt, text.as_str())", "Err(Fault::Usage(text))", "program/test_program.py::test_help[--help]"),
-    ("wrong words are help", "return Err(Fault::Usage(text))", "return print(rt, text.as_str())", "program/test_program.py::test_refused_words[an unknown word]"),
-    ("a solve has no cut", "solve(rt, cut, progress)", "solve(rt, cut && progress, progress)", f"{SOLVED}, with the cut]"),
-    ("each solve has a cut", "solve(rt, cut, progress)", "solve(rt, true, progress)", f"{SOLVED}]"),
-    ("a solve reports unasked", "solve(rt, cut, progress)", "solve(rt, cut, true)", f"{SOLVED}]"),
-    ("a solve does not report", "solve(rt, cut, progress)", "solve(rt, cut, false)", "program/test_progress.py::test_asked_solve"),
-    ("a check is a session", "check(rt, problem.as_str())", "hold_session(rt, problem.as_str(), SolveReply { cut: false, brief: false }, false, 0)", CHECKED),
-    ("a session is a check", HOLD, "check(rt, problem.as_str())", HELD),
-    ("cuts and brief replies change places", "{ cut, brief }", "{ cut: brief, brief: cut }", BRIEF),
-    ("brief replies are whole", "{ cut, brief }", "{ cut, brief: brief && !cut }", BRIEF_CUT),
-    ("a session reports unasked", "            progress,\n            history,", "            brief,\n            history,", BRIEF),
-    ("a session does not report", "            progress,\n            history,", "            cut,\n            history,", ASKED),
-    ("the bound is the largest", "            history,\n        ),", "            MAX_HISTORY,\n        ),", KEPT),
-    ("progress is not as asked", "Progress::new(rt, want_progress)", "Progress::new(rt, wanted.brief)", ASKED),
-    ("names are of another file", "Dialogue::new(rt, path)", 'Dialogue::new(rt, "")', ON_TERMINAL),
-    ("no size is known", "::of_file(StdSource::new(file), path, &progress)", "::of_input(StdSource::new(file), &progress)", "program/test_progress.py::test_size"),
-    ("replies are not heard", f"HeardSink::new({SINK}, &dialogue)", SINK, ON_TERMINAL),
-    ("a reply stands behind progress", f"HeardSink::new({SINK}, &dialogue)", "HeardSink::new(out, &dialogue)", "program/test_progress.py::test_asked_on_terminal"),
-    ("lines are not kept", f"let commands = {COMMANDS};\n    let mut commands = KeptCommands::new(commands, &dialogue)", f"let mut commands = {COMMANDS}", ON_TERMINAL),
-    ("progress stays while it waits", COMMANDS, "StdSource::new(rt.stdin())", "program/test_progress.py::test_asked_while_waiting"),
-    ("a solve has no watch", "let mut watch = WatchedSolve::new(&progress)", f"{SILENT}let mut watch = WatchedSolve::new(&silent)", ASKED),
-    ("the problem and the commands change places", "        &mut problem,\n        &mut commands,", "        &mut commands,\n        &mut problem,", HELD),
-    ("replies are as another wants them", "        wanted,\n        bound,", "        SolveReply { cut: wanted.cut, brief: false },\n        bound,", BRIEF),
-    ("another bound", "        wanted,\n        bound,", "        wanted,\n        bound / 2,", KEPT),
-    ("progress stays behind a fault", "progress.end();", "", "program/test_progress.py::test_slow_fault"),
-    ("a refused command is no fault", "Ok(outcome?)", "outcome?;\n    Ok(Status::Well)", REFUSED),
-)  # fmt: skip
+# Each wiring of `main` and of what it calls beside the runs: what is called for which words, and what goes where.
+WIRINGS = [
+    *in_file(
+        "dmf/src/main.rt",
+        ("nothing says why a run ends", "let _ = tell(&rt, fault);", "", ENDED),
+        ("a fault is not explained", "explain(&rt, fault);", "if let Fault::Usage(_) = fault { explain(&rt, fault); }", "program/test_terminal.py::test_folder"),
+        ("a status is another", "program_status(outcome)", "program_status(outcome) / 2", ENDED),
+        ("the help is a fault", "print(rt, text.as_str())", "Err(Fault::Usage(text))", "program/test_program.py::test_help[--help]"),
+        ("wrong words are help", "return Err(Fault::Usage(text))", "return print(rt, text.as_str())", "program/test_program.py::test_refused_words[an unknown word]"),
+        ("a solve has no cut", "solve(rt, cut, progress)", "solve(rt, cut && progress, progress)", f"{SOLVED}, with the cut]"),
+        ("each solve has a cut", "solve(rt, cut, progress)", "solve(rt, true, progress)", f"{SOLVED}]"),
+        ("a solve reports unasked", "solve(rt, cut, progress)", "solve(rt, cut, true)", f"{SOLVED}]"),
+        ("a solve does not report", "solve(rt, cut, progress)", "solve(rt, cut, false)", "program/test_progress.py::test_asked_solve"),
+        ("a check is a session", "check(rt, problem.as_str())", "hold_session(rt, problem.as_str(), SolveReply { cut: false, brief: false }, false, 0)", CHECKED),
+        ("a session is a check", HOLD, "check(rt, problem.as_str())", HELD),
+        ("cuts and brief replies change places", "{ cut, brief }", "{ cut: brief, brief: cut }", BRIEF),
+        ("brief replies are whole", "{ cut, brief }", "{ cut, brief: brief && !cut }", BRIEF_CUT),
+        ("a session reports unasked", "            progress,\n            history,", "            brief,\n            history,", BRIEF),
+        ("a session does not report", "            progress,\n            history,", "            cut,\n            history,", ASKED),
+        ("the bound is the largest", "            history,\n        ),", "            MAX_HISTORY,\n        ),", KEPT),
+        ("progress is not as asked", "Progress::new(rt, want_progress)", "Progress::new(rt, wanted.brief)", ASKED),
+        ("names are of another file", "Dialogue::new(rt, path)", 'Dialogue::new(rt, "")', ON_TERMINAL),
+        ("no size is known", "::of_file(StdSource::new(file), path, &progress)", "::of_input(StdSource::new(file), &progress)", "program/test_progress.py::test_size"),
+        ("replies are not heard", f"HeardSink::new({SINK}, &dialogue)", SINK, ON_TERMINAL),
+        ("a reply stands behind progress", f"HeardSink::new({SINK}, &dialogue)", "HeardSink::new(out, &dialogue)", "program/test_progress.py::test_asked_on_terminal"),
+        ("lines are not kept", f"let commands = {COMMANDS};\n    let mut commands = KeptCommands::new(commands, &dialogue)", f"let mut commands = {COMMANDS}", ON_TERMINAL),
+        ("progress stays while it waits", COMMANDS, "StdSource::new(rt.stdin())", "program/test_progress.py::test_asked_while_waiting"),
+        ("a solve has no watch", "let mut watch = WatchedSolve::new(&progress)", f"{SILENT}let mut watch = WatchedSolve::new(&silent)", ASKED),
+        ("the problem and the commands change places", "        &mut problem,\n        &mut commands,", "        &mut commands,\n        &mut problem,", HELD),
+        ("replies are as another wants them", "        wanted,\n        bound,", "        SolveReply { cut: wanted.cut, brief: false },\n        bound,", BRIEF),
+        ("another bound", "        wanted,\n        bound,", "        wanted,\n        bound / 2,", KEPT),
+        ("progress stays behind a fault", "progress.end();", "", "program/test_progress.py::test_slow_fault"),
+        ("a refused command is no fault", "Ok(outcome?)", "outcome?;\n    Ok(Status::Well)", REFUSED),
+    ),
+    *in_file(
+        "dmf_host/src/runs.rt",
+        ("nothing says that a problem is typed", "invite(rt);", "if want_cut { invite(rt); }", "program/test_terminal.py::test_typed_problem"),
+        ("the cut of a solve is lost", "&mut out, want_cut, ", "&mut out, want_cut && want_progress, ", f"{SOLVED}, with the cut]"),
+        ("the progress of a solve is not as asked", "Progress::new(rt, want_progress)", "Progress::new(rt, want_cut)", f"{SOLVED}, with the cut]"),
+        ("a check reports unasked", "Progress::new(rt, false)", "Progress::new(rt, true)", CHECKED),
+        ("the texts of a check change places", "&mut problem, &mut solution, ", "&mut solution, &mut problem, ", CHECKED),
+    ),
+    *in_file(
+        "dmf_host/src/told.rt",
+        ("lost help is no fault", "Err(_) => Err(Fault::Run(EngineFault::Write))", "Err(_) => Ok(Status::Well)", "program/test_streams.py::test_closed[no output of the help]"),
+        ("a fault does not say whose it is", '"dmf: {fault}"', '"{fault}"', ENDED),
+    ),
+    *in_file(
+        "dmf_host/src/files.rt",
+        ("the problem has the descriptor of standard input", ".and_then(|file| file.try_clone())", "", "program/test_streams.py::test_closed"),
+    ),
+]  # fmt: skip
 MUTANTS = [
     # What `rt try` builds has an allocator of its own, so that no request for memory is refused there.
     *in_file(
@@ -74,12 +93,8 @@ MUTANTS = [
         ("want of memory is a wrong word", "Err(Fault::NO_MEMORY)", "Err(Fault::Words)", "program/test_refusals.py::test_refusals[the version, 1 in a row]"),
     ),
     *in_file(
-        "dmf_host/src/files.rt",
-        ("the problem has the descriptor of standard input", ".and_then(|file| file.try_clone())", "", "program/test_streams.py::test_closed"),
-    ),
-    *in_file(
-        "dmf_host/src/runs.rt",
-        ("nothing says that a problem is typed", "invite(rt);", "if want_cut { invite(rt); }", "program/test_terminal.py::test_typed_problem"),
+        "dmf_host/src/told.rt",
+        ("wrong words have another status", "Fault::Words) => 2", "Fault::Words) => 3", "program/test_program.py::test_refused_words[an unknown word]"),
     ),
     *in_file(
         "dmf_progress/src/progress.rt",

@@ -1,5 +1,5 @@
-"""Builds the mutants of `main`, and runs for each the test that must fail. All stand in one program, built as `rt try` builds it, without a
-proof: each function of main.rt once as it is, and once for each of its mutants. The length of the name by which the program is called chooses
+"""Builds the mutants of `main` and of what it calls, and runs for each the test that must fail. All stand in one program, built as `rt try`
+builds it, without a proof: each function of these files once as it is, and once for each of its mutants. The length of the name by which the program is called chooses
 one. So this takes one build, of a minute, and no library has to be proved.
 
     /usr/bin/python3 -m pytest tests/mutants
@@ -18,14 +18,13 @@ from pathlib import Path
 
 import pytest
 from conftest import ROOT
-from mutants import MAIN_MUTANTS, Mutant
+from mutants import WIRINGS, Mutant
 
-MAIN = ROOT / "crates" / "dmf" / "src" / "main.rt"
 PASSED, FAILED, SECONDS = 0, 1, 600
 # The length of the first name of the program, in bytes: by that it has no fault.
 SHORTEST = 200
-# A function of main.rt: the lines before it, its name, its parameters, what stands before its body, and its body.
-FUNCTION = re.compile(r"^((?:(?:///|#\[)[^\n]*\n)*)fn (\w+)\((.*?)\)( ->.*?)\{\n(.*?)^\}\n", re.MULTILINE | re.DOTALL)
+# A function: what stands before its name, its name, its parameters, and what stands before its body.
+FUNCTION = re.compile(r"^((?:(?:///|#\[)[^\n]*\n)*(?:pub )?)fn (\w+)\((.*?)\)( ->.*?)\{\n.*?^\}\n", re.MULTILINE | re.DOTALL)
 NAME_LENGTH = """
 fn name_length(rt: &HostRuntime) -> usize {
     match words(rt) {
@@ -39,22 +38,27 @@ fn name_length(rt: &HostRuntime) -> usize {
 """
 
 
-def with_copies(whole: re.Match[str]) -> str:
-    """A function that calls a copy of itself for each of its mutants, or one without a fault."""
-    front, name, parameters, result, _ = whole.groups()
+def with_copies(file: str, whole: re.Match[str]) -> str:
+    """A function that calls a copy of itself for each of its mutants, or one without a fault. One without mutants stays."""
+    front, name, parameters, result = whole.groups()
     names = re.findall(r"(\w+): ", parameters)
     call = f"({', '.join(names)})"
-    texts = [(0, whole[0]), *((place, changed) for place, it in enumerate(MAIN_MUTANTS, 1) if (changed := whole[0].replace(it.old, it.new)) != whole[0])]
+    mine = [(place, it) for place, it in enumerate(WIRINGS, 1) if it.file == file and it.old in whole[0]]
+    texts = [(0, whole[0]), *((place, whole[0].replace(it.old, it.new)) for place, it in mine)]
+    if not mine:
+        return whole[0]
     copies = "".join(text.replace(f"fn {name}(", f"fn {name}_{place}(") for place, text in texts)
     choices = "".join(f"        {SHORTEST + place} => {name}_{place}{call},\n" for place, _ in texts[1:])
     handle = "rt" if "rt: &" in parameters else "&rt"
     return f"{front}fn {name}({parameters}){result}{{\n    match name_length({handle}) {{\n{choices}        _ => {name}_0{call},\n    }}\n}}\n\n{copies}"
 
 
-def mutated(whole: str) -> str:
-    """The text of main.rt with all mutants. Each changes one function."""
-    assert all(sum(mutant.old in it[0] for it in FUNCTION.finditer(whole)) == 1 for mutant in MAIN_MUTANTS)
-    return FUNCTION.sub(with_copies, whole) + NAME_LENGTH
+def mutated(file: str, whole: str) -> str:
+    """The text of a file with all its mutants. Each changes one function."""
+    mine = [mutant for mutant in WIRINGS if mutant.file == file]
+    assert all(sum(mutant.old in it[0] for it in FUNCTION.finditer(whole)) == 1 for mutant in mine)
+    words = "" if re.search(r"^use .*[ {]words[,}]|^    .* words,$", whole, re.MULTILINE) else "\nuse crate::arguments::words;\n"
+    return FUNCTION.sub(lambda it: with_copies(file, it), whole) + words + NAME_LENGTH
 
 
 @pytest.fixture(scope="module")
@@ -65,7 +69,8 @@ def program(tmp_path_factory: pytest.TempPathFactory) -> Path:
         shutil.copy(ROOT / name, root)
     shutil.copytree(ROOT / "crates", root / "crates", ignore=shutil.ignore_patterns("out", "must-fail"))
     crate, own, rooms = root / "crates" / "dmf", root / "program", root / "rooms"
-    (crate / "src" / "main.rt").write_text(mutated(MAIN.read_text()))
+    for file in {mutant.file for mutant in WIRINGS}:
+        (root / file).write_text(mutated(file, (ROOT / file).read_text()))
     rooms.mkdir()
     words = ["rt", "try", "--", "--version"]
     with open(root / "said", "w+") as said, subprocess.Popen(words, cwd=crate, env={**os.environ, "TMPDIR": str(rooms)}, stdout=said, stderr=said) as running:
@@ -97,11 +102,11 @@ def tried(program: Path, place: int, *tests: str) -> subprocess.CompletedProcess
 
 def test_unchanged(program: Path) -> None:
     """Each test passes on the copy without a fault."""
-    ran = tried(program, 0, *sorted({mutant.test for mutant in MAIN_MUTANTS}))
+    ran = tried(program, 0, *sorted({mutant.test for mutant in WIRINGS}))
     assert ran.returncode == PASSED, ran.stdout + ran.stderr
 
 
-@pytest.mark.parametrize(("place", "mutant"), [pytest.param(*it, id=it[1].name) for it in enumerate(MAIN_MUTANTS, 1)])
+@pytest.mark.parametrize(("place", "mutant"), [pytest.param(*it, id=it[1].name) for it in enumerate(WIRINGS, 1)])
 def test_killed(program: Path, place: int, mutant: Mutant) -> None:
     ran = tried(program, place, mutant.test)
     assert ran.returncode == FAILED, f"{mutant.test} passes:\n{ran.stdout}{ran.stderr}"

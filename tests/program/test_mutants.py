@@ -1,5 +1,5 @@
 """Puts faults into a copy of the program where no proof sees them, builds each, and runs the test that must fail for it. A build takes
-minutes, so only `--long` does this; tests/mutants does it for those of `main`. That each fault can still be put in is tried each time."""
+minutes, so only `--long` does this; tests/mutants does it for WIRINGS. That each fault can still be put in is tried each time."""
 
 from __future__ import annotations
 
@@ -11,17 +11,21 @@ from pathlib import Path
 
 import pytest
 from conftest import ROOT, shared
-from mutants import MAIN_MUTANTS, MUTANTS, Mutant
+from mutants import MUTANTS, WIRINGS, Mutant
 
 FAILED = 1
 
 
-@pytest.mark.parametrize("mutant", [pytest.param(it, id=it.name) for it in MAIN_MUTANTS + MUTANTS])
+@pytest.mark.parametrize("mutant", [pytest.param(it, id=it.name) for it in WIRINGS + MUTANTS])
 def test_place(mutant: Mutant) -> None:
     """The text stands once in its file, and the test is there."""
     assert (ROOT / mutant.file).read_text().count(mutant.old) == 1
     path, _, name = mutant.test.partition("::")
     assert f"\ndef {name.partition('[')[0]}(" in (ROOT / path).read_text()
+
+
+def test_count() -> None:
+    assert f"Each of {len(WIRINGS)} faulty copies" in (ROOT / "docs" / "TRUST.md").read_text()
 
 
 @pytest.mark.long
