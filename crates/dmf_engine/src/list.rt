@@ -1,0 +1,87 @@
+//! Lists that are safe at any index.
+use dmf_state::NoMemory;
+use std::alloc::Global;
+
+/// The item at an index, or `other` past the end.
+#[inline(always)]
+pub fn read<T: Copy + Drop>(items: &[T], index: u32, other: T) -> T {
+    let index = index as usize;
+    if index < items.len() {
+        items[index]
+    } else {
+        other
+    }
+}
+
+/// Sets the item at an index. Past the end it does nothing.
+#[inline(always)]
+pub fn write<T: Copy + Drop>(items: &mut [T], index: u32, item: T) {
+    let index = index as usize;
+    if index < items.len() {
+        items[index] = item;
+    }
+}
+
+/// The items from `start` up to `end`. None where these are no places of the list.
+#[inline(always)]
+pub fn within(items: &[u32], start: u32, end: u32) -> &[u32] {
+    let start = start as usize;
+    let end = end as usize;
+    if start <= end && end <= items.len() {
+        &items[start..end]
+    } else {
+        &items[..0]
+    }
+}
+
+/// Sets each item.
+pub fn fill(items: &mut [u32], item: u32) {
+    for each in items.iter_mut() {
+        *each = item;
+    }
+}
+
+/// A list of nodes or places that takes no memory after it is made: a queue, or a stack.
+#[derive(Drop)]
+pub struct Row {
+    items: Vec<u32>,
+    count: u32,
+}
+
+impl Row {
+    /// An empty list with room for so many items.
+    pub fn new(alloc: Global, most: usize) -> Result<Row, NoMemory> {
+        Ok(Row {
+            items: vec![in alloc; 0u32; most]?,
+            count: 0,
+        })
+    }
+
+    /// How many items there are.
+    #[inline(always)]
+    pub fn len(&self) -> u32 {
+        self.count
+    }
+
+    /// The item at an index, or 0 past the end.
+    #[inline(always)]
+    pub fn at(&self, index: u32) -> u32 {
+        if index < self.count {
+            read(&self.items, index, 0)
+        } else {
+            0
+        }
+    }
+
+    /// Appends an item. Does nothing where there is no room.
+    #[inline(always)]
+    pub fn push(&mut self, item: u32) {
+        write(&mut self.items, self.count, item);
+        self.count = self.count.wrapping_add(1);
+    }
+
+    /// Keeps the first items.
+    pub fn truncate(&mut self, count: u32) {
+        self.count = count;
+    }
+}
