@@ -286,11 +286,9 @@ def igraph_cases(arcs: int) -> Took:
 
 
 class Row(NamedTuple):
-    """A row of the table: what is measured, what was to be reached in seconds, how dmf, scipy and igraph do it, and the part of the
-    arcs that it has."""
+    """A row of the table: what is measured, how dmf, scipy and igraph do it, and the part of the arcs that it has."""
 
     name: str
-    wanted: str
     dmf: Callable[[int], Took]
     scipy: Callable[[int], Took] | None = None
     igraph: Callable[[int], Took] | None = None
@@ -298,14 +296,14 @@ class Row(NamedTuple):
 
 
 ROWS: dict[str, Row] = {
-    "arrays": Row("network from arrays", "0.6", from_arrays, scipy_arrays, igraph_arrays),
-    "rows": Row("network from tuples", "2", from_rows, scipy_rows, igraph_rows),
-    "read": Row("`dmf.read`, all named", "1.5", read),
-    "names": Row("first arc by its name", "", names),
-    "value": Row("`solve().value`", "0.01", value),
-    "array": Row("flows as an array", "0.25", flows),
-    "solved": Row("arrays to flows", "", solved, scipy_solved, igraph_solved),
-    "cases": Row(f"{CASES} cases, a tenth of the arcs", "0.3", cases, scipy_cases, igraph_cases, 10),
+    "arrays": Row("network from arrays", from_arrays, scipy_arrays, igraph_arrays),
+    "rows": Row("network from tuples", from_rows, scipy_rows, igraph_rows),
+    "read": Row("`dmf.read`, all named", read),
+    "names": Row("first arc by its name", names),
+    "value": Row("`solve().value`", value),
+    "array": Row("flows as an array", flows),
+    "solved": Row("arrays to flows", solved, scipy_solved, igraph_solved),
+    "cases": Row(f"{CASES} cases, a tenth of the arcs", cases, scipy_cases, igraph_cases, 10),
 }
-# The row whose memory was to stay below so many MB.
-LARGEST, MOST_MEMORY = "solved", "200"
+# The row whose memory stands in a row of its own.
+LARGEST = "solved"

@@ -7,7 +7,7 @@ import http.client
 import json
 import signal
 import subprocess
-from collections.abc import Iterator
+from collections.abc import Callable, Iterator
 from typing import Any, Optional
 from urllib.parse import urlsplit
 
@@ -20,10 +20,10 @@ JSON = {"Content-Type": "application/json"}
 class Board:
     """A running board, and requests to it."""
 
-    def __init__(self, *words: str) -> None:
+    def __init__(self, *words: str, preexec: Callable[[], None] = heed_interrupts) -> None:
         self.process = subprocess.Popen(
             [ROOT / "tools/dmf-board", "--no-browser", *words], stdout=subprocess.PIPE, stderr=subprocess.PIPE, text=True, cwd=ROOT,
-            preexec_fn=heed_interrupts,
+            preexec_fn=preexec,
         )  # fmt: skip
         assert self.process.stdout
         self.address = self.process.stdout.readline().strip()
@@ -47,12 +47,25 @@ class Board:
         finally:
             connection.close()
 
+    def told(self, path: str) -> Any:
+        """What is told without a change."""
+        return json.loads(self.ask(self.root + path)[2])
+
     def do(self, **content: Any) -> Any:
-        """What is answered to something that is done."""
-        return json.loads(self.ask(self.root + "do", json.dumps(content).encode(), **{"Content-Type": "application/json"})[2])
+        """What is answered to something that is done, by a page that shows the present state if no other turn is given."""
+        return json.loads(self.post("do", **content)[1])
+
+    def post(self, path: str, **content: Any) -> tuple[int, bytes]:
+        """The status of the answer to such a request, and what it has."""
+        body = {"turn": self.turn(), **content} if "turn" not in content else content
+        status, _, told = self.ask(self.root + path, json.dumps(body).encode(), **JSON)
+        return status, told
+
+    def turn(self) -> int:
+        return int(self.told("turn")["turn"])
 
     def state(self) -> Any:
-        return json.loads(self.ask(self.root + "state")[2])
+        return self.told("state")
 
     def sessions(self) -> list[int]:
         """The sessions of the program that it has."""
@@ -73,8 +86,8 @@ class Board:
 
 
 @contextlib.contextmanager
-def board(*words: str) -> Iterator[Board]:
-    made = Board(*words)
+def board(*words: str, preexec: Callable[[], None] = heed_interrupts) -> Iterator[Board]:
+    made = Board(*words, preexec=preexec)
     try:
         yield made
     finally:

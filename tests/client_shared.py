@@ -16,6 +16,8 @@ CLIENT = f"{ROOT}/clients/python"
 # The program that is tested, whichever else is installed.
 BUILT = f"{ROOT}/crates/dmf/out/dmf"
 os.environ["DMF"] = BUILT
+# What is said of a row of another form.
+WANTED = "wanted is (tail, head, capacity) or (tail, head, capacity, key), of which all but the capacity can be hashed"
 PIPES = [("lake", "mill", 3), ("lake", "town", 2), ("mill", "town", 5), ("mill", "sea", 2), ("town", "sea", 3)]
 
 

@@ -99,7 +99,7 @@ def pytest_collection_modifyitems(config: pytest.Config, items: list[pytest.Item
 
 def pytest_terminal_summary(terminalreporter: TerminalReporter) -> None:
     """Keeps the shortest cases that failed, tells what was skipped, and ends with the line 'N passed, M failed', in which a script counts
-    for each of its cases. A worker of pytest-xdist, which knows its own tests alone, does none of this."""
+    for each of its cases. With CI=true nothing may be skipped. A worker of pytest-xdist, which knows its own tests alone, does none of this."""
     if hasattr(terminalreporter.config, "workerinput"):
         return
     stats = terminalreporter.stats
@@ -127,7 +127,12 @@ def pytest_terminal_summary(terminalreporter: TerminalReporter) -> None:
         terminalreporter.write_line(f"{FOUND_FILE.relative_to(ROOT)} keeps {len(shown)} cases that failed")
     for why in dict.fromkeys(skipped):
         terminalreporter.write_line(f"skipped: {why}")
+    if os.environ.get("CI") == "true":
+        failed += len(skipped)
     terminalreporter.write_line(f"{passed} passed, {failed} failed")
+    session = terminalreporter._session
+    if failed and session and session.exitstatus == pytest.ExitCode.OK:
+        session.exitstatus = pytest.ExitCode.TESTS_FAILED
 
 
 @contextmanager

@@ -2,8 +2,11 @@
 
 from __future__ import annotations
 
+import fcntl
 import os
 import subprocess
+import termios
+import time
 from itertools import product
 from pathlib import Path
 from typing import NamedTuple
@@ -75,3 +78,12 @@ def sessions_of(pid: int) -> list[int]:
     """The sessions of the program that a process has."""
     found = [int(it) for task in Path(f"/proc/{pid}/task").glob("*/children") for it in task.read_text().split()]
     return [it for it in found if b"session" in Path(f"/proc/{it}/cmdline").read_bytes().split(b"\0")]
+
+
+def wait_until_asked(session: int) -> None:
+    """Waits until a session that is stopped has a command to read."""
+    until = time.monotonic() + SECONDS
+    with open(f"/proc/{session}/fd/0", "rb") as pipe:
+        while not any(fcntl.ioctl(pipe, termios.FIONREAD, bytes(4))):
+            assert time.monotonic() < until, "nothing asks the session"
+            time.sleep(0.01)

@@ -3,6 +3,7 @@ reload; the page's end; and what the documents show of it, which `--write` makes
 
 from __future__ import annotations
 
+import json
 import os
 import re
 import shutil
@@ -15,7 +16,8 @@ from typing import Any
 
 import pytest
 from board_running import Board, board
-from desk_shared import ODD, PIPES, ROOT, SCRIPT, STORY, run, swept
+from desk_shared import ODD, PIPES, ROOT, SCRIPT, STORY, run, swept, wait_until_asked
+from dmf.board_server import Door
 
 for program in "chromium", "chromedriver", "dot":
     if not shutil.which(program):
@@ -49,7 +51,8 @@ class Page:
 
     def __init__(self, driver: Any, address: str) -> None:
         self.driver = driver
-        driver.get(address)
+        if address:
+            driver.get(address)
         self.ready()
 
     def ready(self) -> None:
@@ -180,16 +183,125 @@ def judge_keys(page: Page) -> None:
 
 
 def judge_sessions(page: Page, it: Board) -> None:
-    """Where the session ends by itself, the page says so, and begins again with the steps."""
+    """Where the session ends by itself, the board begins again with the steps, the page says so, and goes on."""
     page.after(lambda: page.press("Close it"))
+    page.choose("arc-3", "North rise")
     (session,) = it.sessions()
     os.kill(session, signal.SIGKILL)
-    page.choose("arc-3", "North rise")
     page.press("Close it")
-    page.wait(lambda: "ended by itself" in page.text("#trouble"))
-    page.after(lambda: page.press("Begin again, with the steps made so far (1)"))
-    page.wait(lambda: page.text("#trouble") == "")
+    page.wait(lambda: "SIGKILL. The session was begun again, with the steps that were made." in page.text("#trouble"))
+    page.settle()
     assert page.value() == 120, f"begun again: {page.value()}"
+    page.after(lambda: page.press("Close it"))
+    assert page.text("#trouble") == ""
+    assert page.undo() == 120
+
+
+def test_opening(driver: Any) -> None:
+    """The file that a browser is started with leads to the page. Without the token there is a page that says how to get in."""
+    with board(PIPES) as it:
+        driver.get(f"http://{it.host}/")
+        assert "The board printed its address where it was started" in driver.find_element(By.TAG_NAME, "body").text
+        # The browser says that it was refused.
+        assert len(driver.get_log("browser")) == 1
+        door = Door(it.address)
+        try:
+            driver.get(door.address)
+            page = Page(driver, "")
+            assert page.value() == 165
+        finally:
+            door.remove()
+        driver.get("about:blank")
+
+
+def test_two_tabs(driver: Any) -> None:
+    """A tab that shows what is no more so changes nothing, and then shows what is; so does one that is looked at again."""
+    with board(PIPES) as it:
+        page = Page(driver, it.address)
+        first = driver.current_window_handle
+        # It may look at once, or not.
+        stay = "removeEventListener('focus', look); document.removeEventListener('visibilitychange', look)"
+        driver.execute_script(stay)
+        driver.switch_to.new_window("tab")
+        other = Page(driver, it.address)
+        other.choose("arc-10", "Bridge pipe")
+        assert other.after(lambda: other.press("Close it")) == 155
+        other.choose("arc-9", "Mill Lane")
+        assert other.after(lambda: other.press("Close it")) == 110
+        driver.switch_to.window(first)
+        assert page.value() == 165
+        page.driver.execute_script("act({ what: 'close', arc: 3 }, 'North rise is closed')")
+        page.wait(lambda: page.text("#trouble") == "The network has changed in another tab: look again.")
+        page.wait(lambda: page.value() == 110)
+        assert (it.state()["at"], len(it.state()["steps"]), "Mill Lane" in page.text("#way")) == (2, 3, True)
+        # Of two clicks at once the second is none.
+        driver.execute_script("at('undo').click(); at('undo').click()")
+        page.wait(lambda: page.value() == 155)
+        page.settle()
+        assert (page.text("#trouble"), it.state()["at"]) == ("", 1)
+        # What is asked of a state that has passed shows the present one.
+        it.do(what="go", step=0)
+        page.driver.execute_script("choose({ arc: 9 })")
+        page.wait(lambda: page.value() == 165)
+        page.wait(lambda: "Mill Lane" in page.text("#what"))
+        # The other tab looks when it is looked at.
+        driver.switch_to.window(driver.window_handles[-1])
+        driver.execute_script("dispatchEvent(new Event('focus'))")
+        other.wait(lambda: other.value() == 165)
+        assert other.text("#news") in ("The network has changed in another tab.", "")
+        driver.close()
+        driver.switch_to.window(first)
+        driver.get("about:blank")
+
+
+def test_long(driver: Any) -> None:
+    """What takes long can be stopped, and the steps before it are kept."""
+    with board(PIPES) as it:
+        page = Page(driver, it.address)
+        page.choose("arc-10", "Bridge pipe")
+        assert page.after(lambda: page.press("Close it")) == 155
+        page.choose("node-5", "Mill")
+        (session,) = it.sessions()
+        os.kill(session, signal.SIGSTOP)
+        page.press("Shut it")
+        stop = driver.find_element(By.ID, "end")
+        page.wait(stop.is_displayed)
+        wait_until_asked(session)
+        stop.click()
+        page.wait(lambda: "It was stopped. The session was begun again" in page.text("#trouble"))
+        page.settle()
+        assert (page.value(), stop.is_displayed(), it.state()["at"]) == (155, False, 1)
+        assert page.after(lambda: page.press("Shut it")) < 155
+        assert page.text("#trouble") == ""
+        driver.get("about:blank")
+
+
+def test_part(driver: Any, tmp_path: Path) -> None:
+    """Of a large network the page tries those in the picture, and says that it speaks of them alone: here a pipe that it does not show is
+    worse to lose."""
+    rows = ["from,to,litres,pipe", "S,A,100,main"]
+    for chain, least in ("B", 30), ("C", 20):
+        places = ["A", *(f"{chain}{place}" for place in range(1, 400)), "T"]
+        rows += [f"{tail},{head},{least if head == 'T' else 60},{chain}-{head}" for tail, head in zip(places, places[1:])]
+    table = tmp_path / "chains.csv"
+    table.write_text("".join(f"{row}\n" for row in rows))
+    with board(str(table)) as it:
+        page = Page(driver, it.address)
+        assert (page.value(), "main" in page.text("#arcs")) == (50, False)
+        page.press("Try each pipe in the picture")
+        page.wait(lambda: "Worst" in page.text("#verdict"))
+        said = re.fullmatch("Worst to lose of the 300 shown: B-.*, 30 litres less\\. Best of the 300 shown to have a second of: B-T, 30 litres more\\.", page.text("#verdict"))
+        assert said, page.text("#verdict")
+        # Without the first pipe all is lost.
+        assert json.loads(it.post("sweep", arcs=[1])[1])["trials"][0]["closed"] == "0"
+        page.press("Try each pipe of the limit")
+        page.wait(lambda: "limit" in page.text("#verdict"))
+        assert page.text("#verdict").startswith("Worst to lose of the 2 of the limit: B-T, 30 litres less"), page.text("#verdict")
+        page.write("#text", "B")
+        page.wait(lambda: "There are more" in page.text("#found"))
+        page.write("#text", "B399")
+        page.wait(lambda: page.text("#found").splitlines() == ["B399", "B-B399, B398 -> B399", "B-T, B399 -> T"])
+        driver.get("about:blank")
 
 
 def test_names(driver: Any) -> None:
@@ -212,7 +324,7 @@ def test_names(driver: Any) -> None:
 def test_widths(driver: Any) -> None:
     """Nothing but the picture and the tables goes past a narrow page."""
     with board(PIPES) as it:
-        for width in 400, 1280:
+        for width in 400, 768, 1280:
             driver.execute_cdp_cmd(
                 "Emulation.setDeviceMetricsOverride", {"width": width, "height": 900, "deviceScaleFactor": 1, "mobile": width == 400}
             )

@@ -1,4 +1,5 @@
-"""./package: what it makes is put into an empty root, and into a folder of a machine without the toolchain, and the tutorial is run there."""
+"""./package: what it makes has its sums, and what git tracks alone. It is put into an empty root, and into a folder of a machine without the
+toolchain, and the tutorial is run there."""
 
 from __future__ import annotations
 
@@ -13,9 +14,12 @@ from pathlib import Path
 import dmf
 import pytest
 from conftest import ROOT
+from trees import commit_all, copy_tracked
 
 pytestmark = pytest.mark.seconds(20)
 TOOLS = ["dmf-problem", "dmf-names", "dmf-dot", "dmf-sweep", "dmf-plan", "dmf-board"]
+# A link of a page to a file, and the file.
+LINK = re.compile(r"\]\((?!https?:|#)([^)#]*)")
 # What is written after each example.
 END = "\x1e"
 SCRIPT = """
@@ -46,6 +50,7 @@ def made(tmp_path_factory: pytest.TempPathFactory) -> Path:
     folder = tmp_path_factory.mktemp("made")
     told = ran("./package", "--output", folder)
     assert sorted(told.split()[1::2]) == sorted(map(str, folder.iterdir()))
+    assert sorted(path.suffix for path in folder.iterdir()) == ["", ".deb", ".gz", ".whl"]
     return folder
 
 
@@ -54,18 +59,25 @@ def the(folder: Path, pattern: str) -> Path:
     return found
 
 
+def call_dpkg(root: Path, *words: str | Path) -> None:
+    """Puts or removes a package in a root that has nothing else, not even a shell: the package's scripts run outside."""
+    database = root / "var/lib/dpkg"
+    if not database.exists():
+        for name in "info", "updates":
+            (database / name).mkdir(parents=True)
+        (database / "status").touch()
+    force = "--force-depends,script-chrootless"
+    ran("dpkg", f"--root={root}", force, *words, PATH="/usr/sbin:/usr/bin:/sbin:/bin")
+
+
 @pytest.fixture(scope="module")
 def system(made: Path, tmp_path_factory: pytest.TempPathFactory) -> Path:
     """An empty root, with the Debian package alone."""
     root = tmp_path_factory.mktemp("root")
     if os.geteuid():
         ran("dpkg-deb", "-x", the(made, "*.deb"), root)
-        return root
-    database = root / "var/lib/dpkg"
-    for name in "info", "updates":
-        (database / name).mkdir(parents=True)
-    (database / "status").touch()
-    ran("dpkg", f"--root={root}", "--force-depends", "-i", the(made, "*.deb"), PATH="/usr/sbin:/usr/bin:/sbin:/bin")
+    else:
+        call_dpkg(root, "-i", the(made, "*.deb"))
     return root
 
 
@@ -83,28 +95,92 @@ def examples(page: Path) -> Iterator[tuple[str, str]]:
         yield found[1], re.sub("^    ", "", found[2], flags=re.MULTILINE)
 
 
-def judge_examples(page: Path, folder: Path) -> None:
+def judge_examples(page: Path, folder: Path, **environment: str) -> None:
     """Runs the examples of a page in a folder."""
     pairs = list(examples(page))
     assert len(pairs) > 5
     script = "".join(f"{command}\nprintf '{END}'\n" for command, _ in pairs)
-    done = run("sh", "-c", script, folder=folder, PATH=f"{folder}:/usr/bin:/bin")
+    done = run("sh", "-c", script, folder=folder, PATH=f"{folder}:/usr/bin:/bin", **environment)
     for (command, wanted), written in zip(pairs, done.stdout.split(END)):
         assert written == wanted, f"{command}: {done.stderr}"
     assert (done.stderr, done.stdout.count(END)) == ("", len(pairs))
 
 
-def test_the_same_twice(made: Path, tmp_path: Path) -> None:
-    ran("./package", f"--output={tmp_path}")
-    for path in made.iterdir():
-        assert hashlib.sha256(path.read_bytes()).digest() == hashlib.sha256((tmp_path / path.name).read_bytes()).digest(), path.name
+def test_sums(made: Path) -> None:
+    """All that was made beside them is as they say, by the tool of the field."""
+    told = ran("sha256sum", "-c", "SHA256SUMS", folder=made)
+    assert told == "".join(f"{path.name}: OK\n" for path in sorted(made.iterdir()) if path.name != "SHA256SUMS")
+    for line in (made / "SHA256SUMS").read_text().splitlines():
+        digest, name = line.split("  ")
+        assert hashlib.sha256((made / name).read_bytes()).hexdigest() == digest
+
+
+def test_the_same_elsewhere(tmp_path: Path) -> None:
+    """Two copies of the tree give the same bytes, whatever lies beside what git tracks, in whatever order and with whatever modes."""
+    if not shutil.which("dpkg-deb"):
+        pytest.skip("dpkg-deb is not there, so no package was made")
+    contents = []
+    for name in "one", "another place":
+        tree, output = tmp_path / name / "tree", tmp_path / name / "made"
+        copy_tracked(tree)
+        commit_all(tree)
+        if name != "one":
+            for stray in "answer.txt", "water/names.txt", "water/note.csv", "README.md":
+                (tree / "examples" / stray).write_text("left by a story\n")
+            (tree / "clients/python/dmf/stray.py").write_text("left\n")
+            (tree / "docs/dmf-stray.1").write_text("left\n")
+            (tree / "tools/dmf-stray").write_text("#!/bin/sh\n")
+            (tree / "LICENSE").chmod(0o600)
+        ran("./package", "--output", output, folder=tree)
+        contents.append({path.name: path.read_bytes() for path in output.iterdir()})
+    assert len(contents[0]) == 4 and contents[0] == contents[1]
+
+
+def test_only_what_git_tracks(unpacked: Path, system: Path) -> None:
+    tracked = {*ran("git", "ls-files").splitlines(), "crates/dmf/out/dmf"}
+    assert {str(path.relative_to(unpacked)) for path in unpacked.rglob("*") if path.is_file()} <= tracked
+    documents = system / "usr/share/doc/dmf"
+    theirs = {"copyright", "changelog.gz", "changelog.Debian.gz"}
+    assert {str(path.relative_to(documents)) for path in documents.rglob("*") if path.is_file()} <= tracked | theirs
+
+
+def test_not_a_checkout(tmp_path: Path) -> None:
+    """Without git nobody knows what belongs to dmf."""
+    shutil.copy(ROOT / "package", tmp_path)
+    done = run("./package", folder=tmp_path, GIT_CEILING_DIRECTORIES=str(tmp_path.parent))
+    assert (done.returncode, done.stdout, (tmp_path / "out").exists()) == (1, "", False)
+    assert "is no checkout of git, so nobody knows which files belong to dmf; nothing was made" in done.stderr
+
+
+def test_links(unpacked: Path, system: Path) -> None:
+    """No link of a page leads nowhere, and those to what is packed are links still."""
+    for folder in unpacked, system / "usr/share/doc/dmf":
+        places = {page: LINK.findall(page.read_text()) for page in folder.rglob("*.md")}
+        assert not [(page, place) for page, found in places.items() for place in found if not (page.parent / place).exists()]
+        assert {"docs/TUTORIAL.md", "examples/water/README.md", "docs/pictures/board.png"} <= {*places[folder / "README.md"]}
+        assert "DEFINITIONS.md" in places[folder / "docs/TRUST.md"] and len(places) > 8
+
+
+def test_plain_links(tmp_path: Path) -> None:
+    """What leads nowhere keeps its words."""
+    (tmp_path / "docs").mkdir()
+    (tmp_path / "docs/b.md").touch()
+    for text, wanted in (
+        ("See [b](docs/b.md), [c](docs/c.md).", "See [b](docs/b.md), c."),
+        ("[b](docs/b.md#a-b) [c](docs/c.md#a-b) [folder](docs) [none](none)", "[b](docs/b.md#a-b) c [folder](docs) none"),
+        ("![picture](x.png) [web](https://x.org/y) [here](#below) [`code`](../y.rs)", "picture [web](https://x.org/y) [here](#below) `code`"),
+        ("a[0](x) array[1] (docs/c.md)", "a0 array[1] (docs/c.md)"),
+    ):
+        (tmp_path / "page.md").write_text(text)
+        ran("python3", "tools/plain_links.py", tmp_path)
+        assert (tmp_path / "page.md").read_text() == wanted
 
 
 def test_lintian(made: Path) -> None:
     if not shutil.which("lintian"):
         pytest.skip("lintian is not there, so the Debian package was not judged")
-    said = run("lintian", "--no-tag-display-limit", the(made, "*.deb")).stdout
-    assert not re.search("^E: ", said, re.MULTILINE), said
+    said = run("lintian", the(made, "*.deb")).stdout
+    assert not re.search("^[EW]: ", said, re.MULTILINE), said
 
 
 def test_files(system: Path, made: Path) -> None:
@@ -112,7 +188,7 @@ def test_files(system: Path, made: Path) -> None:
     control = made.parent / "control"
     ran("dpkg-deb", "-e", the(made, "*.deb"), control)
     named = {line.split(maxsplit=1)[1]: line.split()[0] for line in (control / "md5sums").read_text().splitlines()}
-    files = {path for path in (system / "usr").rglob("*") if path.is_file() and "dist-packages" not in path.parts}
+    files = {path for path in (system / "usr").rglob("*") if path.is_file() and path.suffix != ".pyc"}
     assert {str(path.relative_to(system)) for path in files} == set(named)
     for path in files:
         assert hashlib.md5(path.read_bytes()).hexdigest() == named[str(path.relative_to(system))]
@@ -121,7 +197,8 @@ def test_files(system: Path, made: Path) -> None:
     assert {path.name for path in (system / "usr/bin").iterdir()} == {"dmf", *TOOLS}
     assert {path.name for path in (share / "man/man1").iterdir()} == {f"{name}.1.gz" for name in ["dmf", *TOOLS]}
     assert {path.name for path in (share / "bash-completion/completions").iterdir()} == {"dmf", *TOOLS}
-    assert {path.name for path in (share / "dmf/python/dmf").iterdir()} == {path.name for path in (ROOT / "clients/python/dmf").glob("*.*")}
+    modules = {path.name for path in (system / "usr/lib/python3/dist-packages/dmf").iterdir()} - {"__pycache__"}
+    assert modules == {path.name for path in (ROOT / "clients/python/dmf").glob("*.*")}
 
 
 def test_tutorial_of_the_package(system: Path, tmp_path: Path) -> None:
@@ -131,28 +208,35 @@ def test_tutorial_of_the_package(system: Path, tmp_path: Path) -> None:
     (tmp_path / "dmf").symlink_to(system / "usr/bin/dmf")
     (tmp_path / "tools").symlink_to(system / "usr/bin")
     for page in "docs/TUTORIAL.md", "examples/water/README.md":
-        judge_examples(documents / page, tmp_path)
+        judge_examples(documents / page, tmp_path, PYTHONPATH=str(system / "usr/lib/python3/dist-packages"))
 
 
 def test_python_of_the_package(system: Path, tmp_path: Path) -> None:
-    """The module is where Debian's Python looks, and finds the program beside itself."""
+    """The module is where Debian's Python looks, and finds the program beside itself. So do the tools."""
     modules = system / "usr/lib/python3/dist-packages"
     told = ran("/usr/bin/python3", "-c", SCRIPT, folder=tmp_path, PYTHONPATH=str(modules))
     assert told == f"{modules}/dmf/__init__.py {system}/usr/bin/dmf 2\n"
-    plan = run(system / "usr/bin/dmf-plan", system / "usr/share/doc/dmf/examples/water/pipes.csv", folder=tmp_path)
-    assert plan.returncode == 0
+    table = system / "usr/share/doc/dmf/examples/water/pipes.csv"
+    assert run(system / "usr/bin/dmf-plan", table, folder=tmp_path, PYTHONPATH=str(modules)).returncode == 0
 
 
 @pytest.mark.skipif(os.geteuid() != 0, reason="only root puts a package into a root")
 def test_removed(made: Path, tmp_path: Path) -> None:
-    """Nothing is left but what dpkg keeps."""
-    database = tmp_path / "var/lib/dpkg"
-    for name in "info", "updates":
-        (database / name).mkdir(parents=True)
-    (database / "status").touch()
-    for words in ["-i", str(the(made, "*.deb"))], ["-P", "dmf"]:
-        ran("dpkg", f"--root={tmp_path}", "--force-depends", *words, PATH="/usr/sbin:/usr/bin:/sbin:/bin")
+    """Nothing is left but what dpkg keeps, also where Python has compiled the modules."""
+    call_dpkg(tmp_path, "-i", the(made, "*.deb"))
+    modules = tmp_path / "usr/lib/python3/dist-packages"
+    ran("/usr/bin/python3", "-c", "import dmf.plan", PYTHONPATH=str(modules))
+    assert len([*(modules / "dmf/__pycache__").glob("*.pyc")]) > 20
+    call_dpkg(tmp_path, "-P", "dmf")
     assert [path.name for path in tmp_path.iterdir()] == ["var"]
+
+
+def test_description(made: Path) -> None:
+    """It claims no more than what is proved, and its file belongs to the package."""
+    told = " ".join(ran("dpkg-deb", "-f", the(made, "*.deb"), "Description").split())
+    assert "The calls that do so are proved to meet their contracts; the page TRUST of the documents says what that covers" in told
+    assert "greatest" not in told and "minimum" not in told
+    assert " ./usr/share/doc/dmf/docs/TRUST.md\n" in ran("dpkg-deb", "-c", the(made, "*.deb"))
 
 
 def test_tutorial_of_the_archive(unpacked: Path) -> None:
@@ -187,7 +271,8 @@ def test_words(tmp_path: Path) -> None:
     assert (done.returncode, done.stdout, (tmp_path / "none").exists()) == (1, "", False)
     assert "dpkg-deb is not there; nothing was made" in done.stderr
     ran("./package", "--archive", "--output", tmp_path / "one", PATH=str(few))
-    assert [path.suffix for path in (tmp_path / "one").iterdir()] == [".gz"]
+    assert sorted(path.suffix for path in (tmp_path / "one").iterdir()) == ["", ".gz"]
+    ran("sha256sum", "-c", "SHA256SUMS", folder=tmp_path / "one")
 
 
 def test_one_version() -> None:

@@ -13,12 +13,16 @@ import tempfile
 import time
 from collections.abc import Callable
 from pathlib import Path
+from typing import Any
 
 import pytest
-from desk_shared import ODD, PIPES, ROOT, SCRIPT, SECONDS, STORY, greatest, run, sessions_of, swept, water
+from desk_shared import ODD, PIPES, ROOT, SCRIPT, SECONDS, STORY, greatest, run, sessions_of, swept, wait_until_asked, water
+from built import BUILT
+from dmf import Network
 from dmf.desk import Desk, DeskFault, Place
 from dmf.desk_file import Subject
 from dmf.errors import SessionEnded
+from dmf.plan import Plan
 from tool_runs import wait_until_asleep
 
 WATER = subprocess.run(
@@ -139,6 +143,75 @@ def end_session(of: int | None = None) -> None:
             os.sched_yield()
 
 
+@pytest.mark.parametrize("error", [AssertionError(), MemoryError(), RecursionError("too deep"), KeyError("x"), OSError(12, "no memory")])
+@pytest.mark.parametrize("changes", [True, False])
+def test_unforeseen(monkeypatch: pytest.MonkeyPatch, capsys: pytest.CaptureFixture[str], error: Exception, changes: bool) -> None:
+    """Whatever error comes out of a command, before or after it has changed the session: a line tells it, and the steps before it
+    stand."""
+    told: list[str] = []
+    plan = Plan(desk_of(WATER), is_typed=False, write=told.append)
+    plan.run_script(["close Bridge pipe", "close Mill Lane", "undo"])
+    desk = plan.desk
+    before = [(it.text, it.value) for it in desk.steps], desk.at, list(desk.lines), desk.value, [desk.flow(n) for n in range(1, 15)]
+    shut = Network.shut
+
+    def failing(network: Network[Any], node: Any) -> int:
+        if changes:
+            shut(network, node)
+        raise error
+
+    monkeypatch.setattr(Network, "shut", failing)
+    for line in 'shut "South Tower"', 'what-if shut "South Tower"':
+        plan.onecmd(line)
+        said = capsys.readouterr().err
+        assert said.count("\n") == 1 and (type(error).__name__ in said or str(error) in said), f"{line}: {said!r}"
+        assert told[-1] == "begun again, with the steps that were made: value 155, the greatest\n"
+        after = [(it.text, it.value) for it in desk.steps], desk.at, list(desk.lines), desk.value, [desk.flow(n) for n in range(1, 15)]
+        # What was undone can be made again.
+        assert after == before, f"{line}: {after}, and not {before}"
+    plan.run_script(["redo", "undo 2"])
+    assert [re.findall("[0-9]+", it)[0] for it in told[-2:]] == [str(without("Bridge pipe", "Mill Lane")), "165"], told
+    desk.end()
+
+
+def without(*names: str) -> int:
+    """The greatest value without these pipes."""
+    return greatest([pipe for pipe in water() if pipe.name not in names])
+
+
+def test_sweep_past_64_bits(tmp_path: Path) -> None:
+    """An arc of 2^63 that is closed and opened again, and a sweep: whatever comes of that, the steps stand."""
+    problem = tmp_path / "large.max"
+    problem.write_text(f"c arc 1 k\np max 2 2\nn 1 s\nn 2 t\na 1 2 {2**63}\na 1 2 1\n")
+    ran = run("dmf-plan", str(problem), typed="close k\nopen k\nsolve\nwhat-if each arc\nsteps\n")
+    assert "Traceback" not in ran.stderr and ran.returncode in (0, 1), ran
+    assert [line.split()[0] for line in ran.stdout.splitlines()[-4:]] == ["0", "1", "2", "3"], ran
+
+
+def test_no_new_session(tmp_path: Path, monkeypatch: pytest.MonkeyPatch, capsys: pytest.CaptureFixture[str]) -> None:
+    """Where no new session can be begun, the desk says so, and saves what was done; and it begins again once that is possible."""
+    program = tmp_path / "dmf"
+    program.symlink_to(BUILT)
+    monkeypatch.setenv("DMF", str(program))
+    told: list[str] = []
+    plan = Plan(desk_of(WATER), is_typed=False, write=told.append)
+    plan.run_script(["close Bridge pipe"])
+    end_session()
+    program.unlink()
+    for _ in range(2):
+        plan.onecmd("close Mill Lane")
+        said = capsys.readouterr().err
+        assert "could not be begun again" in said and "save FILE.max" in said and str(program) in said, said
+    plan.run_script(["steps", f"save {tmp_path}/kept.max", f"save {tmp_path}/kept.csv"])
+    assert (tmp_path / "kept.max").exists() and not (tmp_path / "kept.csv").exists()
+    assert [it.text for it in plan.desk.steps] == ["solve", "close Bridge pipe"]
+    program.symlink_to(BUILT)
+    assert values(run("dmf-plan", f"{tmp_path}/kept.max", typed="solve\n").stdout) == [155]
+    plan.run_script(["close Mill Lane"])
+    assert "begun again" in told[-2] and f"value {without('Bridge pipe', 'Mill Lane')}," in told[-1], told
+    plan.desk.end()
+
+
 def test_names() -> None:
     desk = desk_of(ALIKE)
     for text, wanted in {
@@ -216,6 +289,14 @@ def test_scripts() -> None:
     assert ran.stdout.count("solve: value 165") == 1, f"what-if leaves steps: {ran.stdout}"
 
 
+@pytest.mark.parametrize("closing", ["2>&-", "2>/dev/full"])
+def test_nowhere_to_tell(closing: str) -> None:
+    """Where a refusal cannot be told, what comes after it is carried out all the same."""
+    words = ["sh", "-c", f"exec tools/dmf-plan {PIPES} Reservoir Harbour {closing}"]
+    ran = subprocess.run(words, input="close rubbish\nsolve\n", stdout=subprocess.PIPE, text=True, timeout=SECONDS, cwd=ROOT)
+    assert (ran.returncode, values(ran.stdout)) == (1, [165]), ran
+
+
 def test_what_is_typed_otherwise() -> None:
     """Commands in capitals, ends as they are printed, and the number that an arc had before it was opened again."""
     typed = "SOLVE\nsolve\nadd Mill -> Station 25\nsolve\nclose #9\nopen Mill Lane\nclose #9\nclose #16\n"
@@ -270,6 +351,28 @@ def test_files() -> None:
     assert run("dmf-plan").returncode == 2
 
 
+def test_no_other_file(tmp_path: Path, monkeypatch: pytest.MonkeyPatch) -> None:
+    """What somebody else puts at the path of a new file, after it was found to be free, stays as it is."""
+    plan = Plan(desk_of(WATER), is_typed=False, write=lambda _: None)
+    victim, path = tmp_path / "victim.max", tmp_path / "new.max"
+    victim.write_text("as it was")
+    save = plan._put
+
+    def late(path: str, data: bytes) -> None:
+        Path(path).symlink_to(victim)
+        save(path, data)
+
+    monkeypatch.setattr(plan, "_put", late)
+    plan.onecmd(f"save {path}")
+    assert (victim.read_text(), plan.refused) == ("as it was", 1)
+    monkeypatch.undo()
+    path.unlink()
+    # Its own file it writes as often as it is asked.
+    plan.run_script([f"save {path}", f"save {path}"])
+    assert (plan.refused, path.read_text().count("p max")) == (1, 1)
+    plan.desk.end()
+
+
 class Terminal:
     """The tool on a terminal of its own."""
 
@@ -302,6 +405,65 @@ class Terminal:
         status = os.waitstatus_to_exitcode(os.waitpid(self.pid, 0)[1])
         os.close(self.side)
         return status
+
+
+def test_broken_off() -> None:
+    """Ctrl-C ends a command that comes to no end, at once, and the steps before it are there."""
+    with tempfile.TemporaryDirectory() as folder:
+        terminal = Terminal(folder)
+        terminal.wait("0, not greatest> ")
+        for typed, prompt in ("solve", "165, greatest> "), ("close Bridge pipe", "155, greatest> "), ("try", "try, 155, greatest> "):
+            terminal.type(f"{typed}\n")
+            terminal.wait(prompt)
+        (session,) = sessions_of(terminal.pid)
+        os.kill(session, signal.SIGSTOP)
+        terminal.type('shut "South Tower"\n')
+        wait_until_asked(session)
+        wait_until_asleep(terminal.pid)
+        terminal.type("\x03")
+        told = terminal.wait("try, 155, greatest> ")
+        assert "broken off" in told and "begun again, with the steps that were made: value 155" in told, f"Ctrl-C: {told!r}"
+        assert sessions_of(terminal.pid) != [session]
+        terminal.type('shut "South Tower"\n')
+        terminal.wait("try, 105, greatest> ")
+        # A sweep has programs of its own, and leaves the session as it is.
+        terminal.type("drop\nwhat-if each arc of the cut\nundo\nquit\n")
+        told = terminal.wait("165, greatest> ")
+        assert terminal.end() == 0 and "ended" not in told, told
+
+
+def test_broken_off_again(monkeypatch: pytest.MonkeyPatch, capsys: pytest.CaptureFixture[str]) -> None:
+    """Ctrl-C also ends the steps that are made again, and none of them is lost."""
+    told: list[str] = []
+    plan = Plan(desk_of(WATER), is_typed=True, write=told.append)
+    plan.onecmd("close Bridge pipe")
+
+    def broken_off(*_: object) -> None:
+        raise KeyboardInterrupt
+
+    with monkeypatch.context() as patched:
+        patched.setattr(Network, "close", broken_off)
+        plan.onecmd("close Mill Lane")
+    said = capsys.readouterr().err
+    assert "broken off\nit could not be begun again: broken off;" in said, said
+    plan.onecmd("close Mill Lane")
+    assert "begun again" in told[-2] and f"value {without('Bridge pipe', 'Mill Lane')}," in told[-1], told
+    plan.desk.end()
+
+
+def test_typed_bytes(monkeypatch: pytest.MonkeyPatch) -> None:
+    """A line that is no text ends nothing."""
+    # As in most locales.
+    monkeypatch.setenv("PYTHONIOENCODING", "utf-8:strict")
+    with tempfile.TemporaryDirectory() as folder:
+        terminal = Terminal(folder)
+        terminal.wait("0, not greatest> ")
+        terminal.type("solve\n")
+        terminal.wait("165, greatest> ")
+        os.write(terminal.side, b"close \xff\xfe\n")
+        terminal.wait("165, greatest> ")
+        terminal.type("quit\n")
+        assert terminal.end() == 0
 
 
 def test_typed() -> None:

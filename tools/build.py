@@ -1,5 +1,5 @@
 #!/usr/bin/env python3
-"""Proves and builds the program `dmf`, for the script of that name at the root.
+"""Proves and builds the program `dmf`, for the scripts dmf and tools/prebuilt.
 
     python3 tools/build.py
 
@@ -67,6 +67,11 @@ class Crate:
     @property
     def folder(self) -> Path:
         return ROOT / "crates" / self.name
+
+    @property
+    def is_kept(self) -> bool:
+        """Whether it is a library that an earlier call has built."""
+        return (self.folder / "out" / "rlib").is_dir()
 
     @property
     def seconds(self) -> float:
@@ -345,7 +350,8 @@ def build(told: Told) -> None:
         if number_of(program) != before:
             return  # The call that this one waited for has built it.
         begun = time.time()
-        if before is not None:
+        crates = read_crates()
+        if before is not None and all(it.is_kept for it in crates.values() if it.name != PROGRAM):
             told.line("a source has changed since the program was built. What depends on it is proved and built again.")
         else:
             told.line("the program is proved and built. This happens once, and takes 9 to 15 minutes on 4 idle processors.")
@@ -354,7 +360,7 @@ def build(told: Told) -> None:
         if place == git:
             for left in git.glob("dmf-build-*"):
                 shutil.rmtree(left, ignore_errors=True)
-        Build(read_crates(), place, told).run()
+        Build(crates, place, told).run()
         os.utime(program, (begun, begun))
 
 

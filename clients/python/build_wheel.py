@@ -1,18 +1,28 @@
-"""Builds the wheel of the package `dmf` for pip, which asks for it by the names of PEP 517. Nothing but Python is needed."""
+"""Builds the wheel of the package `dmf` for pip, which asks for it by the names of PEP 517. Nothing but Python is needed.
+
+The wheel has the executable, if there is one for this machine, and the tools as commands."""
 
 from __future__ import annotations
 
 import base64
+import gzip
 import hashlib
 import io
+import platform
 import re
+import subprocess
+import sys
+import sysconfig
 import tarfile
 import zipfile
 from pathlib import Path
 from typing import Any
 
 HERE = Path(__file__).resolve().parent
-WHEEL = "Wheel-Version: 1.0\nGenerator: dmf\nRoot-Is-Purelib: true\nTag: py3-none-any\n"
+# A source archive has beside this file what the repository has above it.
+ROOT = HERE if (HERE / "PKG-INFO").is_file() else HERE.parents[1]
+# The executable in the wheel and in a source archive.
+INSIDE = "dmf/bin/dmf"
 
 
 def version() -> str:
@@ -22,9 +32,11 @@ def version() -> str:
 
 
 def licence() -> bytes:
-    """The licence: that of the repository, or the copy that stands in a source archive."""
-    place = HERE / "LICENSE"
-    return (place if place.exists() else HERE.parents[1] / "LICENSE").read_bytes()
+    """The licence, which lies at the root."""
+    try:
+        return (ROOT / "LICENSE").read_bytes()
+    except FileNotFoundError:
+        raise RuntimeError(f"{HERE} is not in its repository; pip before 21.3 builds it there with --use-feature=in-tree-build") from None
 
 
 def metadata() -> bytes:
@@ -39,17 +51,56 @@ def package() -> dict[str, bytes]:
     return {f"dmf/{file.name}": file.read_bytes() for file in sorted((HERE / "dmf").iterdir()) if file.suffix in (".py", ".typed", ".html")}
 
 
+def executable() -> dict[str, bytes]:
+    """The executable, if there is one that runs here: that of a source archive, or that of the repository, which is built if need be."""
+    inside = HERE / INSIDE
+    call, path = (inside, inside) if inside.is_file() else (ROOT / "dmf", ROOT / "crates/dmf/out/dmf")
+    try:
+        told = subprocess.run([call, "--version"], stdin=subprocess.DEVNULL, stdout=subprocess.PIPE).stdout
+    except OSError:
+        told = b""
+    if told != f"dmf {version()}\n".encode():
+        print("dmf: there is no program for this machine, so what is made has none", file=sys.stderr)
+        return {}
+    if not path.is_file():
+        # In a repository that cannot be written it is put elsewhere.
+        take = subprocess.run([ROOT / "tools/prebuilt", "take"], stdout=subprocess.PIPE, text=True, check=True)
+        path = Path(take.stdout.rstrip("\n"))
+    return {INSIDE: path.read_bytes()}
+
+
+def tools() -> dict[str, bytes]:
+    """The tools as commands, which pip has run by the Python of its environment."""
+    return {tool.name: re.sub(rb"\A#!.*", b"#!python", tool.read_bytes()) for tool in sorted((ROOT / "tools").glob("dmf-*"))}
+
+
+def tag(program: bytes | None) -> str:
+    """For which systems a wheel with this executable is: with glibc from the newest version on whose symbols it names."""
+    if program is None:
+        return "py3-none-any"
+    needed = [int(minor) for minor in re.findall(rb"GLIBC_2\.(\d+)", program)]
+    if needed:
+        return f"py3-none-manylinux_2_{max(needed)}_{platform.machine()}"
+    return f"py3-none-{re.sub('[-.]', '_', sysconfig.get_platform())}"
+
+
 def build_wheel(wheel_directory: str, config_settings: Any = None, metadata_directory: Any = None) -> str:
-    """Writes the wheel, and returns its name."""
-    info = f"dmf-{version()}.dist-info"
-    files = {**package(), f"{info}/METADATA": metadata(), f"{info}/WHEEL": WHEEL.encode(), f"{info}/LICENSE": licence()}
+    """Writes the wheel, and returns its name. The same files give the same bytes."""
+    base, program = f"dmf-{version()}", executable()
+    info, commands = f"{base}.dist-info", {f"{base}.data/scripts/{name}": content for name, content in tools().items()}
+    if program:
+        commands[f"{base}.data/scripts/dmf"] = re.sub(rb"\A#!.*", b"#!python", (HERE / "command.py").read_bytes())
+    kind = tag(program.get(INSIDE))
+    about = f"Wheel-Version: 1.0\nGenerator: dmf\nRoot-Is-Purelib: {str(not program).lower()}\nTag: {kind}\n"
+    files = {**package(), **program, **commands, f"{info}/METADATA": metadata(), f"{info}/WHEEL": about.encode(), f"{info}/LICENSE": licence()}
     record = "".join(f"{name},sha256={_sum(content)},{len(content)}\n" for name, content in files.items())
     files[f"{info}/RECORD"] = f"{record}{info}/RECORD,,\n".encode()
-    name = f"dmf-{version()}-py3-none-any.whl"
-    with zipfile.ZipFile(Path(wheel_directory) / name, "w", zipfile.ZIP_DEFLATED) as wheel:
-        for place, content in files.items():
-            wheel.writestr(zipfile.ZipInfo(place, (1980, 1, 1, 0, 0, 0)), content)
-    return name
+    with zipfile.ZipFile(Path(wheel_directory) / f"{base}-{kind}.whl", "w") as wheel:
+        for name, content in files.items():
+            member = zipfile.ZipInfo(name, (1980, 1, 1, 0, 0, 0))
+            member.external_attr = (0o100755 if name in program or name in commands else 0o100644) << 16
+            wheel.writestr(member, content, zipfile.ZIP_DEFLATED)
+    return f"{base}-{kind}.whl"
 
 
 def _sum(content: bytes) -> str:
@@ -57,13 +108,16 @@ def _sum(content: bytes) -> str:
 
 
 def build_sdist(sdist_directory: str, config_settings: Any = None) -> str:
-    """Writes the source archive, and returns its name."""
-    base = f"dmf-{version()}"
-    files = {**package(), "PKG-INFO": metadata(), "LICENSE": licence()}
-    files.update((name, (HERE / name).read_bytes()) for name in ("pyproject.toml", "build_wheel.py"))
-    with tarfile.open(Path(sdist_directory) / f"{base}.tar.gz", "w:gz") as archive:
+    """Writes the source archive, with the executable if there is one, and returns its name. The same files give the same bytes."""
+    base, program = f"dmf-{version()}", executable()
+    files = {**package(), **program, "PKG-INFO": metadata(), "LICENSE": licence()}
+    files.update((name, (HERE / name).read_bytes()) for name in ("pyproject.toml", "build_wheel.py", "command.py"))
+    files.update((f"tools/{tool.name}", tool.read_bytes()) for tool in sorted((ROOT / "tools").glob("dmf-*")))
+    text = io.BytesIO()
+    with tarfile.open(fileobj=text, mode="w") as archive:
         for name, content in files.items():
             member = tarfile.TarInfo(f"{base}/{name}")
-            member.size = len(content)
+            member.size, member.mode = len(content), 0o755 if name in program else 0o644
             archive.addfile(member, io.BytesIO(content))
+    (Path(sdist_directory) / f"{base}.tar.gz").write_bytes(gzip.compress(text.getvalue(), mtime=0))
     return f"{base}.tar.gz"

@@ -40,7 +40,8 @@ def test_keys_and_missing_capacities() -> None:
 
 def test_columns_without_an_order() -> None:
     """Their values would be put beside each other by chance."""
-    columns: list[Any] = [{"lake", "mill"}, frozenset(["lake", "mill"]), {"lake": 1, "mill": 2}]
+    by_name = {"lake": 1, "mill": 2}
+    columns: list[Any] = [{"lake", "mill"}, frozenset(["lake", "mill"]), by_name, by_name.keys(), by_name.values(), by_name.items()]
     for column in columns:
         for place in range(4):
             taken: list[Any] = [["lake", "mill"], ["mill", "sea"], [1, 2], None]

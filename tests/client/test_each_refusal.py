@@ -179,9 +179,6 @@ def test_the_answer_to_another_command() -> None:
     with answering("echo c close value 3") as network:
         with pytest.raises(dmf.SessionEnded, match="`undo 1` was not understood"):
             network.undo()
-    with script("cat") as program:
-        with pytest.raises(dmf.SessionEnded, match="`undo 0` was not understood"):
-            pipes(program=program)
 
 
 def test_no_memory_for_the_problem() -> None:

@@ -1,9 +1,7 @@
-"""How the program is found, and how it ends."""
+"""How the program ends."""
 
 import gc
 import os
-import re
-import shutil
 import signal
 import subprocess
 import sys
@@ -13,7 +11,7 @@ import time
 from collections.abc import Callable
 
 import pytest
-from client_shared import BUILT, CLIENT, PIPES, ROOT, dmf, is_running, pipes
+from client_shared import CLIENT, PIPES, dmf, is_running, pipes
 
 SECONDS = 20
 
@@ -116,67 +114,6 @@ def test_many_at_once() -> None:
         assert [network.cap(("mill", "sea"), turn) for network in networks] == [0] * 20
     for network in networks:
         network.end()
-
-
-def test_where_the_program_is_found() -> None:
-    with tempfile.TemporaryDirectory() as folder:
-        os.symlink(f"{ROOT}/dmf", f"{folder}/dmf")
-        script = "import dmf, sys; network = dmf.Network([('a', 'b', 1)], 'a', 'b'); print(network._child.process.args[0])"
-        without = [path for path in os.environ["PATH"].split(":") if not os.path.exists(f"{path}/dmf")]
-        plain = {**os.environ, "PYTHONPATH": CLIENT, "PATH": ":".join(without)}
-        del plain["DMF"]
-        on_path = {**plain, "PATH": f"{folder}:{plain['PATH']}"}
-        for program, environment in (
-            (f"{ROOT}/dmf", plain),
-            (f"{folder}/dmf", on_path),
-            (BUILT, {**on_path, "DMF": BUILT}),
-        ):
-            words = [sys.executable, "-c", script]
-            ran = subprocess.run(words, env=environment, capture_output=True, text=True, timeout=SECONDS)
-            assert (ran.stdout.strip(), ran.stderr) == (program, "")
-        # The client lies alone, and there is no program.
-        os.remove(f"{folder}/dmf")
-        shutil.copytree(f"{CLIENT}/dmf", f"{folder}/dmf", ignore=shutil.ignore_patterns("__pycache__"))
-        ran = subprocess.run(
-            [sys.executable, "-c", script], env={"PYTHONPATH": folder, "PATH": folder}, capture_output=True, text=True
-        )
-        assert "FileNotFoundError: there is no program dmf" in ran.stderr
-
-
-def beside(package: str, program: str, text: str) -> "subprocess.CompletedProcess[str]":
-    """What a caller of a package at this place writes, with a program at that place, and none named or on the PATH."""
-    with tempfile.TemporaryDirectory() as folder:
-        shutil.copytree(f"{CLIENT}/dmf", f"{folder}/{package}", ignore=shutil.ignore_patterns("__pycache__"))
-        os.makedirs(os.path.dirname(f"{folder}/{program}"), exist_ok=True)
-        with open(f"{folder}/{program}", "w") as file:
-            file.write(text)
-        os.chmod(f"{folder}/{program}", 0o700)
-        words = [sys.executable, "-c", "import dmf; print(dmf.Network([('a', 'b', 1)], 'a', 'b').solve().value)"]
-        environment = {"PYTHONPATH": os.path.dirname(f"{folder}/{package}"), "PATH": folder}
-        return subprocess.run(words, env=environment, capture_output=True, text=True, timeout=SECONDS)
-
-
-def test_a_program_that_belongs_to_the_package() -> None:
-    run_it = f'#!/bin/sh\nexec {BUILT} "$@"\n'
-    for package, program in ("clients/python/dmf", "dmf"), ("share/dmf/python/dmf", "bin/dmf"):
-        ran = beside(package, program, run_it)
-        assert (ran.stdout, ran.stderr) == ("1\n", "")
-    ran = beside("x/python/dmf", "dmf.x", run_it)
-    assert "FileNotFoundError: there is no program dmf: " in ran.stderr
-
-
-def test_a_program_that_cannot_be_built() -> None:
-    ran = beside("share/dmf/python/dmf", "bin/dmf", "#!/bin/sh\necho no rt >&2\nexit 70\n")
-    assert re.search(r"(?s)^no rt\n.*\ndmf.SessionEnded: there is no program: /.*/bin/dmf ended with status 70\n$", ran.stderr)
-
-
-def test_an_argument_names_the_program() -> None:
-    with pipes(program=BUILT) as network:
-        assert network.solve().value == 5
-    with pytest.raises(FileNotFoundError):
-        pipes(program="/nowhere/dmf")
-    with pytest.raises(dmf.SessionEnded, match="^dmf ended with status 1$"):
-        pipes(program=shutil.which("false"))
 
 
 def test_much_is_answered() -> None:

@@ -11,10 +11,9 @@ from collections.abc import Callable, Iterator
 from typing import Any
 
 import pytest
-from client_shared import answering, dmf, pipes
+from client_shared import WANTED, answering, dmf, pipes
 
 SECONDS = 20
-WANTED = "wanted is (tail, head, capacity) or (tail, head, capacity, key), of which all but the capacity can be hashed"
 
 
 def program_of(network: dmf.Network[Any]) -> str:

@@ -1,24 +1,86 @@
-"""The package that pip installs of clients/python, without a network."""
+"""What pip installs of clients/python in an empty environment: the package, the executable and the tools, without a network."""
 
+from __future__ import annotations
+
+import base64
+import csv
+import hashlib
+import importlib.util
 import os
+import re
+import shutil
+import signal
 import subprocess
 import sys
-import tempfile
+import urllib.request
+import zipfile
+from pathlib import Path
+from typing import NamedTuple
 
+import pytest
+from built import heed_interrupts
 from client_shared import BUILT, CLIENT, dmf, needs
+from conftest import ROOT, shared
+from trees import copy_tracked
 
-SCRIPT = """
-import dmf, importlib.metadata, pathlib
-assert pathlib.Path(dmf.__file__).is_relative_to({folder!r})
-told = importlib.metadata.distribution("dmf")
-assert (told.version, told.metadata["License"]) == (dmf.__version__, "MIT")
-assert any(str(file).endswith("LICENSE") for file in told.files) and any(file.name == "py.typed" for file in told.files)
-print(dmf.Network([("a", "b", 3)], "a", "b").solve().value)
-"""
+pytestmark = [
+    needs(importlib.util.find_spec("ensurepip"), "python3-venv", "the package was not installed in an environment"),
+    pytest.mark.seconds(10),
+]
+SECONDS = 60
+TOOLS = sorted(path.name for path in (ROOT / "tools").glob("dmf-*"))
+TABLE = str(ROOT / "examples/water/pipes.csv")
+BUILD = "import build_wheel, sys; print(build_wheel.{}(sys.argv[1]))"
 
 
-def has_pip() -> bool:
-    return subprocess.run([sys.executable, "-m", "pip", "--version"], capture_output=True).returncode == 0
+def build(folder: Path, target: Path, what: str = "build_wheel", check: bool = True, **environment: str) -> subprocess.CompletedProcess[str]:
+    """Calls a hook of the backend as pip does, without the toolchain."""
+    target.mkdir(exist_ok=True)
+    words = [sys.executable, "-c", BUILD.format(what), str(target)]
+    plain = {"PATH": "/usr/bin:/bin", **environment}
+    return subprocess.run(words, cwd=folder, env=plain, capture_output=True, text=True, timeout=SECONDS, check=check)
+
+
+def pip_install(environment: Path, *words: object) -> None:
+    pip = [str(environment / "bin/python"), "-m", "pip", "install", "--no-index", "--quiet", "--no-cache-dir"]
+    variables = {"PATH": "/usr/bin:/bin", "HOME": str(environment), "PIP_DISABLE_PIP_VERSION_CHECK": "1"}
+    ran = subprocess.run([*pip, *map(str, words)], env=variables, capture_output=True, text=True, timeout=SECONDS)
+    assert ran.returncode == 0, ran.stdout + ran.stderr
+
+
+@pytest.fixture(scope="session")
+def folder(tmp_path_factory: pytest.TempPathFactory) -> Path:
+    """A copy of the tree, beside an environment in which it is installed. All workers use the same."""
+    with shared(tmp_path_factory, "packaged") as path:
+        if not path.exists():
+            path.mkdir()
+            copy_tracked(path / "tree")
+            subprocess.run([sys.executable, "-m", "venv", path / "environment"], check=True, timeout=SECONDS)
+            pip_install(path / "environment", path / "tree/clients/python")
+    return path
+
+
+def call(folder: Path, *words: object, given: str = "") -> subprocess.CompletedProcess[str]:
+    """Runs a command of the environment, where there is neither the toolchain nor another dmf."""
+    variables = {"PATH": f"{folder}/environment/bin:/usr/bin:/bin", "HOME": str(folder), "LC_ALL": "C.UTF-8"}
+    return subprocess.run([*map(str, words)], cwd=folder, env=variables, input=given, capture_output=True, text=True, timeout=SECONDS)
+
+
+def out(folder: Path, *words: object, given: str = "") -> str:
+    """What a command writes that has to end well."""
+    ran = call(folder, *words, given=given)
+    assert (ran.returncode, ran.stderr) == (0, ""), f"{words}: {ran.stdout}{ran.stderr}"
+    return ran.stdout
+
+
+def own(folder: Path) -> Path:
+    (found,) = (folder / "environment").glob("lib/python3*/site-packages/dmf/bin/dmf")
+    return found
+
+
+PROBLEM = (ROOT / "examples/a.max").read_text()
+# The flow and the cut of README.md.
+SOLUTION = "s 5\nf 1 2 3\nf 1 3 2\nf 2 3 1\nf 2 4 2\nf 3 4 3\n"
 
 
 def test_the_version_is_the_program_s() -> None:
@@ -26,18 +88,184 @@ def test_the_version_is_the_program_s() -> None:
     assert told == f"dmf {dmf.__version__}\n"
 
 
-@needs(has_pip(), "python3-pip", "the client was not installed by it")
-def test_pip_installs_it() -> None:
-    """With pip's own isolation, and nowhere to ask for packages; from the folder and from its source archive."""
-    with tempfile.TemporaryDirectory() as folder:
-        archive = [sys.executable, "-c", "import sys, build_wheel; build_wheel.build_sdist(sys.argv[1])", folder]
-        subprocess.run(archive, cwd=CLIENT, check=True)
-        for source in CLIENT, f"{folder}/dmf-{dmf.__version__}.tar.gz":
-            target = tempfile.mkdtemp(dir=folder)
-            words = ["-m", "pip", "install", "--no-index", "--quiet", "--no-cache-dir", "--target", target, source]
-            ran = subprocess.run([sys.executable, *words], capture_output=True, text=True, cwd=folder)
-            assert ran.returncode == 0, ran.stderr
-            environment = {**os.environ, "PYTHONPATH": target}
-            script = SCRIPT.format(folder=target)
-            used = subprocess.run([sys.executable, "-c", script], env=environment, capture_output=True, text=True, cwd=folder)
-            assert (used.stdout, used.stderr) == ("3\n", "")
+def test_the_package(folder: Path) -> None:
+    script = """
+import dmf, importlib.metadata
+told = importlib.metadata.distribution("dmf")
+assert (told.version, told.metadata["License"]) == (dmf.__version__, "MIT")
+assert any(str(file).endswith("LICENSE") for file in told.files) and any(file.name == "py.typed" for file in told.files)
+print(dmf.program(), dmf.Network([("a", "b", 3)], "a", "b").solve().value)
+"""
+    assert out(folder, "python", "-c", script) == f"{own(folder)} 3\n"
+    assert own(folder).read_bytes() == Path(BUILT).read_bytes()
+
+
+@pytest.mark.parametrize("words", [["dmf"], ["python", "-m", "dmf"]], ids=["command", "module"])
+def test_the_program(folder: Path, words: list[str]) -> None:
+    """Its output, its status, and that it is the process which the caller began, and heeds each signal."""
+    assert out(folder, *words, given=PROBLEM) == SOLUTION
+    assert out(folder, *words, "solve", "--cut", given=PROBLEM) == f"{SOLUTION}c cut 5\nc side 1\n"
+    ran, plain = (call(folder, *which, "check", "/nowhere") for which in (words, [BUILT]))
+    assert (ran.returncode, ran.stdout, ran.stderr) == (plain.returncode, plain.stdout, plain.stderr)
+    session = judge_session(folder, folder / "environment/bin" / words[0], *words[1:])
+    assert session == Session(str(own(folder)), judge_session(folder, BUILT).ignored)
+
+
+class Session(NamedTuple):
+    """What the system knows of a process: its executable, and the signals that it ignores."""
+
+    executable: str
+    ignored: str
+
+
+def judge_session(folder: Path, *words: object) -> Session:
+    """Looks at a session that a command began, which has to be the process that its caller began, and to heed each signal."""
+    variables = {"PATH": "/usr/bin:/bin", "HOME": str(folder)}
+    session = [*map(str, words), "session", str(ROOT / "examples/a.max")]
+    with subprocess.Popen(session, env=variables, stdin=subprocess.PIPE, stdout=subprocess.PIPE, text=True) as running:
+        assert running.stdin and running.stdout
+        running.stdin.write("cap 5 1\n")
+        running.stdin.flush()
+        assert running.stdout.readline() == "c cap value 0\n"
+        status = Path(f"/proc/{running.pid}/status").read_text()
+        found = Session(os.readlink(f"/proc/{running.pid}/exe"), *re.findall(r"^SigIgn:\s(\w+)$", status, re.MULTILINE))
+        running.send_signal(signal.SIGTERM)
+    assert running.returncode == -signal.SIGTERM
+    return found
+
+
+@pytest.mark.parametrize("tool", TOOLS)
+def test_help(folder: Path, tool: str) -> None:
+    assert out(folder, tool, "--help").startswith("usage: ")
+    assert os.access(folder / "environment/bin" / tool, os.X_OK)
+
+
+def test_tools(folder: Path) -> None:
+    """A table is solved and told by its names, planned and swept."""
+    table = "Lake,Mill,3\nLake,Town,2\nMill,Town,5\nMill,Sea,2\nTown,Sea,3\n"
+    problem = out(folder, "dmf-problem", "Lake", "Sea", given=table)
+    (folder / "problem.max").write_text(problem)
+    script = "dmf-problem Lake Sea | dmf | dmf-names problem.max"
+    assert out(folder, "sh", "-c", script, given=table).startswith("value 5\n  1 Lake -> Mill: 3 of 3\n")
+    assert out(folder, "dmf-dot", "problem.max").startswith("digraph dmf {\n")
+    # Without the arc from Lake to Mill 2 is left, without that from Town to Sea 2, and without the others 3, 5 and 3.
+    swept = csv.DictReader(out(folder, "dmf-sweep", "problem.max", "--close-each").splitlines())
+    assert [row["value"] for row in swept] == ["2", "3", "4", "3", "2"]
+    assert out(folder, "dmf-plan", TABLE, "Reservoir", "Harbour", given="solve\n").startswith("value 165 ")
+
+
+def test_board(folder: Path) -> None:
+    environment = {"PATH": f"{folder}/environment/bin:/usr/bin:/bin", "HOME": str(folder)}
+    words = [f"{folder}/environment/bin/dmf-board", "--no-browser", TABLE, "Reservoir", "Harbour"]
+    board = subprocess.Popen(words, env=environment, stdout=subprocess.PIPE, text=True, preexec_fn=heed_interrupts)
+    try:
+        assert board.stdout
+        with urllib.request.urlopen(board.stdout.readline().strip(), timeout=SECONDS) as page:
+            assert page.status == 200 and b"<html" in page.read()
+        board.send_signal(signal.SIGINT)
+        assert board.wait(SECONDS) == 130
+    finally:
+        board.kill()
+        board.communicate()
+
+
+@pytest.fixture(scope="module")
+def wheel(folder: Path, tmp_path_factory: pytest.TempPathFactory) -> Path:
+    target = tmp_path_factory.mktemp("wheel")
+    name = build(folder / "tree/clients/python", target).stdout.strip()
+    assert [*target.iterdir()] == [target / name]
+    return target / name
+
+
+def test_the_tag(wheel: Path) -> None:
+    """It names the oldest glibc that has all symbols of the executable, as the tools of the system tell."""
+    if not shutil.which("objdump"):
+        pytest.skip("objdump is not there (binutils), so the wheel's tag was not compared")
+    told = subprocess.run(["objdump", "-p", BUILT], capture_output=True, text=True, check=True).stdout
+    minor = max(int(it) for it in re.findall(r"GLIBC_2\.(\d+)", told))
+    tag = f"py3-none-manylinux_2_{minor}_{os.uname().machine}"
+    assert wheel.name == f"dmf-{dmf.__version__}-{tag}.whl"
+    with zipfile.ZipFile(wheel) as archive:
+        about = archive.read(f"dmf-{dmf.__version__}.dist-info/WHEEL").decode()
+    assert f"\nRoot-Is-Purelib: false\nTag: {tag}\n" in about
+
+
+def test_the_record(wheel: Path) -> None:
+    """It has each file, with its sum; and what is run has the mode for that."""
+    with zipfile.ZipFile(wheel) as archive:
+        names = archive.namelist()
+        record = f"dmf-{dmf.__version__}.dist-info/RECORD"
+        rows = [*csv.reader(archive.read(record).decode().splitlines())]
+        assert [row[0] for row in rows] == names and rows[-1] == [record, "", ""]
+        for name, told, size in rows[:-1]:
+            content = archive.read(name)
+            digest = base64.urlsafe_b64encode(hashlib.sha256(content).digest()).rstrip(b"=").decode()
+            assert (told, int(size)) == (f"sha256={digest}", len(content))
+        runs = {info.filename for info in archive.infolist() if info.external_attr >> 16 == 0o100755}
+        scripts = f"dmf-{dmf.__version__}.data/scripts"
+        assert runs == {"dmf/bin/dmf", f"{scripts}/dmf", *(f"{scripts}/{tool}" for tool in TOOLS)}
+        for tool in TOOLS:
+            first, rest = archive.read(f"{scripts}/{tool}").split(b"\n", 1)
+            assert first == b"#!python" and rest == (ROOT / "tools" / tool).read_bytes().split(b"\n", 1)[1]
+
+
+def test_the_same_twice(wheel: Path, tmp_path: Path) -> None:
+    """From another folder, at another time."""
+    copy_tracked(tmp_path / "tree")
+    again = build(tmp_path / "tree/clients/python", tmp_path / "wheel").stdout.strip()
+    assert (tmp_path / "wheel" / again).read_bytes() == wheel.read_bytes()
+
+
+def test_the_source_archive(folder: Path, wheel: Path, tmp_path: Path) -> None:
+    """It has the executable, and gives the same wheel, also outside the repository; where its program cannot run, it says so."""
+    names = [build(folder / "tree/clients/python", tmp_path / place, "build_sdist").stdout.strip() for place in ("a", "b")]
+    assert names == [f"dmf-{dmf.__version__}.tar.gz"] * 2
+    assert (tmp_path / "a" / names[0]).read_bytes() == (tmp_path / "b" / names[1]).read_bytes()
+    subprocess.run(["tar", "-xf", tmp_path / "a" / names[0], "-C", tmp_path], check=True)
+    unpacked = tmp_path / f"dmf-{dmf.__version__}"
+    again = build(unpacked, tmp_path / "wheel").stdout.strip()
+    assert (tmp_path / "wheel" / again).read_bytes() == wheel.read_bytes()
+    (unpacked / "dmf/bin/dmf").write_text("for another processor\n")
+    judge_pure(build(unpacked, tmp_path / "pure"), tmp_path / "pure")
+
+
+def judge_pure(built: subprocess.CompletedProcess[str], target: Path) -> None:
+    """A wheel without the program says that it has none, and is for each system."""
+    assert built.stdout == f"dmf-{dmf.__version__}-py3-none-any.whl\n"
+    assert built.stderr.splitlines()[-1] == "dmf: there is no program for this machine, so what is made has none"
+    with zipfile.ZipFile(target / built.stdout.strip()) as archive:
+        names = archive.namelist()
+        assert "\nRoot-Is-Purelib: true\nTag: py3-none-any\n" in archive.read(f"dmf-{dmf.__version__}.dist-info/WHEEL").decode()
+    assert not any(name.endswith("/dmf") for name in names) and any(name.endswith("/dmf-plan") for name in names)
+
+
+def test_without_the_program(folder: Path, tmp_path: Path) -> None:
+    """Where it cannot be built, or is of another version than the package. What pip installs then says what is missing."""
+    tree = tmp_path / "tree"
+    copy_tracked(tree)
+    (tree / "dmf").write_text("#!/bin/sh\necho no rt >&2\nexit 70\n")
+    judge_pure(build(tree / "clients/python", tmp_path / "none"), tmp_path / "none")
+    (tree / "dmf").write_text("#!/bin/sh\necho dmf 0.0.9\n")
+    judge_pure(build(tree / "clients/python", tmp_path / "old"), tmp_path / "old")
+    (name,) = (tmp_path / "none").iterdir()
+    pip_install(folder / "environment", "--target", tmp_path / "pure", name)
+    variables = {"PYTHONPATH": str(tmp_path / "pure"), "PATH": ""}
+    ran = subprocess.run([sys.executable, "-m", "dmf"], env=variables, capture_output=True, text=True, timeout=SECONDS)
+    assert (ran.returncode, ran.stdout) == (70, "") and ran.stderr.startswith("dmf: there is no program dmf: ")
+
+
+def test_a_repository_that_cannot_be_written(wheel: Path, tmp_path: Path) -> None:
+    """The executable is where tools/prebuilt puts it then."""
+    copy_tracked(tmp_path / "tree")
+    elsewhere = (tmp_path / "tree/crates/dmf/out/dmf").rename(tmp_path / "a program")
+    for script, text in ("dmf", f'exec "{elsewhere}" "$@"'), ("tools/prebuilt", f'echo "{elsewhere}"'):
+        (tmp_path / "tree" / script).write_text(f"#!/bin/sh\n{text}\n")
+    name = build(tmp_path / "tree/clients/python", tmp_path / "wheel").stdout.strip()
+    assert (tmp_path / "wheel" / name).read_bytes() == wheel.read_bytes()
+
+
+def test_out_of_its_repository(tmp_path: Path) -> None:
+    """As pip before 21.3 copies it."""
+    shutil.copytree(CLIENT, tmp_path / "copied", ignore=shutil.ignore_patterns("__pycache__"))
+    built = build(tmp_path / "copied", tmp_path / "wheel", check=False)
+    assert built.returncode and "is not in its repository; pip before 21.3 builds it there with --use-feature=in-tree-build" in built.stderr

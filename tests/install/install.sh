@@ -106,7 +106,9 @@ told() {
 
 putting="$(told "$prefix")
 "
-first="dmf: the program is proved and built. This happens once, and takes 9 to 15 minutes on 4 idle processors.
+untaken="dmf: prebuilt/dmf-x86_64-linux.gz is not there, or cannot be read.
+"
+first="${untaken}dmf: the program is proved and built. This happens once, and takes 9 to 15 minutes on 4 idle processors.
 "
 built="dmf: 1 of 1: dmf is built
 "
@@ -154,7 +156,7 @@ exec 3<"$prefix/bin/dmf"
 echo 2 >"$root/crates/dmf/src/version"
 touch -d '1 hour' "$root/crates/dmf/src"
 call "an upgrade" 0 "$putting" \
-    "dmf: a source has changed since the program was built. What depends on it is proved and built again.
+    "${untaken}dmf: a source has changed since the program was built. What depends on it is proved and built again.
 $built" --prefix "$prefix"
 same "the newer program is put" "$("$prefix/bin/dmf")" "dmf 2"
 same "the older program is whole" "$(sh <&3)" "dmf 1"

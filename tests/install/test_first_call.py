@@ -15,8 +15,9 @@ import pytest
 from conftest import ROOT
 
 SECONDS = 60
-FIRST_CALL = "dmf: the program is proved and built. This happens once, and takes 9 to 15 minutes on 4 idle processors.\n"
-CHANGED = "dmf: a source has changed since the program was built. What depends on it is proved and built again.\n"
+NONE_THERE = "dmf: prebuilt/dmf-x86_64-linux.gz is not there, or cannot be read"
+FIRST_CALL = f"{NONE_THERE}.\ndmf: the program is proved and built. This happens once, and takes 9 to 15 minutes on 4 idle processors.\n"
+CHANGED = f"{NONE_THERE}.\ndmf: a source has changed since the program was built. What depends on it is proved and built again.\n"
 BUILT = "".join(f"dmf: {place} of 4: {crate} is built\n" for place, crate in enumerate(["low", "left", "right", "dmf"], 1))
 CRATES = "# Crates.\nlow:\nleft: low\nright: low\ndmf: left right\nabove: dmf\n"
 # A rt that builds a crate over those that it stands on, and writes down when it begins and ends.
@@ -74,7 +75,8 @@ class Clone:
         for folder in "bin", "tools", "examples":
             (root / folder).mkdir()
         shutil.copy(ROOT / "dmf", root)
-        shutil.copy(ROOT / "tools" / "build.py", root / "tools")
+        for tool in "build.py", "prebuilt":
+            shutil.copy(ROOT / "tools" / tool, root / "tools")
         (root / "crates.txt").write_text(CRATES)
         (root / "bin" / "rt").write_text(stand_in)
         (root / "bin" / "rt").chmod(0o755)
@@ -185,8 +187,8 @@ def test_failure(clone_of: Callable[[str], Clone]) -> None:
 def test_without_rt(clone: Clone) -> None:
     tools = clone.root / "few"
     tools.mkdir()
-    for tool in "sh", "dirname", "readlink", "find", "head":
+    for tool in "sh", "dirname", "readlink", "find", "head", "uname", "awk", "sha256sum", "gzip":
         (tools / tool).symlink_to(shutil.which(tool) or tool)
     ran = subprocess.run([clone.root / "dmf", "--help"], env={"PATH": str(tools)}, capture_output=True, text=True, timeout=SECONDS)
-    told = "dmf: rt, which is needed to build the program, is not in PATH.\n"
+    told = f"{NONE_THERE}; rt, which is needed to build the program, is not in PATH.\n"
     assert (ran.returncode, ran.stdout, ran.stderr) == (70, "", told)

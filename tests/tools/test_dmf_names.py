@@ -107,6 +107,13 @@ def test_no_tables(tools: Tools, tmp_path: Path, problem: Text, commands: Text |
     assert (ran.status, ran.out, ran.err.decode().splitlines()[-1:]) == (1, b"", [f"dmf-names: {told}"])
 
 
+def test_a_cut_that_is_not_known(tools: Tools, tmp_path: Path) -> None:
+    """After a change that is not known it says nothing of the arcs of a cut; the flows are those of the last solution that is known."""
+    answer = "s 3 / f 1 2 3 / c cap value 2 / c cut 2 / c side 1"
+    ran = tools.run("dmf-names", tmp_path, ["problem", "--csv"], text(answer), {"problem": text("p max 2 1 / n 1 s / n 2 t / a 1 2 3")})
+    assert (ran.status, ran.out.decode().splitlines()[1:]) == (0, ["1,,1,2,3,3,yes,"])
+
+
 def test_round(tools: Tools, tmp_path: Path) -> None:
     """A printed problem that is told is a problem with the same names, and the numbers that it has there."""
     answer = "c close value 0 / p max 3 2 / n 1 s / n 3 t / a 2 3 4 / a 1 3 2"

@@ -54,6 +54,21 @@ def test_words(tools: Tools, tmp_path: Path, words: tuple[str, ...], told: str) 
     assert (ran.status, ran.out, ran.err.decode().splitlines()[-1]) == (2, b"", f"dmf-problem: error: {told}")
 
 
+@pytest.mark.parametrize("word", ["--sources", "--sinks", "--node-limits", "--table"])
+def test_empty_words(tools: Tools, tmp_path: Path, word: str) -> None:
+    """They name a file that is not there, and are not taken for words that were left out."""
+    for tool in "dmf-problem", "dmf-plan":
+        if (tool, word) == ("dmf-plan", "--table"):
+            continue
+        words = ["--source=A"] * (word != "--sources") + ["--sink=B"] * (word != "--sinks") + [word, ""]
+        ran = tools.run(tool, tmp_path, [*["table.csv"] * (tool == "dmf-plan"), *words], "A,B,3\n", {"table.csv": "A,B,3\n"})
+        assert (ran.status, ran.out, ran.err.decode()) == (1, b"", f"{tool}: cannot read : No such file or directory\n")
+    if word == "--node-limits":
+        ran = tools.run("dmf-plan", tmp_path, ["problem.max", word, ""], "", {"problem.max": ODD_PROBLEM})
+        told = "problem.max has a problem, which names its own source and sink: the options are for tables"
+        assert (ran.status, ran.err.decode()) == (2, f"dmf-plan: {told}\n")
+
+
 def value_of(problem: bytes) -> int | None:
     """The greatest value of a problem, if it has no fault."""
     written = program.run([b"solve"], problem).written

@@ -39,9 +39,8 @@ dmf.NoSuchArc: no such arc: <Arc 6: 'lake' to 'sea'>
 >>> network.end()
 
 A network is a running `dmf session`. It ends with `end`, with the `with` block that it is made for, when nothing refers to it
-any more, or with the interpreter. The program is the one that the argument `program` names, or the environment variable DMF, or
-`dmf` on the PATH, or else the one of the repository or the install that this package lies in. A network is for one thread at a time: a call
-beside another one raises `UsedByTwoThreads`, and does nothing.
+any more, or with the interpreter. The program is the one that the argument `program` names, or else that of `dmf.program()`. A
+network is for one thread at a time: a call beside another one raises `UsedByTwoThreads`, and does nothing.
 """
 
 from __future__ import annotations
@@ -62,6 +61,7 @@ from .errors import (
     NeitherSourceNorSink,
     NoCapacity,
     NoMemory,
+    NoProgram,
     NoSuchArc,
     NoSuchNode,
     NotAMaxProblem,
@@ -86,6 +86,7 @@ from .errors import (
     WrongNumberOfFields,
 )
 from .arcs import Arc
+from .executable import program
 from .network import Network, Row
 from .solution import Cut, Solution
 from .sources import from_networkx, from_scipy, read
@@ -113,6 +114,7 @@ __all__ = [
     "Network",
     "NoCapacity",
     "NoMemory",
+    "NoProgram",
     "NoSuchArc",
     "NoSuchNode",
     "NotAMaxProblem",
@@ -145,6 +147,7 @@ __all__ = [
     "each_pair_added",
     "from_networkx",
     "from_scipy",
+    "program",
     "read",
     "sweep",
 ]

@@ -14,7 +14,7 @@ from typing import Any
 
 from .arcs import Columns, Node, OpenArcs
 from .errors import NoCapacity, NotAnArc, NumberTooLarge, shown
-from .kept import LARGEST_NODE, columns_of, is_missing, refuse_node, whole
+from .kept import LARGEST_NODE, columns_of, is_missing, is_unordered, refuse_node, whole
 from .numbering import AMOUNTS, NODES, WholeNodes
 
 # How many lines of a text are made or read at once, and how many are made without numpy, with an object for each number.
@@ -195,7 +195,7 @@ def _plain(column: Any) -> Any:
     """A series of pandas as an array of numpy, and an array that hides some of its values as a list, in which these are None; any other
     column as it is, or as a list where its length is not known. Raises `NotAnArc` for a table, a set and a dictionary, and for times
     that Python has not."""
-    if isinstance(column, (set, frozenset, dict)):
+    if is_unordered(column):
         raise NotAnArc(f"not an arc: a column is a {type(column).__name__}, and not a list")
     if getattr(column, "ndim", 1) != 1:
         raise NotAnArc(f"not an arc: a column has {column.ndim} dimensions, and not one")

@@ -1,48 +1,38 @@
-"""The server of a board: one page in the browser, on this machine alone, over one desk.
+"""A board: what a page in the browser shows of a desk, and does to it.
 
-Each address begins with a token that only the one who started the board gets. The server refuses a request with 403 if its token is
-wrong, if it names another host, or if a page of another origin made it; with 400 if it does not have the form that the page gives it;
-with 409 if the desk refuses what it asks for; and with 410 if the session has ended. Requests come to the desk one after the other.
-
-The page holds a connection open, `life`. Once no page has held one for a while, the board ends.
+It refuses a request with 400 if that does not have the form that the page gives it, with 409 if the desk refuses it, and with 410 if the
+session has ended and none could be begun in its place. Each answer in JSON has the desk's turn, by which a page sees that it shows a state
+that has passed, and each change says which turn the page shows that asks for it.
 """
 
 from __future__ import annotations
 
-import base64
-import hashlib
-import hmac
+import contextlib
 import json
+import queue
 import re
-import secrets
-import select
-import socket
 import threading
 import time
-from collections.abc import Callable, Generator
+from collections.abc import Callable, Generator, Iterator
 from dataclasses import dataclass
-from http.server import BaseHTTPRequestHandler, ThreadingHTTPServer
-from pathlib import Path
-from typing import Any, ClassVar
-from urllib.parse import parse_qsl, quote, urlsplit
+from itertools import islice
+from typing import Any, Union
 
 from .board_picture import NoPicture, Picture
-from .desk import Desk, DeskFault, Trial
+from .desk import Desk, DeskFault, Trial, unforeseen
 from .desk_text import near as near_arcs
 from .desk_text import problem, table
-from .errors import Refused, SessionEnded
 from .tables import whole_number
 
-LOOPBACK = "127.0.0.1"
-LONGEST_BODY = 1 << 16
-# How long a board runs on without a page, in seconds: as long as a reload takes.
-GRACE = 3.0
 # How long a request may sweep before it answers with the results so far, in seconds.
 PORTION = 0.25
-# How long a sweep waits for the next such request before it ends its copies of the network, in seconds.
-PATIENCE = 5.0
+# How long a sweep waits for the next such request before it ends its copies of the network, and how long its end is waited for, in
+# seconds.
+PATIENCE, ENDING = 5.0, 0.5
 MOST_LISTED, MOST_SIDE, MOST_FOUND, MOST_SWEPT = 300, 30, 20, 5_000
 LONGEST_TEXT = 4_000
+CHANGED = "the network has changed in another tab: look again"
+STOPPED = "it was stopped"
 Json = dict[str, Any]
 
 
@@ -61,8 +51,50 @@ class Answer:
     to: str = ""
 
 
+# What a request is answered with, if it is not refused.
+Made = Union[Answer, Json]
+
+
 def answer(content: Json, status: int = 200) -> Answer:
     return Answer(status, "application/json", json.dumps(content).encode())
+
+
+class Sweep:
+    """A sweep in a thread of its own, so that nobody has to wait for a result that takes long."""
+
+    def __init__(self, trials: Generator[Trial, None, None]) -> None:
+        self._trials = trials
+        self._found: queue.SimpleQueue[Trial | Exception] = queue.SimpleQueue()
+        self._is_over = False
+        self._thread = threading.Thread(target=self._run, daemon=True)
+        self._thread.start()
+
+    def _run(self) -> None:
+        try:
+            with contextlib.closing(self._trials):
+                for trial in self._trials:
+                    self._found.put(trial)
+                    if self._is_over:
+                        return
+        except Exception as error:
+            self._found.put(error)
+
+    def portion(self, most: int) -> list[Trial]:
+        """The next results, as many as come in the time of a portion. Raises what the sweep raises."""
+        until = time.monotonic() + PORTION
+        trials: list[Trial] = []
+        with contextlib.suppress(queue.Empty):
+            while len(trials) < most:
+                found = self._found.get(timeout=max(until - time.monotonic(), 0))
+                if isinstance(found, Exception):
+                    raise found
+                trials.append(found)
+        return trials
+
+    def end(self) -> None:
+        """Ends it, with its next result at the latest."""
+        self._is_over = True
+        self._thread.join(ENDING)
 
 
 class Board:
@@ -72,46 +104,50 @@ class Board:
         self.desk = desk
         self.picture = Picture(desk)
         # A sweep that has not ended, and the arcs that it has not tried yet.
-        self._sweep: Generator[Trial, None, None] | None = None
+        self._sweep: Sweep | None = None
         self._left: list[int] = []
         self._sweep_lock = threading.Lock()
         self._sweep_end = threading.Timer(0, self.end_sweep)
+        # Whether something is being done that can be stopped.
+        self._is_busy = False
+        self._busy_lock = threading.Lock()
 
     def get(self, path: str, words: dict[str, str]) -> Answer:
         """The answer to a request that changes nothing."""
-        forms: dict[str, tuple[Callable[..., Answer], tuple[str, ...]]] = {
-            "state": (lambda: answer(self.state()), ()),
+        forms: dict[str, tuple[Callable[..., Made], tuple[str, ...]]] = {
+            "turn": (dict, ()),
+            "state": (self.state, ()),
             "picture": (self._picture, ("near",)),
-            "arc": (lambda number: answer(self._arc(_whole(number, "number"))), ("number",)),
-            "place": (lambda node: answer(self._place(_whole(node, "node"))), ("node",)),
+            "arc": (lambda number: self._arc(_whole(number, "number")), ("number",)),
+            "place": (lambda node: self._place(_whole(node, "node")), ("node",)),
             "find": (self._found, ("text",)),
-            "picture.svg": (self._picture_file, ("near",)),
-            "plan.csv": (lambda: Answer(200, "text/csv; charset=utf-8", table(self.desk).encode(), "plan.csv"), ()),
-            "problem.max": (lambda: Answer(200, "text/plain; charset=utf-8", problem(self.desk).encode(), "problem.max"), ()),
+            "picture.svg": (self._picture_file, ("near", "turn")),
+            "plan.csv": (self._table_file, ("turn",)),
+            "problem.max": (self._problem_file, ("turn",)),
         }
         if path not in forms:
             return answer({"error": "there is no such page"}, 404)
         serve, wanted = forms[path]
         if set(words) != set(wanted):
             raise WrongForm(f"wanted are the words {list(wanted)}, and given {sorted(words)}")
-        return self._judged(lambda: serve(**words))
+        return self._judged(lambda: serve(**words), tries=2)
 
     def post(self, path: str, content: Json) -> Answer:
         """The answer to a request that changes something, or tries it."""
         if path == "sweep":
             numbers = content.get("arcs")
-            if set(content) != {"arcs"} or not isinstance(numbers, list) or len(numbers) > MOST_SWEPT:
-                raise WrongForm(f"wanted is a list of at most {MOST_SWEPT} arcs")
-            if not all(type(number) is int for number in numbers):
-                raise WrongForm("an arc is a whole number")
+            if set(content) != {"arcs", "turn"} or not isinstance(numbers, list) or len(numbers) > MOST_SWEPT:
+                raise WrongForm(f"wanted is a list of at most {MOST_SWEPT} arcs, and the turn")
+            if not all(type(number) is int for number in (*numbers, content["turn"])):
+                raise WrongForm("an arc and a turn are whole numbers")
             swept: list[int] = numbers
-            return self._judged(lambda: answer(self._swept(swept)))
+            return self._judged(lambda: self._swept(swept, content["turn"]))
         if path != "do":
             return answer({"error": "there is no such page"}, 404)
         what = content.pop("what", None)
         if not isinstance(what, str) or what not in FORMS:
             raise WrongForm(f"what is to be done is one of {', '.join(FORMS)}")
-        form = FORMS[what]
+        form: dict[str, type] = {**FORMS[what], "turn": int}
         if set(content) != set(form):
             raise WrongForm(f"wanted are the fields {sorted(form)}, and given {sorted(content)}")
         for name, kind in form.items():
@@ -121,19 +157,60 @@ class Board:
                 raise WrongForm(f"the field {name} is longer than {LONGEST_TEXT} characters")
         return self._judged(lambda: self._done(what, content))
 
-    def _judged(self, make: Callable[[], Answer]) -> Answer:
-        """The answer, or why the request is refused."""
-        try:
-            return make()
-        except (DeskFault, NoPicture) as fault:
-            return answer({"error": str(fault)}, 409)
-        except Refused as refused:
-            return answer({"error": str(refused)}, 409)
-        except SessionEnded as ended:
-            return answer({"ended": str(ended), "steps": self.desk.at - 1}, 410)
+    def stop(self) -> Answer:
+        """Stops what is being done, for another thread that does it. The steps before it are kept."""
+        with self._busy_lock:
+            if self._is_busy:
+                self.desk.break_off(STOPPED)
+        return answer({})
 
-    def _done(self, what: str, content: Json) -> Answer:
+    def _judged(self, make: Callable[[], Made], tries: int = 1) -> Answer:
+        """The answer, or why there is none. If the session ends meanwhile, begins another with the steps that were made, and tries once
+        more if a try is left."""
+        told = ""
+        while True:
+            try:
+                made = make()
+                return made if isinstance(made, Answer) else answer({"turn": self.desk.turn, "told": told, **made})
+            except WrongForm:
+                raise
+            except Exception as error:
+                why = unforeseen(error)
+            tries -= 1
+            if self.desk.has_ended:
+                told = f"{why}. The session was begun again, with the steps that were made"
+                try:
+                    with self._stoppable():
+                        self.desk.begin_again()
+                except Exception as error:
+                    return answer({"ended": f"{why}, and it could not be begun again: {unforeseen(error)}", "steps": self.desk.at - 1}, 410)
+            if not tries or not told:
+                return answer({"error": told or why, "turn": self.desk.turn}, 409)
+
+    def _judge_turn(self, turn: int) -> None:
+        """Raises a `DeskFault` if a page shows another state than the present one."""
+        if turn != self.desk.turn:
+            raise DeskFault(CHANGED)
+
+    def _done(self, what: str, content: Json) -> Json:
+        self._judge_turn(content["turn"])
         self.end_sweep()
+        with self._stoppable():
+            self._do(what, content)
+            return self.state()
+
+    @contextlib.contextmanager
+    def _stoppable(self) -> Iterator[None]:
+        """Lets `stop` end the block."""
+        with self._busy_lock:
+            self._is_busy = True
+        try:
+            yield
+        finally:
+            with self._busy_lock:
+                self._is_busy = False
+
+    def _do(self, what: str, content: Json) -> None:
         desk, names = self.desk, self.desk.names
         if what == "again":
             desk.begin_again()
@@ -149,7 +226,6 @@ class Board:
         else:
             # The first step is the solve that the board begins with.
             desk.go_to(content["step"] + 1)
-        return answer(self.state())
 
     def state(self) -> Json:
         """What the page shows beside the picture."""
@@ -157,7 +233,6 @@ class Board:
         cut = list(desk.cut_arcs())
         side = list(dict.fromkeys(names.node(node) for node in sorted(desk.side())))
         steps = desk.steps
-        closed = [number for number, line in enumerate(desk.lines, 1) if line.is_closed and not line.is_replaced]
         return {
             "title": desk.subject.path,
             "unit": desk.subject.unit,
@@ -174,7 +249,6 @@ class Board:
             "limit_count": len(cut),
             "side": side[:MOST_SIDE],
             "side_count": len(side),
-            "closed": [self._arc(number) for number in closed[:MOST_LISTED]],
             "names": list(names.places)[:MOST_LISTED],
         }
 
@@ -216,42 +290,46 @@ class Board:
     def _near(self, near: str) -> tuple[int, ...]:
         return self.desk.names.place_of(_whole(near, "near")) if near else ()
 
-    def _picture(self, near: str) -> Answer:
+    def _picture(self, near: str) -> Json:
         nodes = self._near(near)
         svg, reason, arcs = "", "", near_arcs(self.desk, nodes)
         try:
             svg = self.picture.svg(nodes, arcs)
         except NoPicture as fault:
             reason = str(fault)
-        return answer({"svg": svg, "reason": reason, "arcs": [self._arc(number) for number in arcs]})
+        return {"svg": svg, "reason": reason, "arcs": [self._arc(number) for number in arcs]}
 
-    def _picture_file(self, near: str) -> Answer:
+    def _picture_file(self, near: str, turn: str) -> Answer:
+        self._judge_turn(_whole(turn, "turn"))
         nodes = self._near(near)
         svg = self.picture.svg(nodes, near_arcs(self.desk, nodes), to_take=True)
         return Answer(200, "image/svg+xml", svg.encode(), "plan.svg")
 
-    def _found(self, text: str) -> Answer:
-        """The places and arcs whose names contain a text."""
+    def _table_file(self, turn: str) -> Answer:
+        self._judge_turn(_whole(turn, "turn"))
+        return Answer(200, "text/csv; charset=utf-8", table(self.desk).encode(), "plan.csv")
+
+    def _problem_file(self, turn: str) -> Answer:
+        self._judge_turn(_whole(turn, "turn"))
+        return Answer(200, "text/plain; charset=utf-8", problem(self.desk).encode(), "problem.max")
+
+    def _found(self, text: str) -> Json:
+        """The first places and arcs whose names contain a text, and whether there are more."""
         wanted, names = text.casefold(), self.desk.names
-        found: list[Json] = []
-        for label, place in names.places.items():
-            if wanted in label.casefold():
-                found.append({"node": place.entry, "label": label})
-            if len(found) == MOST_FOUND:
-                break
-        for number, line in enumerate(self.desk.lines, 1):
-            if len(found) >= 2 * MOST_FOUND:
-                break
-            if not line.is_replaced and wanted in names.arc(number).casefold():
-                found.append({"number": number, "label": names.arc(number)})
-        return answer({"found": found})
+        places = ((label, place.entry) for label, place in names.places.items() if wanted in label.casefold())
+        lines = ((names.arc(number), number) for number, line in enumerate(self.desk.lines, 1) if not line.is_replaced)
+        arcs = ((label, number) for label, number in lines if wanted in label.casefold())
+        found_places, found_arcs = (list(islice(found, MOST_FOUND + 1)) for found in (places, arcs))
+        found = [{"node": node, "label": label} for label, node in found_places[:MOST_FOUND]]
+        found += [{"number": number, "label": label} for label, number in found_arcs[:MOST_FOUND]]
+        return {"found": found, "more": len(found) < len(found_places) + len(found_arcs)}
 
     def end_sweep(self) -> None:
         """Ends the sweep that has not ended, if there is one."""
         with self._sweep_lock:
             self._sweep_end.cancel()
             if self._sweep:
-                self._sweep.close()
+                self._sweep.end()
             self._sweep, self._left = None, []
 
     def _portion(self, numbers: list[int]) -> list[Trial]:
@@ -259,18 +337,13 @@ class Board:
         the network, if it is asked for in time."""
         if not self._left or numbers[: len(self._left)] != self._left:
             self.end_sweep()
-        until = time.monotonic() + PORTION
         with self._sweep_lock:
             self._sweep_end.cancel()
-            going_on = self._sweep or self.desk.sweep(numbers)
+            going_on = self._sweep or Sweep(self.desk.sweep(numbers))
             left = self._left or numbers
             # If this raises, the sweep is over.
             self._sweep, self._left = None, []
-            trials: list[Trial] = []
-            for trial in going_on:
-                trials.append(trial)
-                if time.monotonic() > until:
-                    break
+            trials = going_on.portion(len(left))
             if len(trials) < len(left):
                 self._sweep, self._left = going_on, left[len(trials) :]
                 self._sweep_end = threading.Timer(PATIENCE, self.end_sweep)
@@ -278,8 +351,9 @@ class Board:
                 self._sweep_end.start()
         return trials
 
-    def _swept(self, numbers: list[int]) -> Json:
+    def _swept(self, numbers: list[int], turn: int) -> Json:
         """The result for each of the first arcs."""
+        self._judge_turn(turn)
         trials = self._portion(numbers)
         doubled = ("" if trial.doubled is None else str(trial.doubled) for trial in trials)
         rows = [{**self._arc(it.arc), "closed": str(it.closed), "doubled": second} for it, second in zip(trials, doubled)]
@@ -313,199 +387,3 @@ def _amount(text: str) -> int:
         return whole_number(text.strip())
     except ValueError as fault:
         raise DeskFault(f"the number {text.strip()[:40]!r} {fault}" if text.strip() else "a number is wanted") from None
-
-
-class Server(ThreadingHTTPServer):
-    """The server of a board. `address` is where its page is. `opening` leads there too, once: other users of this machine may read
-    the words of a browser's process, and these give them no token."""
-
-    daemon_threads = True
-    allow_reuse_address = False
-
-    def __init__(self, board: Board, port: int = 0) -> None:
-        """Raises an OSError if the port is taken."""
-        super().__init__((LOOPBACK, port), Handler)
-        self.board = board
-        self.lock = threading.Lock()
-        self.token = secrets.token_urlsafe(24)
-        self.key = secrets.token_urlsafe(24)
-        port = self.server_address[1]
-        self.hosts = (f"{LOOPBACK}:{port}", f"localhost:{port}")
-        self.address = f"http://{self.hosts[0]}/{self.token}/"
-        self.opening = f"http://{self.hosts[0]}/{self.key}"
-        self.page = (Path(__file__).parent / "board.html").read_bytes()
-        self.policy = _policy(self.page.decode())
-        self._pages = 0
-        self._counted = threading.Condition()
-
-    def hold(self) -> None:
-        """A page has come."""
-        with self._counted:
-            self._pages += 1
-            self._counted.notify_all()
-
-    def let_go(self) -> None:
-        """A page has gone. If it was the last one and none comes in time, the board ends."""
-        with self._counted:
-            self._pages -= 1
-            if not self._pages and not self._counted.wait_for(lambda: self._pages, GRACE):
-                self.shutdown()
-
-    def use_key(self, given: str) -> bool:
-        """Whether this is the key that leads to the page, which opens once."""
-        with self._counted:
-            is_right = bool(self.key) and hmac.compare_digest(given.encode(), self.key.encode())
-            if is_right:
-                self.key = ""
-            return is_right
-
-    def handle_error(self, request: object, client_address: object) -> None:
-        """A page that goes away during an answer is no fault."""
-
-
-def _policy(page: str) -> str:
-    """What the page may do: run its own script, have its own style, and ask this server."""
-
-    def source(tag: str) -> str:
-        found = re.search(f"<{tag}>(.*?)</{tag}>", page, re.DOTALL)
-        assert found
-        return "'sha256-" + base64.b64encode(hashlib.sha256(found[1].encode()).digest()).decode() + "'"
-
-    return (
-        f"default-src 'none'; script-src {source('script')}; style-src {source('style')}; connect-src 'self'; "
-        "base-uri 'none'; form-action 'none'; frame-ancestors 'none'"
-    )
-
-
-class Handler(BaseHTTPRequestHandler):
-    """One request."""
-
-    protocol_version = "HTTP/1.1"
-    server_version = "dmf-board"
-    sys_version = ""
-    timeout = 60
-    wbufsize = 1 << 16
-    disable_nagle_algorithm = True
-    server: Server
-    FIXED: ClassVar[dict[str, str]] = {
-        "Cache-Control": "no-store",
-        "X-Content-Type-Options": "nosniff",
-        "Referrer-Policy": "no-referrer",
-        "Cross-Origin-Opener-Policy": "same-origin",
-        "Cross-Origin-Resource-Policy": "same-origin",
-        "X-Frame-Options": "DENY",
-    }
-
-    def do_GET(self) -> None:
-        self._serve(self._get)
-
-    def do_POST(self) -> None:
-        self._serve(self._post)
-
-    def log_message(self, *_: object) -> None:
-        """Nothing is logged: an address has the token."""
-
-    def _serve(self, make: Callable[[str], Answer | None]) -> None:
-        """Answers a request that may be answered."""
-        try:
-            made = self._refusal() or make(self._path())
-        except WrongForm as fault:
-            made = answer({"error": str(fault)}, 400)
-            # What is left of the request is not read.
-            self.close_connection = True
-        except Exception as error:
-            made = answer({"error": f"the board has a fault: {error!r}"}, 500)
-        if made:
-            self._send(made)
-
-    def _refusal(self) -> Answer | None:
-        """Why the sender may not ask this, if so."""
-        why = ""
-        hosts = self.headers.get_all("Host") or []
-        if len(hosts) != 1 or hosts[0] not in self.server.hosts:
-            why = "this board answers at its own address alone"
-        elif any(origin != f"http://{hosts[0]}" for origin in self.headers.get_all("Origin") or []):
-            why = "a page of another origin asks"
-        elif self.headers.get("Sec-Fetch-Site", "none") not in ("same-origin", "none"):
-            why = "a page of another site asks"
-        elif self.command == "GET" and self.server.use_key(self.path[1:]):
-            return Answer(303, "text/plain", b"", to=f"/{self.server.token}/")
-        elif not hmac.compare_digest(self.path.split("/")[1 if "/" in self.path else 0].encode(), self.server.token.encode()):
-            why = "the address has not the token that the board told when it began"
-        if not why:
-            return None
-        self.close_connection = True
-        return answer({"error": why}, 403)
-
-    def _path(self) -> str:
-        """What stands after the token."""
-        return urlsplit(self.path).path[len(self.server.token) + 1 :]
-
-    def _get(self, path: str) -> Answer | None:
-        if path in ("", "/"):
-            if not path:
-                return Answer(303, "text/plain", b"", to=f"/{self.server.token}/")
-            return Answer(200, "text/html; charset=utf-8", self.server.page)
-        if path == "/life":
-            self._live()
-            return None
-        try:
-            pairs = parse_qsl(urlsplit(self.path).query, keep_blank_values=True, strict_parsing=bool(urlsplit(self.path).query))
-        except ValueError:
-            raise WrongForm("the words of the address have not the form NAME=TEXT") from None
-        words = dict(pairs)
-        if len(words) != len(pairs) or any(len(text) > LONGEST_TEXT for text in words.values()):
-            raise WrongForm("a word of the address stands twice, or is too long")
-        with self.server.lock:
-            return self.server.board.get(path[1:], words)
-
-    def _post(self, path: str) -> Answer | None:
-        if self.headers.get("Content-Type", "").split(";")[0].strip() != "application/json":
-            raise WrongForm("wanted is the type application/json")
-        length = self.headers.get("Content-Length", "")
-        if not re.fullmatch("[0-9]{1,7}", length) or int(length) > LONGEST_BODY:
-            raise WrongForm(f"wanted is a length of at most {LONGEST_BODY} bytes")
-        try:
-            content = json.loads(self.rfile.read(int(length)).decode())
-        except (ValueError, RecursionError):
-            raise WrongForm("the request is no text in JSON") from None
-        if not isinstance(content, dict):
-            raise WrongForm("wanted is an object of JSON")
-        with self.server.lock:
-            return self.server.board.post(path[1:], content)
-
-    def _send(self, made: Answer) -> None:
-        self.send_response(made.status)
-        for name, text in self.FIXED.items():
-            self.send_header(name, text)
-        self.send_header("Content-Security-Policy", self.server.policy)
-        self.send_header("Content-Type", made.kind)
-        self.send_header("Content-Length", str(len(made.body)))
-        if made.file:
-            self.send_header("Content-Disposition", f"attachment; filename={quote(made.file)}")
-        if made.to:
-            self.send_header("Location", made.to)
-        self.end_headers()
-        self.wfile.write(made.body)
-
-    def _live(self) -> None:
-        """Holds the connection of a page until the page closes it."""
-        self.close_connection = True
-        self.send_response(200)
-        for name, text in self.FIXED.items():
-            self.send_header(name, text)
-        self.send_header("Content-Type", "text/event-stream")
-        self.end_headers()
-        self.wfile.write(b": here\n\n")
-        self.wfile.flush()
-        self.server.hold()
-        try:
-            while True:
-                select.select([self.connection], [], [])
-                if not self.connection.recv(1, socket.MSG_PEEK | socket.MSG_DONTWAIT):
-                    return
-                self.connection.recv(1 << 12)
-        except OSError:
-            pass
-        finally:
-            self.server.let_go()

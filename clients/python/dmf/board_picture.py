@@ -10,8 +10,9 @@ from collections.abc import Iterator
 from dataclasses import dataclass
 from xml.etree import ElementTree
 
-from .desk import Desk
+from .desk import Desk, DeskFault
 from .picture import CUT, SIDE, UNUSED, drawn_line, quoted
+from .text import scale_note
 
 SVG = "http://www.w3.org/2000/svg"
 # How long Graphviz may take, in seconds.
@@ -35,7 +36,7 @@ text {{ font-family: Helvetica, Arial, sans-serif; }}
 _NO_XML = re.compile("[\ufffe\uffff]")
 
 
-class NoPicture(Exception):
+class NoPicture(DeskFault):
     """Why there is no picture."""
 
 
@@ -94,6 +95,8 @@ class Picture:
     def _lines(self, shape: _Shape) -> Iterator[str]:
         yield "digraph dmf {\n  rankdir=LR; bgcolor=transparent; ranksep=0.2"
         yield '  node [fontname="Helvetica"]\n  edge [fontname="Helvetica", fontsize=11]'
+        if self._desk.subject.scale:
+            yield f'  fontname="Helvetica"; label={quoted(scale_note(self._desk.subject.scale))}'
         for node, label, is_whole, is_shut in shape.nodes:
             looks = {"id": quoted(f"node-{node}"), "label": quoted(_label(label), *["shut"] * is_shut)}
             if node in (self._desk.source, self._desk.sink):

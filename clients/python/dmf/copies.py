@@ -10,7 +10,7 @@ from itertools import takewhile
 from typing import Any, NamedTuple, Tuple, Union
 
 from .arcs import Arc
-from .errors import Error, SessionEnded
+from .errors import Error, NoProgram, SessionEnded
 from .kept import Kept, whole
 from .network import Network
 from .process import Program
@@ -86,8 +86,8 @@ class Copy:
         self._program = program
         self._is_over = False
         self._lock = threading.Lock()
-        # What may be added to the capacities, at the least.
-        self._room = LARGEST - sum(kept.capacities)
+        # What may be added to the capacities.
+        self._room = LARGEST - sum(kept.written())
         self.network: Network[Any] | None = None
         self.used = time.monotonic()
 
@@ -119,6 +119,8 @@ class Copy:
                 self.end()
                 if not left or self._is_over:
                     return Answer(refusal=error)
+            except NoProgram:
+                raise
             except Error as error:
                 return Answer(refusal=error)
         raise AssertionError

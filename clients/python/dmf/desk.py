@@ -10,7 +10,7 @@ from __future__ import annotations
 import contextlib
 import os
 import tempfile
-from collections.abc import Generator, Iterable, Iterator, Sequence
+from collections.abc import Generator, Hashable, Iterable, Iterator, Sequence
 from dataclasses import dataclass, field
 from typing import NamedTuple, Union
 
@@ -21,7 +21,7 @@ from .errors import CapacitiesPast64Bits, Error, FlowIsNotGreatest, Refused, Ses
 from .process import Program
 from .table_problem import near
 from .tables import cleaned, shown
-from .text import display, read_names
+from .text import LARGEST, display, read_names
 
 Node = Union[int, str]
 MOST_LISTED = 6
@@ -132,7 +132,8 @@ class Names:
 
     def __init__(self, node_names: dict[int, str], handles: dict[int, Handle[Node]], nodes: Sequence[Node]) -> None:
         self._handles = handles
-        self._labels = [display(node_names.get(number, str(number))) for number in range(1, len(nodes) + 1)]
+        self._node_names = [node_names.get(number, str(number)) for number in range(1, len(nodes) + 1)]
+        self._labels = [*map(display, self._node_names)]
         self.nodes = {node: number for number, node in enumerate(nodes, 1)}
         self.places: dict[str, Place] = {}
         self._several: dict[str, list[int]] = {}
@@ -181,8 +182,16 @@ class Names:
 
     def arc_name(self, number: int) -> str:
         """The name of an arc, or nothing."""
+        return display(self.given_arc(number))
+
+    def given_node(self, number: int) -> str:
+        """The name of a node as it was given, which may have what nobody can see."""
+        return self._node_names[number - 1]
+
+    def given_arc(self, number: int) -> str:
+        """The name of an arc as it was given, or nothing."""
         key = self._handles[number].given_key
-        return display(key) if isinstance(key, str) else ""
+        return key if isinstance(key, str) else ""
 
     def ends(self, number: int) -> str:
         tail, head = self._ends(number)
@@ -285,17 +294,18 @@ class _Seen:
 @dataclass
 class _Timeline:
     """The steps that were made, those that were undone, the last undone at the end, and how many steps each trial that is open began
-    with."""
+    with. `turn` counts the steps that were made and undone."""
 
     done: list[Step] = field(default_factory=list)
     undone: list[Step] = field(default_factory=list)
     floors: list[int] = field(default_factory=list)
+    turn: int = 0
 
 
 class Desk:
     """A network, and what was done to it. `with_solve` says that each step solves after its change, so that its value is always
-    the greatest. What a call raises beside a `DeskFault` is what the client raises: where that is `SessionEnded`, `begin_again`
-    makes the steps once more on a new session."""
+    the greatest. What a call raises beside a `DeskFault` is what the client raises. Any error in the midst of a step ends the session,
+    since that might be left between two steps; `has_ended` says so, and `begin_again` makes the steps once more on a new one."""
 
     def __init__(self, subject: Subject, *, with_solve: bool = False, program: Program = None) -> None:
         self.subject = subject
@@ -322,18 +332,39 @@ class Desk:
         ]
         self._seen = _Seen()
         self.shut_nodes = frozenset()
+        self._is_broken = False
+
+    @property
+    def has_ended(self) -> bool:
+        """Whether the session is known to have ended."""
+        return self._is_broken or not self._network._child.end.alive
+
+    def break_off(self, why: str) -> None:
+        """Ends the session at once, also for a thread that waits for it."""
+        self._network._child.break_off(why)
 
     def begin_again(self) -> None:
-        """Makes all steps once more, from the first on, on a new session."""
-        self._network.end()
-        self._begin()
-        done, self._time.done = self._time.done, []
+        """Makes all steps once more, from the first on, on a new session. If that fails, what is kept here stays as it was."""
+        self._drop_session()
+        was, time = dict(vars(self)), self._time
         try:
-            for step in done:
-                self._make(step.text, step.changes)
-        except Error:
-            self._time.done = done
+            self._begin()
+            self._time = _Timeline(floors=time.floors)
+            for step in time.done:
+                self._make(step.text, step.changes, [])
+        except BaseException:
+            self._drop_session()
+            vars(self).update(was)
             raise
+        time.done = self._time.done
+        self._time = time
+
+    def _drop_session(self) -> None:
+        self._is_broken = True
+        self._seen = _Seen()
+        self.break_off("the session was ended")
+        with contextlib.suppress(Error):
+            self._network.end()
 
     def end(self) -> None:
         """Ends the session."""
@@ -344,7 +375,7 @@ class Desk:
     @property
     def value(self) -> int:
         """The value of the present flow."""
-        return self._network.value
+        return self._time.done[-1].value if self._time.done else 0
 
     @property
     def source(self) -> int:
@@ -363,6 +394,11 @@ class Desk:
     def at(self) -> int:
         """How many of the steps are made."""
         return len(self._time.done)
+
+    @property
+    def turn(self) -> int:
+        """A number that is larger after each change."""
+        return self._time.turn
 
     @property
     def trials(self) -> int:
@@ -415,10 +451,6 @@ class Desk:
         if not 1 <= number <= len(self.lines):
             raise DeskFault(f"there is no arc #{number}")
         return self.lines[number - 1]
-
-    def problem(self) -> str:
-        """The problem of the open arcs, with the names of places and arcs."""
-        return self._network.problem()
 
     # What can be done.
 
@@ -488,9 +520,8 @@ class Desk:
         if count > len(self._time.undone):
             raise DeskFault(f"there {_are(len(self._time.undone), 'step')} to redo")
         for _ in range(count):
-            step = self._time.undone[-1]
-            self._make(step.text, step.changes)
-            self._time.undone.pop()
+            *undone, step = self._time.undone
+            self._make(step.text, step.changes, undone)
 
     def go_to(self, at: int) -> None:
         """Goes back or forward to the state after so many of the steps."""
@@ -527,22 +558,26 @@ class Desk:
         try:
             yield
         finally:
-            with contextlib.suppress(SessionEnded):
-                self._undo(self.at - at)
-            del self._time.done[at:]
-            self._time.undone = undone
+            try:
+                with contextlib.suppress(SessionEnded):
+                    self._undo(self.at - at)
+            finally:
+                # A session that has ended undoes nothing.
+                self._step_back(self.at - at)
+                self._time.undone = undone
 
     def sweep(self, numbers: Iterable[int]) -> Generator[Trial, None, None]:
         """What each of these arcs means for the greatest value: if it alone is closed, and if it alone has a second one beside it.
-        Tries each on a copy of the network, on all processors. Raises a `DeskFault` unless the flow is greatest and the arcs are
-        open. The network must not change meanwhile."""
+        Tries each on a copy of the network as it is at the call, on all processors. Raises a `DeskFault` unless the flow is greatest
+        and the arcs are open."""
         if not self.is_greatest:
             raise DeskFault("the flow is not greatest, so nothing can be compared with it; `solve` first")
         cut, wanted = set(self.cut_arcs()), list(numbers)
         for number in wanted:
             self._open_line(number)
         # Closing an arc that carries nothing leaves the flow as it is. A second arc beside one that is not in the cut leaves the cut
-        # as it is, and so the value.
+        # as it is, and so the value, if there is room for its capacity.
+        room = LARGEST - sum(line.capacity for line in self.lines if not line.is_closed)
         carrying = {number for number in wanted if self.flow(number)}
         cases: list[list[tuple[object, ...]]] = []
         for number in wanted:
@@ -552,12 +587,19 @@ class Desk:
             if number in cut:
                 cases.append([("add", arc.tail, arc.head, self.lines[number - 1].capacity)])
         jobs = max(1, min(len(cases), len(os.sched_getaffinity(0))))
-        with contextlib.closing(sweep(self._network, cases, jobs=jobs)) as results:
-            for number in wanted:
-                closed = _greatest(next(results)) if number in carrying else self.value
-                doubled = _greatest(next(results)) if number in cut else self.value
-                assert closed is not None
-                yield Trial(number, closed, doubled)
+        # The desk may change before the trials are asked for; each is of the network as it is now.
+        results, value = sweep(self._network, cases, jobs=jobs), self.value
+        capacities = {number: self.lines[number - 1].capacity for number in wanted}
+
+        def trials() -> Generator[Trial, None, None]:
+            with contextlib.closing(results):
+                for number in wanted:
+                    closed = _greatest(next(results)) if number in carrying else value
+                    beside = value if capacities[number] <= room else None
+                    doubled = _greatest_or_none(next(results)) if number in cut else beside
+                    yield Trial(number, closed, doubled)
+
+        return trials()
 
     def the_arc(self, text: str, *, is_closed: bool = False) -> int:
         """The arc that a text means: the open one, or else the closed one. Raises a `DeskFault` if it means none, or several."""
@@ -597,18 +639,15 @@ class Desk:
         except Refused:
             raise
         except BaseException:
-            with contextlib.suppress(Error):
-                self._network.end()
+            self._drop_session()
             raise
 
     def _do(self, text: str, changes: list[Change]) -> Step:
         """Makes a new step."""
-        step = self._make(text, (*changes, Solve()) if self.with_solve and changes != [Solve()] else tuple(changes))
-        self._time.undone = []
-        return step
+        return self._make(text, (*changes, Solve()) if self.with_solve and changes != [Solve()] else tuple(changes), [])
 
-    def _make(self, text: str, changes: tuple[Change, ...]) -> Step:
-        """Makes a step, or none of its changes."""
+    def _make(self, text: str, changes: tuple[Change, ...], undone: list[Step]) -> Step:
+        """Makes a step, after which these are undone; or none of its changes."""
         before: list[Was] = []
         shut_before, made = self.shut_nodes, 0
         seen = _Seen()
@@ -621,13 +660,15 @@ class Desk:
                         seen = _Seen()
                         before += self._change(change)
                     made += 1
-            except Refused:
-                if made:
-                    self._network.undo(made)
+            except BaseException as error:
                 self._take_back(before, shut_before)
+                if made and isinstance(error, Refused):
+                    self._network.undo(made)
                 raise
-        self._seen = seen
-        self._time.done.append(Step(text, changes, self.value, tuple(before), shut_before))
+            self._seen = seen
+            self._time.undone = undone
+            self._time.done.append(Step(text, changes, self._network.value, tuple(before), shut_before))
+            self._time.turn += 1
         return self._time.done[-1]
 
     def _change(self, change: Close | Cap | Add | Reopen | Shut) -> list[Was]:
@@ -636,7 +677,7 @@ class Desk:
             return [self._added(Line(change.tail, change.head, change.capacity), change.name)]
         if isinstance(change, Reopen):
             line = self.lines[change.arc - 1]
-            added = self._added(Line(line.tail, line.head, line.capacity), self.names.arc_name(change.arc) or None)
+            added = self._added(Line(line.tail, line.head, line.capacity), self._handles[change.arc].given_key)
             self.names.drop(change.arc)
             return [added, self._put(change.arc, line._replace(is_shut=False, is_replaced=True))]
         if isinstance(change, Shut):
@@ -653,7 +694,7 @@ class Desk:
         self.lines[number - 1] = line
         return was
 
-    def _added(self, line: Line, name: str | None) -> Was:
+    def _added(self, line: Line, name: Hashable) -> Was:
         nodes = self._nodes
         handle = self._network.add(nodes[line.tail - 1], nodes[line.head - 1], line.capacity, name)
         self._handles[handle.number] = handle
@@ -665,14 +706,11 @@ class Desk:
         self._network.shut(self._nodes[node - 1])
         self.shut_nodes |= {node}
         at_node = [
-            Was(number, line)
+            (number, line)
             for number, line in enumerate(self.lines, 1)
             if not line.is_closed and node in (line.tail, line.head)
         ]
-        for number, line in at_node:
-            if line:
-                self.lines[number - 1] = line._replace(is_closed=True, is_shut=True)
-        return at_node
+        return [self._put(number, line._replace(is_closed=True, is_shut=True)) for number, line in at_node]
 
     def _take_back(self, before: Iterable[Was], shut_before: frozenset[int]) -> None:
         """Restores arcs as they were."""
@@ -694,18 +732,35 @@ class Desk:
         undone = self._time.done[self.at - count :]
         with self._whole():
             self._network.undo(sum(len(step.changes) for step in undone))
-            for step in reversed(undone):
-                self._take_back(step.before, step.shut_before)
-        del self._time.done[self.at - count :]
-        self._time.undone += reversed(undone)
+            self._step_back(count)
+
+    def _step_back(self, count: int) -> None:
+        """Restores what is kept of the network as it was before so many steps."""
+        for _ in range(count):
+            step = self._time.done.pop()
+            self._time.undone.append(step)
+            self._take_back(step.before, step.shut_before)
+            self._time.turn += 1
         self._seen = _Seen()
 
 
-def _greatest(result: SweepResult[Node]) -> int | None:
+def unforeseen(error: BaseException) -> str:
+    """Why something came to no end, also for an error that nothing foresaw."""
+    if isinstance(error, (Error, DeskFault, OSError)):
+        return str(error)
+    return f"that came to no end ({type(error).__name__}{f': {error}' if str(error) else ''})"
+
+
+def _greatest(result: SweepResult[Node]) -> int:
+    """The greatest value of a case."""
+    if result.value is None:
+        raise DeskFault(f"what was tried came to no end: {result.refusal}")
+    return result.value
+
+
+def _greatest_or_none(result: SweepResult[Node]) -> int | None:
     """The greatest value of a case, or None if the sum of the capacities would exceed 64 bits."""
-    if result.refusal is None or isinstance(result.refusal, (CapacitiesPast64Bits, TooManyArcs)):
-        return result.value
-    raise DeskFault(f"what was tried came to no end: {result.refusal}")
+    return None if isinstance(result.refusal, (CapacitiesPast64Bits, TooManyArcs)) else _greatest(result)
 
 
 def _are(count: int, what: str) -> str:

@@ -4,12 +4,12 @@ from __future__ import annotations
 
 import argparse
 from collections.abc import Sequence
-from dataclasses import dataclass
+from dataclasses import dataclass, replace
 
-from .table_problem import MOST_TOLD, Plan, Terminal, problem_text, warnings
-from .table_words import COLUMNS, add_options, names_terminals, parsed, plan_of
+from .table_problem import MOST_TOLD, Plan, Terminal, problem_text, told_scale, warnings
+from .table_words import COLUMNS, add_options, names_terminals, parsed, plan_of, reading_of
 from .tables import ARCS, Table, TableFault, cleaned, decoded, read_table, shown
-from .text import display, fields, lines
+from .text import display, fields, lines, read_scale, scale_note
 from .tool import ToolFault, read_file
 
 # Titles of a column that do not say what its cells are.
@@ -23,13 +23,16 @@ FAULT, UNREADABLE = 3, 4
 @dataclass(frozen=True)
 class Subject:
     """A problem with names in comments, as `dmf-problem` writes it. `unit` is the table's word for its amounts and `noun` its word
-    for an arc, if its titles have them. `notes` say what looks like a mistake, and what was assumed."""
+    for an arc, if its titles have them. `notes` say what looks like a mistake, and what was assumed. `scale` is what the numbers of
+    a table were multiplied by, and `raw_names` says that names stand in a table as they are."""
 
     path: str
     text: bytes
     unit: str = ""
     noun: str = ""
     notes: tuple[str, ...] = ()
+    scale: str = ""
+    raw_names: bool = False
 
 
 def add_words(parser: argparse.ArgumentParser) -> None:
@@ -53,7 +56,7 @@ def read_subject(words: argparse.Namespace) -> Subject:
         data = read_file(words.path, UNREADABLE)
         if is_problem(words.path, data):
             _refuse_table_words(words)
-            return Subject(words.path, data)
+            return _scaled(Subject(words.path, data, scale=read_scale(data), raw_names=words.raw_names))
         return _of_table(words, data)
     except TableFault as fault:
         fault.path = fault.path or words.path
@@ -67,13 +70,22 @@ def is_problem(path: str, data: bytes) -> bool:
     return first is not None and first[:2] == [b"p", b"max"] or path.endswith(".max")
 
 
+def _scaled(subject: Subject) -> Subject:
+    """A subject whose unit and notes tell its scale."""
+    if not subject.scale:
+        return subject
+    unit = f"{subject.unit or 'units'} times {subject.scale}"
+    return replace(subject, unit=unit, notes=(scale_note(subject.scale), *subject.notes))
+
+
 def _refuse_table_words(words: argparse.Namespace) -> None:
-    if names_terminals(words) or words.titles or words.both_ways or words.scale or words.node_limits or words.encoding:
+    given = [words.scale, words.node_limits, words.encoding]
+    if names_terminals(words) or words.titles or words.both_ways or any(it is not None for it in given):
         raise ToolFault(f"{words.path} has a problem, which names its own source and sink: the options are for tables", 2)
 
 
 def _of_table(words: argparse.Namespace, data: bytes) -> Subject:
-    table = read_table(decoded(data, words.encoding), ARCS, words.path, words.titles, words.scale)
+    table = read_table(decoded(data, words.encoding), ARCS, words.path, reading_of(words, ARCS))
     plan = plan_of(words, table)
     notes = []
     if not plan.sources:
@@ -84,11 +96,9 @@ def _of_table(words: argparse.Namespace, data: bytes) -> Subject:
         notes.append(f"the sink is {shown(plan.sinks[0].place)}, the one place that nothing leads away from")
     text = problem_text(plan, words.scale)
     titles = _titles(table, words.titles)
-    unit = _spoken(titles.get("capacity", ""))
-    if words.scale is not None:
-        notes.append(f"all numbers are those of the table times {words.scale}")
-        unit = f"{unit or 'units'} times {words.scale}"
-    return Subject(words.path, text.encode(), unit, _spoken(titles.get("name", "")), (*notes, *warnings(plan)))
+    unit, noun = _spoken(titles.get("capacity", "")), _spoken(titles.get("name", ""))
+    told = (*notes, *warnings(plan))
+    return _scaled(Subject(words.path, text.encode(), unit, noun, told, told_scale(words.scale), words.raw_names))
 
 
 def _only(plan: Plan, kind: str, end: int) -> Terminal:

@@ -2,49 +2,44 @@
 
 from __future__ import annotations
 
-import csv
-import io
 from typing import cast
 
 from . import timeline
 from .desk import Desk, Line
+from .names import written
 from .picture import Drawing, nearest, picture
-from .text import Problem
+from .spreadsheet import ArcRow, plan_table
+from .text import ARC, NODE, Problem, scale_comment
 
-TITLES = ["number", "name", "from", "to", "flow", "capacity", "full", "in cut"]
 MOST_DRAWN = 300
 
 
 def table(desk: Desk) -> str:
-    """The open arcs as a table for a spreadsheet, with the titles that `dmf-names --csv` writes. If the flow is not greatest, the
-    column of the cut is empty."""
+    """The open arcs as the table that `dmf-names --csv` writes. If the flow is not greatest, the column of the cut is empty."""
     crossing = desk.cut_arcs() if desk.is_greatest else None
-    written = io.StringIO()
-    rows = csv.writer(written, lineterminator="\n")
-    rows.writerow(TITLES)
     names = desk.names
-    for number, line in enumerate(desk.lines, 1):
-        if line.is_closed:
-            continue
-        flow = desk.flow(number)
-        in_cut = "" if crossing is None else _yes(number in crossing)
-        ends = names.node(line.tail), names.node(line.head)
-        rows.writerow([number, names.arc_name(number), *ends, flow, line.capacity, _yes(flow == line.capacity), in_cut])
-    return written.getvalue()
-
-
-def _yes(is_so: bool) -> str:
-    return "yes" if is_so else "no"
+    rows = (
+        ArcRow(
+            number, names.arc_name(number), names.node(line.tail), names.node(line.head), desk.flow(number), line.capacity,
+            None if crossing is None else number in crossing,
+        )
+        for number, line in enumerate(desk.lines, 1) if not line.is_closed
+    )  # fmt: skip
+    return plan_table(rows, desk.subject.scale, raw_names=desk.subject.raw_names)
 
 
 def problem(desk: Desk) -> str:
-    """The problem of the open arcs, with the names of places and arcs in comments."""
+    """The problem of the open arcs, with its scale and the names of places and arcs in comments; what cannot be written of a name is
+    escaped. It needs no session, so that it can be had where that has ended."""
     names = desk.names
-    opened = [number for number, line in enumerate(desk.lines, 1) if not line.is_closed]
-    labels = ((number, names.node(number)) for number in range(1, len(names.nodes) + 1))
-    nodes = "".join(f"c node {number} {label}\n" for number, label in labels if label != str(number))
-    arcs = "".join(f"c arc {place} {names.arc_name(number)}\n" for place, number in enumerate(opened, 1) if names.arc_name(number))
-    return nodes + arcs + desk.problem()
+    opened = {number: line for number, line in enumerate(desk.lines, 1) if not line.is_closed}
+    labels = ((number, names.given_node(number)) for number in range(1, len(names.nodes) + 1))
+    nodes = "".join(f"c node {number} {written(NODE, number, label)}\n" for number, label in labels if label != str(number))
+    keys = ((place, names.given_arc(number)) for place, number in enumerate(opened, 1))
+    arcs = "".join(f"c arc {place} {written(ARC, place, key)}\n" for place, key in keys if key.strip(" \t"))
+    head = f"p max {len(names.nodes)} {len(opened)}\nn {desk.source} s\nn {desk.sink} t\n"
+    lines = "".join(f"a {line.tail} {line.head} {line.capacity}\n" for line in opened.values())
+    return scale_comment(desk.subject.scale) + nodes + arcs + head + lines
 
 
 def drawing(desk: Desk) -> Drawing:
@@ -53,7 +48,7 @@ def drawing(desk: Desk) -> Drawing:
     names = desk.names
     labels = {number: names.node(number) for number in range(1, len(names.nodes) + 1)}
     arc_names = {place: names.arc_name(number) for place, number in enumerate(numbers, 1) if names.arc_name(number)}
-    drawn = Problem(len(labels), desk.source, desk.sink, [], labels, arc_names)
+    drawn = Problem(len(labels), desk.source, desk.sink, [], labels, arc_names, desk.subject.scale)
     flows = [None if desk.lines[number - 1].is_closed else desk.flow(number) for number in numbers]
     side = desk.side() if desk.is_greatest else set()
     return Drawing(drawn, arcs_of([desk.lines[number - 1] for number in numbers]), flows, side, set(desk.shut_nodes))

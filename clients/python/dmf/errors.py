@@ -22,6 +22,10 @@ class SessionEnded(Error):
     """The program has ended: it was killed, it failed, or the session was ended. The network can answer nothing any more."""
 
 
+class NoProgram(Error, FileNotFoundError):
+    """There is no program `dmf`, or the one that was found cannot be run here, or is of another version than this package needs."""
+
+
 class AmbiguousArc(Error, LookupError):
     """Several open arcs, or several closed arcs and no open one, have this key or these ends. Each has a handle that names it."""
 

@@ -6,7 +6,7 @@ import contextlib
 import operator
 from array import array
 from collections import defaultdict, deque
-from collections.abc import Hashable, Iterable
+from collections.abc import Hashable, Iterable, Mapping, MappingView, Set
 from dataclasses import dataclass, field
 from itertools import count, islice
 from typing import Any, Generic, NoReturn, SupportsIndex, Union
@@ -56,6 +56,11 @@ def columns_of(rows: Iterable[Any], nodes: Iterable[Node]) -> tuple[Columns[Node
     columns = Columns(taken.numbers, taken.tails, taken.heads, taken.keys)
     _judge_nodes(columns, taken.capacities)
     return columns, taken.capacities
+
+
+def is_unordered(values: object) -> bool:
+    """Whether values come in no order that their caller chose, so that each could be taken for another one."""
+    return isinstance(values, (Set, Mapping, MappingView))
 
 
 def is_missing(value: object) -> bool:
@@ -137,6 +142,8 @@ class _Taken:
     def take(self, row: Any) -> None:
         """Takes a row. Raises what `columns_of` raises."""
         try:
+            if is_unordered(row) or isinstance(row, (str, bytes, bytearray)):
+                raise TypeError
             if len(row) == 3:
                 tail, head, capacity = row
             else:
@@ -180,6 +187,8 @@ class Kept(Generic[Node]):
         # The arcs of the network from which this one was copied. Their handles name the arcs here too.
         self.origin: OpenArcs[Node] | None = None
         self.most = most
+        # What the numbers of a table were multiplied by, if the problem tells it.
+        self.scale = ""
         # How many changes led to the present state, forgotten ones counted, and how many of them may not be undone now.
         self.place = 0
         self.floor: int | None = None
@@ -205,6 +214,15 @@ class Kept(Generic[Node]):
     def open_count(self) -> int:
         return len(self.capacities) - len(self.closed)
 
+    def written(self) -> array[int]:
+        """The capacities by which the arcs stand in a problem that has the closed ones too: theirs is 0."""
+        if not self.closed:
+            return self.capacities
+        capacities = self.capacities[:]
+        for number in self.closed:
+            capacities[number - 1] = 0
+        return capacities
+
     def opened(self) -> OpenArcs[Node]:
         """The open arcs as they are now."""
         if self._opened is None:
@@ -220,7 +238,7 @@ class Kept(Generic[Node]):
         if isinstance(key, Arc):
             if self.has(key):
                 return key
-            if self.origin and self.origin.has(key) and key.number <= self.arc_count:
+            if self.origin is not None and self.origin.has(key) and key.number <= self.arc_count:
                 return self.handle(key.number)
             raise NoSuchArc(repr(key))
         numbers = [*self.columns.named(key), *(arc.number for arc in self._added_index.named(key))]
@@ -324,7 +342,8 @@ class Kept(Generic[Node]):
         """The same arcs as they are now, without changes. The handles of these arcs name the arcs of the copy too."""
         copy = Kept(self.columns, self.capacities[:], self.source, self.sink, self.most)
         copy.closed = set(self.closed)
-        copy.origin = self.origin or self.opened()
+        copy.scale = self.scale
+        copy.origin = self.opened() if self.origin is None else self.origin
         for arc, replaced in zip(self.added, self.replaced):
             copy.put_added(Arc(arc.number, arc.tail, arc.head, arc.given_key), replaced)
         return copy

@@ -2,25 +2,40 @@
 
 from __future__ import annotations
 
+import contextlib
 from collections import Counter
 from collections.abc import Hashable, Iterable, Mapping
 
 from .errors import NameNotWritable, shown
-from .text import ARC, NODE, read_names
+from .text import ARC, NODE, display, read_names
 
 
-def comments(nodes: Mapping[int, Hashable], arcs: Mapping[int, Hashable]) -> str:
+def comments(nodes: Mapping[int, Hashable], arcs: Mapping[int, Hashable], *, escapes: bool = False) -> str:
     """The comments that give nodes and arcs their names. The names come by number, and each is written by `str`. A node whose name is
-    its own number gets no comment, nor does a blank name. Raises `NameNotWritable` if a name would come back as another one."""
+    its own number gets no comment, nor does a blank name. Raises `NameNotWritable` if a name would come back as another one; with
+    `escapes` such a name is written with `\\x0a` for what it cannot have there."""
     node_names = {number: str(name) for number, name in nodes.items() if type(name) is not int or name != number}
     names = {NODE: _not_blank(node_names), ARC: _not_blank({number: str(key) for number, key in arcs.items()})}
     for kind, named in names.items():
         for number, name in named.items():
-            _judge(kind, number, name)
+            if escapes:
+                named[number] = written(kind, number, name)
+            else:
+                _judge(kind, number, name)
     twice = [name for name, count in Counter(names[NODE].values()).items() if count > 1]
     if twice:
         raise NameNotWritable(f"name not writable: two nodes are called {shown(twice[0])}")
     return "".join(_comment(kind, number, name) for kind, named in names.items() for number, name in named.items())
+
+
+def written(kind: str, number: int, name: str) -> str:
+    """A name as the comment of this node or arc can have it: as it is, or escaped."""
+    with contextlib.suppress(NameNotWritable):
+        _judge(kind, number, name)
+        return name
+    shown = display(name)
+    before, after = len(shown) - len(shown.lstrip(" ")), len(shown) - len(shown.rstrip(" "))
+    return r"\x20" * before + shown.strip(" ") + r"\x20" * after
 
 
 def _not_blank(names: dict[int, str]) -> dict[int, str]:

@@ -17,7 +17,7 @@ from .names import comments
 from .notebook import MOST_DRAWN, Look, table
 from .process import Child, Program, bound, session_words, start
 from .solution import Cut, Flows, Solution
-from .text import display
+from .text import display, scale_comment
 
 # An arc as the caller gives it: its tail, its head, its capacity and, if it has one, its key.
 Row = Union[Tuple[Node, Node, Whole], Tuple[Node, Node, Whole, Hashable]]
@@ -34,7 +34,7 @@ class Network(Generic[Node]):
     `program` is the path of the program, and `history` the most changes that can be undone, from 0 to 1,000,000.
 
     Raises a `Refused` if the problem has a fault, `NotAnArc` for a row of another form, `HistoryOutOfRange`, `SessionEnded` if the
-    program fails, and an OSError if it is not found. Each method that asks the program raises `SessionEnded` if the program has
+    program fails, and `NoProgram` if none is found that fits. Each method that asks the program raises `SessionEnded` if the program has
     ended, and `UsedByTwoThreads` if another thread is using the network.
     """
 
@@ -154,6 +154,11 @@ class Network(Generic[Node]):
     def sink(self) -> Node:
         """The sink."""
         return self._kept.sink
+
+    @property
+    def scale(self) -> str:
+        """What the numbers of a table were multiplied by, as the problem that was read tells it; empty if it tells none."""
+        return self._kept.scale
 
     @property
     def nodes(self) -> list[Node]:
@@ -305,19 +310,19 @@ class Network(Generic[Node]):
             look = self._look(set(side)) if self._kept.open_count <= MOST_DRAWN else None
             return Cut(capacity, frozenset(names[node - 1] for node in side), tuple(self._kept.leaving(side)), look)
 
-    def problem(self, *, names: bool = True) -> str:
+    def problem(self, *, names: bool = True, escapes: bool = False) -> str:
         """The problem of the open arcs as a text in the DIMACS format. With `names`, comments before it name nodes and arcs: each
         node whose name is not its own number, and each key, as `str` writes it. `dmf.read` reads the same names again, as texts,
-        except blank ones.
+        except blank ones. If the network was read of a problem that tells its scale, the first comment tells it too.
 
         Raises `NameNotWritable` if `dmf.read` would read a name as another one: if it has a line feed or blanks around it, or if two
-        nodes have the same name."""
+        nodes have the same name. With `escapes` what cannot be written of a name, such as a line feed, is written as `\\x0a`."""
         with self._child.alone():
             opened = self._kept.opened()
-            before = ""
+            before = scale_comment(self._kept.scale)
             if names:
                 keys = {place: key for place, key in enumerate(opened.keys(), 1) if key is not None}
-                before = comments(dict(enumerate(self._kept.columns.names, 1)), keys)
+                before += comments(dict(enumerate(self._kept.columns.names, 1)), keys, escapes=escapes)
             with self._child.exchange("print problem"):
                 begin = self._child.lines(1)
                 self._begun(begin.split(), "print problem", [b"p"])
@@ -374,7 +379,7 @@ class Network(Generic[Node]):
         flows.settle(self._asked_flow)
         kept = self._kept
         ends = kept.number(kept.source), kept.number(kept.sink)
-        return Look(flows.arcs, ends, flows.numbers(), flows.capacities(), side)
+        return Look(flows.arcs, ends, flows.numbers(), flows.capacities(), side, kept.scale)
 
     def _begun(self, fields: list[bytes], line: str, begin: list[bytes], at: object = None) -> list[bytes]:
         """The fields of the first line of a reply, which begins with these words. Raises a `Refused` that names the line, or the
@@ -466,9 +471,10 @@ def _started(kept: Kept[Any], program: Program) -> Child:
         count = len(columns) + len(kept.added)
         head = f"p max {len(columns.numbers)} {count}\nn {kept.number(kept.source)} s\nn {kept.number(kept.sink)} t\n"
         file.write(head.encode())
-        file.writelines(arrays.problem_lines(columns, kept.capacities))
+        capacities = kept.written()
+        file.writelines(arrays.problem_lines(columns, capacities))
         for arc in kept.added:
-            line = f"a {kept.number(arc.tail)} {kept.number(arc.head)} {kept.capacities[arc.number - 1]}\n"
+            line = f"a {kept.number(arc.tail)} {kept.number(arc.head)} {capacities[arc.number - 1]}\n"
             file.write(line.encode())
         file.flush()
         return start(file.name, program, words)

@@ -27,12 +27,12 @@ class Look:
     """A network at one time, with its flow, and the side of its cut if it has one."""
 
     def __init__(
-        self, arcs: OpenArcs[Any], ends: tuple[int, int], flows: Sequence[int], capacities: Sequence[int], side: set[int]
+        self, arcs: OpenArcs[Any], ends: tuple[int, int], flows: Sequence[int], capacities: Sequence[int], side: set[int], scale: str
     ) -> None:
         """`ends` are the source and the sink, and `flows` and `capacities` belong to the open arcs."""
         drawn = list(zip(*arcs.ends(), capacities))
         keys = {place: key for place, key in enumerate(arcs.keys(), 1) if key is not None}
-        problem = Problem(len(arcs.columns.numbers), *ends, drawn, *picture_names(arcs.columns.names, keys))
+        problem = Problem(len(arcs.columns.numbers), *ends, drawn, *picture_names(arcs.columns.names, keys), scale)
         self.drawing = Drawing(problem, [Arc(*row) for row in drawn], list(flows), side)
 
     def svg(self) -> str | None:

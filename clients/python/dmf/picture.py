@@ -6,7 +6,7 @@ from collections import Counter, defaultdict
 from collections.abc import Iterable, Iterator, Sequence
 from dataclasses import dataclass, field
 
-from .text import Problem, display
+from .text import Problem, display, scale_note
 from .timeline import Arc
 
 FULL, UNUSED, CUT, SIDE = "2.5", "#8f8f8f", "#c62828", "#d3e4f5"
@@ -101,7 +101,9 @@ def picture(drawing: Drawing, most: int) -> Iterator[str]:
     all_of = Counter(node for arc in arcs for node in arc[:2])
     yield "digraph dmf {\n  rankdir=LR"
     yield '  node [fontname="Helvetica"]\n  edge [fontname="Helvetica", fontsize=11]'
-    notes = [f"{len(places)} of {len(arcs)} arcs: those nearest the cut"] * (not is_whole) + drawing.notes
+    scale = drawing.problem.scale
+    notes = [scale_note(scale)] * bool(scale)
+    notes += [f"{len(places)} of {len(arcs)} arcs: those nearest the cut"] * (not is_whole) + drawing.notes
     if notes:
         yield f"  label={quoted(*notes)}"
     nodes: Iterable[int] = drawn

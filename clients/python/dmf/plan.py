@@ -12,11 +12,12 @@ from collections.abc import Callable, Iterable, Iterator
 from pathlib import Path
 from typing import NamedTuple
 
-from .desk import Desk, DeskFault, Place, Trial
+from .desk import Desk, DeskFault, Place, Trial, unforeseen
 from .desk_text import picture_text, problem, table
-from .errors import Error, Refused, SessionEnded
+from .errors import Error, Refused
 from .tables import LARGEST, cleaned, shown, whole_number
 from .text import display
+from .tool import ToolFault, write_file
 
 try:
     import readline
@@ -70,6 +71,8 @@ COMMANDS = {
     "quit": Help("quit", "Ends, and saves nothing."),
 }
 CHANGES = ("close", "open", "cap", "add", "shut")
+# These need no session.
+ALWAYS = ("save", "steps", "help", "quit")
 
 
 class Word(NamedTuple):
@@ -150,18 +153,36 @@ class Plan(cmd.Cmd):
         words = split(line.rstrip("\r\n"))
         if not words or words[0].text.startswith("#") or words[0].text == "c":
             return False
+        return bool(self._guarded(lambda: self._carry_out(words)))
+
+    def _carry_out(self, words: list[Word]) -> object:
+        if words[-1].is_open:
+            raise DeskFault('a quote (") is not closed')
+        carry_out = self._command(words[0].text)
+        if self.desk.has_ended and words[0].text not in ALWAYS:
+            self.begin_again()
+            if self.desk.has_ended:
+                return None
+        return carry_out([word.text for word in words[1:]])
+
+    def _guarded(self, do: Callable[[], object]) -> object:
+        """What a call returns, or None if it raises. What goes wrong in it is told, and the steps before it are kept, on a new session
+        if its own has ended."""
         try:
-            if words[-1].is_open:
-                raise DeskFault('a quote (") is not closed')
-            return bool(self._command(words[0].text)([word.text for word in words[1:]]))
-        except DeskFault as fault:
-            self.refuse(str(fault))
+            return do()
+        except ToolFault:
+            # Nothing can be told any more.
+            raise
+        except KeyboardInterrupt:
+            self.tell("")
+            self.refuse("broken off")
         except Refused as refused:
             self.refuse(_spoken(refused))
-        except SessionEnded as ended:
-            self.refuse(str(ended))
+        except Exception as error:
+            self.refuse(unforeseen(error))
+        if self.desk.has_ended:
             self.begin_again()
-        return False
+        return None
 
     def _command(self, word: str) -> Callable[[list[str]], object]:
         if word in ("exit", "q"):
@@ -176,17 +197,23 @@ class Plan(cmd.Cmd):
         """Says why a line is refused. Nothing has changed."""
         self.refused += 1
         where = "" if self.is_typed else f"dmf-plan: line {self.line_number}: "
-        sys.stderr.write(display(where + why) + "\n")
-        sys.stderr.flush()
+        if sys.stderr:
+            with contextlib.suppress(OSError):
+                sys.stderr.write(display(where + why) + "\n")
+                sys.stderr.flush()
 
     def begin_again(self) -> None:
         """Begins a new session, with the steps that were made."""
+        if self.is_typed:
+            self.tell("a new session begins, with the steps that were made ..")
         try:
             self.desk.begin_again()
-        except Error as error:
-            self.refuse(f"it could not be begun again: {error}")
-        else:
             self.tell(f"begun again, with the steps that were made: {self._value()}")
+        except ToolFault:
+            raise
+        except (Exception, KeyboardInterrupt) as error:
+            why = "broken off" if isinstance(error, KeyboardInterrupt) else unforeseen(error)
+            self.refuse(f"it could not be begun again: {why}; the next command tries once more, and `save FILE.max` keeps what was done")
 
     def tell(self, *lines: str) -> None:
         self.write("".join(f"{line}\n" for line in lines))
@@ -197,14 +224,13 @@ class Plan(cmd.Cmd):
         with _history():
             while True:
                 try:
-                    self.prompt = self._prompt()
+                    self.postcmd(False, "")
                     self.cmdloop()
                     return
                 except KeyboardInterrupt:
                     self.tell("")
-                except SessionEnded as ended:
-                    self.refuse(str(ended))
-                    self.begin_again()
+                except UnicodeDecodeError:
+                    self.refuse("that line is no UTF-8")
 
     def run_script(self, lines: Iterable[str]) -> None:
         """Carries out the lines of a script."""
@@ -219,12 +245,13 @@ class Plan(cmd.Cmd):
 
     def postcmd(self, stop: bool, line: str) -> bool:
         if not stop:
-            self.prompt = self._prompt()
+            self.prompt = str(self._guarded(self._prompt) or f"{self.desk.value}> ")
         return stop
 
     def _prompt(self) -> str:
-        trial = "try, " * self.desk.trials
-        return f"{trial}{self.desk.value}{', greatest' if self.desk.is_greatest else ', not greatest'}> "
+        desk = self.desk
+        state = "ended" if desk.has_ended else "greatest" if desk.is_greatest else "not greatest"
+        return f"{'try, ' * desk.trials}{desk.value}, {state}> "
 
     def _value(self, before: int | None = None) -> str:
         """The present value, and its difference to the one before."""
@@ -440,8 +467,8 @@ class Plan(cmd.Cmd):
 
     def _put(self, path: str, data: bytes) -> None:
         try:
-            with open(path, "wb") as file:
-                file.write(data)
+            # A new file is none that somebody else put there meanwhile, nor a link to one.
+            write_file(path, data, is_new=os.path.realpath(path) not in self._written)
         except (OSError, ValueError) as error:
             why = error.strerror if isinstance(error, OSError) else error
             raise DeskFault(f"cannot write {shown(path)}: {why}") from None

@@ -1,29 +1,24 @@
-"""The program: where it is found, how it runs as a child of this process, and how it ends."""
+"""The program as a child of this process: how it begins, the lines that go to it and come from it, and how it ends."""
 
 from __future__ import annotations
 
 import contextlib
-import functools
 import operator
 import os
 import re
-import shutil
-import signal
 import subprocess
 import tempfile
 import threading
 import weakref
 from collections.abc import Iterator
-from pathlib import Path
 from typing import IO, Optional, Union
 
+from . import executable
 from .errors import Error, HistoryOutOfRange, Refused, SessionEnded, UsedByTwoProcesses, UsedByTwoThreads, shown
 from .text import display
 
 FilePath = Union[str, bytes, "os.PathLike[str]", "os.PathLike[bytes]"]
 Program = Optional[FilePath]
-# Where this package can lie in a repository, and where `./install` puts it, with the place of the program above that.
-PLACES = {("clients", "python", "dmf"): "dmf", ("share", "dmf", "python", "dmf"): "bin/dmf"}
 # The largest number of changes that a session can keep.
 MOST_KEPT = 1_000_000
 # How long the program may take to end after its input has ended, in seconds.
@@ -185,7 +180,7 @@ class Child:
         self.end()
         found = _TOLD.fullmatch(told)
         told = "\n".join(map(display, told.split("\n")))
-        self._why_ended = self._why_broken or f"dmf {_ended(status)}{': ' if told else ''}{told}"
+        self._why_ended = self._why_broken or f"dmf {executable.ended(status)}{': ' if told else ''}{told}"
         if found and (found[1] or found[2] in Refused.kinds):
             refused = Refused.of(display(found[2]), f"line {found[1]} of the problem" if found[1] else "")
             refused.line = int(found[1]) if found[1] else None
@@ -201,17 +196,6 @@ class Child:
             self.process.kill()
             self.process.wait()
             return None
-
-
-def _ended(status: int | None) -> str:
-    if status is None:
-        return "closed its input or its output, and was killed"
-    if status >= 0:
-        return f"ended with status {status}"
-    try:
-        return f"ended by the signal {signal.Signals(-status).name}"
-    except ValueError:
-        return f"ended by the signal {-status}"
 
 
 def _end(process: subprocess.Popen[bytes], told: IO[bytes], owner: int) -> None:
@@ -251,31 +235,21 @@ def session_words(most: int) -> list[str | bytes]:
 
 def start(path: str, program: Program, words: list[str | bytes]) -> Child:
     """A session with these words, on the problem's file, once it has read the problem. Raises a `Refused` if the problem has a fault,
-    `SessionEnded` if the program fails, and an OSError if it is not found."""
-    child = Child([os.fspath(_program() if program is None else program), *words, "--", path])
+    `SessionEnded` if the program fails, and `NoProgram` if there is none that this package can use."""
+    used = executable.program() if program is None else os.fspath(program)
+    try:
+        child = Child([used, *words, "--", path])
+    except OSError as error:
+        # A temporary file may not be had either.
+        if error.filename == used:
+            executable.refuse_unrun(used, error)
+        raise
     child.program = program
-    with child.exchange("undo 0"):
-        if child.line() != [b"c", b"undo", b"value", b"0"]:
-            raise ValueError
+    try:
+        with child.exchange("undo 0"):
+            if child.line() != [b"c", b"undo", b"value", b"0"]:
+                raise ValueError
+    except SessionEnded as error:
+        executable.refuse_unfit(used, error)
+        raise
     return child
-
-
-def _program() -> str:
-    """The program, if the caller names none."""
-    return os.environ.get("DMF") or shutil.which("dmf") or _beside()
-
-
-@functools.cache
-def _beside() -> str:
-    """The program of the repository, or of the install, that this package lies in. In a repository the first call proves and builds
-    it, and reports on standard error how far it is. Raises a FileNotFoundError if there is none, and `SessionEnded` if it cannot be
-    built."""
-    package = Path(__file__).resolve().parent
-    for place, program in PLACES.items():
-        above = Path(*package.parts[: -len(place)])
-        if package.parts[-len(place) :] == place and (above / program).is_file():
-            status = subprocess.run([above / program, "--version"], stdout=subprocess.DEVNULL).returncode
-            if status:
-                raise SessionEnded(f"there is no program: {above / program} {_ended(status)}")
-            return str(above / program)
-    raise FileNotFoundError("there is no program dmf: name it by the argument program, by DMF, or on the PATH")

@@ -14,7 +14,7 @@ from .kept import Kept, Whole, whole
 from .network import Network
 from .numbering import AMOUNTS, NODES
 from .process import Child, FilePath, Program, bound, session_words, start
-from .text import ARC, NODE, names_in, naming_pieces
+from .text import ARC, NODE, names_in, naming_pieces, read_scale
 
 
 def read(path: FilePath, *, program: Program = None, history: int | None = None) -> Network[int | str]:
@@ -57,7 +57,9 @@ def _kept(child: Child, text: bytes, most: int) -> Kept[int | str]:
     names = list(nodes)
     pieces = naming_pieces(text, ARC)
     columns = Columns(nodes, tails, heads, lambda: {**_of(arc_count, names_in(pieces, ARC))})
-    return Kept(columns, capacities, names[source - 1], names[sink - 1], most)
+    kept = Kept(columns, capacities, names[source - 1], names[sink - 1], most)
+    kept.scale = read_scale(text)
+    return kept
 
 
 def _of(count: int, names: dict[int, str]) -> dict[int, str]:

@@ -18,8 +18,8 @@ from typing import TYPE_CHECKING, Any, Generic, Union
 from .arcs import Arc, Node
 from .arrays import package
 from .copies import Answer, Command, Copy, Plain
-from .errors import Error, JobsOutOfRange, UnknownCommand, shown
-from .kept import Kept, Whole, whole
+from .errors import Error, JobsOutOfRange, NotAnArc, UnknownCommand, shown
+from .kept import Kept, Whole, is_unordered, whole
 from .network import Network
 from .process import MOST_KEPT, Program
 
@@ -96,8 +96,15 @@ def each_capacity_raised(by: Whole, arcs: Iterable[Hashable] | None = None) -> C
 
 
 def each_pair_added(pairs: Iterable[tuple[Hashable, Hashable]], capacity: Whole) -> Callable[[Network[Any]], Iterator[Case]]:
-    """For each of these pairs of nodes the case that adds an arc of this capacity from the first to the second."""
-    return lambda network: _Each(lambda pair: [("add", *pair, capacity)], pairs)
+    """For each of these pairs of nodes the case that adds an arc of this capacity from the first to the second. The sweep raises
+    `NotAnArc` for a pair without an order, such as a set."""
+
+    def case(pair: tuple[Hashable, Hashable]) -> Case:
+        if is_unordered(pair):
+            raise NotAnArc(f"not an arc: {shown(pair)}: wanted is (tail, head)")
+        return [("add", *pair, capacity)]
+
+    return lambda network: _Each(case, pairs)
 
 
 def sweep(
@@ -169,6 +176,8 @@ class _Swept(Generic[Node]):
         if callable(case):
             return case
         try:
+            if is_unordered(case):
+                raise TypeError
             return [self._plain_command(command) for command in case]
         except TypeError:
             return UnknownCommand(f"{shown(case)} in a sweep")
@@ -210,7 +219,7 @@ def _results(
                 break
             piece, pending = waiting.popleft()
             yield from map(swept.told, piece, pending())
-    if failed:
+    if failed is not None:
         raise failed
 
 
@@ -341,7 +350,7 @@ class _There(_Tries):
             for first in [first for first in self._first if first.future.done()]:
                 self._first.remove(first)
                 self._send_again(first)
-        if piece.error:
+        if piece.error is not None:
             raise piece.error
         answers: list[Answer]
         answers, seconds = piece.future.result()
@@ -354,7 +363,7 @@ class _There(_Tries):
         """Sends a piece once more, with the network, if its process had that not yet, or died."""
         try:
             error = piece.future.exception()
-            if _is_lost(error) if error else piece.future.result() is None:
+            if _is_lost(error) if error is not None else piece.future.result() is None:
                 self._futures.remove(piece.future)
                 piece.future = self._submit(self._sent, piece.asked)
         except Exception as error:

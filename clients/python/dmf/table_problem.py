@@ -20,6 +20,7 @@ from itertools import islice
 from typing import NamedTuple, Optional
 
 from .tables import LARGEST, Table, TableFault, cleaned, shown, whole_number
+from .text import scale_comment
 
 MOST_NODES = 16_777_216
 MOST_ARCS = 134_217_728
@@ -178,6 +179,11 @@ def check(plan: Plan) -> None:
             known.add(place)
 
 
+def told_scale(scale: Optional[Decimal]) -> str:
+    """The scale as it is told: nothing if it changes no number."""
+    return "" if scale is None or scale == 1 else f"{scale:f}"
+
+
 def problem_text(plan: Plan, scale: Optional[Decimal] = None) -> str:
     """The problem of a plan, with names in comments. Raises a `TableFault`."""
     check(plan)
@@ -192,12 +198,11 @@ def problem_text(plan: Plan, scale: Optional[Decimal] = None) -> str:
         raise TableFault(f"with the arcs at the sources and the sinks {TOO_MUCH}; --source NAME=LIMIT limits one")
     if len(network.node_names) > MOST_NODES or len(network.arcs) > MOST_ARCS:
         raise TableFault(f"more than {MOST_NODES} nodes or {MOST_ARCS} arcs")
-    lines = [f"c capacities are those of the table times {scale}"] if scale is not None else []
-    lines += (f"c node {number} {name}" for number, name in enumerate(network.node_names, 1))
+    lines = [f"c node {number} {name}" for number, name in enumerate(network.node_names, 1)]
     lines += (f"c arc {number} {arc.name}" for number, arc in enumerate(network.arcs, 1) if arc.name)
     lines += [f"p max {len(network.node_names)} {len(network.arcs)}", f"n {source} s", f"n {sink} t"]
     lines += (f"a {tail} {head} {capacity}" for tail, head, capacity, _ in network.arcs)
-    return "\n".join([*lines, ""])
+    return scale_comment(told_scale(scale)) + "\n".join([*lines, ""])
 
 
 def _told(names: Sequence[str]) -> str:
@@ -236,9 +241,12 @@ def warnings(plan: Plan) -> Iterator[str]:
     """What looks like a mistake in a valid plan."""
     yield from _lone_first_row(plan)
     for table in filter(None, (plan.arcs, plan.limits)):
-        if table.respelled:
-            told = [f"{shown(other)} is {shown(name)}" for name, other in table.respelled.items()]
-            yield f"names that differ only in spaces are one place: {', '.join(told[:MOST_TOLD])}"
+        protected = {name: other for name, other in table.respelled.items() if cleaned(other) != name}
+        spaced = {name: other for name, other in table.respelled.items() if name not in protected}
+        for why, respelled in ("spaces", spaced), ("the apostrophe that protects = + - @", protected):
+            if respelled:
+                told = [f"{shown(other)} is {shown(name)}" for name, other in respelled.items()]
+                yield f"names that differ only in {why} are one place: {', '.join(told[:MOST_TOLD])}"
     for names in islice(_look_alike(plan), MOST_TOLD):
         yield f"names that differ only in case, or in what is not seen, are several places: {_told(names)}"
     rows = [record.places for record in plan.arcs.records if record.places[0] != record.places[1]]

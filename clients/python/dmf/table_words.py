@@ -7,7 +7,7 @@ import re
 from decimal import Decimal
 
 from .table_problem import Plan, Terminal, terminal_of, terminals_of
-from .tables import ARCS, LIMITS, Form, Table, TableFault, cleaned, decoded, read_table
+from .tables import ARCS, LIMITS, Form, Reading, Table, TableFault, cleaned, decoded, read_table
 from .tool import read_file, standard_input
 
 COLUMNS = ("tail", "head", "capacity", "name")
@@ -46,6 +46,7 @@ def add_options(parser: argparse._ActionsContainer) -> None:
     add("--sources", metavar="FILE", help="a table of sources and their limits")
     add("--sinks", metavar="FILE", help="a table of sinks and their limits")
     add("--node-limits", metavar="FILE", help="a table of places and the most that may pass through each")
+    add("--raw-names", action="store_true", help="take names in tables as they are, also those with an apostrophe before = + - @")
     add("--encoding", metavar="NAME", type=encoding, help="how the tables are encoded, as in latin-1 (UTF-8)")
 
 
@@ -72,7 +73,12 @@ def parsed(parser: argparse.ArgumentParser, given: list[str], fixed: int = 0) ->
 
 def names_terminals(words: argparse.Namespace) -> bool:
     """Whether the arguments name a source or a sink."""
-    return any((words.source, words.sink, words.sources, words.sinks))
+    return bool(words.source or words.sink) or words.sources is not None or words.sinks is not None
+
+
+def reading_of(words: argparse.Namespace, form: Form) -> Reading:
+    """How the arguments say that a table of this form is read."""
+    return Reading(words.titles if form is ARCS else {}, words.scale, words.raw_names)
 
 
 def read(path: str | None, form: Form, words: argparse.Namespace) -> Table:
@@ -83,7 +89,7 @@ def read(path: str | None, form: Form, words: argparse.Namespace) -> Table:
     except TableFault as fault:
         fault.path = path or ""
         raise
-    return read_table(text, form, path or "", words.titles if form is ARCS else None, words.scale)
+    return read_table(text, form, path or "", reading_of(words, form))
 
 
 def plan_of(words: argparse.Namespace, arcs: Table) -> Plan:
@@ -91,11 +97,11 @@ def plan_of(words: argparse.Namespace, arcs: Table) -> Plan:
     plan = Plan(arcs, [], [], None, words.both_ways)
 
     def terminals(named: list[str], path: str | None) -> list[Terminal]:
-        listed = terminals_of(read(path, LIMITS, words), plan.places) if path else []
+        listed = [] if path is None else terminals_of(read(path, LIMITS, words), plan.places)
         return [terminal_of(word, plan.places, words.scale) for word in named] + listed
 
     plan.sources = terminals(words.source, words.sources)
     plan.sinks = terminals(words.sink, words.sinks)
-    if words.node_limits:
+    if words.node_limits is not None:
         plan.limits = read(words.node_limits, LIMITS, words)
     return plan

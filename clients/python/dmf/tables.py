@@ -18,6 +18,8 @@ from decimal import Decimal, localcontext
 from itertools import islice
 from typing import NamedTuple, Optional
 
+from .spreadsheet import name_in
+
 LARGEST = 2**64 - 1
 LONGEST_NUMBER = len(str(LARGEST))
 # The most characters of a cell. A longer one mostly has a quote that is not closed.
@@ -69,6 +71,17 @@ ARCS = Form(
     ("tail", "head"), "capacity", "name", " (if these are titles, name the columns: --tail, --head and --capacity)"
 )
 LIMITS = Form(("place",), "limit")
+
+
+@dataclass(frozen=True)
+class Reading:
+    """How a table is read. `titles` has the title of each column, by its name in the form. If it is empty, the columns stand in the
+    form's order, and the first row has titles if its amount begins with a letter. With a scale, amounts are decimal numbers, times
+    the scale. `raw_names` says that no apostrophe protects a name."""
+
+    titles: Mapping[str, str] = field(default_factory=dict)
+    scale: Optional[Decimal] = None
+    raw_names: bool = False
 
 
 class Row(NamedTuple):
@@ -212,9 +225,9 @@ def whole_number(text: str, scale: Optional[Decimal] = None) -> int:
     return value
 
 
-def name_of(cell: str) -> str:
+def name_of(cell: str, *, is_raw: bool = False) -> str:
     """The name in a cell. Raises a ValueError if it has a control character, or half a character."""
-    name = cleaned(cell)
+    name = cleaned(name_in(cell.strip(), is_raw=is_raw))
     for letter in name if not name.isprintable() else "":
         if unicodedata.category(letter) in ("Cc", "Cs"):
             raise ValueError(f"has the character U+{ord(letter):04X}, which no name may have")
@@ -243,10 +256,10 @@ def is_heading(cell: str) -> bool:
 class _Reader:
     """Makes records of rows. `width` is the number of columns with titles, if titles are known."""
 
-    def __init__(self, form: Form, columns: dict[str, int], scale: Optional[Decimal], width: Optional[int]) -> None:
+    def __init__(self, form: Form, columns: dict[str, int], reading: Reading, width: Optional[int]) -> None:
         self.form = form
         self.columns = columns
-        self.scale = scale
+        self.reading = reading
         self.width = width
         # The name that each cell of a place writes; for each name the first cell that writes it; and see `Table`.
         self.names: dict[str, str] = {}
@@ -278,7 +291,7 @@ class _Reader:
     def name(self, row: Row, column: str) -> str:
         cell = self.cell(row, column)
         try:
-            return name_of(cell)
+            return name_of(cell, is_raw=self.reading.raw_names)
         except ValueError as fault:
             raise TableFault(f"the {column} {shown(cell)} {fault}", row.line) from None
 
@@ -295,7 +308,7 @@ class _Reader:
     def amount(self, row: Row) -> int:
         cell = self.cell(row, self.form.amount).strip()
         try:
-            return whole_number(cell, self.scale)
+            return whole_number(cell, self.reading.scale)
         except ValueError as fault:
             raise TableFault(f"the {self.form.amount} {shown(cell)} {fault}", row.line) from None
 
@@ -307,25 +320,21 @@ class _Reader:
         return Record(row.line, places, self.amount(row), label)
 
 
-def read_table(
-    text: str, form: Form, path: str = "", titles: Optional[Mapping[str, str]] = None, scale: Optional[Decimal] = None
-) -> Table:
-    """The table in a text. `titles` has the title of each column, by its name in the form. If it is empty, the columns stand in the
-    form's order, and the first row has titles if its amount begins with a letter. With a scale, amounts are decimal numbers, times
-    the scale. Raises a `TableFault` for the first row that is refused, and if there is none."""
+def read_table(text: str, form: Form, path: str, reading: Reading) -> Table:
+    """The table in a text. Raises a `TableFault` for the first row that is refused, and if there is none."""
     table = Table(path, form)
     try:
         rows = rows_of(text, delimiter_of(text, len(form.places) + 1))
         first = next(rows, None)
         if first is None:
             raise TableFault("the table is empty")
-        columns = columns_of(first, form, titles or {})
-        has_titles = bool(titles) or is_heading(_Reader(form, columns, scale, None).cell(first, form.amount))
-        reader = _Reader(form, columns, scale, len(first.cells) if has_titles else None)
+        columns = columns_of(first, form, reading.titles)
+        has_titles = bool(reading.titles) or is_heading(_Reader(form, columns, reading, None).cell(first, form.amount))
+        reader = _Reader(form, columns, reading, len(first.cells) if has_titles else None)
         if not has_titles:
             table.begins_bare = True
             table.records.append(_first_record(reader, first))
-        elif not titles:
+        elif not reading.titles:
             table.heading = first
         table.records += map(reader.record, rows)
     except TableFault as fault:

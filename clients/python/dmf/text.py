@@ -31,6 +31,9 @@ _NAMED = {
     kind: re.compile(rf"^[ \t]*c[ \t]+{kind}[ \t]+0*([0-9]{{1,19}})[ \t]+([^ \t\n](?:[^\n]*[^ \t\n])?)", re.MULTILINE)
     for kind in (NODE, ARC)
 }
+# A comment that tells the scale of all numbers of a problem.
+SCALE_WORDS = "c capacities are those of the table times"
+_SCALE = re.compile(rf"[ \t]*{SCALE_WORDS} ([0-9]+(?:\.[0-9]+)?)[ \t]*\r?(?:\n|\Z)".encode())
 # The size of the pieces that are searched for names, in bytes.
 PIECE = 1 << 16
 # Control characters of a terminal, ends of lines, and marks that turn the direction in which text is shown; halves of characters.
@@ -63,7 +66,8 @@ class TextFault(Fault):
 @dataclass
 class Problem:
     """A problem as its text has it. Arc number j is `arcs[j - 1]`: its tail, its head and its capacity. Nodes are counted from 1
-    too. A node or an arc that no comment names is not in the names, nor is a name of one that is not there."""
+    too. A node or an arc that no comment names is not in the names, nor is a name of one that is not there. `scale` is what the
+    numbers of a table were multiplied by, and nothing if the text does not tell it."""
 
     node_count: int
     source: int
@@ -71,6 +75,7 @@ class Problem:
     arcs: list[tuple[int, int, int]]
     node_names: dict[int, str] = field(default_factory=dict)
     arc_names: dict[int, str] = field(default_factory=dict)
+    scale: str = ""
 
 
 class Naming(NamedTuple):
@@ -119,6 +124,33 @@ def display(name: str) -> str:
 def _escaped(found: re.Match[str]) -> str:
     code = ord(found[0])
     return f"\\x{code:02x}" if code < 256 else f"\\u{code:04x}"
+
+
+def scale_comment(scale: str) -> str:
+    """The comment that tells the scale of a problem; nothing without one."""
+    return f"{SCALE_WORDS} {scale}\n" if scale else ""
+
+
+def read_scale(text: bytes) -> str:
+    """What the numbers of a table were multiplied by, as a comment of its problem tells it; nothing without that comment."""
+    # To look for these words is many times as fast as to look for the pattern.
+    at = text.find(SCALE_WORDS.encode())
+    while at >= 0:
+        found = _SCALE.match(text, text.rfind(b"\n", 0, at) + 1)
+        if found:
+            return found[1].decode()
+        at = text.find(SCALE_WORDS.encode(), at + 1)
+    return ""
+
+
+def scaled(title: str, scale: str) -> str:
+    """The title of numbers under a scale."""
+    return f"{title} (times {scale})" if scale else title
+
+
+def scale_note(scale: str) -> str:
+    """What is told beside numbers under a scale."""
+    return f"all numbers are those of the table times {scale}"
 
 
 def namings(text: bytes) -> Iterator[Naming]:
@@ -183,6 +215,7 @@ def read_problem(text: bytes) -> Problem:
     except Fault as fault:
         raise TextFault(line, fault.reason, fault.field) from None
     node_names, arc_names = read_names(text)
+    problem.scale = read_scale(text)
     problem.node_names = {number: name for number, name in node_names.items() if 1 <= number <= problem.node_count}
     problem.arc_names = {number: name for number, name in arc_names.items() if 1 <= number <= len(problem.arcs)}
     return problem

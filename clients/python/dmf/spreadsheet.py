@@ -1,0 +1,85 @@
+"""Tables of comma-separated values for spreadsheets: how names stand in their cells, and the table of the arcs of a plan.
+
+A spreadsheet runs a cell that begins with one of = + - @, a tab or an end of a line as a formula. So a name stands there with an
+apostrophe before it if such a character is its first, or the first after apostrophes. A reader takes one apostrophe off where one or
+more stand before such a character. So each name comes back as it was: `=a` is written `'=a`, `'=a` is written `''=a`, and `'a` stays.
+Only names are written and read in this way, so numbers stay numbers.
+"""
+
+from __future__ import annotations
+
+import csv
+import re
+from collections.abc import Iterable, Sequence
+from typing import NamedTuple
+
+from .text import scaled
+
+# The last four are the wide forms of the first four.
+DANGEROUS = "=+\\-@\t\r\n\uff1d\uff0b\uff0d\uff20"
+_TO_PROTECT = re.compile(f"'*[{DANGEROUS}]")
+_PROTECTED = re.compile(f"'+[{DANGEROUS}]")
+
+
+def cell_of(name: str, *, is_raw: bool = False) -> str:
+    """The cell of a name, which is the name itself if it is to be raw."""
+    return f"'{name}" if not is_raw and _TO_PROTECT.match(name) else name
+
+
+def name_in(cell: str, *, is_raw: bool = False) -> str:
+    """The name in a cell."""
+    return cell[1:] if not is_raw and _PROTECTED.match(cell) else cell
+
+
+class _Lines:
+    """Takes the lines that a writer of the module `csv` makes, each at once."""
+
+    END = "\r\n"
+
+    def __init__(self) -> None:
+        self.lines: list[str] = []
+
+    def write(self, text: str) -> None:
+        self.lines.append(text.removesuffix(self.END) + "\n")
+
+
+def lines(rows: Iterable[Sequence[object]]) -> str:
+    """The lines of a table with these cells."""
+    written = _Lines()
+    # With this end of a line, a carriage return in a name is quoted; without quotes it would be read as the end of a line.
+    csv.writer(written, lineterminator=_Lines.END).writerows(rows)
+    return "".join(written.lines)
+
+
+def line(cells: Sequence[object]) -> str:
+    """A line of a table."""
+    return lines([cells])
+
+
+class ArcRow(NamedTuple):
+    """An arc of a plan: its number, its name, which may be empty, its ends, its flow, its capacity, and whether it is in the cut,
+    which is None if that is not known."""
+
+    number: int
+    name: str
+    tail: str
+    head: str
+    flow: int
+    capacity: int
+    is_in_cut: bool | None
+
+
+def plan_table(rows: Iterable[ArcRow], scale: str, *, raw_names: bool) -> str:
+    """The table of a plan, whose titles tell its scale. `raw_names` says that names stand in it as they are."""
+
+    def cells(row: ArcRow) -> list[object]:
+        names = [cell_of(name, is_raw=raw_names) for name in (row.name, row.tail, row.head)]
+        in_cut = "" if row.is_in_cut is None else _yes(row.is_in_cut)
+        return [row.number, *names, row.flow, row.capacity, _yes(row.flow == row.capacity), in_cut]
+
+    titles = ["number", "name", "from", "to", scaled("flow", scale), scaled("capacity", scale), "full", "in cut"]
+    return lines([titles]) + lines(map(cells, rows))
+
+
+def _yes(is_so: bool) -> str:
+    return "yes" if is_so else "no"

@@ -1,0 +1,122 @@
+"""Checks what the must-fail edits of must-fail/ and more-must-fail/ say, and how tools/all_edits.py counts them:
+
+- for each clause of a call that callers have, the gate tries an edit that breaks it, unless none can (tools/list_edits.py);
+- each edit can be made: each text that it replaces stands in its file exactly once;
+- tools/all_edits.py tries the edits of both folders, and one passes only if the prover refuses it at a goal."""
+
+from __future__ import annotations
+
+import os
+import re
+import shutil
+import subprocess
+import sys
+from collections.abc import Iterator
+from pathlib import Path
+
+from conftest import ROOT
+
+PARTS = "must-fail", "more-must-fail"
+EDITS = sorted(edit for part in PARTS for edit in ROOT.glob(f"crates/*/{part}/*"))
+# A stand-in for `rt` that says of the edits of two crates what it says of edits.
+RT = """#!/bin/sh
+test "$1" = must-fail || exit 3
+case $2 in
+high) echo 'rt: must-fail high/a.edit: refused, as it must be: ./proofs/A.antt:1:1: error: `returns`'
+    echo 'rt: must-fail high/b.edit: refused, as it must be (only because a proof file names what the edit took away, so this says little)'
+    echo 'rt: must-fail high/c.edit: NOT REFUSED: the crate is still proved with this edit' ;;
+low) ls crates/low/must-fail >&2
+    echo 'rt: must-fail low/a.edit: refused, as it must be'
+    echo 'rt: must-fail low/b.edit: BAD EDIT: there is no file src/b.rt' ;;
+esac
+"""
+
+
+def listed(root: Path) -> subprocess.CompletedProcess[str]:
+    return subprocess.run([sys.executable, root / "tools/list_edits.py"], capture_output=True, text=True)
+
+
+def table(root: Path) -> list[list[str]]:
+    """The call, the clause and the edits of each row."""
+    ran = listed(root)
+    assert ran.returncode == 0, ran.stderr
+    return [[cell.strip(" `") for cell in row[1:-1].split("|")] for row in ran.stdout.splitlines()[2:]]
+
+
+def without_edit(root: Path) -> list[str]:
+    """The clauses for which the gate tries no edit, though one may break them."""
+    return [f"{call} {clause}".strip() for call, clause, edits in table(root) if edits.endswith("MISSING")]
+
+
+def test_each_clause_has_an_edit() -> None:
+    rows = {(call, clause) for call, clause, _ in table(ROOT)}
+    known = {("State::push_arc", "err"), ("plan_cap", "takes_off"), ("Session::step_watched", "told"), ("History::redo", "memory")}
+    assert known | {("run_session", ""), ("read_problem", ""), ("Sink::put", "some")} <= rows
+    assert not without_edit(ROOT)
+    assert all(edits for _, _, edits in table(ROOT))
+
+
+def test_a_clause_without_an_edit_is_told(tmp_path: Path) -> None:
+    (tmp_path / "tools").mkdir()
+    shutil.copy(ROOT / "tools/list_edits.py", tmp_path / "tools")
+    shutil.copytree(ROOT / "crates", tmp_path / "crates", ignore=shutil.ignore_patterns("out", "proofs", "specs"))
+    (edit,) = (tmp_path / "crates/dmf_solving/must-fail").glob("verdict_of-*.edit")
+    more = edit.parents[1] / "more-must-fail" / edit.name
+    more.parent.mkdir(exist_ok=True)
+    edit.rename(more)
+    assert without_edit(tmp_path) == ["run_check"]
+    more.write_text(more.read_text().replace("covers: run_check", "covers: run_check (told)"))
+    assert f"{more.stem} covers run_check (told), and callers have no such clause" in listed(tmp_path).stderr
+
+
+def unmade(edit: Path) -> Iterator[str]:
+    """Why an edit cannot be made: it replaces one text after the other, each in what those before it have left."""
+    said, file, old = edit.read_text(), edit, ""
+    texts: dict[Path, str] = {}
+    if edit.suffix != ".edit" or not re.match("# .*\\n(covers: .*\\n)*(# .*\\n)*file: .*\\nold: .*\\nnew:", said):
+        yield f"{edit}: not of the form of an edit"
+    for kind, value in re.findall("^(file|old|new): ?(.*)$", said, re.MULTILINE):
+        if kind == "file":
+            file = edit.parents[1] / value
+        elif kind == "old":
+            old = value
+            texts.setdefault(file, file.read_text())
+            if texts[file].count(old) != 1:
+                yield f"{edit}: this stands {texts[file].count(old)} times in its file: {old}"
+        else:
+            texts[file] = texts[file].replace(old, value)
+
+
+def test_each_edit_can_be_made() -> None:
+    assert len(EDITS) > 200
+    assert not [fault for edit in EDITS for fault in unmade(edit)]
+
+
+def test_names_are_of_one_folder() -> None:
+    names = [(edit.parents[1], edit.name) for edit in EDITS]
+    assert len({*names}) == len(names)
+
+
+def test_all_edits(tmp_path: Path) -> None:
+    """A checkout of two crates: each edit is tried, and of five one in each crate passes."""
+    for edit in ("high/must-fail/a", "high/must-fail/b", "high/more-must-fail/c", "low/must-fail/a", "low/more-must-fail/b"):
+        path = tmp_path / "root/crates" / f"{edit}.edit"
+        path.parent.mkdir(parents=True, exist_ok=True)
+        path.write_text("an edit\n")
+    for name, said in (("root/dmf", "#!/bin/sh\n"), ("bin/rt", RT)):
+        (tmp_path / name).parent.mkdir(exist_ok=True)
+        (tmp_path / name).write_text(said)
+        (tmp_path / name).chmod(0o755)
+    (tmp_path / "root/tools").mkdir()
+    shutil.copy(ROOT / "tools/all_edits.py", tmp_path / "root/tools")
+    subprocess.run(["git", "init", "-q", tmp_path / "root"], check=True)
+    environment = {**os.environ, "PATH": f"{tmp_path / 'bin'}:{os.environ['PATH']}"}
+    tool = [sys.executable, str(tmp_path / "root/tools/all_edits.py")]
+    ran = subprocess.run(tool, env=environment, capture_output=True, text=True)
+    assert (ran.returncode, ran.stdout.splitlines()[-1]) == (1, "2 passed, 3 failed"), ran.stderr
+    assert re.search(r"^a\.edit\nb\.edit$", ran.stdout, re.MULTILINE)
+    told = re.findall(r"^all_edits\.py: (\S+) is not refused at a goal$", ran.stdout, re.MULTILINE)
+    assert sorted(told) == ["high/b.edit", "high/c.edit", "low/b.edit"]
+    alone = subprocess.run([*tool, "low"], env=environment, capture_output=True, text=True)
+    assert alone.stdout.splitlines()[-1] == "1 passed, 1 failed"
+    assert subprocess.run([*tool, "middle"], env=environment, capture_output=True).returncode == 1

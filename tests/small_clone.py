@@ -1,0 +1,96 @@
+"""A folder with ./dmf, the other scripts of the gate, some small crates, and a PATH of few tools. There a stand-in for rt makes a program
+that writes its words, from which `tools/prebuilt renew` fills prebuilt/."""
+
+from __future__ import annotations
+
+import os
+import shutil
+import subprocess
+from pathlib import Path
+from typing import NamedTuple
+
+from conftest import ROOT
+
+SECONDS = 60
+PACKED, FACTS = "prebuilt/dmf-x86_64-linux.gz", "prebuilt/dmf-x86_64-linux.txt"
+# What a system has that has no toolchain, no Python and no compiler.
+FEW = ["sh", "awk", "cat", "chmod", "cmp", "cut", "dirname", "find", "gzip", "head", "id", "mkdir", "mktemp", "mv", "readlink", "rm"]
+FEW += ["sed", "sha256sum", "sort", "uname"]
+# A rt that makes the program $MADE of the crate dmf, and that writes $SAID at the end of `rt ci`.
+STAND_IN = r"""#!/bin/sh
+case $1 in
+version) echo "a kit of the test" ;;
+ci) rm -rf crates/*/out && mkdir crates/dmf/out && cp "$MADE" crates/dmf/out/dmf && echo "$SAID" ;;
+run) mkdir -p out/rlib && cp "$MADE" out/dmf ;;
+*) mkdir -p out/rlib ;;
+esac
+"""
+PROGRAM = "#!/bin/sh\necho ran {} \"$@\"\n"
+
+
+class Ended(NamedTuple):
+    """How a call of ./dmf ended."""
+
+    status: int
+    out: str
+    err: str
+
+
+class Clone:
+    """A folder with the scripts, three crates of which one is of tests, and a PATH of few tools."""
+
+    def __init__(self, root: Path) -> None:
+        self.root, self.bin, self.home = root / "clone", root / "bin", root / "home"
+        self.rt, self.made = root / "toolchain" / "rt", root / "made"
+        for crate in "low", "dmf", "test_low":
+            (self.root / "crates" / crate / "src").mkdir(parents=True)
+            (self.root / "crates" / crate / "src" / "lib.rt").write_text(f"// {crate}\n")
+        for folder in self.bin, self.home, self.rt.parent, self.root / "tools", self.root / ".ci":
+            folder.mkdir()
+        for script in "dmf", "prove", ".ci/run", "tools/build.py", "tools/prebuilt", "tools/count.sh", "tools/packages.sh":
+            shutil.copy(ROOT / script, self.root / script)
+        (self.root / "crates.txt").write_text("# Crates.\nlow:\ndmf: low # and no other\ntest_low: low\n")
+        for tool in FEW:
+            (self.bin / tool).symlink_to(shutil.which(tool) or tool)
+        self.rt.write_text(STAND_IN)
+        self.rt.chmod(0o755)
+
+    def renew(self, program: str = PROGRAM.format("the first")) -> None:
+        """Fills prebuilt/ with this program, which is then built no more."""
+        self.made.write_text(program)
+        self.made.chmod(0o755)
+        ran = subprocess.run(
+            [self.root / "tools" / "prebuilt", "renew"], env=self.with_toolchain(), capture_output=True, text=True, timeout=SECONDS
+        )
+        assert ran.returncode == 0, ran.stdout + ran.stderr
+        self.forget()
+
+    def with_toolchain(self, **more: str) -> dict[str, str]:
+        return {**os.environ, "PATH": f"{self.rt.parent}:{os.environ['PATH']}", "MADE": str(self.made), **more}
+
+    def forget(self) -> None:
+        """Removes what was built."""
+        for out in self.root.glob("crates/*/out"):
+            shutil.rmtree(out)
+
+    def words(self, *words: str, by: tuple[str, ...] = ()) -> list[str]:
+        return [*by, str(self.root / "dmf"), *words]
+
+    def environment(self) -> dict[str, str]:
+        return {"PATH": str(self.bin), "HOME": str(self.home)}
+
+    def call(self, *words: str, by: tuple[str, ...] = (), environment: dict[str, str] | None = None) -> Ended:
+        """Calls ./dmf where there is no toolchain, no Python and no compiler."""
+        command, environment = self.words(*words, by=by), {**self.environment(), **(environment or {})}
+        ran = subprocess.run(command, env=environment, stdin=subprocess.DEVNULL, capture_output=True, text=True, timeout=SECONDS)
+        return Ended(ran.returncode, ran.stdout, ran.stderr)
+
+    def check(self, *words: str) -> tuple[int, str]:
+        """What `tools/prebuilt check` says."""
+        ran = subprocess.run([self.root / "tools" / "prebuilt", "check", *words], capture_output=True, text=True, timeout=SECONDS)
+        assert ran.stderr == ""
+        return ran.returncode, ran.stdout
+
+    def left(self) -> list[str]:
+        """The files that were made for the program."""
+        return sorted(path.name for path in (self.root / "crates/dmf/out").glob("*"))

@@ -1,0 +1,89 @@
+"""Tests how the gate counts: .ci/run and ./prove in a small clone, and what a skipped test is with CI=true."""
+
+from __future__ import annotations
+
+import os
+import subprocess
+import sys
+from pathlib import Path
+
+import pytest
+from conftest import ROOT
+from small_clone import SECONDS, Clone
+
+SAID = "2 passed, 0 failed"
+SKIPPING = "import pytest\n\n\ndef test_one() -> None:\n    pytest.skip('no tool')\n\n\ndef test_two() -> None:\n    pass\n"
+
+
+@pytest.fixture
+def clone(tmp_path: Path) -> Clone:
+    """A clone whose ./test and tools/all_edits.py write $TEST and $EDITS, and that has one mutant."""
+    clone = Clone(tmp_path)
+    clone.renew()
+    (clone.root / "test").write_text("#!/bin/sh\necho \"$TEST\"\n")
+    (clone.root / "test").chmod(0o755)
+    (clone.root / "tests/mutants").mkdir(parents=True)
+    (clone.root / "tests/mutants/test_main.py").write_text("def test_one() -> None:\n    pass\n")
+    (clone.root / "tests/conftest.py").write_text("def pytest_unconfigure() -> None:\n    print('1 passed, 0 failed')\n")
+    (clone.root / "tools/all_edits.py").write_text("import os\nprint(os.environ['EDITS'])\n")
+    return clone
+
+
+def ended(clone: Clone, *words: str, said: str = SAID, test: str = SAID) -> tuple[int, list[str]]:
+    """The status of a command, and the last lines that it writes."""
+    environment = clone.with_toolchain(SAID=said, TEST=test, EDITS="7 passed, 0 failed")
+    ran = subprocess.run([*words], cwd=clone.root, env=environment, capture_output=True, text=True, timeout=SECONDS)
+    return ran.returncode, (ran.stdout + ran.stderr).splitlines()
+
+
+def test_all_well(clone: Clone) -> None:
+    """Tests, proofs, a mutant, and two comparisons: that prebuilt/ is of these sources, and what they make."""
+    status, lines = ended(clone, ".ci/run")
+    assert (status, lines[-1], lines.count(SAID)) == (0, "7 passed, 0 failed", 2)
+
+
+def test_all_edits(clone: Clone) -> None:
+    status, lines = ended(clone, "./prove")
+    assert (status, lines[1], lines[-1]) == (0, SAID, "4 passed, 0 failed")
+    assert ended(clone, "./prove", "--all-edits")[1][-1] == "11 passed, 0 failed"
+    assert ended(clone, "./prove", "--edits") == (2, ["Usage: prove [--all-edits]"])
+
+
+@pytest.mark.parametrize("said", ["1 passed, 1 failed", "no line", ""])
+def test_failures(clone: Clone, said: str) -> None:
+    """A part that tells a failure, or that tells nothing."""
+    missing = said != "1 passed, 1 failed"
+    assert ended(clone, ".ci/run", said=said)[1][-1] == f"{5 + (not missing)} passed, 1 failed"
+    status, lines = ended(clone, ".ci/run", test=said)
+    assert (status, lines[-1]) == (1, f"{5 + (not missing)} passed, 1 failed")
+
+
+def test_other_sources(clone: Clone) -> None:
+    """A source that was changed, and prebuilt/ not renewed: the gate ends at once, and says what makes it anew."""
+    (clone.root / "crates/low/src/lib.rt").write_text("// Changed.\n")
+    assert ended(clone, ".ci/run") == (1, ["prebuilt/ is of other sources: `tools/prebuilt renew` makes it anew", "0 passed, 1 failed"])
+
+
+def test_another_executable(clone: Clone) -> None:
+    """Sources that make another executable than the one of prebuilt/, by one byte."""
+    clone.made.write_text(clone.made.read_text() + "\n")
+    status, lines = ended(clone, ".ci/run")
+    said = "prebuilt/ has another executable than crates/dmf/out/dmf: `tools/prebuilt renew` makes it anew"
+    assert (status, lines[-1], said in lines) == (1, "6 passed, 1 failed", True)
+
+
+def skipping(tmp_path: Path, **environment: str) -> tuple[int, str]:
+    """How pytest ends on a test that is skipped and one that passes."""
+    (tmp_path / "test_skipping.py").write_text(SKIPPING)
+    path = os.pathsep.join(str(ROOT / folder) for folder in ("tests", "tests/cases", "clients/python"))
+    words = [sys.executable, "-m", "pytest", "-p", "no:xdist", "-p", "conftest", "-c", str(ROOT / "setup.cfg"), str(tmp_path)]
+    plain = {name: value for name, value in os.environ.items() if not name.startswith("PYTEST_") and name != "CI"}
+    ran = subprocess.run(words, env={**plain, "PYTHONPATH": path, **environment}, capture_output=True, text=True, timeout=SECONDS)
+    (line,) = [line for line in ran.stdout.splitlines() if " passed, " in line and " failed" in line]
+    assert "skipped: no tool" in ran.stdout
+    return ran.returncode, line
+
+
+def test_skipped(tmp_path: Path) -> None:
+    assert skipping(tmp_path) == (0, "1 passed, 0 failed")
+    assert skipping(tmp_path, CI="true") == (1, "1 passed, 1 failed")

@@ -1,0 +1,124 @@
+"""Ctrl-C at each end of a tool: while it imports its modules, while it writes the last of its output, and while its programs end. It
+ends by the signal or with 130, and without a word."""
+
+from __future__ import annotations
+
+import os
+import signal
+import subprocess
+import sys
+import time
+from pathlib import Path
+
+import pytest
+from built import heed_interrupts
+from client_shared import BUILT, ROOT
+from tool_runs import wait_until_asleep
+
+SECONDS = 60
+PROBLEM = "p max 2 1\nn 1 s\nn 2 t\na 1 2 3\n"
+TOOLS = {
+    "dmf-names": ["net.max"],
+    "dmf-problem": ["a", "b"],
+    "dmf-dot": ["net.max"],
+    "dmf-sweep": ["net.max", "--close-each"],
+}
+# A module that is slow to import, and says when that begins.
+SLOW = "import sys, time\nsys.stderr.write('importing\\n')\nsys.stderr.flush()\ntime.sleep(60)\n"
+
+
+def begun(tool: str, words: list[str], **environment: str) -> subprocess.Popen[bytes]:
+    pipe = subprocess.PIPE
+    return subprocess.Popen(
+        [sys.executable, f"{ROOT}/tools/{tool}", *words], stdin=pipe, stdout=pipe, stderr=pipe, preexec_fn=heed_interrupts,
+        env={**os.environ, **environment},
+    )  # fmt: skip
+
+
+@pytest.fixture(autouse=True)
+def folder(tmp_path: Path, monkeypatch: pytest.MonkeyPatch) -> Path:
+    monkeypatch.chdir(tmp_path)
+    (tmp_path / "net.max").write_text(PROBLEM)
+    return tmp_path
+
+
+@pytest.mark.parametrize("tool", TOOLS)
+@pytest.mark.parametrize("module", ["enum", "argparse", "difflib"])
+def test_while_modules_are_imported(tmp_path: Path, tool: str, module: str) -> None:
+    """From the first module on, which `argparse` imports, up to one that the package of a tool imports."""
+    if module == "difflib" and tool != "dmf-problem":
+        module = {"dmf-names": "csv", "dmf-dot": "dataclasses", "dmf-sweep": "csv"}[tool]
+    (tmp_path / "slow").mkdir()
+    (tmp_path / "slow" / f"{module}.py").write_text(SLOW)
+    with begun(tool, TOOLS[tool], PYTHONPATH=str(tmp_path / "slow")) as process:
+        assert process.stderr
+        assert process.stderr.readline() == b"importing\n"
+        wait_until_asleep(process.pid)
+        process.send_signal(signal.SIGINT)
+        out, err = process.communicate(timeout=SECONDS)
+    assert (process.returncode, out, err) == (-signal.SIGINT, b"", b"")
+
+
+@pytest.mark.parametrize("tool", TOOLS)
+def test_while_the_last_is_written(tool: str) -> None:
+    """Into a pipe that nobody reads."""
+    arcs = 20_000
+    lines = "".join(f"a 1 2 {arc}\n" for arc in range(arcs))
+    Path("net.max").write_text(f"p max 2 {arcs}\nn 1 s\nn 2 t\n{lines}")
+    Path("cases").write_text("close 1\n" * 4000)
+    words = {"dmf-names": ["net.max", "--csv"], "dmf-dot": ["net.max", "--most", "20000"], "dmf-sweep": ["net.max", "--cases", "cases", "--top", "4000"]}
+    given = {
+        "dmf-names": f"s {sum(range(arcs))}\n" + lines.replace("a ", "f "),
+        "dmf-problem": "".join(f"a,b,{arc}\n" for arc in range(arcs)),
+    }
+    with begun(tool, words.get(tool, TOOLS[tool])) as process:
+        assert process.stdin and process.stdout
+        process.stdin.write(given.get(tool, "").encode())
+        process.stdin.close()
+        process.stdin = None
+        # The tool writes as much as the pipe takes, and waits then.
+        assert process.stdout.read(1)
+        time.sleep(0.2)
+        wait_until_asleep(process.pid)
+        process.send_signal(signal.SIGINT)
+        _, err = process.communicate(timeout=SECONDS)
+    assert (process.returncode, err) == (130, b"")
+
+
+@pytest.mark.parametrize("count", [1, 2])
+def test_while_programs_end(tmp_path: Path, count: int) -> None:
+    """dmf-sweep waits for its programs; a second Ctrl-C waits for nothing."""
+    program = tmp_path / "slow"
+    program.write_text(f'#!/bin/sh\n"{BUILT}" "$@"\ntouch "$0.$$"\nexec sleep 30\n')
+    program.chmod(0o700)
+    with begun("dmf-sweep", ["net.max", "--close-each", "--jobs", "1"], DMF=str(program)) as process:
+        deadline = time.monotonic() + SECONDS
+        while not [*tmp_path.glob("slow.*")] and time.monotonic() < deadline:
+            time.sleep(0.01)
+        for _ in range(count):
+            time.sleep(0.1)
+            process.send_signal(signal.SIGINT)
+        began = time.monotonic()
+        out, err = process.communicate(timeout=SECONDS)
+        assert (process.returncode, err) == (130, b"")
+        assert time.monotonic() - began < 20
+    assert out.startswith(b"case,commands,")
+    for path in tmp_path.glob("slow.*"):
+        with_end = int(path.suffix[1:])
+        try:
+            os.kill(with_end, signal.SIGKILL)
+        except ProcessLookupError:
+            pass
+
+
+def test_an_interrupt_that_is_ignored() -> None:
+    """A tool that a script runs in the background goes on."""
+    command = [sys.executable, f"{ROOT}/tools/dmf-sweep", "net.max", "--close-each", "--jobs", "1", "--cases", "cases"]
+    command.remove("--close-each")
+    Path("cases").write_text("close 1\n" * 3000)
+    with subprocess.Popen(command, stdout=subprocess.PIPE, preexec_fn=lambda: signal.signal(signal.SIGINT, signal.SIG_IGN)) as process:
+        assert process.stdout
+        first = process.stdout.readline()
+        process.send_signal(signal.SIGINT)
+        rest = process.communicate(timeout=SECONDS)[0]
+    assert (process.returncode, (first + rest).count(b"\n")) == (0, 3001)

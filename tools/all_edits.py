@@ -1,0 +1,118 @@
+#!/usr/bin/env python3
+"""Tries all must-fail edits, also those that the gate leaves out: crates/*/more-must-fail/ beside crates/*/must-fail/.
+
+    python3 tools/all_edits.py [CRATE..]
+
+In a copy of the checkout, `rt must-fail` tries the edits of each crate that has more than the gate tries, or of the crates that are
+named. Several crates are tried side by side, as many as processors and memory allow. What was said of an edit is printed once its crate
+is done. The last line is 'N passed, M failed', and the status is 0 only if nothing failed.
+
+An edit passes if the prover refuses it at a goal. It fails if the prover takes it or cannot read it, if it cannot be made, or if it is
+refused only because a proof names what it took away.
+"""
+
+from __future__ import annotations
+
+import argparse
+import os
+import re
+import shutil
+import subprocess
+import sys
+import tempfile
+from collections.abc import Iterator
+from concurrent.futures import ThreadPoolExecutor, as_completed
+from pathlib import Path
+
+ROOT = Path(__file__).resolve().parents[1]
+KEPT, MORE = "must-fail", "more-must-fail"
+# The most memory that the check of an edit takes, in GiB.
+MEMORY = 3.5
+# What `rt must-fail` says of an edit that the prover refuses, and more if that says little of the contract.
+REFUSED = re.compile(r"^rt: must-fail (\S+): refused, as it must be(?! \(only because)", re.MULTILINE)
+
+
+def edits_of(crate: Path) -> list[Path]:
+    """The edits of a crate, those that the gate tries first."""
+    return [edit for part in (KEPT, MORE) for edit in sorted((crate / part).glob("*.edit"))]
+
+
+def crates_with_more() -> list[str]:
+    """The crates that have edits that the gate leaves out, the one with the most edits first."""
+    crates = {folder.parent for folder in ROOT.glob(f"crates/*/{MORE}")}
+    return [crate.name for crate in sorted(crates, key=lambda crate: (-len(edits_of(crate)), crate.name))]
+
+
+def copy_checkout(to: Path) -> None:
+    """Copies the files of the checkout, new ones too, and the libraries that are built, and puts all edits of a crate side by side."""
+    listed = ["git", "ls-files", "-z", "--cached", "--others", "--exclude-standard"]
+    names = subprocess.run(listed, cwd=ROOT, capture_output=True, text=True, check=True).stdout.split("\0")
+    for name in {*filter(None, names)}:
+        # A file that is removed and still tracked is not there.
+        if (ROOT / name).is_file():
+            place = to / name.replace(f"/{MORE}/", f"/{KEPT}/")
+            if place.exists():
+                raise SystemExit(f"all_edits.py: {name} stands in {KEPT}/ too")
+            place.parent.mkdir(parents=True, exist_ok=True)
+            shutil.copy2(ROOT / name, place)
+    for library in ROOT.glob("crates/*/out/rlib"):
+        shutil.copytree(library, to / library.relative_to(ROOT))
+
+
+def at_once() -> int:
+    """How many crates may be tried side by side."""
+    memory = os.sysconf("SC_PAGE_SIZE") * os.sysconf("SC_PHYS_PAGES") / 2**30
+    return max(1, min(len(os.sched_getaffinity(0)), int(memory / MEMORY)))
+
+
+def tried(crate: str, root: Path) -> str:
+    """What `rt must-fail` says of the crate's edits."""
+    ran = subprocess.run(
+        ["rt", "must-fail", crate], cwd=root, stdin=subprocess.DEVNULL, stdout=subprocess.PIPE, stderr=subprocess.STDOUT, text=True
+    )
+    return ran.stdout
+
+
+def not_refused(crate: str, said: str, edits: list[str]) -> Iterator[str]:
+    """The edits of a crate that are not refused at a goal, by what `rt` said of them."""
+    refused = REFUSED.findall(said)
+    return (f"{crate}/{edit}" for edit in edits if f"{crate}/{edit}" not in refused)
+
+
+def try_all(crates: list[str]) -> int:
+    """Tries the edits of these crates, and returns the status."""
+    passed = 0
+    failed: list[str] = []
+    with tempfile.TemporaryDirectory(prefix="dmf-edits-") as room, ThreadPoolExecutor(at_once()) as pool:
+        root = Path(room)
+        copy_checkout(root)
+        runs = {pool.submit(tried, crate, root): crate for crate in crates}
+        for run in as_completed(runs):
+            crate, said = runs[run], run.result()
+            print(said, end="" if said.endswith("\n") or not said else "\n", flush=True)
+            edits = [edit.name for edit in edits_of(ROOT / "crates" / crate)]
+            lost = [*not_refused(crate, said, edits)]
+            passed, failed = passed + len(edits) - len(lost), failed + lost
+    for edit in failed:
+        print(f"all_edits.py: {edit} is not refused at a goal")
+    print(f"{passed} passed, {len(failed)} failed")
+    return 1 if failed else 0
+
+
+def main() -> int:
+    parser = argparse.ArgumentParser(description=(__doc__ or "").splitlines()[0])
+    parser.add_argument("crates", nargs="*", metavar="CRATE", help="a crate with must-fail edits; all that have more where none is named")
+    crates = parser.parse_args().crates or crates_with_more()
+    for crate in crates:
+        if not edits_of(ROOT / "crates" / crate):
+            sys.exit(f"all_edits.py: no crate {crate} has must-fail edits")
+    # The copy takes the libraries that this builds; otherwise two crates might build one library at the same time.
+    if subprocess.run([ROOT / "dmf", "--version"], stdin=subprocess.DEVNULL, stdout=subprocess.DEVNULL).returncode:
+        print("all_edits.py: the program is not built, so no edit was tried")
+        print("0 passed, 1 failed")
+        return 1
+    return try_all(crates)
+
+
+if __name__ == "__main__":
+    sys.exit(main())
