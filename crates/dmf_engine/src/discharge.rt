@@ -61,13 +61,13 @@ impl Engine {
     /// The first place from the current arc on whose link is admissible, or the end.
     #[inline(always)]
     fn admissible(&self, at: &Discharge) -> u32 {
-        let words = within(&self.links.words, at.current, at.end);
+        let links = within(&self.links.all, at.current, at.end);
         let labels = &self.labels[..];
         let wanted = at.label.wrapping_sub(1);
         let direction = self.direction;
         let mut place = at.current;
-        for word in words {
-            if direction.can_leave(*word) && read(labels, head_of(*word), 0) == wanted {
+        for link in links {
+            if direction.can_leave(link.word) && read(labels, head_of(link.word), 0) == wanted {
                 return place;
             }
             place = place.wrapping_add(1);
@@ -78,7 +78,7 @@ impl Engine {
     /// Pushes over the current arc. Whether no excess is left.
     #[inline(always)]
     fn push_over(&mut self, at: &mut Discharge) -> bool {
-        let head = head_of(self.links.word(at.current));
+        let head = head_of(self.links.at(at.current).word);
         let amount = self.links.room(self.direction, at.current).min(at.excess);
         self.links.push(self.direction, at.current, amount);
         self.receive(head, amount);
@@ -135,9 +135,9 @@ impl Engine {
             place: end,
         };
         let mut place = start;
-        for word in within(&self.links.words, start, end) {
-            if direction.can_leave(*word) {
-                let label = read(labels, head_of(*word), 0);
+        for link in within(&self.links.all, start, end) {
+            if direction.can_leave(link.word) {
+                let label = read(labels, head_of(link.word), 0);
                 if label < least.label {
                     least = Least { label, place };
                 }

@@ -105,7 +105,7 @@ impl Engine {
     fn saturate(&mut self) {
         let base = self.direction.base;
         for place in self.links.start(base)..self.links.end(base) {
-            let word = self.links.word(place);
+            let word = self.links.at(place).word;
             let node = head_of(word);
             if self.direction.can_leave(word) && self.label(node) < self.nodes {
                 let amount = self.links.room(self.direction, place);

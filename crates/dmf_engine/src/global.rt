@@ -34,15 +34,11 @@ impl Engine {
         let direction = self.direction;
         self.spend(end.wrapping_sub(start));
         let mut place = start;
-        for word in within(&self.links.words, start, end) {
-            let tail = head_of(*word);
-            if direction.can_come(*word) && read(&self.labels, tail, 0) == none {
+        for link in within(&self.links.all, start, end) {
+            let tail = head_of(link.word);
+            if direction.can_come(link.word) && read(&self.labels, tail, 0) == none {
                 write(&mut self.labels, tail, label);
-                write(
-                    &mut self.currents,
-                    tail,
-                    read(&self.links.partners, place, 0),
-                );
+                write(&mut self.currents, tail, link.partner);
                 self.queue.push(tail);
                 self.buckets.enter(tail, label);
                 if read(&self.excess, tail, 0) != 0 {

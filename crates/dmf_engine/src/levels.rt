@@ -71,7 +71,7 @@ impl Engine {
         let next = level.wrapping_add(1);
         let mut capacity = 0u64;
         for place in self.links.start(node)..self.links.end(node) {
-            let word = self.links.word(place);
+            let word = self.links.at(place).word;
             if direction.can_leave(word) {
                 let head = head_of(word);
                 if self.label(head) == 0 {

@@ -9,8 +9,8 @@ use std::alloc::Global;
 /// Some flow of the network, likely a greatest one: one number for each arc, in their order. `None` if a phase spent its budget: for n
 /// nodes and m arcs 32 (n + 1)(n + m) looks and pushes, and not less than 20,000 (n + m).
 ///
-/// The same arguments give the same answer. No contract says that it is a flow: judge it, as `State::with_flows` does. Takes memory for
-/// 40 bytes an arc and 50 a node, for two links an arc and some numbers a node. Fails only if that is refused.
+/// The same arguments give the same answer. No contract says that it is a flow: judge it, as `State::with_flows` does. Takes 44 bytes an
+/// arc, for two links and the flow, and 52 a node. Fails only if memory is refused.
 pub fn likely_greatest(
     alloc: Global,
     nodes: u32,

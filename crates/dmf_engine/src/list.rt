@@ -1,4 +1,5 @@
 //! Lists that are safe at any index.
+use crate::links::Link;
 use dmf_state::NoMemory;
 use std::alloc::Global;
 
@@ -24,7 +25,7 @@ pub fn write<T: Copy + Drop>(items: &mut [T], index: u32, item: T) {
 
 /// The items from `start` up to `end`. None where these are no places of the list.
 #[inline(always)]
-pub fn within(items: &[u32], start: u32, end: u32) -> &[u32] {
+pub fn within(items: &[Link], start: u32, end: u32) -> &[Link] {
     let start = start as usize;
     let end = end as usize;
     if start <= end && end <= items.len() {

@@ -82,7 +82,7 @@ impl Engine {
                 node = self.step_back(walk);
             } else {
                 walk.places.push(place);
-                let head = head_of(self.links.word(place));
+                let head = head_of(self.links.at(place).word);
                 if self.label(head) == NEW {
                     write(&mut self.labels, head, ON_WALK);
                     node = head;
@@ -100,8 +100,10 @@ impl Engine {
         let end = self.links.end(node);
         let direction = self.direction;
         let mut place = start;
-        for word in within(&self.links.words, start, end) {
-            if direction.takes_back(*word) && read(&self.labels, head_of(*word), 0) != DONE {
+        for link in within(&self.links.all, start, end) {
+            if direction.takes_back(link.word)
+                && read(&self.labels, head_of(link.word), 0) != DONE
+            {
                 break;
             }
             place = place.wrapping_add(1);
@@ -160,7 +162,7 @@ impl Engine {
         for index in (cycle.start..walk.places.len()).rev() {
             let place = walk.places.at(index);
             self.links.push(self.direction, place, cycle.amount);
-            if !self.direction.can_leave(self.links.word(place)) {
+            if !self.direction.can_leave(self.links.at(place).word) {
                 keep = index;
             }
             self.spend(1);
@@ -182,7 +184,7 @@ impl Engine {
             if left == 0 {
                 break;
             }
-            let word = self.links.word(place);
+            let word = self.links.at(place).word;
             if self.direction.takes_back(word) {
                 let head = head_of(word);
                 let amount = self.links.room(self.direction, place).min(left);
