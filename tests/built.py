@@ -14,7 +14,7 @@ from oracle.program import Outcome
 from oracle.session import Refusals
 
 ROOT = os.path.dirname(os.path.dirname(os.path.abspath(__file__)))
-# tests/mutants names a faulty copy of the program in place of it.
+# tests/toolchain names a faulty copy of the program in place of it.
 BUILT = os.environ.get("DMF_BUILT") or os.path.join(ROOT, "crates", "dmf", "out", "dmf")
 PROBLEM = b"problem.max"
 SECONDS = 60

@@ -22,8 +22,8 @@ def clone(tmp_path: Path) -> Clone:
     clone.renew()
     (clone.root / "test").write_text("#!/bin/sh\necho \"$TEST\"\n")
     (clone.root / "test").chmod(0o755)
-    (clone.root / "tests/mutants").mkdir(parents=True)
-    (clone.root / "tests/mutants/test_main.py").write_text("def test_one() -> None:\n    pass\n")
+    (clone.root / "tests/toolchain").mkdir(parents=True)
+    (clone.root / "tests/toolchain/test_main.py").write_text("def test_one() -> None:\n    pass\n")
     (clone.root / "tests/conftest.py").write_text("def pytest_unconfigure() -> None:\n    print('1 passed, 0 failed')\n")
     (clone.root / "tools/all_edits.py").write_text("import os\nprint(os.environ['EDITS'])\n")
     return clone

@@ -1,4 +1,4 @@
-"""Faults in parts of the program that no proof sees, each with the test that must fail for it. `old` stands once in its file. tests/mutants
+"""Faults in parts of the program that no proof sees, each with the test that must fail for it. `old` stands once in its file. tests/toolchain
 builds WIRINGS in the gate, and `--long` the others."""
 
 from __future__ import annotations

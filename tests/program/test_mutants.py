@@ -1,5 +1,5 @@
 """Puts faults into a copy of the program where no proof sees them, builds each, and runs the test that must fail for it. A build takes
-minutes, so only `--long` does this; tests/mutants does it for WIRINGS. That each fault can still be put in is tried each time."""
+minutes, so only `--long` does this; tests/toolchain does it for WIRINGS. That each fault can still be put in is tried each time."""
 
 from __future__ import annotations
 

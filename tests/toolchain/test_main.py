@@ -2,7 +2,7 @@
 builds it, without a proof: each function of these files once as it is, and once for each of its mutants. The length of the name by which the program is called chooses
 one. So this takes one build, of a minute, and no library has to be proved.
 
-    /usr/bin/python3 -m pytest tests/mutants
+    /usr/bin/python3 -m pytest tests/toolchain
 """
 
 from __future__ import annotations
