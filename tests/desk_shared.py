@@ -2,6 +2,7 @@
 
 from __future__ import annotations
 
+import contextlib
 import fcntl
 import os
 import subprocess
@@ -75,9 +76,16 @@ def run(tool: str, *words: str, typed: str = "", **environment: str) -> subproce
 
 
 def sessions_of(pid: int) -> list[int]:
-    """The sessions of the program that a process has."""
-    found = [int(it) for task in Path(f"/proc/{pid}/task").glob("*/children") for it in task.read_text().split()]
-    return [it for it in found if b"session" in Path(f"/proc/{it}/cmdline").read_bytes().split(b"\0")]
+    """The sessions of the program that a process has. Asks each process whose child it is: a list of the children of threads lacks some
+    when a thread ends."""
+    found = []
+    for stat in Path("/proc").glob("[0-9]*/stat"):
+        # A process may end meanwhile.
+        with contextlib.suppress(OSError):
+            parent = int(stat.read_text().rpartition(")")[2].split()[1])
+            if parent == pid and b"session" in (stat.parent / "cmdline").read_bytes().split(b"\0"):
+                found.append(int(stat.parent.name))
+    return sorted(found)
 
 
 def wait_until_asked(session: int) -> None:
