@@ -243,6 +243,17 @@ def test_tutorial_of_the_archive(unpacked: Path) -> None:
     judge_examples(unpacked / "docs/TUTORIAL.md", unpacked)
 
 
+def test_archive_without_its_executable(made: Path, tmp_path: Path) -> None:
+    """What is missing is told in a line."""
+    ran("tar", "-xf", the(made, "*.tar.gz"), "-C", tmp_path)
+    folder = the(tmp_path, "*")
+    program = folder / "crates/dmf/out/dmf"
+    program.unlink()
+    done = run("./dmf", "--version", folder=folder)
+    told = f"dmf: the executable {program} is not there; rt, which is needed to build the program, is not in PATH.\n"
+    assert (done.returncode, done.stdout, done.stderr) == (70, "", told)
+
+
 def test_install_of_the_archive(unpacked: Path, tmp_path: Path) -> None:
     """./install puts the same as in the repository, and takes it away."""
     prefix = tmp_path / "prefix"
