@@ -4,11 +4,11 @@ from __future__ import annotations
 
 import os
 import subprocess
-import sys
 from pathlib import Path
 
 import pytest
 from conftest import ROOT
+from nested import run_pytest
 from small_clone import SECONDS, Clone
 
 SAID = "2 passed, 0 failed"
@@ -76,9 +76,8 @@ def skipping(tmp_path: Path, **environment: str) -> tuple[int, str]:
     """How pytest ends on a test that is skipped and one that passes."""
     (tmp_path / "test_skipping.py").write_text(SKIPPING)
     path = os.pathsep.join(str(ROOT / folder) for folder in ("tests", "tests/cases", "clients/python"))
-    words = [sys.executable, "-m", "pytest", "-p", "no:xdist", "-p", "conftest", "-c", str(ROOT / "setup.cfg"), str(tmp_path)]
-    plain = {name: value for name, value in os.environ.items() if not name.startswith("PYTEST_") and name != "CI"}
-    ran = subprocess.run(words, env={**plain, "PYTHONPATH": path, **environment}, capture_output=True, text=True, timeout=SECONDS)
+    words = ["-p", "conftest", "-c", ROOT / "setup.cfg", tmp_path]
+    ran = run_pytest(*words, folder=tmp_path, seconds=SECONDS, PYTHONPATH=path, **environment)
     (line,) = [line for line in ran.stdout.splitlines() if " passed, " in line and " failed" in line]
     assert "skipped: no tool" in ran.stdout
     return ran.returncode, line

@@ -3,15 +3,14 @@ minutes, so only `--long` does this; tests/toolchain does it for WIRINGS. That e
 
 from __future__ import annotations
 
-import os
 import shutil
 import subprocess
-import sys
 from pathlib import Path
 
 import pytest
 from conftest import ROOT, shared
 from mutants import MUTANTS, WIRINGS, Mutant
+from nested import run_pytest
 
 FAILED = 1
 
@@ -49,7 +48,5 @@ def judge(copy: Path, test: str) -> None:
     """Builds the program of a copy. The test has to fail there."""
     built = subprocess.run([copy / "dmf", "--version"], stdin=subprocess.DEVNULL, capture_output=True, text=True)
     assert built.returncode == 0, built.stderr[-3000:]
-    environment = {name: value for name, value in os.environ.items() if not name.startswith("PYTEST_")}
-    words = [sys.executable, "-m", "pytest", "-p", "no:xdist", test]
-    ran = subprocess.run(words, cwd=copy, env=environment, capture_output=True, text=True)
+    ran = run_pytest(test, folder=copy)
     assert ran.returncode == FAILED, f"{test} passes:\n{ran.stdout[-3000:]}{ran.stderr[-3000:]}"

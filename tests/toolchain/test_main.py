@@ -12,13 +12,13 @@ import os
 import re
 import shutil
 import subprocess
-import sys
 import time
 from pathlib import Path
 
 import pytest
 from conftest import ROOT
 from mutants import WIRINGS, Mutant
+from nested import run_pytest
 
 PASSED, FAILED, SECONDS = 0, 1, 600
 # The length of the first name of the program, in bytes: by that it has no fault.
@@ -95,9 +95,7 @@ def tried(program: Path, place: int, *tests: str) -> subprocess.CompletedProcess
     named = program.parent / "x".ljust(SHORTEST + place - len(f"{program.parent}/"), "x")
     if not named.exists():
         named.symlink_to(program)
-    kept = {name: value for name, value in os.environ.items() if not name.startswith("PYTEST_")}
-    words = [sys.executable, "-m", "pytest", "-p", "no:xdist", *tests]
-    return subprocess.run(words, cwd=ROOT, env={**kept, "DMF_BUILT": str(named)}, capture_output=True, text=True, timeout=SECONDS)
+    return run_pytest(*tests, folder=ROOT, seconds=SECONDS, DMF_BUILT=str(named))
 
 
 def test_unchanged(program: Path) -> None:
