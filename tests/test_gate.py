@@ -76,8 +76,8 @@ def skipping(tmp_path: Path, **environment: str) -> tuple[int, str]:
     """How pytest ends on a test that is skipped and one that passes."""
     (tmp_path / "test_skipping.py").write_text(SKIPPING)
     path = os.pathsep.join(str(ROOT / folder) for folder in ("tests", "tests/cases", "clients/python"))
-    words = ["-p", "conftest", "-c", ROOT / "setup.cfg", tmp_path]
-    ran = run_pytest(*words, folder=tmp_path, seconds=SECONDS, PYTHONPATH=path, **environment)
+    words = ["-p", "conftest", "-c", str(ROOT / "setup.cfg"), str(tmp_path)]
+    ran = run_pytest(*words, folder=tmp_path, seconds=SECONDS, environment={"PYTHONPATH": path, **environment})
     (line,) = [line for line in ran.stdout.splitlines() if " passed, " in line and " failed" in line]
     assert "skipped: no tool" in ran.stdout
     return ran.returncode, line

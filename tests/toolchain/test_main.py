@@ -95,7 +95,7 @@ def tried(program: Path, place: int, *tests: str) -> subprocess.CompletedProcess
     named = program.parent / "x".ljust(SHORTEST + place - len(f"{program.parent}/"), "x")
     if not named.exists():
         named.symlink_to(program)
-    return run_pytest(*tests, folder=ROOT, seconds=SECONDS, DMF_BUILT=str(named))
+    return run_pytest(*tests, folder=ROOT, seconds=SECONDS, environment={"DMF_BUILT": str(named)})
 
 
 def test_unchanged(program: Path) -> None:
