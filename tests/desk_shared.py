@@ -5,12 +5,16 @@ from __future__ import annotations
 import contextlib
 import fcntl
 import os
+import signal
 import subprocess
 import termios
 import time
 from itertools import product
 from pathlib import Path
 from typing import NamedTuple
+
+from dmf.desk import Desk
+from dmf.desk_file import Subject
 
 ROOT = Path(__file__).resolve().parents[1]
 PIPES = "examples/water/pipes.csv"
@@ -95,3 +99,28 @@ def wait_until_asked(session: int) -> None:
         while not any(fcntl.ioctl(pipe, termios.FIONREAD, bytes(4))):
             assert time.monotonic() < until, "nothing asks the session"
             time.sleep(0.01)
+
+
+def water_problem() -> bytes:
+    """The problem of the water story, with its names."""
+    words = [ROOT / "tools/dmf-problem", "Reservoir", "Harbour"]
+    with open(ROOT / PIPES) as table:
+        return subprocess.run(words, stdin=table, capture_output=True, check=True, timeout=SECONDS).stdout
+
+
+def desk_of(text: bytes, with_solve: bool = True) -> Desk:
+    return Desk(Subject("a test", text), with_solve=with_solve)
+
+
+def end_session(of: int | None = None) -> None:
+    """Kills the one session that a process has, and waits until it is gone."""
+    pid = of or os.getpid()
+    for child in sessions_of(pid):
+        os.kill(child, signal.SIGKILL)
+        while (Path("/proc") / str(child) / "stat").exists() and b") Z " not in (Path("/proc") / str(child) / "stat").read_bytes():
+            os.sched_yield()
+
+
+def without(*names: str) -> int:
+    """The greatest value of the water story without these pipes."""
+    return greatest([pipe for pipe in water() if pipe.name not in names])

@@ -2,32 +2,24 @@
 
 from __future__ import annotations
 
-import os
-import pty
 import random
 import re
-import select
-import signal
 import subprocess
 import tempfile
-import time
 from collections.abc import Callable
 from pathlib import Path
 from typing import Any
 
 import pytest
-from desk_shared import ODD, PIPES, ROOT, SCRIPT, SECONDS, STORY, greatest, run, sessions_of, swept, wait_until_asked, water
+from desk_shared import ODD, PIPES, ROOT, SCRIPT, SECONDS, STORY, desk_of, end_session, greatest, run, swept, water, water_problem, without
 from built import BUILT
 from dmf import Network
-from dmf.desk import Desk, DeskFault, Place
-from dmf.desk_file import Subject
+from dmf.desk import DeskFault, Place
 from dmf.errors import SessionEnded
 from dmf.plan import Plan
-from tool_runs import wait_until_asleep
 
-WATER = subprocess.run(
-    [ROOT / "tools/dmf-problem", "Reservoir", "Harbour"], stdin=open(ROOT / PIPES), capture_output=True, check=True, timeout=SECONDS
-).stdout
+WATER = water_problem()
+
 LIMITED = subprocess.run(
     [ROOT / "tools/dmf-problem", "--node-limits", "examples/water/pumps.csv", "--table", PIPES, "Reservoir", "Harbour"],
     capture_output=True, check=True, timeout=SECONDS, cwd=ROOT,
@@ -47,10 +39,6 @@ a 1 3 1
 a 2 3 9
 a 1 3 2
 """
-
-
-def desk_of(text: bytes, with_solve: bool = True) -> Desk:
-    return Desk(Subject("a test", text), with_solve=with_solve)
 
 
 def refused(make: Callable[[], object]) -> str:
@@ -134,15 +122,6 @@ def test_ended() -> None:
     desk.end()
 
 
-def end_session(of: int | None = None) -> None:
-    """Kills the one session that a process has, and waits until it is gone."""
-    pid = of or os.getpid()
-    for child in sessions_of(pid):
-        os.kill(child, signal.SIGKILL)
-        while (Path("/proc") / str(child) / "stat").exists() and b") Z " not in (Path("/proc") / str(child) / "stat").read_bytes():
-            os.sched_yield()
-
-
 @pytest.mark.parametrize("error", [AssertionError(), MemoryError(), RecursionError("too deep"), KeyError("x"), OSError(12, "no memory")])
 @pytest.mark.parametrize("changes", [True, False])
 def test_unforeseen(monkeypatch: pytest.MonkeyPatch, capsys: pytest.CaptureFixture[str], error: Exception, changes: bool) -> None:
@@ -172,11 +151,6 @@ def test_unforeseen(monkeypatch: pytest.MonkeyPatch, capsys: pytest.CaptureFixtu
     plan.run_script(["redo", "undo 2"])
     assert [re.findall("[0-9]+", it)[0] for it in told[-2:]] == [str(without("Bridge pipe", "Mill Lane")), "165"], told
     desk.end()
-
-
-def without(*names: str) -> int:
-    """The greatest value without these pipes."""
-    return greatest([pipe for pipe in water() if pipe.name not in names])
 
 
 def test_sweep_past_64_bits(tmp_path: Path) -> None:
@@ -371,138 +345,3 @@ def test_no_other_file(tmp_path: Path, monkeypatch: pytest.MonkeyPatch) -> None:
     plan.run_script([f"save {path}", f"save {path}"])
     assert (plan.refused, path.read_text().count("p max")) == (1, 1)
     plan.desk.end()
-
-
-class Terminal:
-    """The tool on a terminal of its own."""
-
-    def __init__(self, folder: str) -> None:
-        self.pid, self.side = pty.fork()
-        if not self.pid:
-            signal.signal(signal.SIGINT, signal.SIG_DFL)
-            os.environ.update(XDG_STATE_HOME=folder, TERM="dumb", INPUTRC="/dev/null", PYTHONUNBUFFERED="1")
-            os.chdir(ROOT)
-            os.execv(ROOT / "tools/dmf-plan", ["dmf-plan", PIPES])
-        self.seen = ""
-
-    def wait(self, wanted: str) -> str:
-        """What is seen up to a text. It is taken out of what is seen."""
-        until = time.monotonic() + SECONDS
-        while wanted not in self.seen:
-            if not select.select([self.side], [], [], max(until - time.monotonic(), 0))[0]:
-                raise AssertionError(f"no {wanted!r} in {self.seen!r}")
-            try:
-                self.seen += os.read(self.side, 1 << 16).decode(errors="replace")
-            except OSError:
-                raise AssertionError(f"it ended without {wanted!r}: {self.seen!r}") from None
-        before, _, self.seen = self.seen.partition(wanted)
-        return before
-
-    def type(self, text: str) -> None:
-        os.write(self.side, text.encode())
-
-    def end(self) -> int:
-        status = os.waitstatus_to_exitcode(os.waitpid(self.pid, 0)[1])
-        os.close(self.side)
-        return status
-
-
-def test_broken_off() -> None:
-    """Ctrl-C ends a command that comes to no end, at once, and the steps before it are there."""
-    with tempfile.TemporaryDirectory() as folder:
-        terminal = Terminal(folder)
-        terminal.wait("0, not greatest> ")
-        for typed, prompt in ("solve", "165, greatest> "), ("close Bridge pipe", "155, greatest> "), ("try", "try, 155, greatest> "):
-            terminal.type(f"{typed}\n")
-            terminal.wait(prompt)
-        (session,) = sessions_of(terminal.pid)
-        os.kill(session, signal.SIGSTOP)
-        terminal.type('shut "South Tower"\n')
-        wait_until_asked(session)
-        wait_until_asleep(terminal.pid)
-        terminal.type("\x03")
-        told = terminal.wait("try, 155, greatest> ")
-        assert "broken off" in told and "begun again, with the steps that were made: value 155" in told, f"Ctrl-C: {told!r}"
-        assert sessions_of(terminal.pid) != [session]
-        terminal.type('shut "South Tower"\n')
-        terminal.wait("try, 105, greatest> ")
-        # A sweep has programs of its own, and leaves the session as it is.
-        terminal.type("drop\nwhat-if each arc of the cut\nundo\nquit\n")
-        told = terminal.wait("165, greatest> ")
-        assert terminal.end() == 0 and "ended" not in told, told
-
-
-def test_broken_off_again(monkeypatch: pytest.MonkeyPatch, capsys: pytest.CaptureFixture[str]) -> None:
-    """Ctrl-C also ends the steps that are made again, and none of them is lost."""
-    told: list[str] = []
-    plan = Plan(desk_of(WATER), is_typed=True, write=told.append)
-    plan.onecmd("close Bridge pipe")
-
-    def broken_off(*_: object) -> None:
-        raise KeyboardInterrupt
-
-    with monkeypatch.context() as patched:
-        patched.setattr(Network, "close", broken_off)
-        plan.onecmd("close Mill Lane")
-    said = capsys.readouterr().err
-    assert "broken off\nit could not be begun again: broken off;" in said, said
-    plan.onecmd("close Mill Lane")
-    assert "begun again" in told[-2] and f"value {without('Bridge pipe', 'Mill Lane')}," in told[-1], told
-    plan.desk.end()
-
-
-def test_typed_bytes(monkeypatch: pytest.MonkeyPatch) -> None:
-    """A line that is no text ends nothing."""
-    # As in most locales.
-    monkeypatch.setenv("PYTHONIOENCODING", "utf-8:strict")
-    with tempfile.TemporaryDirectory() as folder:
-        terminal = Terminal(folder)
-        terminal.wait("0, not greatest> ")
-        terminal.type("solve\n")
-        terminal.wait("165, greatest> ")
-        os.write(terminal.side, b"close \xff\xfe\n")
-        terminal.wait("165, greatest> ")
-        terminal.type("quit\n")
-        assert terminal.end() == 0
-
-
-def test_typed() -> None:
-    """A person completes names, breaks off a line, finds yesterday's lines, and goes on where the session ended by itself."""
-    with tempfile.TemporaryDirectory() as folder:
-        terminal = Terminal(folder)
-        terminal.wait("0, not greatest> ")
-        terminal.type("sol\tve\n")
-        terminal.wait("0, not greatest> ")
-        terminal.type("solve\n")
-        terminal.wait("165, greatest> ")
-        terminal.type("close Bri\t\n")
-        told = terminal.wait("155, greatest> ")
-        assert '"Bridge pipe"' in told, f"a name is completed: {told!r}"
-        terminal.type("close rubbish")
-        terminal.wait("close rubbish")
-        wait_until_asleep(terminal.pid)
-        terminal.type("\x03")
-        terminal.wait("155, greatest> ")
-        terminal.type("try\n")
-        terminal.wait("try, 155, greatest> ")
-        terminal.type('shut "South T\t\n')
-        terminal.wait("try, 105, greatest> ")
-        terminal.type("drop\n")
-        terminal.wait("\n155, greatest> ")
-        end_session(terminal.pid)
-        terminal.type("close Mill Lane\n")
-        told = terminal.wait("155, greatest> ")
-        assert "begun again" in told and "SIGKILL" in told, f"a session that ended: {told!r}"
-        terminal.type("undo\n")
-        terminal.wait("165, greatest> ")
-        terminal.type("quit\n")
-        status = terminal.end()
-        assert status == 0, f"the end of a typed session: {status}"
-        history = Path(folder, "dmf", "plan_history").read_text()
-        assert 'close "Bridge pipe"' in history, f"the history: {history}"
-        again = Terminal(folder)
-        again.wait("0, not greatest> ")
-        again.type("\x10")
-        told = again.wait("quit")
-        again.type("\n")
-        assert again.end() == 0, f"yesterday's lines: {told!r}"
