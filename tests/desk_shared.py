@@ -103,7 +103,7 @@ def wait_until_asked(session: int) -> None:
 
 def water_problem() -> bytes:
     """The problem of the water story, with its names."""
-    words = [ROOT / "tools/dmf-problem", "Reservoir", "Harbour"]
+    words = [str(ROOT / "tools/dmf-problem"), "Reservoir", "Harbour"]
     with open(ROOT / PIPES) as table:
         return subprocess.run(words, stdin=table, capture_output=True, check=True, timeout=SECONDS).stdout
 

@@ -14,7 +14,7 @@ import pytest
 from desk_shared import ODD, PIPES, ROOT, SCRIPT, SECONDS, STORY, desk_of, end_session, greatest, run, swept, water, water_problem, without
 from built import BUILT
 from dmf import Network
-from dmf.desk import DeskFault, Place
+from dmf.desk_steps import DeskFault, Place
 from dmf.errors import SessionEnded
 from dmf.plan import Plan
 

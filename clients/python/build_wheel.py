@@ -48,7 +48,7 @@ def metadata() -> bytes:
 
 def package() -> dict[str, bytes]:
     """The files of the package."""
-    return {f"dmf/{file.name}": file.read_bytes() for file in sorted((HERE / "dmf").iterdir()) if file.suffix in (".py", ".typed", ".html")}
+    return {f"dmf/{file.name}": file.read_bytes() for file in sorted((HERE / "dmf").iterdir()) if file.suffix in (".py", ".typed", ".html", ".css", ".js")}
 
 
 def executable() -> dict[str, bytes]:

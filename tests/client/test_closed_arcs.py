@@ -10,7 +10,8 @@ import pytest
 from client_shared import dmf, pipes
 from desk_shared import run
 from dmf.board import Board
-from dmf.desk import Desk, Trial
+from dmf.desk import Desk
+from dmf.desk_steps import Trial
 from dmf.desk_file import Subject
 
 HALF, LARGEST = 2**63, 2**64 - 1

@@ -19,7 +19,8 @@ from itertools import islice
 from typing import Any, Union
 
 from .board_picture import NoPicture, Picture
-from .desk import Desk, DeskFault, Trial, unforeseen
+from .desk import Desk
+from .desk_steps import DeskFault, Trial, unforeseen
 from .desk_text import near as near_arcs
 from .desk_text import problem, table
 from .tables import whole_number

@@ -10,7 +10,8 @@ from collections.abc import Iterator
 from dataclasses import dataclass
 from xml.etree import ElementTree
 
-from .desk import Desk, DeskFault
+from .desk import Desk
+from .desk_steps import DeskFault
 from .picture import CUT, SIDE, UNUSED, drawn_line, quoted
 from .text import scale_note
 

@@ -58,6 +58,15 @@ _WAY_IN = """<!DOCTYPE html>
 """
 
 
+def _page() -> bytes:
+    """The page, with its style and its script in it."""
+    folder = Path(__file__).parent
+    page = (folder / "board.html").read_text(encoding="utf-8")
+    for name in "board.css", "board.js":
+        page = page.replace(f"{{{name}}}\n", (folder / name).read_text(encoding="utf-8"))
+    return page.encode()
+
+
 class Door:
     """A file that leads a browser to an address. Other users may read the words of a browser's process, but not this file."""
 
@@ -168,7 +177,7 @@ class Server(ThreadingHTTPServer):
         others = [name.lower() if ":" in name else f"{name.lower()}:{port}" for name in names]
         self.hosts = {here, f"localhost:{port}", *others, *map(str.lower, names)}
         self.addresses = [f"http://{host}/{self.token}/" for host in (here, *others)]
-        self.page = (Path(__file__).parent / "board.html").read_bytes()
+        self.page = _page()
         self.policy = _policy(self.page.decode())
         self._pages = 0
         self._counted = threading.Condition()

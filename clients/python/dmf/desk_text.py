@@ -5,7 +5,8 @@ from __future__ import annotations
 from typing import cast
 
 from . import timeline
-from .desk import Desk, Line
+from .desk import Desk
+from .desk_steps import Line
 from .names import written
 from .picture import Drawing, nearest, picture
 from .spreadsheet import ArcRow, plan_table

@@ -10,12 +10,30 @@ import subprocess
 import sys
 from collections.abc import Callable, Iterable, Iterator
 from pathlib import Path
-from typing import NamedTuple
 
-from .desk import Desk, DeskFault, Place, Trial, unforeseen
+from .desk import Desk
+from .desk_steps import DeskFault, Place, Trial, unforeseen
 from .desk_text import picture_text, problem, table
 from .errors import Error, Refused
-from .tables import LARGEST, cleaned, shown, whole_number
+from .plan_words import (
+    ALWAYS,
+    ARC,
+    CHANGES,
+    CLOSED,
+    COMMAND,
+    COMMANDS,
+    FLOW,
+    PLACE,
+    Word,
+    count_of,
+    is_number,
+    no_words,
+    number_of,
+    one_name,
+    split,
+    typed_form,
+)
+from .tables import LARGEST, shown
 from .text import display
 from .tool import ToolFault, write_file
 
@@ -29,98 +47,6 @@ MOST_SIDE = 30
 # How long Graphviz may take, in seconds.
 PATIENCE = 60
 DRAWN = {".svg": "svg", ".png": "png", ".pdf": "pdf"}
-FLOW, PLACE, ARC, CLOSED, COMMAND, EACH = "flow", "place", "arc", "closed", "command", "each"
-
-
-class Help(NamedTuple):
-    """How a command is written, what it does, and which names may stand after it."""
-
-    form: str
-    says: str
-    takes: str = ""
-
-
-ARCS_SAID = (
-    'An arc goes by its name, by its ends as in Mill-Town or "Mill Town", or by its number as in #7. A name with spaces stands in quotes, '
-    "or as it is where that can mean one thing alone."
-)
-COMMANDS = {
-    "solve": Help("solve", "Finds the greatest value that can be sent, going on from the present flow."),
-    "cut": Help("cut", "Shows the limit: the arcs that hold the value where it is, and the places on the source's side of them."),
-    "flow": Help("flow [ARC|PLACE]", "Shows what flows on each arc, or on one, or on those at a place.", FLOW),
-    "close": Help("close ARC", f"Closes an arc. {ARCS_SAID}", ARC),
-    "open": Help("open [ARC|PLACE]", "Opens an arc that is closed, or a place that is shut; alone, what was closed or shut last.", CLOSED),
-    "cap": Help("cap ARC NUMBER", f"Gives an arc another capacity. {ARCS_SAID}", ARC),
-    "add": Help("add PLACE PLACE NUMBER [NAME]", "Adds an arc from the first place to the second, with a capacity.", PLACE),
-    "shut": Help("shut PLACE", "Closes each arc at a place.", PLACE),
-    "undo": Help("undo [NUMBER]", "Takes back the last step, or so many."),
-    "redo": Help("redo [NUMBER]", "Makes again the step that `undo` took back last, or so many."),
-    "steps": Help("steps", "Lists the steps with the value after each."),
-    "try": Help("try", "Begins a trial: `drop` takes back all that is done from here on, and `keep` keeps it."),
-    "keep": Help("keep", "Ends the trial, and keeps its steps."),
-    "drop": Help("drop", "Ends the trial, and takes its steps back."),
-    "what-if": Help(
-        "what-if each arc [of the cut | at PLACE]  or  what-if COMMAND",
-        "Lists for each arc the greatest value if it alone is closed, and if a second one lies beside it; or shows what a command and a "
-        "solve would bring. Nothing changes.",
-        EACH,
-    ),
-    "draw": Help("draw FILE", "Draws the network: FILE ends with .svg, .png or .pdf, or with .dot for the text alone."),
-    "save": Help("save FILE", "Writes the plan as a table where FILE ends with .csv, or the problem where it ends with .max."),
-    "help": Help("help [COMMAND]", "Lists the commands, or says what one does.", COMMAND),
-    "quit": Help("quit", "Ends, and saves nothing."),
-}
-CHANGES = ("close", "open", "cap", "add", "shut")
-# These need no session.
-ALWAYS = ("save", "steps", "help", "quit")
-
-
-class Word(NamedTuple):
-    """A word of a line, the place where it begins, and whether its quote was left open."""
-
-    text: str
-    start: int
-    is_open: bool = False
-
-
-def split(line: str) -> list[Word]:
-    """The words of a line. A word that begins with a double quote goes on to the next, and two quotes in it stand for one."""
-    words = []
-    at = 0
-    while at < len(line):
-        if line[at] in " \t":
-            at += 1
-        elif line[at] == '"':
-            word = _quoted(line, at)
-            words.append(word[0])
-            at = word[1]
-        else:
-            end = next((place for place in range(at, len(line)) if line[place] in " \t"), len(line))
-            words.append(Word(line[at:end], at))
-            at = end
-    return words
-
-
-def _quoted(line: str, start: int) -> tuple[Word, int]:
-    """The word whose quote opens at a place, and the place after it."""
-    text, at = "", start + 1
-    while True:
-        end = line.find('"', at)
-        if end < 0:
-            return Word(text + line[at:], start, True), len(line)
-        text += line[at:end]
-        at = end + 1
-        if line[at : at + 1] != '"':
-            return Word(text, start), at
-        text += '"'
-        at += 1
-
-
-def quoted(name: str) -> str:
-    """A name as it is typed as one word."""
-    if name and not any(letter in name for letter in ' \t"'):
-        return name
-    return '"' + name.replace('"', '""') + '"'
 
 
 class Plan(cmd.Cmd):
@@ -268,11 +194,11 @@ class Plan(cmd.Cmd):
         self.tell(self._value(before))
 
     def _solve(self, words: list[str]) -> None:
-        _none(words, "solve")
+        no_words(words, "solve")
         self._change(self.desk.solve)
 
     def _close(self, words: list[str]) -> None:
-        number = self.desk.the_arc(_wanted(words, "close"))
+        number = self.desk.the_arc(one_name(words, "close"))
         self._change(lambda: self.desk.close(number))
 
     def _open(self, words: list[str]) -> None:
@@ -304,7 +230,7 @@ class Plan(cmd.Cmd):
     def _cap(self, words: list[str]) -> None:
         if len(words) < 2:
             raise DeskFault(f"wanted is: {COMMANDS['cap'].form}")
-        number, capacity = self.desk.the_arc(" ".join(words[:-1])), _number(words[-1])
+        number, capacity = self.desk.the_arc(" ".join(words[:-1])), number_of(words[-1])
         self._change(lambda: self.desk.cap(number, capacity))
 
     def _add(self, words: list[str]) -> None:
@@ -315,16 +241,16 @@ class Plan(cmd.Cmd):
         """The places, the capacity and the name that the words of `add` mean, if they can mean one thing only."""
         places = self.desk.names
         found = []
-        if "->" in words[1:] and not any(map(_is_number, words[: words.index("->")])):
+        if "->" in words[1:] and not any(map(is_number, words[: words.index("->")])):
             # In the words by which arcs are listed.
             words = [*words[: words.index("->")], *words[words.index("->") + 1 :]]
         for at in range(2, len(words)):
-            if not _is_number(words[at]):
+            if not is_number(words[at]):
                 continue
             for middle in range(1, at):
                 tail, head = " ".join(words[:middle]), " ".join(words[middle:at])
                 if places.is_place(tail) and places.is_place(head):
-                    found.append((places.place(tail), places.place(head), _number(words[at]), " ".join(words[at + 1 :])))
+                    found.append((places.place(tail), places.place(head), number_of(words[at]), " ".join(words[at + 1 :])))
         if len(found) == 1:
             return found[0]
         if found:
@@ -332,33 +258,33 @@ class Plan(cmd.Cmd):
         if len(words) < 3:
             raise DeskFault(f"wanted is: {COMMANDS['add'].form}")
         # The fault of the likeliest meaning, in which each name is one word.
-        return places.place(words[0]), places.place(words[1]), _number(words[2]), " ".join(words[3:])
+        return places.place(words[0]), places.place(words[1]), number_of(words[2]), " ".join(words[3:])
 
     def _shut(self, words: list[str]) -> None:
-        place = self.desk.names.place(_wanted(words, "shut"))
+        place = self.desk.names.place(one_name(words, "shut"))
         self._change(lambda: self.desk.shut(place))
 
     def _undo(self, words: list[str]) -> None:
-        self._change(lambda: self.desk.undo(_count(words, "undo")))
+        self._change(lambda: self.desk.undo(count_of(words, "undo")))
 
     def _redo(self, words: list[str]) -> None:
-        self._change(lambda: self.desk.redo(_count(words, "redo")))
+        self._change(lambda: self.desk.redo(count_of(words, "redo")))
 
     def _try(self, words: list[str]) -> None:
-        _none(words, "try")
+        no_words(words, "try")
         self.desk.begin_trial()
         self.tell("a trial begins: `drop` takes back what comes now, `keep` keeps it")
 
     def _keep(self, words: list[str]) -> None:
-        _none(words, "keep")
+        no_words(words, "keep")
         self._change(self.desk.keep)
 
     def _drop(self, words: list[str]) -> None:
-        _none(words, "drop")
+        no_words(words, "drop")
         self._change(self.desk.drop)
 
     def _steps(self, words: list[str]) -> None:
-        _none(words, "steps")
+        no_words(words, "steps")
         steps = self.desk.steps
         self.tell(f"  {0:>3} {'*' if self.desk.at == 0 else ' '} {display(self.desk.subject.path)}: value 0")
         for number, step in enumerate(steps, 1):
@@ -366,7 +292,7 @@ class Plan(cmd.Cmd):
             self.tell(f"  {number:>3} {mark} {step.text}: value {step.value}{' (undone)' if number > self.desk.at else ''}")
 
     def _cut(self, words: list[str]) -> None:
-        _none(words, "cut")
+        no_words(words, "cut")
         desk = self.desk
         if not desk.is_greatest:
             raise DeskFault("the flow is not greatest, so there is no limit to tell; `solve` first")
@@ -458,7 +384,7 @@ class Plan(cmd.Cmd):
 
     def _new_file(self, words: list[str], command: str, endings: list[str]) -> str:
         """The path of a file that may be written: if this session did not write it, it must be new."""
-        path = os.path.expanduser(_wanted(words, command))
+        path = os.path.expanduser(one_name(words, command))
         if Path(path).suffix not in endings:
             raise DeskFault(f"the name of the file ends with one of {', '.join(endings)}")
         if os.path.realpath(path) not in self._written and os.path.lexists(path):
@@ -487,7 +413,7 @@ class Plan(cmd.Cmd):
             self.tell(f"  {form:<{width}}  {command.says.split('. ')[0].rstrip('.')}.")
 
     def _quit(self, words: list[str]) -> bool:
-        _none(words, "quit")
+        no_words(words, "quit")
         return True
 
     # Completion.
@@ -510,7 +436,7 @@ class Plan(cmd.Cmd):
         found = dict.fromkeys(name for name in self._candidates([word.text for word in before]) if name.casefold().startswith(begun))
         # The part of the word before `text` stays, since readline replaces `text` alone.
         typed = len(line) - len(text) - last.start
-        return sorted(f"{_typed_form(name, last.is_open)} "[typed:] for name in found)
+        return sorted(f"{typed_form(name, last.is_open)} "[typed:] for name in found)
 
     def _candidates(self, before: list[str]) -> Iterator[str]:
         """The words that may stand after these."""
@@ -537,11 +463,6 @@ class Plan(cmd.Cmd):
             yield from (names.node(node) for node in sorted(desk.shut_nodes))
 
 
-def _typed_form(name: str, is_open: bool) -> str:
-    whole = quoted(name)
-    return whole if whole != name or not is_open else f'"{name}"'
-
-
 def _nothing(_: str) -> None:
     pass
 
@@ -549,36 +470,6 @@ def _nothing(_: str) -> None:
 def _moved(before: int, after: int) -> str:
     """What is gained or lost."""
     return f"{after - before} more" if after > before else f"{before - after} less" if after < before else "no change"
-
-
-def _none(words: list[str], command: str) -> None:
-    if words:
-        raise DeskFault(f"wanted is: {COMMANDS[command].form}")
-
-
-def _wanted(words: list[str], command: str) -> str:
-    """The rest of the line after a command, which is one name."""
-    name = cleaned(" ".join(words))
-    if not name:
-        raise DeskFault(f"wanted is: {COMMANDS[command].form}")
-    return name
-
-
-def _is_number(word: str) -> bool:
-    return word.isascii() and word.isdigit()
-
-
-def _number(word: str) -> int:
-    try:
-        return whole_number(word)
-    except ValueError as fault:
-        raise DeskFault(f"{shown(word)} {fault}") from None
-
-
-def _count(words: list[str], command: str) -> int:
-    if len(words) > 1:
-        raise DeskFault(f"wanted is: {COMMANDS[command].form}")
-    return _number(words[0]) if words else 1
 
 
 def _spoken(refused: Refused) -> str:

@@ -1,0 +1,168 @@
+"""The names of a desk's places and arcs, and what a planner means by a text."""
+
+from __future__ import annotations
+
+from collections.abc import Iterator, Sequence
+
+from . import Arc as Handle
+from .desk_steps import DeskFault, Node, Place
+from .table_problem import near
+from .tables import cleaned, shown
+from .text import display
+
+MOST_LISTED = 6
+# What stands between the ends of an arc that is named by them, the longest first.
+ARROWS = (" -> ", "->", " - ", "-")
+
+
+class Names:
+    """The names of places and arcs, and which of them a text means."""
+
+    def __init__(self, node_names: dict[int, str], handles: dict[int, Handle[Node]], nodes: Sequence[Node]) -> None:
+        self._handles = handles
+        self._node_names = [node_names.get(number, str(number)) for number in range(1, len(nodes) + 1)]
+        self._labels = [*map(display, self._node_names)]
+        self.nodes = {node: number for number, node in enumerate(nodes, 1)}
+        self.places: dict[str, Place] = {}
+        self._several: dict[str, list[int]] = {}
+        called: dict[str, list[int]] = {}
+        for number, label in enumerate(self._labels, 1):
+            called.setdefault(cleaned(label), []).append(number)
+        self._arcs: dict[str, list[int]] = {}
+        self._between: dict[tuple[int, int], list[int]] = {}
+        for number in handles:
+            self.put(number)
+        for label, numbers in called.items():
+            if len(numbers) == 1:
+                self.places[label] = Place(numbers[0], numbers[0])
+            elif self._is_limited(label, numbers):
+                self.places[label] = Place(*numbers)
+            else:
+                self._several[label] = numbers
+
+    def _is_limited(self, label: str, numbers: list[int]) -> bool:
+        """Whether these nodes are the two halves of a place with a limit, as `dmf-problem` makes them."""
+        entry, *rest = numbers
+        between = self._between.get((entry, rest[0]), []) if len(rest) == 1 else []
+        return any(self.arc_name(number) == f"limit of {label}" for number in between)
+
+    def put(self, number: int) -> None:
+        """Takes in an arc."""
+        self._between.setdefault(self._ends(number), []).append(number)
+        name = self.arc_name(number)
+        if name:
+            self._arcs.setdefault(cleaned(name), []).append(number)
+
+    def drop(self, number: int) -> None:
+        """Takes out an arc that was taken in."""
+        self._between[self._ends(number)].remove(number)
+        name = self.arc_name(number)
+        if name:
+            self._arcs[cleaned(name)].remove(number)
+
+    def _ends(self, number: int) -> tuple[int, int]:
+        handle = self._handles[number]
+        return self.nodes[handle.tail], self.nodes[handle.head]
+
+    def node(self, number: int) -> str:
+        """How a node is called."""
+        return self._labels[number - 1]
+
+    def arc_name(self, number: int) -> str:
+        """The name of an arc, or nothing."""
+        return display(self.given_arc(number))
+
+    def given_node(self, number: int) -> str:
+        """The name of a node as it was given, which may have what nobody can see."""
+        return self._node_names[number - 1]
+
+    def given_arc(self, number: int) -> str:
+        """The name of an arc as it was given, or nothing."""
+        key = self._handles[number].given_key
+        return key if isinstance(key, str) else ""
+
+    def ends(self, number: int) -> str:
+        tail, head = self._ends(number)
+        return f"{self.node(tail)} -> {self.node(head)}"
+
+    def arc(self, number: int) -> str:
+        """An arc by its name and its ends. An arc that joins the two halves of a place goes by its name alone."""
+        name = self.arc_name(number)
+        tail, head = self._ends(number)
+        return self.ends(number) if not name else name if self.node(tail) == self.node(head) else f"{name}, {self.ends(number)}"
+
+    def short(self, number: int) -> str:
+        """An arc by its name, or else by its ends."""
+        return self.arc_name(number) or self.ends(number)
+
+    def place(self, text: str) -> Place:
+        """The place with this name. Raises a `DeskFault`."""
+        name = cleaned(text)
+        if name in self.places:
+            return self.places[name]
+        if name in self._several:
+            listed = ", ".join(f"#{number}" for number in self._several[name][:MOST_LISTED])
+            raise DeskFault(f"several nodes are called {shown(name)}: {listed}; say one by its number")
+        number = self._numbered(name)
+        if number and number <= len(self._labels):
+            return Place(number, number)
+        raise DeskFault(f"no place is called {shown(name)}{near(name, self.places)}")
+
+    def place_of(self, node: int) -> Place:
+        """The place of a node. Raises a `DeskFault` if no node has this number."""
+        if not 1 <= node <= len(self._labels):
+            raise DeskFault(f"there is no place #{node}")
+        place = self.places.get(cleaned(self.node(node)), Place(node, node))
+        return place if node in place else Place(node, node)
+
+    def is_place(self, text: str) -> bool:
+        return cleaned(text) in self.places
+
+    @staticmethod
+    def _numbered(name: str) -> int:
+        """The number of a text like `#7`, or 0."""
+        digits = name[1:]
+        return int(digits) if name[:1] == "#" and digits.isascii() and digits.isdigit() and len(digits) < 12 else 0
+
+    def arcs(self, text: str) -> list[int]:
+        """The arcs, open or closed, that a text names: by their name, by their ends, as in `Mill-Town` or `Mill Town`, or by their
+        number, as in `#7`. Raises a `DeskFault` if there are none."""
+        name = cleaned(text)
+        number = self._numbered(name)
+        found = {number: None} if number in self._handles else {}
+        found.update(dict.fromkeys(self._arcs.get(name, ())))
+        for tail, head in self._splits(name):
+            found.update(dict.fromkeys(self._between.get((self.places[tail].exit, self.places[head].entry), ())))
+        if not found:
+            raise DeskFault(self._unknown_arc(name))
+        return sorted(found)
+
+    def _splits(self, name: str) -> Iterator[tuple[str, str]]:
+        """The pairs of places whose names, with an arrow or a space between them, are this text."""
+        for arrow in (*ARROWS, " "):
+            at = name.find(arrow)
+            while at >= 0:
+                tail, head = name[:at].strip(), name[at + len(arrow) :].strip()
+                if tail in self.places and head in self.places:
+                    yield tail, head
+                at = name.find(arrow, at + 1)
+
+    def _unknown_arc(self, name: str) -> str:
+        for tail, head in self._splits(name):
+            return f"no arc leads from {shown(tail)} to {shown(head)}"
+        if name.isascii() and name.isdigit() and int(name) in self._handles:
+            return f"no arc is called {shown(name)}; is it #{name}, {self.arc(int(name))}?"
+        return f"no arc is called {shown(name)}{near(name, self.spoken())}"
+
+    def spoken(self) -> Iterator[str]:
+        """For each arc a text that means it."""
+        return map(self.called, self._handles)
+
+    def called(self, number: int) -> str:
+        """A text that means an arc: its name, or else its ends."""
+        tail, head = self._ends(number)
+        return self.arc_name(number) or f"{self.node(tail)}-{self.node(head)}"
+
+    def list(self, numbers: Sequence[int]) -> str:
+        listed = ", ".join(f"#{number} ({self.arc(number)})" for number in numbers[:MOST_LISTED])
+        return listed + ", .." * (len(numbers) > MOST_LISTED)

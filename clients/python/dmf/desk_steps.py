@@ -1,0 +1,115 @@
+"""What a desk's steps are made of: places and arcs, changes, steps, trials, and why the desk refuses a request."""
+
+from __future__ import annotations
+
+from dataclasses import dataclass
+from typing import NamedTuple, Union
+
+from .errors import Error
+
+Node = Union[int, str]
+
+
+class DeskFault(Exception):
+    """Why the desk refuses a request. It changes nothing."""
+
+
+class Place(NamedTuple):
+    """A place: arcs into it enter the node `entry`, and arcs out of it leave the node `exit`. The two differ if the place has a
+    limit."""
+
+    entry: int
+    exit: int
+
+
+class Line(NamedTuple):
+    """An arc as it is: its ends by their numbers, and its capacity, which one that is closed had before. `is_shut` says that it was
+    closed when a place was shut, and `is_replaced` that it was closed and then opened again, as another arc."""
+
+    tail: int
+    head: int
+    capacity: int
+    is_closed: bool = False
+    is_shut: bool = False
+    is_replaced: bool = False
+
+
+class Was(NamedTuple):
+    """An arc before a change; None if the change added it."""
+
+    number: int
+    line: Line | None
+
+
+@dataclass(frozen=True)
+class Solve:
+    pass
+
+
+@dataclass(frozen=True)
+class ArcChange:
+    """A change of one arc, by its number."""
+
+    arc: int
+
+
+@dataclass(frozen=True)
+class Cap(ArcChange):
+    capacity: int
+
+
+class Close(ArcChange):
+    """The arc is closed."""
+
+
+class Reopen(ArcChange):
+    """The arc is added again, as it was before it was closed."""
+
+
+@dataclass(frozen=True)
+class Add:
+    tail: int
+    head: int
+    capacity: int
+    name: str | None = None
+
+
+@dataclass(frozen=True)
+class Shut:
+    node: int
+
+
+Change = Union[Solve, Close, Cap, Add, Reopen, Shut]
+
+
+@dataclass(frozen=True)
+class Step:
+    """What was done, in words, the changes that it made, and the value of the flow that they left. `before` is what the arcs were that
+    it changed, and `shut_before` which nodes were shut."""
+
+    text: str
+    changes: tuple[Change, ...]
+    value: int
+    before: tuple[Was, ...]
+    shut_before: frozenset[int]
+
+    @property
+    def is_solved(self) -> bool:
+        return isinstance(self.changes[-1], Solve)
+
+
+@dataclass(frozen=True)
+class Trial:
+    """The greatest values if an arc is closed, and if a second one of its capacity lies beside it. The second is None if the sum of
+    the capacities would exceed 64 bits."""
+
+    arc: int
+    closed: int
+    doubled: int | None
+
+
+def unforeseen(error: BaseException) -> str:
+    """Why something came to no end, also for an error that nothing foresaw."""
+    if isinstance(error, (Error, DeskFault, OSError)):
+        return str(error)
+    return f"that came to no end ({type(error).__name__}{f': {error}' if str(error) else ''})"
