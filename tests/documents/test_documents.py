@@ -4,7 +4,7 @@
 - the program's version is the one of the Python package, of the manual pages and of CHANGELOG.md's newest release;
 - each link between pages leads to a file, and to a heading of it where it names one;
 - each name of code and of a file that a page has in backquotes stands in the repository;
-- the pages together have at most 24,000 words, and each names its reader in its first lines;
+- no page has more words than its bound, and each names its reader in its first lines;
 - the pictures of docs/SEARCH.md are those of their sources;
 - each definition and lemma is named by the rest of its file, or by a file that names its file."""
 
@@ -23,6 +23,10 @@ import pytest
 HEAD = re.compile(r"^(?:[a-z]+ )*([^\s:(]+)(?= *[:(])")
 LINK = re.compile(r"\]\((?![a-z]+:)([^)#]*)#?([^)]*)\)")
 WORD = re.compile(r"[^\s(){}\[\],;.`\"]+")
+# The most words of a page. Pages that only grow, by a line for each release or decision, have no bound.
+MOST_WORDS = 1_800
+MORE_WORDS = {"docs/DEFINITIONS.md": 3_800, "docs/FORMATS.md": 3_200, "docs/SEARCH.md": 2_400}
+GROWING = {"CHANGELOG.md", "docs/DECISIONS.md"}
 
 
 def headless_files() -> Iterator[str]:
@@ -111,8 +115,16 @@ def test_names() -> None:
     assert not [*dead_names()]
 
 
+def long_pages() -> Iterator[str]:
+    """The pages with more words than their bound."""
+    for page in pages():
+        count, most = len(page.read_text().split()), MORE_WORDS.get(str(page), MOST_WORDS)
+        if count > most and str(page) not in GROWING:
+            yield f"{page} has {count} words, and {most} are the most"
+
+
 def test_length() -> None:
-    assert sum(len(page.read_text().split()) for page in pages()) <= 24_000
+    assert not [*long_pages()]
 
 
 def test_readers() -> None:
