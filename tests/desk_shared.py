@@ -14,7 +14,7 @@ from pathlib import Path
 from typing import NamedTuple
 
 from dmf.desk import Desk
-from dmf.desk_file import Subject
+from dmf.tables.subject import Subject
 
 ROOT = Path(__file__).resolve().parents[1]
 PIPES = "examples/water/pipes.csv"

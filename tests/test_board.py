@@ -27,7 +27,7 @@ from dmf import Network, desk
 from dmf.board import Answer
 from dmf.board import Board as InBoard
 from dmf.desk import Desk
-from dmf.desk_file import Subject
+from dmf.tables.subject import Subject
 
 # Requests of a wrong form: the path, the body or None, and what is said.
 FORMS: list[tuple[str, Optional[bytes], str]] = [

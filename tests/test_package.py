@@ -197,8 +197,10 @@ def test_files(system: Path, made: Path) -> None:
     assert {path.name for path in (system / "usr/bin").iterdir()} == {"dmf", *TOOLS}
     assert {path.name for path in (share / "man/man1").iterdir()} == {f"{name}.1.gz" for name in ["dmf", *TOOLS]}
     assert {path.name for path in (share / "bash-completion/completions").iterdir()} == {"dmf", *TOOLS}
-    modules = {path.name for path in (system / "usr/lib/python3/dist-packages/dmf").iterdir()} - {"__pycache__"}
-    assert modules == {path.name for path in (ROOT / "clients/python/dmf").glob("*.*")}
+    modules = system / "usr/lib/python3/dist-packages/dmf"
+    packed = {path.relative_to(modules) for path in modules.rglob("*.*") if path.suffix != ".pyc"}
+    ours = ROOT / "clients/python/dmf"
+    assert packed == {path.relative_to(ours) for path in ours.rglob("*.*") if path.suffix != ".pyc"}
 
 
 def test_tutorial_of_the_package(system: Path, tmp_path: Path) -> None:

@@ -48,7 +48,8 @@ def metadata() -> bytes:
 
 def package() -> dict[str, bytes]:
     """The files of the package."""
-    return {f"dmf/{file.name}": file.read_bytes() for file in sorted((HERE / "dmf").iterdir()) if file.suffix in (".py", ".typed", ".html", ".css", ".js")}
+    files = sorted(file for file in (HERE / "dmf").rglob("*.*") if file.suffix in (".py", ".typed", ".html", ".css", ".js"))
+    return {str(file.relative_to(HERE)): file.read_bytes() for file in files}
 
 
 def executable() -> dict[str, bytes]:

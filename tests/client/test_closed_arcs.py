@@ -12,7 +12,7 @@ from desk_shared import run
 from dmf.board import Board
 from dmf.desk import Desk
 from dmf.desk_steps import Trial
-from dmf.desk_file import Subject
+from dmf.tables.subject import Subject
 
 HALF, LARGEST = 2**63, 2**64 - 1
 # Two arcs side by side: with the first closed and opened again, the capacities of open and closed arcs are past 2^64 together.

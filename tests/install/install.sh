@@ -42,7 +42,7 @@ prefix="$work/a place"
 mkdir -p "$root/bin" "$root/crates/dmf/src" "$root/docs" "$root/clients/python/dmf"
 cp -r install dmf completions tools "$root"
 cp docs/*.1 "$root/docs"
-cp clients/python/dmf/*.* "$root/clients/python/dmf"
+(cd clients/python && cp --parents dmf/*.* dmf/*/*.py "$root/clients/python")
 printf 'dmf:\n' >"$root/crates.txt"
 echo 1 >"$root/crates/dmf/src/version"
 
@@ -86,7 +86,7 @@ lines() {
     for file in docs/*.1; do
         echo "$1 $2/share/man/man1/${file#docs/}"
     done
-    for file in clients/python/dmf/*.*; do
+    for file in clients/python/dmf/*.* clients/python/dmf/*/*.py; do
         echo "$1 $2/share/dmf/python/${file#clients/python/}"
     done
     for name in dmf dmf-problem dmf-names dmf-dot dmf-sweep dmf-plan dmf-board; do
@@ -183,8 +183,9 @@ call "a file that was changed" 1 "" \
     "install: $prefix/bin/dmf was changed since this script put it; nothing was put (move it away first)
 " --prefix "$prefix"
 same "all stays as it is" "$(tree "$prefix")" "$before"
-mkdir "$prefix/share/dmf/python/dmf/__pycache__"
-: >"$prefix/share/dmf/python/dmf/__pycache__/tables.cpython-311.pyc"
+mkdir "$prefix/share/dmf/python/dmf/__pycache__" "$prefix/share/dmf/python/dmf/tables/__pycache__"
+: >"$prefix/share/dmf/python/dmf/__pycache__/text.cpython-311.pyc"
+: >"$prefix/share/dmf/python/dmf/tables/__pycache__/file.cpython-311.pyc"
 call "removing, where a file was changed" 0 "$(
     lines removed "$prefix" | LC_ALL=C sort -r | sed "s|^removed \($prefix/bin/dmf\)\$|left, since it was changed: \1|"
     echo "removed $prefix/share/dmf/installed"

@@ -13,7 +13,7 @@ from client_shared import ROOT
 
 OLDEST = (3, 9)
 TOOLS = sorted(Path(ROOT, "tools").glob("dmf-*"))
-SOURCES = [*TOOLS, *sorted(Path(ROOT, "clients/python/dmf").glob("*.py"))]
+SOURCES = [*TOOLS, *sorted(Path(ROOT, "clients/python/dmf").rglob("*.py"))]
 NAMES = [path.name for path in SOURCES]
 
 

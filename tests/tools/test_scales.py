@@ -12,8 +12,8 @@ from client_shared import dmf, needs
 from desk_shared import run
 from dmf.board_picture import Picture
 from dmf.desk import Desk
-from dmf.desk_file import Subject
 from dmf.desk_text import picture_text
+from dmf.tables.subject import Subject
 from dmf.text import read_problem, read_scale, scale_comment
 from tool_runs import Tools
 
@@ -139,7 +139,7 @@ def test_dmf_plan(tmp_path: Path, is_table: bool) -> None:
 @pytest.mark.parametrize("scale", ["", "100"])
 def test_pictures_of_a_desk(scale: str) -> None:
     """Those of a board, too."""
-    desk = Desk(Subject("a test", PLAIN.encode(), scale=scale), with_solve=True)
+    desk = Desk(Subject("a test", (PROBLEM if scale else PLAIN).encode()), with_solve=True)
     for drawn in picture_text(desk), Picture(desk).svg((), [1, 2], to_take=True):
         assert (NOTE[:-1] in drawn) == bool(scale)
     desk.end()

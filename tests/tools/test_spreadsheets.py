@@ -10,10 +10,10 @@ from pathlib import Path
 import pytest
 from desk_shared import run
 from dmf.desk import Desk
-from dmf.desk_file import Subject
 from dmf.desk_text import table
 from dmf.spreadsheet import ArcRow, cell_of, line, name_in, plan_table
-from dmf.tables import ARCS, Reading, read_table
+from dmf.tables.reading import ARCS, Reading, read_table
+from dmf.tables.subject import Subject
 from hypothesis import given
 from hypothesis import strategies as some
 from tool_runs import Tools

@@ -20,9 +20,9 @@ from client_shared import CLIENT, dmf
 from desk_shared import run
 from dmf.board import Board
 from dmf.desk import Desk
-from dmf.desk_file import Subject
 from dmf.desk_text import problem, table
 from dmf.plan import Plan
+from dmf.tables.subject import Subject
 from dmf.text import read_names
 from dmf.tool import write_file
 

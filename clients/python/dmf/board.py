@@ -23,7 +23,7 @@ from .desk import Desk
 from .desk_steps import DeskFault, Trial, unforeseen
 from .desk_text import near as near_arcs
 from .desk_text import problem, table
-from .tables import whole_number
+from .tables.reading import whole_number
 
 # How long a request may sweep before it answers with the results so far, in seconds.
 PORTION = 0.25

@@ -14,12 +14,12 @@ from collections.abc import Generator, Hashable, Iterable, Iterator
 from dataclasses import dataclass, field
 
 from . import Cut, Solution, SweepResult, read, sweep
-from .desk_file import Subject
 from .desk_names import Names
 from .desk_steps import Add, Cap, Change, Close, DeskFault, Line, Node, Place, Reopen, Shut, Solve, Step, Trial, Was
 from .errors import CapacitiesPast64Bits, Error, FlowIsNotGreatest, Refused, SessionEnded, TooManyArcs
 from .process import Program
-from .tables import cleaned, shown
+from .tables.cells import cleaned, shown
+from .tables.subject import Subject
 from .text import LARGEST, read_names
 
 @dataclass

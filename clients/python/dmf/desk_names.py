@@ -6,8 +6,7 @@ from collections.abc import Iterator, Sequence
 
 from . import Arc as Handle
 from .desk_steps import DeskFault, Node, Place
-from .table_problem import near
-from .tables import cleaned, shown
+from .tables.cells import cleaned, near, shown
 from .text import display
 
 MOST_LISTED = 6

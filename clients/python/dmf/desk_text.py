@@ -49,7 +49,7 @@ def drawing(desk: Desk) -> Drawing:
     names = desk.names
     labels = {number: names.node(number) for number in range(1, len(names.nodes) + 1)}
     arc_names = {place: names.arc_name(number) for place, number in enumerate(numbers, 1) if names.arc_name(number)}
-    drawn = Problem(len(labels), desk.source, desk.sink, [], labels, arc_names, desk.subject.scale)
+    drawn = Problem(len(labels), desk.source, desk.sink, [], labels, arc_names, desk.subject.described)
     flows = [None if desk.lines[number - 1].is_closed else desk.flow(number) for number in numbers]
     side = desk.side() if desk.is_greatest else set()
     return Drawing(drawn, arcs_of([desk.lines[number - 1] for number in numbers]), flows, side, set(desk.shut_nodes))

@@ -14,6 +14,7 @@ from typing import Any, Generic, NoReturn, SupportsIndex, Union
 from .arcs import Added, Arc, Columns, Handles, Node, OpenArcs, one_of
 from .errors import ArcIsClosed, HistoryOutOfRange, NoSuchArc, NotAnArc, NotANumber, NothingToRedo, NothingToUndo, NumberTooLarge, shown
 from .numbering import AMOUNTS, NODES, WholeNodes
+from .tables.comments import Described
 from .text import LARGEST
 
 # A whole number, which may also come as a float without a fraction.
@@ -187,8 +188,8 @@ class Kept(Generic[Node]):
         # The arcs of the network from which this one was copied. Their handles name the arcs here too.
         self.origin: OpenArcs[Node] | None = None
         self.most = most
-        # What the numbers of a table were multiplied by, if the problem tells it.
-        self.scale = ""
+        # What the problem tells of its table.
+        self.described = Described()
         # How many changes led to the present state, forgotten ones counted, and how many of them may not be undone now.
         self.place = 0
         self.floor: int | None = None
@@ -342,7 +343,7 @@ class Kept(Generic[Node]):
         """The same arcs as they are now, without changes. The handles of these arcs name the arcs of the copy too."""
         copy = Kept(self.columns, self.capacities[:], self.source, self.sink, self.most)
         copy.closed = set(self.closed)
-        copy.scale = self.scale
+        copy.described = self.described
         copy.origin = self.opened() if self.origin is None else self.origin
         for arc, replaced in zip(self.added, self.replaced):
             copy.put_added(Arc(arc.number, arc.tail, arc.head, arc.given_key), replaced)

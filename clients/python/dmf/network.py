@@ -17,7 +17,9 @@ from .names import comments
 from .notebook import MOST_DRAWN, Look, table
 from .process import Child, Program, bound, session_words, start
 from .solution import Cut, Flows, Solution
-from .text import display, scale_comment
+from .tables.comments import Described
+from .tables.comments import comments as table_comments
+from .text import display, told_scale
 
 # An arc as the caller gives it: its tail, its head, its capacity and, if it has one, its key.
 Row = Union[Tuple[Node, Node, Whole], Tuple[Node, Node, Whole, Hashable]]
@@ -158,7 +160,7 @@ class Network(Generic[Node]):
     @property
     def scale(self) -> str:
         """What the numbers of a table were multiplied by, as the problem that was read tells it; empty if it tells none."""
-        return self._kept.scale
+        return told_scale(self._kept.described)
 
     @property
     def nodes(self) -> list[Node]:
@@ -313,13 +315,14 @@ class Network(Generic[Node]):
     def problem(self, *, names: bool = True, escapes: bool = False) -> str:
         """The problem of the open arcs as a text in the DIMACS format. With `names`, comments before it name nodes and arcs: each
         node whose name is not its own number, and each key, as `str` writes it. `dmf.read` reads the same names again, as texts,
-        except blank ones. If the network was read of a problem that tells its scale, the first comment tells it too.
+        except blank ones. If the network was read of a problem that tells the scale and the unit of its numbers, so do the first
+        comments.
 
         Raises `NameNotWritable` if `dmf.read` would read a name as another one: if it has a line feed or blanks around it, or if two
         nodes have the same name. With `escapes` what cannot be written of a name, such as a line feed, is written as `\\x0a`."""
         with self._child.alone():
             opened = self._kept.opened()
-            before = scale_comment(self._kept.scale)
+            before = table_comments(Described(self._kept.described.measure))
             if names:
                 keys = {place: key for place, key in enumerate(opened.keys(), 1) if key is not None}
                 before += comments(dict(enumerate(self._kept.columns.names, 1)), keys, escapes=escapes)
@@ -379,7 +382,7 @@ class Network(Generic[Node]):
         flows.settle(self._asked_flow)
         kept = self._kept
         ends = kept.number(kept.source), kept.number(kept.sink)
-        return Look(flows.arcs, ends, flows.numbers(), flows.capacities(), side, kept.scale)
+        return Look(flows.arcs, ends, flows.numbers(), flows.capacities(), side, kept.described)
 
     def _begun(self, fields: list[bytes], line: str, begin: list[bytes], at: object = None) -> list[bytes]:
         """The fields of the first line of a reply, which begins with these words. Raises a `Refused` that names the line, or the

@@ -12,6 +12,7 @@ from typing import Any
 from .arcs import OpenArcs
 from .names import picture_names
 from .picture import Drawing, picture
+from .tables.comments import Described
 from .text import Problem
 from .timeline import Arc
 
@@ -27,12 +28,12 @@ class Look:
     """A network at one time, with its flow, and the side of its cut if it has one."""
 
     def __init__(
-        self, arcs: OpenArcs[Any], ends: tuple[int, int], flows: Sequence[int], capacities: Sequence[int], side: set[int], scale: str
+        self, arcs: OpenArcs[Any], ends: tuple[int, int], flows: Sequence[int], capacities: Sequence[int], side: set[int], described: Described
     ) -> None:
         """`ends` are the source and the sink, and `flows` and `capacities` belong to the open arcs."""
         drawn = list(zip(*arcs.ends(), capacities))
         keys = {place: key for place, key in enumerate(arcs.keys(), 1) if key is not None}
-        problem = Problem(len(arcs.columns.numbers), *ends, drawn, *picture_names(arcs.columns.names, keys), scale)
+        problem = Problem(len(arcs.columns.numbers), *ends, drawn, *picture_names(arcs.columns.names, keys), described)
         self.drawing = Drawing(problem, [Arc(*row) for row in drawn], list(flows), side)
 
     def svg(self) -> str | None:

@@ -33,7 +33,8 @@ from .plan_words import (
     split,
     typed_form,
 )
-from .tables import LARGEST, shown
+from .quantity import LARGEST
+from .tables.cells import shown
 from .text import display
 from .tool import ToolFault, write_file
 

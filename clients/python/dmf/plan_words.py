@@ -5,7 +5,8 @@ from __future__ import annotations
 from typing import NamedTuple
 
 from .desk_steps import DeskFault
-from .tables import cleaned, shown, whole_number
+from .tables.cells import cleaned, shown
+from .tables.reading import whole_number
 
 FLOW, PLACE, ARC, CLOSED, COMMAND, EACH = "flow", "place", "arc", "closed", "command", "each"
 

@@ -14,7 +14,8 @@ from .kept import Kept, Whole, whole
 from .network import Network
 from .numbering import AMOUNTS, NODES
 from .process import Child, FilePath, Program, bound, session_words, start
-from .text import ARC, NODE, names_in, naming_pieces, read_scale
+from .tables.comments import described
+from .text import ARC, NODE, names_in, naming_pieces
 
 
 def read(path: FilePath, *, program: Program = None, history: int | None = None) -> Network[int | str]:
@@ -58,7 +59,7 @@ def _kept(child: Child, text: bytes, most: int) -> Kept[int | str]:
     pieces = naming_pieces(text, ARC)
     columns = Columns(nodes, tails, heads, lambda: {**_of(arc_count, names_in(pieces, ARC))})
     kept = Kept(columns, capacities, names[source - 1], names[sink - 1], most)
-    kept.scale = read_scale(text)
+    kept.described = described(text)
     return kept
 
 

@@ -10,24 +10,21 @@ its second half, and the arc between them, `limit of Depot`, carries the limit;
 
 from __future__ import annotations
 
-import difflib
 import unicodedata
 from collections import Counter
-from collections.abc import Iterable, Iterator, Mapping, Sequence
+from collections.abc import Iterator, Mapping, Sequence
 from dataclasses import dataclass, field
 from decimal import Decimal
 from itertools import islice
 from typing import NamedTuple, Optional
 
-from .tables import LARGEST, Table, TableFault, cleaned, shown, whole_number
-from .text import scale_comment
+from .quantity import Measure
+from .tables.cells import MOST_TOLD, cleaned, near, shown
+from .tables.comments import Described, comments
+from .tables.reading import LARGEST, Table, TableFault, whole_number
 
 MOST_NODES = 16_777_216
 MOST_ARCS = 134_217_728
-# How many names a warning names; among how many a near one is looked for, and how long a name is for which one is.
-MOST_TOLD = 10
-MOST_COMPARED = 20_000
-LONGEST_COMPARED = 200
 TOO_MUCH = f"the capacities are together past {LARGEST}"
 
 
@@ -63,15 +60,6 @@ class Plan:
     def __post_init__(self) -> None:
         names = dict.fromkeys(place for record in self.arcs.records for place in record.places)
         self.places = {place: number for number, place in enumerate(names, 1)}
-
-
-def near(name: str, places: Iterable[str]) -> str:
-    """The words of a message about the places whose names are near to one that no place has."""
-    if len(name) > LONGEST_COMPARED:
-        return ""
-    folded = {place.casefold(): place for place in islice(places, MOST_COMPARED) if len(place) <= LONGEST_COMPARED}
-    found = difflib.get_close_matches(name.casefold(), folded, n=3)
-    return f"; is it {' or '.join(shown(folded[it]) for it in found)}?" if found else ""
 
 
 def terminal_of(word: str, places: Mapping[str, int], scale: Optional[Decimal] = None) -> Terminal:
@@ -179,13 +167,8 @@ def check(plan: Plan) -> None:
             known.add(place)
 
 
-def told_scale(scale: Optional[Decimal]) -> str:
-    """The scale as it is told: nothing if it changes no number."""
-    return "" if scale is None or scale == 1 else f"{scale:f}"
-
-
-def problem_text(plan: Plan, scale: Optional[Decimal] = None) -> str:
-    """The problem of a plan, with names in comments. Raises a `TableFault`."""
+def problem_text(plan: Plan, measure: Measure) -> str:
+    """The problem of a plan, with the measure of its numbers and names in comments. Raises a `TableFault`."""
     check(plan)
     network = _Network(plan)
     if plan.limits:
@@ -202,7 +185,7 @@ def problem_text(plan: Plan, scale: Optional[Decimal] = None) -> str:
     lines += (f"c arc {number} {arc.name}" for number, arc in enumerate(network.arcs, 1) if arc.name)
     lines += [f"p max {len(network.node_names)} {len(network.arcs)}", f"n {source} s", f"n {sink} t"]
     lines += (f"a {tail} {head} {capacity}" for tail, head, capacity, _ in network.arcs)
-    return scale_comment(told_scale(scale)) + "\n".join([*lines, ""])
+    return comments(Described(measure)) + "\n".join([*lines, ""])
 
 
 def _told(names: Sequence[str]) -> str:

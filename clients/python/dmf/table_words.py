@@ -7,7 +7,8 @@ import re
 from decimal import Decimal
 
 from .table_problem import Plan, Terminal, terminal_of, terminals_of
-from .tables import ARCS, LIMITS, Form, Reading, Table, TableFault, cleaned, decoded, read_table
+from .tables.cells import cleaned
+from .tables.reading import ARCS, LIMITS, Form, Reading, Table, TableFault, decoded, read_table
 from .tool import read_file, standard_input
 
 COLUMNS = ("tail", "head", "capacity", "name")

@@ -14,7 +14,11 @@ from __future__ import annotations
 import re
 from collections.abc import Iterable, Iterator
 from dataclasses import dataclass, field
+from decimal import Decimal
 from typing import NamedTuple
+
+from .quantity import Measure
+from .tables.comments import Described, comments, described
 
 LARGEST = 2**64 - 1
 LONGEST = len(str(LARGEST))
@@ -31,9 +35,6 @@ _NAMED = {
     kind: re.compile(rf"^[ \t]*c[ \t]+{kind}[ \t]+0*([0-9]{{1,19}})[ \t]+([^ \t\n](?:[^\n]*[^ \t\n])?)", re.MULTILINE)
     for kind in (NODE, ARC)
 }
-# A comment that tells the scale of all numbers of a problem.
-SCALE_WORDS = "c capacities are those of the table times"
-_SCALE = re.compile(rf"[ \t]*{SCALE_WORDS} ([0-9]+(?:\.[0-9]+)?)[ \t]*\r?(?:\n|\Z)".encode())
 # The size of the pieces that are searched for names, in bytes.
 PIECE = 1 << 16
 # Control characters of a terminal, ends of lines, and marks that turn the direction in which text is shown; halves of characters.
@@ -66,8 +67,8 @@ class TextFault(Fault):
 @dataclass
 class Problem:
     """A problem as its text has it. Arc number j is `arcs[j - 1]`: its tail, its head and its capacity. Nodes are counted from 1
-    too. A node or an arc that no comment names is not in the names, nor is a name of one that is not there. `scale` is what the
-    numbers of a table were multiplied by, and nothing if the text does not tell it."""
+    too. A node or an arc that no comment names is not in the names, nor is a name of one that is not there. `described` is what
+    comments say of the table that the problem was made of."""
 
     node_count: int
     source: int
@@ -75,7 +76,11 @@ class Problem:
     arcs: list[tuple[int, int, int]]
     node_names: dict[int, str] = field(default_factory=dict)
     arc_names: dict[int, str] = field(default_factory=dict)
-    scale: str = ""
+    described: Described = Described()
+
+    @property
+    def scale(self) -> str:
+        return told_scale(self.described)
 
 
 class Naming(NamedTuple):
@@ -128,19 +133,17 @@ def _escaped(found: re.Match[str]) -> str:
 
 def scale_comment(scale: str) -> str:
     """The comment that tells the scale of a problem; nothing without one."""
-    return f"{SCALE_WORDS} {scale}\n" if scale else ""
+    return comments(Described(Measure(Decimal(scale or 1))))
 
 
 def read_scale(text: bytes) -> str:
     """What the numbers of a table were multiplied by, as a comment of its problem tells it; nothing without that comment."""
-    # To look for these words is many times as fast as to look for the pattern.
-    at = text.find(SCALE_WORDS.encode())
-    while at >= 0:
-        found = _SCALE.match(text, text.rfind(b"\n", 0, at) + 1)
-        if found:
-            return found[1].decode()
-        at = text.find(SCALE_WORDS.encode(), at + 1)
-    return ""
+    return told_scale(described(text))
+
+
+def told_scale(described: Described) -> str:
+    """The scale of a problem as it is told: nothing if it changes no number."""
+    return "" if described.measure.scale == 1 else f"{described.measure.scale:f}"
 
 
 def scaled(title: str, scale: str) -> str:
@@ -215,7 +218,7 @@ def read_problem(text: bytes) -> Problem:
     except Fault as fault:
         raise TextFault(line, fault.reason, fault.field) from None
     node_names, arc_names = read_names(text)
-    problem.scale = read_scale(text)
+    problem.described = described(text).within(problem.node_count, len(problem.arcs))
     problem.node_names = {number: name for number, name in node_names.items() if 1 <= number <= problem.node_count}
     problem.arc_names = {number: name for number, name in arc_names.items() if 1 <= number <= len(problem.arcs)}
     return problem

@@ -18,7 +18,8 @@ from decimal import Decimal, localcontext
 from itertools import islice
 from typing import NamedTuple, Optional
 
-from .spreadsheet import name_in
+from ..spreadsheet import name_in
+from .cells import cleaned, shown
 
 LARGEST = 2**64 - 1
 LONGEST_NUMBER = len(str(LARGEST))
@@ -120,17 +121,6 @@ class Table:
         if self.heading and any(cleaned(cell) in places for cell in self.heading.cells[: len(self.form.places)]):
             cell = self.heading.cells[self.form.columns[self.form.amount]]
             raise self.fault(f"the {self.form.amount} {shown(cell)} is no whole number{self.form.hint}", self.heading.line)
-
-
-def cleaned(text: str) -> str:
-    """A text without white space around it, and with one space for each run of white space in it. A byte order mark, which each of
-    several joined files may have, is white space too."""
-    return " ".join(text.replace("\ufeff", " ").split())
-
-
-def shown(text: str) -> str:
-    """A text in quotes as messages show it: on one line, without control characters, and cut if it is long."""
-    return repr(text if len(text) <= 60 else text[:57] + "...")
 
 
 def decoded(data: bytes, encoding: Optional[str] = None) -> str:

@@ -5,12 +5,18 @@ from __future__ import annotations
 import argparse
 from collections.abc import Sequence
 from dataclasses import dataclass, replace
+from decimal import Decimal
+from functools import cached_property
+from pathlib import Path
 
-from .table_problem import MOST_TOLD, Plan, Terminal, problem_text, told_scale, warnings
-from .table_words import COLUMNS, add_options, names_terminals, parsed, plan_of, reading_of
-from .tables import ARCS, Table, TableFault, cleaned, decoded, read_table, shown
-from .text import display, fields, lines, read_scale, scale_note
-from .tool import ToolFault, read_file
+from ..quantity import Measure, plain_text
+from ..table_problem import Plan, Terminal, problem_text, warnings
+from ..table_words import COLUMNS, add_options, names_terminals, parsed, plan_of, reading_of
+from ..text import display, fields, lines, scale_note, told_scale
+from ..tool import ToolFault, read_file
+from .cells import MOST_TOLD, cleaned, shown
+from .comments import Described, described
+from .reading import ARCS, Table, TableFault, decoded, read_table
 
 # Titles of a column that do not say what its cells are.
 PLAIN_TITLES = {"", "amount", "arc", "cap", "capacity", "edge", "id", "key", "label", "max", "name", "no", "number", "title"}
@@ -22,17 +28,32 @@ FAULT, UNREADABLE = 3, 4
 
 @dataclass(frozen=True)
 class Subject:
-    """A problem with names in comments, as `dmf-problem` writes it. `unit` is the table's word for its amounts and `noun` its word
-    for an arc, if its titles have them. `notes` say what looks like a mistake, and what was assumed. `scale` is what the numbers of
-    a table were multiplied by, and `raw_names` says that names stand in a table as they are."""
+    """A problem with comments, as `dmf-problem` writes it. `noun` is the table's word for an arc, if its titles have one. `notes` say
+    what looks like a mistake, and what was assumed. `raw_names` says that names stand in a table as they are."""
 
     path: str
     text: bytes
-    unit: str = ""
     noun: str = ""
     notes: tuple[str, ...] = ()
-    scale: str = ""
     raw_names: bool = False
+
+    @cached_property
+    def described(self) -> Described:
+        """What the comments say of the problem's table."""
+        return described(self.text)
+
+    @property
+    def measure(self) -> Measure:
+        """How the problem's numbers stand for quantities."""
+        return self.described.measure
+
+    @property
+    def scale(self) -> str:
+        return told_scale(self.described)
+
+    @property
+    def unit(self) -> str:
+        return f"{self.measure.unit or 'units'} times {plain_text(self.measure.scale)}" if self.scale else self.measure.unit
 
 
 def add_words(parser: argparse.ArgumentParser) -> None:
@@ -56,7 +77,7 @@ def read_subject(words: argparse.Namespace) -> Subject:
         data = read_file(words.path, UNREADABLE)
         if is_problem(words.path, data):
             _refuse_table_words(words)
-            return _scaled(Subject(words.path, data, scale=read_scale(data), raw_names=words.raw_names))
+            return _noted(Subject(words.path, data, raw_names=words.raw_names))
         return _of_table(words, data)
     except TableFault as fault:
         fault.path = fault.path or words.path
@@ -70,12 +91,9 @@ def is_problem(path: str, data: bytes) -> bool:
     return first is not None and first[:2] == [b"p", b"max"] or path.endswith(".max")
 
 
-def _scaled(subject: Subject) -> Subject:
-    """A subject whose unit and notes tell its scale."""
-    if not subject.scale:
-        return subject
-    unit = f"{subject.unit or 'units'} times {subject.scale}"
-    return replace(subject, unit=unit, notes=(scale_note(subject.scale), *subject.notes))
+def _noted(subject: Subject) -> Subject:
+    """A subject whose notes tell its scale."""
+    return replace(subject, notes=(scale_note(subject.scale), *subject.notes)) if subject.scale else subject
 
 
 def _refuse_table_words(words: argparse.Namespace) -> None:
@@ -94,11 +112,10 @@ def _of_table(words: argparse.Namespace, data: bytes) -> Subject:
     if not plan.sinks:
         plan.sinks = [_only(plan, "sink", 1)]
         notes.append(f"the sink is {shown(plan.sinks[0].place)}, the one place that nothing leads away from")
-    text = problem_text(plan, words.scale)
     titles = _titles(table, words.titles)
     unit, noun = _spoken(titles.get("capacity", "")), _spoken(titles.get("name", ""))
-    told = (*notes, *warnings(plan))
-    return _scaled(Subject(words.path, text.encode(), unit, noun, told, told_scale(words.scale), words.raw_names))
+    text = problem_text(plan, Measure(words.scale or Decimal(1), unit, Path(words.path).name))
+    return _noted(Subject(words.path, text.encode(), noun, (*notes, *warnings(plan)), words.raw_names))
 
 
 def _only(plan: Plan, kind: str, end: int) -> Terminal:

@@ -1,0 +1,32 @@
+"""What the cells of a table have: names, as people spell them, and how messages show a cell."""
+
+from __future__ import annotations
+
+import difflib
+from collections.abc import Iterable
+from itertools import islice
+
+# How many names a message names; among how many a near one is looked for, and how long a name is for which one is.
+MOST_TOLD = 10
+MOST_COMPARED = 20_000
+LONGEST_COMPARED = 200
+
+
+def cleaned(text: str) -> str:
+    """A text without white space around it, and with one space for each run of white space in it. A byte order mark, which each of
+    several joined files may have, is white space too."""
+    return " ".join(text.replace("\ufeff", " ").split())
+
+
+def shown(text: str) -> str:
+    """A text in quotes as messages show it: on one line, without control characters, and cut if it is long."""
+    return repr(text if len(text) <= 60 else text[:57] + "...")
+
+
+def near(name: str, places: Iterable[str]) -> str:
+    """The words of a message about the places whose names are near to one that no place has."""
+    if len(name) > LONGEST_COMPARED:
+        return ""
+    folded = {place.casefold(): place for place in islice(places, MOST_COMPARED) if len(place) <= LONGEST_COMPARED}
+    found = difflib.get_close_matches(name.casefold(), folded, n=3)
+    return f"; is it {' or '.join(shown(folded[it]) for it in found)}?" if found else ""
