@@ -2,19 +2,48 @@
 
 from __future__ import annotations
 
+import ast
 import doctest
+import os
+import subprocess
+import sys
+from pathlib import Path
 from types import ModuleType
 
 import pytest
-from client_shared import ROOT, dmf
+from client_shared import CLIENT, ROOT, dmf
+from dmf import errors, sweeping
 
 
-@pytest.mark.parametrize("module", [dmf, dmf.sweeping], ids=["dmf", "sweeping"])
+@pytest.mark.parametrize("module", [dmf, sweeping], ids=["dmf", "sweeping"])
 def test_docstrings(module: ModuleType) -> None:
-    failed, tried = doctest.testmod(module, extraglobs=vars(dmf), verbose=False)
+    # What is asked for is loaded, so that its examples are found.
+    names = {name: getattr(dmf, name) for name in dir(dmf)}
+    failed, tried = doctest.testmod(module, extraglobs=names, verbose=False)
     assert (failed, tried > 0) == (0, True)
 
 
 def test_readme() -> None:
     failed, tried = doctest.testfile(f"{ROOT}/README.md", module_relative=False, verbose=False)
     assert (failed, tried > 0) == (0, True)
+
+
+def test_names() -> None:
+    """What a type checker reads of the package is what Python finds in it."""
+    tree = ast.parse(Path(dmf.__file__).read_text())
+    imports = [node for node in ast.walk(tree) if isinstance(node, ast.ImportFrom) and node.level == 1 and node.names[0].asname]
+    static = {(name.name, node.module) for node in imports for name in node.names}
+    assert all(name.name == name.asname for node in imports for name in node.names)
+    assert static == {(name, home) for name, home in dmf._HOMES.items()} | {(name, "errors") for name in errors.PUBLIC}
+    for name, home in static:
+        assert getattr(dmf, name) is getattr(sys.modules[f"dmf.{home}"], name), name
+    assert {name for name in dir(dmf) if not name.startswith("_")} >= {name for name, _ in static}
+    with pytest.raises(AttributeError, match="^module 'dmf' has no attribute 'netwrok'$"):
+        getattr(dmf, "netwrok")
+
+
+def test_nothing_is_loaded_before_it_is_asked_for() -> None:
+    for asked, wanted in ("", {"dmf"}), ("dmf.NoSuchArc", {"dmf", "dmf.errors"}):
+        script = f"import sys, dmf\n{asked}\nprint(*(name for name in sys.modules if name.partition('.')[0] == 'dmf'))"
+        ran = subprocess.run([sys.executable, "-c", script], env={**os.environ, "PYTHONPATH": CLIENT}, capture_output=True, text=True)
+        assert set(ran.stdout.split()) == wanted, ran.stderr

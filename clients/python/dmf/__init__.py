@@ -45,114 +45,98 @@ network is for one thread at a time: a call beside another one raises `UsedByTwo
 
 from __future__ import annotations
 
-from .errors import (
-    AmbiguousArc,
-    ArcBeforeSourceAndSink,
-    ArcIsClosed,
-    ArcIsOpen,
-    CapacitiesPast64Bits,
-    CountOutOfRange,
-    Error,
-    FlowIsNotGreatest,
-    HistoryOutOfRange,
-    JobsOutOfRange,
-    LineTooLong,
-    NameNotWritable,
-    NeitherSourceNorSink,
-    NoCapacity,
-    NoMemory,
-    NoProgram,
-    NoSuchArc,
-    NoSuchNode,
-    NotAMaxProblem,
-    NotANumber,
-    NotAnArc,
-    NothingToRedo,
-    NothingToUndo,
-    NumberTooLarge,
-    ProblemLineExpected,
-    Refused,
-    SecondProblemLine,
-    SessionEnded,
-    SourceAndSinkAreTheSame,
-    SourceOrSinkMissing,
-    TerminalNamedTwice,
-    TooFewArcs,
-    TooManyArcs,
-    UnknownCommand,
-    UnknownLine,
-    UsedByTwoProcesses,
-    UsedByTwoThreads,
-    WrongNumberOfFields,
-)
-from .arcs import Arc
-from .executable import program
-from .network import Network, Row
-from .solution import Cut, Solution
-from .sources import from_networkx, from_scipy, read
-from .sweeping import SweepResult, each_arc_closed, each_capacity_raised, each_node_shut, each_pair_added, sweep
-
 # The version of the program that this package comes with.
 __version__ = "0.1.0"
 
-__all__ = [
-    "AmbiguousArc",
-    "Arc",
-    "ArcBeforeSourceAndSink",
-    "ArcIsClosed",
-    "ArcIsOpen",
-    "CapacitiesPast64Bits",
-    "CountOutOfRange",
-    "Cut",
-    "Error",
-    "FlowIsNotGreatest",
-    "HistoryOutOfRange",
-    "JobsOutOfRange",
-    "LineTooLong",
-    "NameNotWritable",
-    "NeitherSourceNorSink",
-    "Network",
-    "NoCapacity",
-    "NoMemory",
-    "NoProgram",
-    "NoSuchArc",
-    "NoSuchNode",
-    "NotAMaxProblem",
-    "NotANumber",
-    "NotAnArc",
-    "NothingToRedo",
-    "NothingToUndo",
-    "NumberTooLarge",
-    "ProblemLineExpected",
-    "Refused",
-    "Row",
-    "SecondProblemLine",
-    "SessionEnded",
-    "Solution",
-    "SourceAndSinkAreTheSame",
-    "SourceOrSinkMissing",
-    "SweepResult",
-    "TerminalNamedTwice",
-    "TooFewArcs",
-    "TooManyArcs",
-    "UnknownCommand",
-    "UnknownLine",
-    "UsedByTwoProcesses",
-    "UsedByTwoThreads",
-    "WrongNumberOfFields",
-    "__version__",
-    "each_arc_closed",
-    "each_capacity_raised",
-    "each_node_shut",
-    "each_pair_added",
-    "from_networkx",
-    "from_scipy",
-    "program",
-    "read",
-    "sweep",
-]
+# A type checker reads these imports. Python loads a module when one of its names is first asked for, as the table below says.
+TYPE_CHECKING = False
+if TYPE_CHECKING:
+    from .arcs import Arc as Arc
+    from .errors import (
+        AmbiguousArc as AmbiguousArc,
+        ArcBeforeSourceAndSink as ArcBeforeSourceAndSink,
+        ArcIsClosed as ArcIsClosed,
+        ArcIsOpen as ArcIsOpen,
+        CapacitiesPast64Bits as CapacitiesPast64Bits,
+        CountOutOfRange as CountOutOfRange,
+        Error as Error,
+        FlowIsNotGreatest as FlowIsNotGreatest,
+        HistoryOutOfRange as HistoryOutOfRange,
+        JobsOutOfRange as JobsOutOfRange,
+        LineTooLong as LineTooLong,
+        NameNotWritable as NameNotWritable,
+        NeitherSourceNorSink as NeitherSourceNorSink,
+        NoCapacity as NoCapacity,
+        NoMemory as NoMemory,
+        NoProgram as NoProgram,
+        NoSuchArc as NoSuchArc,
+        NoSuchNode as NoSuchNode,
+        NotAMaxProblem as NotAMaxProblem,
+        NotANumber as NotANumber,
+        NotAnArc as NotAnArc,
+        NothingToRedo as NothingToRedo,
+        NothingToUndo as NothingToUndo,
+        NumberTooLarge as NumberTooLarge,
+        ProblemLineExpected as ProblemLineExpected,
+        Refused as Refused,
+        SecondProblemLine as SecondProblemLine,
+        SessionEnded as SessionEnded,
+        SourceAndSinkAreTheSame as SourceAndSinkAreTheSame,
+        SourceOrSinkMissing as SourceOrSinkMissing,
+        TerminalNamedTwice as TerminalNamedTwice,
+        TooFewArcs as TooFewArcs,
+        TooManyArcs as TooManyArcs,
+        UnknownCommand as UnknownCommand,
+        UnknownLine as UnknownLine,
+        UsedByTwoProcesses as UsedByTwoProcesses,
+        UsedByTwoThreads as UsedByTwoThreads,
+        WrongNumberOfFields as WrongNumberOfFields,
+    )
+    from .executable import program as program
+    from .network import Network as Network, Row as Row
+    from .solution import Cut as Cut, Solution as Solution
+    from .sources import from_networkx as from_networkx, from_scipy as from_scipy, read as read
+    from .sweeping import (
+        SweepResult as SweepResult,
+        each_arc_closed as each_arc_closed,
+        each_capacity_raised as each_capacity_raised,
+        each_node_shut as each_node_shut,
+        each_pair_added as each_pair_added,
+        sweep as sweep,
+    )
 
-# A traceback names an exception as its caller does: dmf.NoSuchArc.
-for _name in __all__:
-    if isinstance(globals()[_name], type):
-        globals()[_name].__module__ = __name__
+# The public names of each module, but for those of the exceptions, which the module `errors` knows itself.
+_NAMES = {
+    "arcs": ["Arc"],
+    "executable": ["program"],
+    "network": ["Network", "Row"],
+    "solution": ["Cut", "Solution"],
+    "sources": ["from_networkx", "from_scipy", "read"],
+    "sweeping": ["SweepResult", "each_arc_closed", "each_capacity_raised", "each_node_shut", "each_pair_added", "sweep"],
+}
+_HOMES = {name: module for module, names in _NAMES.items() for name in names}
+if not TYPE_CHECKING:
+    # `help(dmf)` prints whatever stands here in full, which would be thousands of lines. `dir(dmf)` has all names.
+    __all__ = []
+
+
+def __getattr__(name: str) -> object:
+    """A public name, from its module. Raises an AttributeError for any other name."""
+    from importlib import import_module
+
+    home = _HOMES.get(name)
+    if home is None and not name.startswith("_"):
+        from .errors import PUBLIC
+
+        home = "errors" if name in PUBLIC else None
+    if home is None:
+        raise AttributeError(f"module {__name__!r} has no attribute {name!r}")
+    found: object = getattr(import_module(f".{home}", __name__), name)
+    globals()[name] = found
+    return found
+
+
+def __dir__() -> list[str]:
+    from .errors import PUBLIC
+
+    return sorted({*globals(), *_HOMES, *PUBLIC})

@@ -36,6 +36,8 @@ class Arc(Generic[Node]):
     `given_key` is the key that the caller gave it, or None. `is_open`, `capacity` and `flow` say how it is now in its network. Each
     arc is equal to itself alone, so a copy of it is the arc itself. One that was pickled has no network any more."""
 
+    __module__ = __package__
+
     __slots__ = "number", "tail", "head", "given_key", "_owner"
 
     def __init__(

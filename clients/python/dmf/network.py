@@ -40,6 +40,8 @@ class Network(Generic[Node]):
     ended, and `UsedByTwoThreads` if another thread is using the network.
     """
 
+    __module__ = __package__
+
     def __init__(
         self,
         arcs: Iterable[Row[Node]],

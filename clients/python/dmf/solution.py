@@ -108,6 +108,8 @@ class Solution(Mapping[Arc[Node], int], Generic[Node]):
     costs nothing more.
     """
 
+    __module__ = __package__
+
     def __init__(self, flows: Flows[Node]) -> None:
         self._flows = flows
 
@@ -198,6 +200,8 @@ class Cut(Generic[Node]):
     """The smallest minimum cut: `capacity` is its capacity, `side` the nodes that every minimum cut has on the side of the source,
     and `arcs` the open arcs that lead out of these, in their order. A notebook shows it as a picture if Graphviz is installed and the
     network is not large, and else as a table."""
+
+    __module__ = __package__
 
     capacity: int
     side: frozenset[Node]

@@ -45,6 +45,8 @@ class SweepResult(Generic[Node]):
     the smallest minimum cut, if they were wanted. If the case was refused, `refusal` is the error, and the others are None. An arc of
     the cut that the case added has a handle that no network knows."""
 
+    __module__ = __package__
+
     case: Case
     value: int | None = None
     difference: int | None = None
