@@ -92,7 +92,7 @@ def test_numbers_of_all_lengths() -> None:
             assert [tuple(map(int, line.split()[1:])) for line in text.splitlines()[3:]] == wanted
             with written(text.encode()) as path, dmf.read(path) as again:
                 assert again.problem() == text
-            copy = network._copy()
+            copy = network.copy()
             assert (copy.problem(names=False), copy.solve().value) == (text, network.solve().value)
             copy.end()
 

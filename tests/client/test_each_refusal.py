@@ -125,7 +125,8 @@ def test_copies() -> None:
 
 
 def test_tracebacks_name_the_package() -> None:
-    kinds = [kind for kind in vars(dmf).values() if isinstance(kind, type) and issubclass(kind, BaseException)]
+    public = [getattr(dmf, name) for name in dir(dmf)]
+    kinds = [kind for kind in public if isinstance(kind, type) and issubclass(kind, BaseException)]
     assert {kind.__module__ for kind in kinds} == {"dmf"}
     assert set(kinds) >= {dmf.Error, dmf.Refused, *dmf.Refused.kinds.values()}
 

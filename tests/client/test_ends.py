@@ -71,20 +71,6 @@ def test_it_is_ended_while_it_stands_still() -> None:
     assert process.returncode == -signal.SIGKILL
 
 
-def test_an_answer_is_broken_off() -> None:
-    with pipes() as network:
-        os.kill(network._child.process.pid, signal.SIGSTOP)
-        before = signal.signal(signal.SIGALRM, signal.default_int_handler)
-        signal.setitimer(signal.ITIMER_REAL, 0.2)
-        try:
-            with pytest.raises(KeyboardInterrupt):
-                network.solve()
-        finally:
-            signal.signal(signal.SIGALRM, before)
-        with pytest.raises(dmf.SessionEnded, match="`solve` was broken off"):
-            network.flow()
-
-
 def test_a_forked_process_leaves_it_alone() -> None:
     with pipes() as network:
         child = os.fork()

@@ -6,7 +6,6 @@ import pickle
 import re
 import threading
 import time
-import unittest.mock
 from collections.abc import Callable, Iterator
 from typing import Any
 
@@ -138,16 +137,6 @@ def test_a_call_beside_another() -> None:
         with open(f"{program}.go", "w"):
             thread.join(SECONDS)
         assert (values, network.undo(0)) == ([9], 9)
-
-
-def test_a_call_is_broken_off_before_it_is_noted() -> None:
-    """The program has made the change, and what is kept has not: nothing can be asked any more."""
-    with pipes() as network:
-        with unittest.mock.patch.object(network._kept, "note", side_effect=KeyboardInterrupt):
-            with pytest.raises(KeyboardInterrupt):
-                network.cap(("lake", "mill"), 1)
-        with pytest.raises(dmf.SessionEnded, match="^the session was ended when a call was broken off$"):
-            network.solve()
 
 
 def test_four_threads() -> None:

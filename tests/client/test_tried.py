@@ -90,7 +90,10 @@ def test_a_bounded_history() -> None:
         assert (network.value, len(network.arcs)) == (5, 5)
         for _ in range(50):
             network.solve()
-        assert (len(network._kept._done), len(network._kept._undone)) == (2, 0)
+        network.flow()
+        # Of a change that cannot be undone the command alone is kept.
+        assert [change if isinstance(change, str) else change.command for change in network._kept._changes] == ["solve"] * 51
+        assert [isinstance(change, str) for change in network._kept._changes] == [True] * 49 + [False] * 2
 
 
 def test_the_session_ends_inside() -> None:

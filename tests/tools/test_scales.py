@@ -86,7 +86,7 @@ def test_the_package(tmp_path: Path) -> None:
     with dmf.read(tmp_path / "net.max") as network:
         assert (network.scale, network.problem()) == ("100", PROBLEM)
         assert network.problem(names=False) == SCALE + PLAIN[PLAIN.index("p max") :]
-        copy = network._copy()
+        copy = network.copy()
         assert (copy.problem(), read_problem(copy.problem().encode()).scale) == (PROBLEM, "100")
         copy.end()
         assert network._look(set()).drawing.problem.scale == "100"

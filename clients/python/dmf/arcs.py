@@ -76,6 +76,10 @@ class Arc(Generic[Node]):
             raise SessionEnded(f"the network of {self!r} is not there any more")
         return owner
 
+    def again(self) -> Arc[Node]:
+        """An arc of another network that has the same number, ends and key."""
+        return Arc(self.number, self.tail, self.head, self.given_key)
+
     def __copy__(self) -> Arc[Node]:
         return self
 

@@ -13,18 +13,13 @@ from .arcs import Arc
 from .errors import Error, NoProgram, SessionEnded
 from .kept import Kept, whole
 from .network import Network
-from .process import Program
+from .process import MOST_TEXT, Child, Program
 from .text import LARGEST, MOST_ARCS
 
 # A command of a case: ("cap", arc, capacity), ("close", arc), ("open", arc), ("shut", node) or ("add", tail, head, capacity).
 Command = Tuple[Any, ...]
 # A case as a copy takes it: commands with the numbers of arcs, or a function.
 Plain = Union["list[Command]", Callable[[Network[Any]], object]]
-# A session takes 1,000,000 lines, so a copy is replaced before.
-MOST_LINES = 900_000
-# How much text is sent at once, in bytes: every pipe has room for it, so that the program never waits for a reader of its replies
-# while it has lines to take.
-MOST_TEXT = 4_096
 # How often a case is tried.
 TRIES = 2
 
@@ -67,8 +62,8 @@ def _try(network: Network[Any], case: Plain, want_cut: bool) -> Answer:
 def _try_together(network: Network[Any], cases: list[_Lines], answers: list[Answer]) -> None:
     """Sends cases at once, and adds what comes of each. Raises `SessionEnded` if one is refused, since the replies after it are of
     another network."""
-    child = network._child
-    with child.alone(), child.exchange("\n".join(case.text for case in cases)):
+
+    def read(child: Child) -> None:
         for case in cases:
             *changed, solved, undone = (line.split() for line in child.lines(case.line_count).splitlines())
             if any(fields[1] == b"refused" for fields in changed) or solved[:3] != [b"c", b"solve", b"value"]:
@@ -76,6 +71,8 @@ def _try_together(network: Network[Any], cases: list[_Lines], answers: list[Answ
             if undone != [b"c", b"undo", b"value", b"%d" % network.value]:
                 raise ValueError
             answers.append(Answer(int(solved[3])))
+
+    network._ask("\n".join(case.text for case in cases), read)
 
 
 class Copy:
@@ -87,7 +84,7 @@ class Copy:
         self._is_over = False
         self._lock = threading.Lock()
         # What may be added to the capacities.
-        self._room = LARGEST - sum(kept.written())
+        self._room = LARGEST - sum(kept.first_capacities())
         self.network: Network[Any] | None = None
         self.used = time.monotonic()
 
@@ -166,14 +163,12 @@ class Copy:
     def _solved(self) -> Network[Any]:
         if self._is_over:
             raise SessionEnded("the sweep was ended")
-        if self.network and self.network._child.line_count > MOST_LINES:
-            self.end()
         if self.network is None:
-            network = Network._of_copy(self._kept.copy(), self._program)
+            network = Network._of(self._kept.copy(), self._program)
             with self._lock:
                 self.network = network
                 if self._is_over:
-                    network._child.break_off("the sweep was ended")
+                    network._stop("the sweep was ended")
             network.solve()
         return self.network
 
@@ -188,4 +183,4 @@ class Copy:
         with self._lock:
             self._is_over = True
             if self.network:
-                self.network._child.break_off("the sweep was ended")
+                self.network._stop("the sweep was ended")

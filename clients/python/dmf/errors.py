@@ -19,7 +19,7 @@ class Error(Exception):
 
 
 class SessionEnded(Error):
-    """The program has ended: it was killed, it failed, or the session was ended. The network can answer nothing any more."""
+    """The program has ended: it was killed, it failed, or the session was ended. The network can answer nothing until `begin_again`."""
 
 
 class NoProgram(Error, FileNotFoundError):

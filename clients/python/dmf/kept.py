@@ -5,14 +5,14 @@ from __future__ import annotations
 import contextlib
 import operator
 from array import array
-from collections import defaultdict, deque
-from collections.abc import Hashable, Iterable, Mapping, MappingView, Set
-from dataclasses import dataclass, field
+from collections import defaultdict
+from collections.abc import Callable, Hashable, Iterable, Mapping, MappingView, Set
 from itertools import count, islice
 from typing import Any, Generic, NoReturn, SupportsIndex, Union
 
 from .arcs import Added, Arc, Columns, Handles, Node, OpenArcs, one_of
-from .errors import ArcIsClosed, HistoryOutOfRange, NoSuchArc, NotAnArc, NotANumber, NothingToRedo, NothingToUndo, NumberTooLarge, shown
+from .changes import Change, Changes
+from .errors import ArcIsClosed, NoSuchArc, NotAnArc, NotANumber, NumberTooLarge, shown
 from .numbering import AMOUNTS, NODES, WholeNodes
 from .tables.comments import Described
 from .text import LARGEST
@@ -163,21 +163,14 @@ class _Taken:
             self.capacities.append(whole(capacity, row))
 
 
-@dataclass(frozen=True)
-class Change(Generic[Node]):
-    """What a change did to capacities: the number of each arc with its capacity before and after; and the arc that it added, with its
-    capacity and the number of the closed arc that it replaces, if it does. A closed arc has no capacity."""
-
-    capacities: list[tuple[int, int | None, int | None]] = field(default_factory=list)
-    added: tuple[Arc[Node], int, int | None] | None = None
-
-
-class Kept(Generic[Node]):
+class Kept(Changes, Generic[Node]):
     """The arcs of a network with the capacities that they have, or had when they were closed; which arcs are closed; the added arcs;
-    and the changes that can be undone or redone, of which there are at most `most`."""
+    and the changes that can be undone or redone, of which there are at most `most`. With its commands and the first capacities, a session
+    can begin anew."""
 
     def __init__(self, columns: Columns[Node], capacities: array[int], source: Node, sink: Node, most: int) -> None:
         """Raises `NoSuchNode` if the source or the sink is no node."""
+        super().__init__(most)
         self.columns = columns
         self.handles = Handles(columns)
         self.capacities = capacities
@@ -187,20 +180,22 @@ class Kept(Generic[Node]):
         self.replaced: list[int | None] = []
         # The arcs of the network from which this one was copied. Their handles name the arcs here too.
         self.origin: OpenArcs[Node] | None = None
-        self.most = most
         # What the problem tells of its table.
         self.described = Described()
-        # How many changes led to the present state, forgotten ones counted, and how many of them may not be undone now.
-        self.place = 0
-        self.floor: int | None = None
-        self._added_index: Added[Node] = Added()
-        self._done: deque[Change[Node]] = deque(maxlen=most)
-        self._undone: list[Change[Node]] = []
+        self._added_index: Added[Node] | None = None
         self._opened: OpenArcs[Node] | None = None
+        self.begin_here()
         for node in source, sink:
             self.number(node)
         self.source = source
         self.sink = sink
+
+    def begin_here(self) -> None:
+        """Takes the present state as the first one."""
+        self.first_count = len(self.capacities)
+        self._first_closed = frozenset(self.closed)
+        # The first capacities of those arcs that have another one now.
+        self._first: dict[int, int] = {}
 
     def number(self, node: Node) -> int:
         """The number of a node. Raises `NoSuchNode`."""
@@ -215,14 +210,21 @@ class Kept(Generic[Node]):
     def open_count(self) -> int:
         return len(self.capacities) - len(self.closed)
 
-    def written(self) -> array[int]:
-        """The capacities by which the arcs stand in a problem that has the closed ones too: theirs is 0."""
-        if not self.closed:
+    def first_capacities(self) -> array[int]:
+        """The capacities by which the first arcs stand in the problem of a session that begins anew. Those that were closed already stand
+        there too, with 0. The array may have more entries than that."""
+        if not self._first and not self._first_closed:
             return self.capacities
         capacities = self.capacities[:]
-        for number in self.closed:
+        for number, capacity in self._first.items():
+            capacities[number - 1] = capacity
+        for number in self._first_closed:
             capacities[number - 1] = 0
         return capacities
+
+    def commands(self) -> list[str]:
+        """The commands that lead from the problem of the first capacities to the present state."""
+        return [f"close {number}" for number in sorted(self._first_closed)] + super().commands()
 
     def opened(self) -> OpenArcs[Node]:
         """The open arcs as they are now."""
@@ -242,11 +244,16 @@ class Kept(Generic[Node]):
             if self.origin is not None and self.origin.has(key) and key.number <= self.arc_count:
                 return self.handle(key.number)
             raise NoSuchArc(repr(key))
-        numbers = [*self.columns.named(key), *(arc.number for arc in self._added_index.named(key))]
+        numbers = [*self.columns.named(key), *(arc.number for arc in self._added_named(key))]
         opened = [number for number in numbers if number not in self.closed]
         if opened or not numbers:
             return one_of(list(map(self.handle, opened)), key)
         return one_of([self.handle(number) for number in numbers if number not in self.replaced], key, "closed")
+
+    def _added_named(self, key: Hashable) -> list[Arc[Node]]:
+        if self._added_index is None:
+            self._added_index = Added(self.added)
+        return self._added_index.named(key)
 
     def has(self, arc: Arc[Any]) -> bool:
         """Whether a handle names an arc here, open or closed."""
@@ -276,81 +283,89 @@ class Kept(Generic[Node]):
             raise ArcIsClosed(repr(arc))
         return self.capacities[arc.number - 1]
 
-    def note_capacities(self, arcs: Iterable[Arc[Node]], after: int | None) -> None:
-        """Notes a change that gave these open arcs this capacity, or closed them."""
-        self.note(Change([(arc.number, self.capacities[arc.number - 1], after) for arc in arcs]))
+    def note_capacities(self, command: str, arcs: Iterable[Arc[Node]], after: int | None, value: int) -> None:
+        """Notes a change that gave these open arcs this capacity, or closed them. The flow has this value then."""
+        self.note(Change(command, [(arc.number, self.capacities[arc.number - 1], after) for arc in arcs]), value)
 
-    def note(self, change: Change[Node]) -> None:
-        """Notes a change that the program made, makes it here, and drops what was undone."""
-        self._undone = [change]
-        self.redo(1)
-
-    def redo(self, count: int) -> None:
-        """Redoes so many changes, which exist."""
-        for _ in range(count):
-            change = self._undone.pop()
-            self._done.append(change)
-            if change.added:
-                arc, capacity, replaced = change.added
-                self.put_added(arc, replaced)
-                self.capacities.append(capacity)
-            self._put((number, after) for number, _, after in change.capacities)
-        self.place += count
+    def _make(self, change: Change) -> None:
+        self._opened = None
+        if change.added:
+            arc, capacity, replaced = change.added
+            place = arc.number - len(self.columns) - 1
+            self._drop_added(place)
+            self.added[place:], self.replaced[place:] = [arc], [replaced]
+            self.capacities[arc.number - 1 :] = array(AMOUNTS, [capacity])
+            if self._added_index is not None:
+                self._added_index.put(arc)
+        self._put((number, after) for number, _, after in change.capacities)
         self._opened = None
 
-    def undo(self, count: int) -> None:
-        """Undoes so many changes, which exist."""
-        for _ in range(count):
-            change = self._done.pop()
-            self._undone.append(change)
-            if change.added:
-                self._added_index.drop(self.added.pop())
-                self.replaced.pop()
-                self.capacities.pop()
-            self._put((number, before) for number, before, _ in change.capacities)
-        self.place -= count
+    def _unmake(self, change: Change) -> None:
+        if change.added:
+            number = change.added[0].number
+            self._drop_added(number - len(self.columns) - 1)
+            del self.capacities[number - 1 :]
+        self._put((number, before) for number, before, _ in change.capacities)
         self._opened = None
+
+    def _drop_added(self, place: int) -> None:
+        """Drops the added arcs from this one on, where there are some."""
+        for arc in self.added[place:]:
+            if self._added_index is not None:
+                self._added_index.drop(arc)
+        del self.added[place:], self.replaced[place:]
 
     def _put(self, capacities: Iterable[tuple[int, int | None]]) -> None:
         for number, capacity in capacities:
             if capacity is None:
                 self.closed.add(number)
-            else:
-                self.closed.discard(number)
-                self.capacities[number - 1] = capacity
+                continue
+            self.closed.discard(number)
+            if number > len(self.capacities):
+                # A call was broken off before the arc was added.
+                continue
+            if number <= self.first_count:
+                self._first.setdefault(number, self.capacities[number - 1])
+            self.capacities[number - 1] = capacity
+            if self._first.get(number) == capacity:
+                del self._first[number]
 
-    def judge_change(self) -> None:
-        """Raises `HistoryOutOfRange` if one more change could not be undone at the end of the trial."""
-        if self.floor is not None and self.place - self.floor >= self.most:
-            why = f"history out of range: of what is tried out, {self.most} changes can be taken back, and not one more"
-            raise HistoryOutOfRange(why)
-
-    def judge_undo(self, count: int) -> None:
-        """Raises `NothingToUndo` if that would undo a change from before the trial."""
-        if self.floor is not None and self.place - count < self.floor:
-            raise NothingToUndo(f"undo {count}, of {self.place - self.floor} changes that are tried out")
-
-    def judge_redo(self, count: int) -> None:
-        """Raises `NothingToRedo` if fewer changes can be made again."""
-        if count > len(self._undone):
-            raise NothingToRedo(f"redo {count}")
-
-    def forget_undone(self) -> None:
-        """Forgets what was undone, so that nothing of it can be made again."""
-        self._undone = []
+    def roll_back(self) -> None:
+        """Goes back to the state before the present call, whatever of the call was done."""
+        self._added_index = self._opened = None
+        super().roll_back()
 
     def copy(self) -> Kept[Node]:
-        """The same arcs as they are now, without changes. The handles of these arcs name the arcs of the copy too."""
+        """The same arcs as they are now, without changes and without flow. The handles of these arcs name the arcs of the copy too."""
+        copy = self._copy(Arc.again)
+        copy.begin_here()
+        return copy
+
+    def twin(self) -> Kept[Node]:
+        """The same arcs, with the same changes, made and undone, and the same flow. The handles of the arcs here name those there too."""
+        made: dict[Arc[Node], Arc[Node]] = {}
+
+        def again(arc: Arc[Node]) -> Arc[Node]:
+            made[arc] = made.get(arc) or arc.again()
+            return made[arc]
+
+        twin = self._copy(again)
+        twin.first_count, twin._first_closed, twin._first = self.first_count, self._first_closed, dict(self._first)
+        twin.take_changes(self, again)
+        return twin
+
+    def _copy(self, again: Callable[[Arc[Node]], Arc[Node]]) -> Kept[Node]:
+        """The same arcs, with handles of their own for the added ones."""
         copy = Kept(self.columns, self.capacities[:], self.source, self.sink, self.most)
         copy.closed = set(self.closed)
         copy.described = self.described
         copy.origin = self.opened() if self.origin is None else self.origin
         for arc, replaced in zip(self.added, self.replaced):
-            copy.put_added(Arc(arc.number, arc.tail, arc.head, arc.given_key), replaced)
+            copy.put_added(again(arc), replaced)
         return copy
 
     def put_added(self, arc: Arc[Node], replaced: int | None) -> None:
         """Takes in an arc that was added before. It replaces this closed one, if there is one; its capacity is there."""
         self.added.append(arc)
         self.replaced.append(replaced)
-        self._added_index.put(arc)
+        self._added_index = None

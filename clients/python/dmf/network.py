@@ -3,29 +3,30 @@
 from __future__ import annotations
 
 import contextlib
-import tempfile
 import weakref
 from array import array
 from collections.abc import Callable, Hashable, Iterable, Iterator
-from typing import Any, Generic, NoReturn, Tuple, Union
+from typing import Any, NoReturn, Tuple, Union
 
 from . import arrays
-from .arcs import Arc, Columns, Node, Owner
-from .errors import ArcIsOpen, NoSuchArc, Refused, SessionEnded, shown
-from .kept import Change, Kept, Whole, columns_of, whole
+from .arcs import Arc, Columns, Node
+from .changes import Change
+from .errors import ArcIsOpen, Refused, SessionEnded
+from .kept import Kept, Whole, columns_of, whole
 from .names import comments
 from .notebook import MOST_DRAWN, Look, table
-from .process import Child, Program, bound, session_words, start
-from .solution import Cut, Flows, Solution
+from .process import Program, bound
+from .running import Running, alone, started
+from .solution import Cut, Solution
 from .tables.comments import Described
 from .tables.comments import comments as table_comments
-from .text import display, told_scale
+from .text import told_scale
 
 # An arc as the caller gives it: its tail, its head, its capacity and, if it has one, its key.
 Row = Union[Tuple[Node, Node, Whole], Tuple[Node, Node, Whole, Hashable]]
 
 
-class Network(Generic[Node]):
+class Network(Running[Node]):
     """A network with a flow on it, and its changes. At the beginning the flow is 0.
 
     The arcs are `(tail, head, capacity)` or `(tail, head, capacity, key)`, any number of them between two nodes. Capacities are whole
@@ -37,7 +38,8 @@ class Network(Generic[Node]):
 
     Raises a `Refused` if the problem has a fault, `NotAnArc` for a row of another form, `HistoryOutOfRange`, `SessionEnded` if the
     program fails, and `NoProgram` if none is found that fits. Each method that asks the program raises `SessionEnded` if the program has
-    ended, and `UsedByTwoThreads` if another thread is using the network.
+    ended, and `UsedByTwoThreads` if another thread is using the network. Ctrl-C, or whatever else breaks a call off, leaves the network as
+    it was before the call; the next call begins a new session in the same state.
     """
 
     __module__ = __package__
@@ -111,43 +113,18 @@ class Network(Generic[Node]):
         """Begins the session of a problem."""
         kept = Kept(columns, capacities, source, sink, most)
         try:
-            self._begin(_started(kept, program), kept)
+            self._begin(started(kept, program), kept)
         except Refused as refused:
             # The lines of the arcs stand after three others.
             number = (refused.line or 0) - 3
             raise Refused.of(refused.text, repr(kept.handle(number)) if number >= 1 else "") from None
 
-    def _begin(self, child: Child, kept: Kept[Node]) -> None:
-        self._child = child
-        self._kept = kept
-        self._value = 0
-        # The present flow, while somebody has it or its text was read.
-        self._present: weakref.ref[Flows[Node]] | None = None
-        self._told: Flows[Node] | None = None
-        owner: weakref.ref[Owner] = weakref.ref(self)
-        kept.handles.owner = owner
-        for arc in kept.added:
-            arc._owner = owner
-
-    def _copy(self) -> Network[Node]:
-        """Another network of the same arcs as they are now, whose handles name these arcs too. Its flow is 0, and it has no change to
-        undo."""
-        kept = self._kept.copy()
-        program: Any = self._child.process.args
-        return Network._of_copy(kept, program[0])
-
-    @staticmethod
-    def _of_copy(kept: Kept[Node], program: Program) -> Network[Node]:
-        copy: Network[Node] = Network.__new__(Network)
-        copy._begin(_started(kept, program), kept)
-        for number in sorted(kept.closed):
-            copy._answered(f"close {number}")
-        return copy
-
-    @property
-    def value(self) -> int:
-        """The value of the present flow, from the source to the sink."""
-        return self._value
+    @classmethod
+    def _of(cls, kept: Kept[Node], program: Program) -> Network[Node]:
+        """A network on a session of its own that has carried out the commands of what is kept."""
+        made = cls.__new__(cls)
+        made._begin(started(kept, program), kept)
+        return made
 
     @property
     def source(self) -> Node:
@@ -183,73 +160,76 @@ class Network(Generic[Node]):
         """The capacity of an open arc. Raises `ArcIsClosed`, and what `arc` raises."""
         return self._kept.capacity(self._kept.arc(arc))
 
+    @alone
     def cap(self, arc: Hashable, capacity: Whole) -> int:
         """Gives an arc another capacity. If its flow is larger, takes the difference off the arc, and off paths through it. Returns
         the value of the remaining flow.
 
         Raises `ArcIsClosed`, `CapacitiesPast64Bits`, `NotANumber`, `NumberTooLarge`, and what `arc` raises."""
-        with self._child.alone():
-            found = self._kept.arc(arc)
-            room = whole(capacity, found)
-            value = self._changed(f"cap {found.number} {room}", found)
-            self._kept.note_capacities([found], room)
-            return value
+        found = self._kept.arc(arc)
+        room = whole(capacity, found)
+        command = f"cap {found.number} {room}"
+        value = self._changed(command, found)
+        self._kept.note_capacities(command, [found], room, value)
+        return value
 
+    @alone
     def close(self, arc: Hashable) -> int:
         """Closes an arc: it carries nothing any more, and only `undo` opens it again; `open` adds another one in its place. Returns
         the value of the remaining flow. Raises `ArcIsClosed`, and what `arc` raises."""
-        with self._child.alone():
-            found = self._kept.arc(arc)
-            value = self._changed(f"close {found.number}", found)
-            self._kept.note_capacities([found], None)
-            return value
+        found = self._kept.arc(arc)
+        command = f"close {found.number}"
+        value = self._changed(command, found)
+        self._kept.note_capacities(command, [found], None, value)
+        return value
 
+    @alone
     def shut(self, node: Node) -> int:
         """Closes every open arc at a node, as one change. Returns the value of the remaining flow. Raises `NoSuchNode`."""
-        with self._child.alone():
-            value = self._changed(f"shut {self._kept.number(node)}", node)
-            self._kept.note_capacities(self._kept.at(node), None)
-            return value
+        command = f"shut {self._kept.number(node)}"
+        value = self._changed(command, node)
+        self._kept.note_capacities(command, self._kept.at(node), None, value)
+        return value
 
+    @alone
     def add(self, tail: Node, head: Node, capacity: Whole, key: Hashable = None) -> Arc[Node]:
         """Adds an arc without flow between two nodes of the network. Returns its handle.
 
         Raises `NoSuchNode`, `CapacitiesPast64Bits`, `TooManyArcs`, `NotANumber` and `NumberTooLarge`."""
         hash(key)
-        with self._child.alone():
-            return self._add(tail, head, whole(capacity, (tail, head)), key, None)
+        return self._add(tail, head, whole(capacity, (tail, head)), key, None)
 
+    @alone
     def open(self, arc: Hashable) -> Arc[Node]:
         """Opens a closed arc: adds it again, with its ends, its key and the capacity that it had when it was closed. To the program
         it is a new arc with a new number, after all others, and without flow; `undo` removes it. Returns its handle. The key and the
         ends name the new arc from now on, while the old handle still names the arc that is closed.
 
         Raises `ArcIsOpen` if the arc is open, `TooManyArcs`, `CapacitiesPast64Bits`, and what `arc` raises."""
-        with self._child.alone():
-            found = self._kept.arc(arc)
-            if found.number not in self._kept.closed:
-                raise ArcIsOpen(f"arc is open: {found!r}")
-            return self._add(found.tail, found.head, self._kept.capacities[found.number - 1], found.given_key, found.number)
+        found = self._kept.arc(arc)
+        if found.number not in self._kept.closed:
+            raise ArcIsOpen(f"arc is open: {found!r}")
+        return self._add(found.tail, found.head, self._kept.capacities[found.number - 1], found.given_key, found.number)
 
     def _add(self, tail: Node, head: Node, room: int, key: Hashable, replaced: int | None) -> Arc[Node]:
-        self._changed(f"add {self._kept.number(tail)} {self._kept.number(head)} {room}", (tail, head))
+        command = f"add {self._kept.number(tail)} {self._kept.number(head)} {room}"
+        value = self._changed(command, (tail, head))
         arc = Arc(self._kept.arc_count + 1, tail, head, key, weakref.ref(self))
-        self._kept.note(Change(added=(arc, room, replaced)))
+        self._kept.note(Change(command, added=(arc, room, replaced)), value)
         return arc
 
+    @alone
     def solve(self) -> Solution[Node]:
         """Makes the flow a maximum flow, going on from the present flow, and returns it. That is a change, which `undo` reverts."""
-        with self._child.alone():
-            self._changed("solve")
-            self._kept.note(Change())
-            return Solution(self._flows())
+        self._kept.note(Change("solve"), self._changed("solve"))
+        return Solution(self._flows())
 
+    @alone
     def flow(self) -> Solution[Node]:
         """The present flow."""
-        with self._child.alone():
-            if not self._child.end.alive:
-                raise self._child.ended()
-            return Solution(self._flows())
+        if not self._child.end.alive:
+            raise self._child.ended()
+        return Solution(self._flows())
 
     def undo(self, count: int = 1) -> int:
         """Undoes the last changes, all of them or none; a `solve` is one of them. Flows, too, are restored. Returns the value. Raises
@@ -260,15 +240,15 @@ class Network(Generic[Node]):
         """Redoes the changes that were undone last, all of them or none. Returns the value. Raises `NothingToRedo`."""
         return self._step("redo", count, self._kept.judge_redo, self._kept.redo)
 
-    def _step(self, word: str, count: int, judge: Callable[[int], None], follow: Callable[[int], None]) -> int:
+    @alone
+    def _step(self, word: str, count: int, judge: Callable[[int], None], follow: Callable[[int, int], None]) -> int:
         """Steps so many changes back or on, and returns the value. `judge` raises if there are not so many, and `follow` makes the same
-        steps in what is kept."""
-        with self._child.alone():
-            steps = whole(count, word)
-            judge(steps)
-            value = self._stepped(f"{word} {steps}")
-            follow(steps)
-            return value
+        steps in what is kept, to a flow of a value."""
+        steps = whole(count, word)
+        judge(steps)
+        value = self._stepped(f"{word} {steps}")
+        follow(steps, value)
+        return value
 
     @contextlib.contextmanager
     def try_out(self) -> Iterator[Network[Node]]:
@@ -282,38 +262,38 @@ class Network(Generic[Node]):
         Inside the block `undo` takes back no more than what was done in it, and raises `NothingToUndo`. Where `history` bounds the
         changes that can be undone, a change past so many in one block is refused by `HistoryOutOfRange`. Blocks may stand in
         blocks."""
-        kept, value = self._kept, self._value
-        with self._child.alone():
-            outer, kept.floor = kept.floor, kept.place
+        self._ready()
+        kept, value = self._kept, self.value
+        outer, place = kept.floor, kept.place
         try:
+            kept.floor = place
             yield self
         finally:
-            inner, kept.floor = kept.floor, outer
-            if inner is not None and kept.place > inner:
-                try:
-                    if self._child.end.alive:
-                        self.undo(kept.place - inner)
-                finally:
-                    if not self._child.end.alive and kept.place > inner:
-                        # A session that has ended takes nothing back, but what is kept of the network can still be swept.
-                        kept.undo(kept.place - inner)
-                        self._value = value
+            kept.floor = outer
+            try:
+                if kept.place > place and self._is_running:
+                    self.undo(kept.place - place)
+            finally:
+                if kept.place > place and self._is_free:
+                    # The session has ended. Another one will be in the state that is kept.
+                    self._take_back(place, value)
 
+    @alone
     def cut(self) -> Cut[Node]:
         """The smallest minimum cut. Raises `FlowIsNotGreatest` if some flow has a larger value than the present one, as before
         `solve`."""
-        with self._child.alone():
-            # A cut does not say how long it is. The reply to `undo 0`, which changes nothing, marks its end.
-            with self._child.exchange("print cut\nundo 0"):
-                lines = self._child.lines_before(b"c undo value ").split(b"\n")[:-1]
-                capacity = int(self._begun(lines[0].split(), "print cut", [b"c", b"cut"])[2])
-                side = [int(line[7:]) for line in lines[1:] if line.startswith(b"c side ")]
-                if len(side) != len(lines) - 1:
-                    raise ValueError
-            names = self._kept.columns.names
-            look = self._look(set(side)) if self._kept.open_count <= MOST_DRAWN else None
-            return Cut(capacity, frozenset(names[node - 1] for node in side), tuple(self._kept.leaving(side)), look)
+        # A cut does not say how long it is. The reply to `undo 0`, which changes nothing, marks its end.
+        with self._child.exchange("print cut\nundo 0"):
+            lines = self._child.lines_before(b"c undo value ").split(b"\n")[:-1]
+            capacity = int(self._begun(lines[0].split(), "print cut", [b"c", b"cut"])[2])
+            side = [int(line[7:]) for line in lines[1:] if line.startswith(b"c side ")]
+            if len(side) != len(lines) - 1:
+                raise ValueError
+        names = self._kept.columns.names
+        look = self._look(set(side)) if self._kept.open_count <= MOST_DRAWN else None
+        return Cut(capacity, frozenset(names[node - 1] for node in side), tuple(self._kept.leaving(side)), look)
 
+    @alone
     def problem(self, *, names: bool = True, escapes: bool = False) -> str:
         """The problem of the open arcs as a text in the DIMACS format. With `names`, comments before it name nodes and arcs: each
         node whose name is not its own number, and each key, as `str` writes it. `dmf.read` reads the same names again, as texts,
@@ -322,16 +302,15 @@ class Network(Generic[Node]):
 
         Raises `NameNotWritable` if `dmf.read` would read a name as another one: if it has a line feed or blanks around it, or if two
         nodes have the same name. With `escapes` what cannot be written of a name, such as a line feed, is written as `\\x0a`."""
-        with self._child.alone():
-            opened = self._kept.opened()
-            before = table_comments(Described(self._kept.described.measure))
-            if names:
-                keys = {place: key for place, key in enumerate(opened.keys(), 1) if key is not None}
-                before += comments(dict(enumerate(self._kept.columns.names, 1)), keys, escapes=escapes)
-            with self._child.exchange("print problem"):
-                begin = self._child.lines(1)
-                self._begun(begin.split(), "print problem", [b"p"])
-                return before + (begin + self._child.lines(len(opened) + 2)).decode()
+        opened = self._kept.opened()
+        before = table_comments(Described(self._kept.described.measure))
+        if names:
+            keys = {place: key for place, key in enumerate(opened.keys(), 1) if key is not None}
+            before += comments(dict(enumerate(self._kept.columns.names, 1)), keys, escapes=escapes)
+        with self._child.exchange("print problem"):
+            begin = self._child.lines(1)
+            self._begun(begin.split(), "print problem", [b"p"])
+            return before + (begin + self._child.lines(len(opened) + 2)).decode()
 
     def to_networkx(self) -> Any:
         """A MultiDiGraph of networkx with an edge for each open arc. Its key is the arc's number, and its attributes are `capacity`,
@@ -345,13 +324,32 @@ class Network(Generic[Node]):
             made.add_edge(arc.tail, arc.head, key=arc.number, capacity=capacity, flow=carried, **given)
         return made
 
+    def copy(self) -> Network[Node]:
+        """Another network, in the same state: with the same arcs, changes and flow. What is done with one of them does not change the
+        other. The handles of arcs that this one has now name those of the copy too. The copy is a session of its own, which takes the same
+        problem and the same commands, so it takes as long as those took together. Raises what making a network raises."""
+        self._ready()
+        program: Any = self._child.process.args
+        return Network._of(self._kept.twin(), program[0])
+
     def end(self) -> None:
         """Ends the session. The network answers nothing after that."""
-        if self._child.is_owned and self._child.end.alive:
-            with self._child.alone():
-                with contextlib.suppress(SessionEnded):
-                    self._part()
-        self._child.close()
+        if not self._child.is_owned or self._why_over:
+            return
+        if self._is_running:
+            with contextlib.suppress(SessionEnded):
+                self._settle()
+        self._why_over = "the session was ended" if self._is_broken else self._child.why_ended
+        self._child.end()
+
+    def begin_again(self) -> int:
+        """Begins the session anew where it has ended: since the program was killed or failed, or by `end`. Returns the value. The network
+        is as it was, with each flow and all that can be undone and redone: a new session takes its first problem, and the commands that
+        led here, and takes as long as those took together. A session that goes on stays as it is. Raises what making a network raises."""
+        if not self._is_running:
+            self._why_over, self._is_broken = "", True
+        self._ready()
+        return self.value
 
     def __enter__(self) -> Network[Node]:
         return self
@@ -364,19 +362,21 @@ class Network(Generic[Node]):
 
     def __repr__(self) -> str:
         kept = self._kept
-        return f"<Network of {len(kept.columns.numbers)} nodes and {kept.arc_count} arcs, with a flow of value {self._value}>"
+        return f"<Network of {len(kept.columns.numbers)} nodes and {kept.arc_count} arcs, with a flow of value {self.value}>"
 
     def _repr_svg_(self) -> str | None:
         if self._kept.open_count > MOST_DRAWN:
             return None
-        with self._child.alone():
-            look = self._look(set())
-        return look.svg()
+        return self._look_now().svg()
 
     def _repr_html_(self) -> str:
         flow = self.flow()
         rows = ((*row, capacity) for row, capacity in zip(flow._rows(), flow._flows.capacities()))
         return table(repr(self)[1:-1], ("arc", "tail", "head", "flow", "capacity"), len(flow), rows)
+
+    @alone
+    def _look_now(self) -> Look:
+        return self._look(set())
 
     def _look(self, side: set[int]) -> Look:
         """How the network looks now."""
@@ -385,101 +385,3 @@ class Network(Generic[Node]):
         kept = self._kept
         ends = kept.number(kept.source), kept.number(kept.sink)
         return Look(flows.arcs, ends, flows.numbers(), flows.capacities(), side, kept.described)
-
-    def _begun(self, fields: list[bytes], line: str, begin: list[bytes], at: object = None) -> list[bytes]:
-        """The fields of the first line of a reply, which begins with these words. Raises a `Refused` that names the line, or the
-        thing that the command was about, and a ValueError for another reply."""
-        if fields[:2] == [b"c", b"refused"]:
-            raise Refused.of(display(b" ".join(fields[3:]).decode()), line if at is None else shown(at))
-        if fields[: len(begin)] != begin:
-            raise ValueError
-        return fields
-
-    def _answered(self, line: str, at: object = None) -> int:
-        """The value in the reply to a command."""
-        with self._child.exchange(line):
-            return int(self._begun(self._child.line(), line, [b"c", line.split()[0].encode()], at)[-1])
-
-    def _stepped(self, line: str, at: object = None) -> int:
-        """The value in the reply to a command that changes the network. Reads the flows that somebody has before the change."""
-        self._part()
-        self._value = self._answered(line, at)
-        self._present = self._told = None
-        return self._value
-
-    def _changed(self, line: str, at: object = None) -> int:
-        """As `_stepped`, for a new change."""
-        self._kept.judge_change()
-        return self._stepped(line, at)
-
-    def _asked_flow(self) -> bytes:
-        """The text of the present flow."""
-        with self._child.exchange("print flow"):
-            begin = self._child.lines(1)
-            count = self._kept.open_count
-            if int(self._begun(begin.split(), "print flow", [b"s"])[1]) != self._value:
-                raise ValueError
-            text = begin + self._child.lines(count)
-            if text.count(b"\nf ") != count:
-                raise ValueError
-            return text
-
-    def _flows(self) -> Flows[Node]:
-        """The present flow. If nobody has looked at it, only its value is known so far."""
-        flows = None if self._present is None else self._present()
-        if flows is None:
-            flows = Flows(self._value, self._kept.opened(), self._kept.capacities, self._ask_flow)
-            self._present = weakref.ref(flows)
-        return flows
-
-    def _ask_flow(self) -> bytes:
-        """The text of the present flow, for a caller who looks at it later than it was returned."""
-        with self._child.alone():
-            return self._asked_flow()
-
-    def _part(self) -> None:
-        """Makes the present flow take its text before a change, if somebody still has the flow."""
-        flows = None if self._present is None else self._present()
-        if flows is not None:
-            flows.part(self._asked_flow)
-
-    def capacity_now(self, arc: Arc[Any]) -> int:
-        """The capacity of an open arc, for its handle."""
-        self._judge_arc(arc)
-        return self._kept.capacity(arc)
-
-    def is_open_now(self, arc: Arc[Any]) -> bool:
-        """Whether an arc is open, for its handle."""
-        return self._kept.has(arc) and arc.number not in self._kept.closed
-
-    def flow_now(self, arc: Arc[Any]) -> int:
-        """The flow on an arc, for its handle."""
-        self._judge_arc(arc)
-        if arc.number in self._kept.closed:
-            return 0
-        with self._child.alone():
-            # It is kept until the next change, for the next arc.
-            self._told = self._flows()
-            self._told.settle(self._asked_flow)
-        return Solution(self._told)[arc]
-
-    def _judge_arc(self, arc: Arc[Any]) -> None:
-        if not self._kept.has(arc):
-            raise NoSuchArc(repr(arc))
-
-
-def _started(kept: Kept[Any], program: Program) -> Child:
-    """A session on the problem of what is kept."""
-    words = session_words(kept.most)
-    columns = kept.columns
-    with tempfile.NamedTemporaryFile("wb", prefix="dmf-", suffix=".max") as file:
-        count = len(columns) + len(kept.added)
-        head = f"p max {len(columns.numbers)} {count}\nn {kept.number(kept.source)} s\nn {kept.number(kept.sink)} t\n"
-        file.write(head.encode())
-        capacities = kept.written()
-        file.writelines(arrays.problem_lines(columns, capacities))
-        for arc in kept.added:
-            line = f"a {kept.number(arc.tail)} {kept.number(arc.head)} {capacities[arc.number - 1]}\n"
-            file.write(line.encode())
-        file.flush()
-        return start(file.name, program, words)

@@ -8,13 +8,12 @@ import os
 import re
 import subprocess
 import tempfile
-import threading
 import weakref
-from collections.abc import Iterator
+from collections.abc import Iterator, Sequence
 from typing import IO, Optional, Union
 
 from . import executable
-from .errors import Error, HistoryOutOfRange, Refused, SessionEnded, UsedByTwoProcesses, UsedByTwoThreads, shown
+from .errors import Error, HistoryOutOfRange, Refused, SessionEnded, shown
 from .text import display
 
 FilePath = Union[str, bytes, "os.PathLike[str]", "os.PathLike[bytes]"]
@@ -25,6 +24,9 @@ MOST_KEPT = 1_000_000
 SECONDS = 2
 # How much of the program's standard error is shown, in bytes.
 MOST_TOLD = 1 << 16
+# How much text is sent at once, in bytes: every pipe has room for it, so that the program never waits for a reader of its replies
+# while it has lines to take.
+MOST_TEXT = 4_096
 # How much of an answer is read at once, in bytes.
 PIECE = 1 << 20
 _TOLD = re.compile(r"dmf: (?:line ([0-9]{1,10}): )?(.*)")
@@ -48,9 +50,8 @@ class Child:
             raise
         self._owner = os.getpid()
         self.end = weakref.finalize(self, _end, self.process, self._told, self._owner)
-        self._why_ended = "the session was ended"
+        self.why_ended = "the session was ended"
         self._why_broken = ""
-        self._lock = threading.Lock()
         assert self.process.stdin and self.process.stdout
         self._input, self._output = self.process.stdin, self.process.stdout.fileno()
         # What was read and belongs to later lines.
@@ -59,24 +60,6 @@ class Child:
         self.line_count = 0
         # The program, if the caller named it.
         self.program: Program = None
-
-    @contextlib.contextmanager
-    def alone(self) -> Iterator[None]:
-        """Gives the program, and what is kept beside it, to one caller. Raises `UsedByTwoThreads` if another one has it, and
-        `UsedByTwoProcesses` in a forked process."""
-        if not self.is_owned:
-            raise UsedByTwoProcesses("used by two processes at once: a process that was forked off needs a network of its own")
-        if not self._lock.acquire(blocking=False):
-            raise UsedByTwoThreads("used by two threads at once: each needs a network of its own, or a lock around its calls")
-        try:
-            yield
-        except BaseException as error:
-            if not isinstance(error, Exception):
-                # Between an answer and its note here, Ctrl-C would leave the two apart.
-                self._kill("the session was ended when a call was broken off")
-            raise
-        finally:
-            self._lock.release()
 
     @contextlib.contextmanager
     def exchange(self, lines: str) -> Iterator[None]:
@@ -94,11 +77,32 @@ class Child:
         except (BrokenPipeError, EOFError):
             raise self._fault() from None
         except (ValueError, IndexError) as error:
-            self._kill(f"the session was ended, since what dmf answered to `{lines}` was not understood")
-            raise SessionEnded(self._why_ended) from error
+            self.kill(f"the session was ended, since what dmf answered to `{lines}` was not understood")
+            raise SessionEnded(self.why_ended) from error
         except BaseException:
-            self._kill(f"the session was ended when `{lines}` was broken off")
+            self.kill(f"the session was ended when `{lines}` was broken off")
             raise
+
+    def carry_out(self, commands: Sequence[str]) -> int:
+        """Sends commands that a session has carried out before, some at once, and returns the value after the last; 0 if there are none.
+        Raises `SessionEnded` if one is refused now."""
+        value = begin = 0
+        while begin < len(commands):
+            end, size = begin, 0
+            while end < len(commands) and size + len(commands[end]) < MOST_TEXT:
+                size += len(commands[end]) + 1
+                end += 1
+            with self.exchange("\n".join(commands[begin:end])):
+                for command, reply in zip(commands[begin:end], self.lines(end - begin).splitlines()):
+                    fields = reply.split()
+                    if fields[:2] == [b"c", b"refused"]:
+                        self.kill(f"the session could not begin anew: `{command}` was refused: {display(b' '.join(fields[3:]).decode())}")
+                        raise self.ended()
+                    if fields[:2] != [b"c", command.split()[0].encode()]:
+                        raise ValueError
+                    value = int(fields[-1])
+            begin = end
+        return value
 
     def line(self) -> list[bytes]:
         """The fields of the next line of the answer. Raises an EOFError if none comes."""
@@ -150,13 +154,7 @@ class Child:
 
     def ended(self) -> SessionEnded:
         """Why the program can answer nothing any more."""
-        return SessionEnded(self._why_ended)
-
-    def close(self) -> None:
-        """Ends the program, if nobody is using it. A forked process leaves it alone."""
-        if self.is_owned:
-            with self.alone():
-                self.end()
+        return SessionEnded(self.why_ended)
 
     def break_off(self, why: str) -> None:
         """Kills the program for a thread that waits for its answer, or may ask it later: each of its calls raises `SessionEnded`."""
@@ -164,11 +162,11 @@ class Child:
             self._why_broken = why
             self.process.kill()
 
-    def _kill(self, why: str) -> None:
+    def kill(self, why: str) -> None:
         """Ends the program at once, if it has not ended before."""
         if not self.end.alive:
             return
-        self._why_ended = why
+        self.why_ended = why
         self.process.kill()
         self.end()
 
@@ -180,12 +178,12 @@ class Child:
         self.end()
         found = _TOLD.fullmatch(told)
         told = "\n".join(map(display, told.split("\n")))
-        self._why_ended = self._why_broken or f"dmf {executable.ended(status)}{': ' if told else ''}{told}"
+        self.why_ended = self._why_broken or f"dmf {executable.ended(status)}{': ' if told else ''}{told}"
         if found and (found[1] or found[2] in Refused.kinds):
             refused = Refused.of(display(found[2]), f"line {found[1]} of the problem" if found[1] else "")
             refused.line = int(found[1]) if found[1] else None
             return refused
-        return SessionEnded(self._why_ended)
+        return SessionEnded(self.why_ended)
 
     def _status(self) -> int | None:
         """The status of the program once it has ended. A program that goes on without reading or writing lines is killed, and gives

@@ -37,6 +37,15 @@ class Flows(Generic[Node]):
             if self._ask:
                 self._text, self._ask = text, None
 
+    def lose(self, error: SessionEnded) -> None:
+        """Notes that the program can tell the text no more, if it was not asked for yet: whoever asks for it gets this error."""
+
+        def ask() -> bytes:
+            raise error
+
+        if self._ask:
+            self._ask = ask
+
     def part(self, ask: Callable[[], bytes]) -> None:
         """Takes all that the network no longer has after a change."""
         self.settle(ask)

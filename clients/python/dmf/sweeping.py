@@ -409,6 +409,7 @@ class _Sent:
         for row, replaced in self.added:
             kept.put_added(Arc(*row), replaced)
         kept.closed = self.closed
+        kept.begin_here()
         return kept
 
 

@@ -1,0 +1,149 @@
+"""The changes that led to the present state of a network, and those that were undone: what each did, and the command that makes it again."""
+
+from __future__ import annotations
+
+from collections.abc import Callable, Sequence
+from typing import Any, NamedTuple
+
+from .arcs import Arc
+from .errors import HistoryOutOfRange, NothingToRedo, NothingToUndo
+
+
+class Change(NamedTuple):
+    """A change: its command; the number of each arc whose capacity it changed, with its capacity before and after; and the arc that it
+    added, with its capacity and the number of the closed arc that it replaces, if it does. A closed arc has no capacity."""
+
+    command: str
+    capacities: Sequence[tuple[int, int | None, int | None]] = ()
+    added: tuple[Arc[Any], int, int | None] | None = None
+
+
+class _Now(NamedTuple):
+    """The present state: how many changes led to it, forgotten ones counted; the value of its flow; and the way back from it to the
+    state before the present call, if that has changed anything."""
+
+    place: int = 0
+    value: int = 0
+    back: _Back | None = None
+
+
+class _Back(NamedTuple):
+    """The state before a call, and what the call may have done since: changes that it made, those that it undid, and undone changes that
+    it dropped. An error that broke the call off may have left each of these half done."""
+
+    now: _Now
+    made: Sequence[Change] = ()
+    unmade: Sequence[Change] = ()
+    dropped: Sequence[Change | str] | None = None
+
+
+class Changes:
+    """A list of changes, of which some are made, and the ones after them undone. At most `most` can be undone; of an older one the command
+    alone is kept. `_make` and `_unmake` carry out what a change does here, and may do so again after an error broke them off: the present
+    state is the old one until all is done."""
+
+    def __init__(self, most: int) -> None:
+        self.most = most
+        # How many changes may not be undone now.
+        self.floor: int | None = None
+        self._changes: list[Change | str] = []
+        self._now = _Now()
+
+    @property
+    def place(self) -> int:
+        """How many changes led to the present state, forgotten ones counted."""
+        return self._now.place
+
+    @property
+    def value(self) -> int:
+        """The value of the present flow."""
+        return self._now.value
+
+    def commands(self) -> list[str]:
+        """The commands that lead from the first state to the present one, by way of all that was undone."""
+        commands = [change if isinstance(change, str) else change.command for change in self._changes]
+        undone = len(commands) - self.place
+        return [*commands, f"undo {undone}"] if undone else commands
+
+    def begin_call(self) -> None:
+        """Takes the present state as that to which `roll_back` leads, and forgets what the change past the bound did."""
+        self._now = self._now._replace(back=None)
+        oldest = self._changes[self.place - self.most - 1] if self.place > self.most else ""
+        if isinstance(oldest, Change):
+            self._changes[self.place - self.most - 1] = oldest.command
+
+    def note(self, change: Change, value: int) -> None:
+        """Notes a change that the program made, makes it here, and drops what was undone. The flow has this value then."""
+        place = self.place
+        self._now = self._now._replace(back=_Back(self._now, made=[change], dropped=self._changes[place:]))
+        self._changes[place:] = [change]
+        self._make(change)
+        self._now = self._now._replace(place=place + 1, value=value)
+
+    def redo(self, count: int, value: int) -> None:
+        """Redoes so many changes, which exist. The flow has this value then."""
+        place = self.place
+        changes = [change for change in self._changes[place : place + count] if isinstance(change, Change)]
+        self._now = self._now._replace(back=_Back(self._now, made=changes))
+        for change in changes:
+            self._make(change)
+        self._now = self._now._replace(place=place + count, value=value)
+
+    def undo(self, count: int, value: int) -> None:
+        """Undoes so many changes, which exist. The flow has this value then."""
+        place = self.place
+        changes = [change for change in self._changes[place - count : place] if isinstance(change, Change)]
+        self._now = self._now._replace(back=_Back(self._now, unmade=changes))
+        for change in reversed(changes):
+            self._unmake(change)
+        self._now = self._now._replace(place=place - count, value=value)
+
+    def roll_back(self) -> None:
+        """Goes back to the state before the present call, whatever of the call was done."""
+        back = self._now.back
+        if back is not None:
+            for change in reversed(back.made):
+                self._unmake(change)
+            for change in back.unmade:
+                self._make(change)
+            if back.dropped is not None:
+                self._changes[back.now.place :] = back.dropped
+            self._now = back.now
+
+    def _make(self, change: Change) -> None:
+        raise NotImplementedError
+
+    def _unmake(self, change: Change) -> None:
+        raise NotImplementedError
+
+    def take_changes(self, other: Changes, again: Callable[[Arc[Any]], Arc[Any]]) -> None:
+        """Takes the changes of another one, which it has made already, with handles of its own for the added arcs."""
+        self._changes = [_with_own_arc(change, again) if isinstance(change, Change) else change for change in other._changes]
+        self._now = _Now(other.place, other.value)
+
+    def forget_undone(self) -> None:
+        """Forgets what was undone, so that nothing of it can be made again."""
+        del self._changes[self.place :]
+
+    def judge_change(self) -> None:
+        """Raises `HistoryOutOfRange` if one more change could not be undone at the end of the trial."""
+        if self.floor is not None and self.place - self.floor >= self.most:
+            why = f"history out of range: of what is tried out, {self.most} changes can be taken back, and not one more"
+            raise HistoryOutOfRange(why)
+
+    def judge_undo(self, count: int) -> None:
+        """Raises `NothingToUndo` if that would undo a change from before the trial."""
+        if self.floor is not None and self.place - count < self.floor:
+            raise NothingToUndo(f"undo {count}, of {self.place - self.floor} changes that are tried out")
+
+    def judge_redo(self, count: int) -> None:
+        """Raises `NothingToRedo` if fewer changes can be made again."""
+        if count > len(self._changes) - self.place:
+            raise NothingToRedo(f"redo {count}")
+
+
+def _with_own_arc(change: Change, again: Callable[[Arc[Any]], Arc[Any]]) -> Change:
+    if change.added is None:
+        return change
+    arc, capacity, replaced = change.added
+    return change._replace(added=(again(arc), capacity, replaced))
