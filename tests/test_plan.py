@@ -144,7 +144,7 @@ def test_unforeseen(monkeypatch: pytest.MonkeyPatch, capsys: pytest.CaptureFixtu
         plan.onecmd(line)
         said = capsys.readouterr().err
         assert said.count("\n") == 1 and (type(error).__name__ in said or str(error) in said), f"{line}: {said!r}"
-        assert told[-1] == "begun again, with the steps that were made: value 155, the greatest\n"
+        assert told[-1] == "begun again, with the steps that were made: value 155 litres per second, the greatest\n"
         after = [(it.text, it.value) for it in desk.steps], desk.at, list(desk.lines), desk.value, [desk.flow(n) for n in range(1, 15)]
         # What was undone can be made again.
         assert after == before, f"{line}: {after}, and not {before}"
@@ -182,7 +182,7 @@ def test_no_new_session(tmp_path: Path, monkeypatch: pytest.MonkeyPatch, capsys:
     program.symlink_to(BUILT)
     assert values(run("dmf-plan", f"{tmp_path}/kept.max", typed="solve\n").stdout) == [155]
     plan.run_script(["close Mill Lane"])
-    assert "begun again" in told[-2] and f"value {without('Bridge pipe', 'Mill Lane')}," in told[-1], told
+    assert "begun again" in told[-2] and f"value {without('Bridge pipe', 'Mill Lane')} litres per second," in told[-1], told
     plan.desk.end()
 
 
@@ -312,7 +312,7 @@ def test_files() -> None:
         for name, text, status, told in (
             ("two.csv", "A,C,1\nB,C,1\n", 3, "--source \"A\", as often"),
             ("ring.csv", "A,B,1\nB,A,1\n", 3, "there is no place that nothing leads to"),
-            ("bad.csv", "A,B,x y\nB,C,1.5\n", 3, "is no whole number"),
+            ("bad.csv", "A,B,x y\nB,C,1.5\n", 3, "is no number"),
             ("bad.max", "p max 2 1\nn 1 s\nn 2 t\na 1 2 x\n", 3, "not a number"),
         ):
             Path(folder, name).write_text(text)

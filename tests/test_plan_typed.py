@@ -93,7 +93,7 @@ def test_broken_off_again(monkeypatch: pytest.MonkeyPatch, capsys: pytest.Captur
     said = capsys.readouterr().err
     assert "broken off\nit could not be begun again: broken off;" in said, said
     plan.onecmd("close Mill Lane")
-    assert "begun again" in told[-2] and f"value {without('Bridge pipe', 'Mill Lane')}," in told[-1], told
+    assert "begun again" in told[-2] and f"value {without('Bridge pipe', 'Mill Lane')} litres per second," in told[-1], told
     plan.desk.end()
 
 

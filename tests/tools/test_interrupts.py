@@ -69,7 +69,7 @@ def test_while_the_last_is_written(tool: str) -> None:
     words = {"dmf-names": ["net.max", "--csv"], "dmf-dot": ["net.max", "--most", "20000"], "dmf-sweep": ["net.max", "--cases", "cases", "--top", "4000"]}
     given = {
         "dmf-names": f"s {sum(range(arcs))}\n" + lines.replace("a ", "f "),
-        "dmf-problem": "".join(f"a,b,{arc}\n" for arc in range(arcs)),
+        "dmf-problem": "".join(f"a,b,{arc}\n" for arc in range(1, arcs + 1)),
     }
     with begun(tool, words.get(tool, TOOLS[tool])) as process:
         assert process.stdin and process.stdout

@@ -30,12 +30,12 @@ SCALED = ["flow (times 100)", "capacity (times 100)"]
 def test_dmf_problem(tools: Tools, tmp_path: Path) -> None:
     for scale, wanted in [("100", PROBLEM), ("100.0", PROBLEM.replace("100\n", "100.0\n", 1))]:
         ran = tools.run("dmf-problem", tmp_path, ["--scale", scale, "A", "B"], TABLE)
-        assert (ran.status, ran.out.decode()) == (0, wanted)
+        assert (ran.status, ran.out.decode()) == (0, wanted.replace("c node", "c unit litres\nc node", 1))
     # A scale of 1 changes no number.
     whole = TABLE.replace("14.7", "1470").replace("0.06", "6")
     unscaled: list[list[str]] = [[], ["--scale", "1"], ["--scale", "1.0"]]
     for words in unscaled:
-        assert tools.run("dmf-problem", tmp_path, [*words, "A", "B"], whole).out.decode() == PLAIN
+        assert tools.run("dmf-problem", tmp_path, [*words, "A", "B"], whole).out.decode() == "c unit litres\n" + PLAIN
     ran = tools.run("dmf-problem", tmp_path, ["--scale", "0.00000001", "A", "B"], "A,B,300000000\n")
     assert ran.out.decode().splitlines()[0] == "c capacities are those of the table times 0.00000001"
 

@@ -12,7 +12,8 @@ from desk_shared import run
 from dmf.desk import Desk
 from dmf.desk_text import table
 from dmf.spreadsheet import ArcRow, cell_of, line, name_in, plan_table
-from dmf.tables.reading import ARCS, Reading, read_table
+from dmf.tables.file import csv_sheet
+from dmf.tables.rows import Reading, read_arcs
 from dmf.tables.subject import Subject
 from hypothesis import given
 from hypothesis import strategies as some
@@ -60,8 +61,9 @@ def test_a_table_of_a_plan(names: list[str]) -> None:
     name, tail, head = (" ".join(re.sub("[^ -~＝＋－＠]", "", name).split()) or "x" for name in names)
     text = plan_table([ArcRow(1, name, tail, head, 3, 4, None)], "", raw_names=False)
     titles = {"tail": "from", "head": "to", "capacity": "capacity", "name": "name"}
-    (record,) = read_table(text, ARCS, "", Reading(titles)).records
-    assert record[1:] == ((tail, head), 4, name)
+    table = read_arcs(csv_sheet(text.encode(), "", None, 3), Reading(titles))
+    places = list(table.places)
+    assert [places[table.tails[0] - 1], places[table.heads[0] - 1], table.amounts.numbers, table.labels] == [tail, head, [4], [name]]
 
 
 def names_of(text: str, *columns: int) -> list[list[str]]:
@@ -121,7 +123,7 @@ def test_one_place_in_two_forms(tools: Tools, tmp_path: Path) -> None:
     told = "dmf-problem: warning: names that differ only in the apostrophe that protects = + - @ are one place: \"'=a\" is '=a'\n"
     assert (ran.status, ran.err.decode()) == (0, told)
     ran = tools.run("dmf-problem", tmp_path, ["--raw-names", "--source", "=a", "--source", "'=a", "--sink", "b"], given)
-    assert (ran.status, ran.err, ran.out.decode().splitlines()[:2]) == (0, b"", ["c node 1 '=a", "c node 2 b"])
+    assert (ran.status, ran.err, ran.out.decode().splitlines()[3:5]) == (0, b"", ["c node 1 '=a", "c node 2 b"])
 
 
 def test_numbers_are_not_protected() -> None:

@@ -9,10 +9,12 @@ from __future__ import annotations
 
 import re
 import unicodedata
-from dataclasses import dataclass
+from dataclasses import dataclass, replace
 from decimal import Context, Decimal
 from typing import Union
 
+# An exact number as a table has it.
+Quantity = Union[Decimal, int]
 LARGEST = 2**64 - 1
 # The decimal signs.
 POINT, COMMA = ".", ","
@@ -23,7 +25,8 @@ _APOSTROPHES = "'\u2019"
 # The most characters of a number, and the largest exponent: what is longer is past 64 bits, or has more decimals than any scale.
 LONGEST_NUMBER = 60
 LARGEST_EXPONENT = 40
-_EXACT = Context(prec=2 * (LONGEST_NUMBER + LARGEST_EXPONENT))
+# Numbers are exact in this context.
+EXACT = Context(prec=2 * (LONGEST_NUMBER + LARGEST_EXPONENT))
 
 
 class QuantityFault(ValueError):
@@ -32,7 +35,7 @@ class QuantityFault(ValueError):
 
 def _pattern(sign: str) -> re.Pattern[str]:
     other = next(re.escape(it) for it in SIGNS if it != sign)
-    thousands = "|".join(rf"[0-9]{{1,3}}(?:{mark}[0-9]{{3}})+" for mark in (other, f"[{_SPACES}]", f"[{_APOSTROPHES}]"))
+    thousands = "|".join(rf"[1-9][0-9]{{0,2}}(?:{mark}[0-9]{{3}})+" for mark in (other, f"[{_SPACES}]", f"[{_APOSTROPHES}]"))
     return re.compile(rf"([+-]?)((?:{thousands}|[0-9]*))(?:{re.escape(sign)}([0-9]*))?(?:[eE]([+-]?[0-9]{{1,3}}))?")
 
 
@@ -43,6 +46,8 @@ def readings(text: str) -> dict[str, Decimal]:
     """The number that a text is, by the decimal sign that is taken for one: `{".": 1200, ",": 1.2}` for `1,200`, the same number twice
     for `12`, one for `47,3`, and none for a text that is no number."""
     plain = _plain(text.strip())
+    if len(plain) > LONGEST_NUMBER:
+        plain = plain.lstrip("0") or "0"
     if not plain or len(plain) > LONGEST_NUMBER:
         return {}
     return {sign: number for sign, number in ((sign, _number(plain, sign)) for sign in SIGNS) if number is not None}
@@ -78,13 +83,13 @@ def number_in(text: str, sign: str = "") -> Decimal:
     return numbers.pop()
 
 
-def plain_text(number: Decimal | int) -> str:
+def plain_text(number: Quantity) -> str:
     """A number as it is written with a point and without an exponent, marks and zeros at its end: `30.5`."""
     text = f"{Decimal(number):f}"
     return text.rstrip("0").rstrip(POINT) if POINT in text else text
 
 
-def decimals(number: Decimal) -> int:
+def decimals(number: Quantity) -> int:
     """How many decimals a number has: 1 for 30.5 and for 30.50, 0 for 30."""
     return len(plain_text(number).partition(POINT)[2])
 
@@ -102,6 +107,29 @@ class Measure:
     unit: str = ""
     table: str = ""
     sign: str = ""
+
+    @property
+    def decimals(self) -> int:
+        """How many decimals a quantity may have."""
+        return decimals(self.quantity(1))
+
+    @property
+    def legend(self) -> str:
+        """What is told beside numbers: `numbers in l/s, from pipes.csv`, or as much of it as is known."""
+        parts = [f"numbers in {self.told_unit}"] * bool(self.told_unit) + [f"from {self.table}"] * bool(self.table)
+        return ", ".join(parts)
+
+    def title(self, words: str) -> str:
+        """The title of a column of quantities: `flow (l/s)`."""
+        return f"{words} ({self.told_unit})" if self.told_unit else words
+
+    def finer(self, quantity: Quantity) -> Measure:
+        """The measure with the least power of ten beside this scale that makes a quantity whole too. Where quantities are the whole
+        numbers although there is a scale, there is no finer one."""
+        scale = self.scale
+        while self.divisor == self.scale and (product := EXACT.multiply(Decimal(quantity), scale)) != product.to_integral_value():
+            scale = EXACT.multiply(scale, Decimal(10))
+        return replace(self, scale=scale)
 
     @classmethod
     def fitting(cls, quantities: set[Decimal], unit: str = "", table: str = "", sign: str = "") -> Measure:
@@ -123,13 +151,13 @@ class Measure:
         """The unit of quantities, for people: empty if it is not known."""
         return self.unit if self.divisor == self.scale else f"{self.unit or 'units'} times {plain_text(self.scale)}"
 
-    def quantity(self, whole: int) -> Decimal | int:
+    def quantity(self, whole: int) -> Quantity:
         """The quantity of a whole number, exactly: a whole number too if the divisor is 1."""
         if self.divisor == 1:
             return whole
-        return _EXACT.divide(Decimal(whole), self.divisor)
+        return EXACT.divide(Decimal(whole), self.divisor)
 
-    def whole(self, quantity: Union[Decimal, int]) -> int:
+    def whole(self, quantity: Quantity) -> int:
         """The whole number of a quantity. Raises a `QuantityFault`: `is below 0`, `has 2 decimals, and 1 is the most here`,
         `is past 1844674407370955161.5`."""
         number = Decimal(quantity)
@@ -139,7 +167,7 @@ class Measure:
             raise QuantityFault("is below 0")
         if number.adjusted() > LARGEST_EXPONENT:
             raise QuantityFault(f"is past {self.text(LARGEST)}")
-        product = _EXACT.multiply(number, self.divisor)
+        product = EXACT.multiply(number, self.divisor)
         if product != product.to_integral_value():
             most = decimals(1 / self.divisor) if self.divisor >= 1 else 0
             raise QuantityFault(f"has {decimals(number)} decimals, and {most} {'is' if most == 1 else 'are'} the most here")

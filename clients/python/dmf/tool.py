@@ -10,7 +10,7 @@ import signal
 import stat
 import sys
 import time
-from collections.abc import Callable, Iterator
+from collections.abc import Callable, Iterator, Sequence
 from typing import BinaryIO, NoReturn
 
 from .text import display
@@ -21,10 +21,11 @@ PATIENCE = 1.0
 
 
 class ToolFault(Exception):
-    """Why a tool ends, and with which status."""
+    """Why a tool ends, in a line for each reason, and with which status."""
 
-    def __init__(self, reason: str, status: int = 1) -> None:
+    def __init__(self, reason: str, status: int = 1, more: Sequence[str] = ()) -> None:
         super().__init__(reason)
+        self.reasons = reason, *more
         self.status = status
 
 
@@ -83,7 +84,8 @@ def _status(name: str, main: Callable[[], int]) -> int:
 
 
 def _tell(name: str, fault: ToolFault) -> None:
-    warn(name, str(fault))
+    for reason in fault.reasons:
+        warn(name, reason)
 
 
 def warn(name: str, text: str) -> None:

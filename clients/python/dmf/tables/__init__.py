@@ -1,4 +1,11 @@
 """Tables of arcs as people keep them, and the problems that are made of them. The modules in the order in which one reads them:
 
-- `comments`: what a problem text says of its table, beside the names of nodes and arcs.
+- `faults`, `cells`: what is wrong with a table, and where; names as cells have them.
+- `file`, `workbook`: bytes to rows of cells, of CSV files and of workbooks.
+- `columns`: which column is what.
+- `quantities`: a column of numbers, with its decimal sign and its unit.
+- `rows`: rows to places, arcs and what is said of places.
+- `network`: these to nodes and arcs, with joined sources and sinks and the limits of places; `warnings`: what looks like a mistake.
+- `comments`, `problem`: the text of a problem, and what it says of its table.
+- `opening`, `options`: the files of a plan, and the options that name them; `subject`: what the planner's tools open.
 """

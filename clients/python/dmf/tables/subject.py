@@ -3,24 +3,23 @@
 from __future__ import annotations
 
 import argparse
-from collections.abc import Sequence
-from dataclasses import dataclass, replace
-from decimal import Decimal
+from dataclasses import dataclass
 from functools import cached_property
-from pathlib import Path
 
 from ..quantity import Measure, plain_text
-from ..table_problem import Plan, Terminal, problem_text, warnings
-from ..table_words import COLUMNS, add_options, names_terminals, parsed, plan_of, reading_of
 from ..text import display, fields, lines, scale_note, told_scale
-from ..tool import ToolFault, read_file
-from .cells import MOST_TOLD, cleaned, shown
+from ..tool import ToolFault
+from .cells import MOST_TOLD, shown
+from .columns import DEMAND, NAME, SUPPLY, spoken
 from .comments import Described, described
-from .reading import ARCS, Table, TableFault, decoded, read_table
+from .faults import TableFault
+from .network import KINDS, Plan, net_of
+from .opening import data_of, plan_of
+from .options import add_options, parsed, says_table, wanted_of
+from .problem import problem_text
+from .rows import Term
+from .warnings import warnings
 
-# Titles of a column that do not say what its cells are.
-PLAIN_TITLES = {"", "amount", "arc", "cap", "capacity", "edge", "id", "key", "label", "max", "name", "no", "number", "title"}
-LONGEST_TITLE = 40
 # In how many of its first lines the problem line of a file is looked for.
 HEAD = 100_000
 FAULT, UNREADABLE = 3, 4
@@ -74,14 +73,16 @@ def words_of(parser: argparse.ArgumentParser, given: list[str]) -> argparse.Name
 def read_subject(words: argparse.Namespace) -> Subject:
     """The problem that the words name. Raises a `ToolFault`."""
     try:
-        data = read_file(words.path, UNREADABLE)
+        data = data_of(words.path, UNREADABLE)
         if is_problem(words.path, data):
-            _refuse_table_words(words)
-            return _noted(Subject(words.path, data, raw_names=words.raw_names))
+            if says_table(words):
+                raise ToolFault(f"{words.path} has a problem, which names its own source and sink: the options are for tables", 2)
+            return _noted(words, data)
         return _of_table(words, data)
     except TableFault as fault:
-        fault.path = fault.path or words.path
-        raise ToolFault(str(fault), FAULT) from None
+        fault.name_path(words.path)
+        first, *more = fault.lines()
+        raise ToolFault(first, FAULT, more) from None
 
 
 def is_problem(path: str, data: bytes) -> bool:
@@ -91,62 +92,46 @@ def is_problem(path: str, data: bytes) -> bool:
     return first is not None and first[:2] == [b"p", b"max"] or path.endswith(".max")
 
 
-def _noted(subject: Subject) -> Subject:
+def _noted(words: argparse.Namespace, text: bytes, noun: str = "", notes: tuple[str, ...] = ()) -> Subject:
     """A subject whose notes tell its scale."""
-    return replace(subject, notes=(scale_note(subject.scale), *subject.notes)) if subject.scale else subject
-
-
-def _refuse_table_words(words: argparse.Namespace) -> None:
-    given = [words.scale, words.node_limits, words.encoding]
-    if names_terminals(words) or words.titles or words.both_ways or any(it is not None for it in given):
-        raise ToolFault(f"{words.path} has a problem, which names its own source and sink: the options are for tables", 2)
+    scale = told_scale(described(text))
+    return Subject(words.path, text, noun, (scale_note(scale),) * bool(scale) + notes, words.raw_names)
 
 
 def _of_table(words: argparse.Namespace, data: bytes) -> Subject:
-    table = read_table(decoded(data, words.encoding), ARCS, words.path, reading_of(words, ARCS))
-    plan = plan_of(words, table)
+    plan = plan_of(wanted_of(words), words.path, data)
+    notes = complete(plan)
+    net = net_of(plan)
+    noun = spoken(plan.arcs.layout.title(NAME).text)
+    return _noted(words, problem_text(net).encode(), noun, (*plan.notes, *notes, *warnings(plan, net)))
+
+
+def complete(plan: Plan) -> list[str]:
+    """Adds the source or the sink if the plan has none and just one place can be meant, and says so. Raises a `TableFault` otherwise."""
     notes = []
-    if not plan.sources:
-        plan.sources = [_only(plan, "source", 0)]
-        notes.append(f"the source is {shown(plan.sources[0].place)}, the one place that nothing leads to")
-    if not plan.sinks:
-        plan.sinks = [_only(plan, "sink", 1)]
-        notes.append(f"the sink is {shown(plan.sinks[0].place)}, the one place that nothing leads away from")
-    titles = _titles(table, words.titles)
-    unit, noun = _spoken(titles.get("capacity", "")), _spoken(titles.get("name", ""))
-    text = problem_text(plan, Measure(words.scale or Decimal(1), unit, Path(words.path).name))
-    return _noted(Subject(words.path, text.encode(), noun, (*notes, *warnings(plan)), words.raw_names))
+    for kind, way in (SUPPLY, "leads to"), (DEMAND, "leads away from"):
+        if not plan.of_kind(kind):
+            place = _only(plan, kind, way)
+            plan.terms.append(Term(kind, place, None))
+            notes.append(f"the {KINDS[kind]} is {shown(place)}, the one place that nothing {way}")
+    return notes
 
 
-def _only(plan: Plan, kind: str, end: int) -> Terminal:
+def _only(plan: Plan, kind: str, way: str) -> str:
     """The only place that arcs leave and none enters, or the other way round. Raises a `TableFault` if there is not exactly one."""
-    rows = [record.places for record in plan.arcs.records if record.places[0] != record.places[1]]
-    others = {places[1 - end] for places in rows} | ({places[end] for places in rows} if plan.both_ways else set())
-    found = [place for place in dict.fromkeys(places[end] for places in rows) if place not in others]
-    taken = {terminal.place for terminal in (*plan.sources, *plan.sinks)}
+    table = plan.arcs
+    ends = [(tail, head) for tail, head in zip(table.tails, table.heads) if tail != head]
+    ends += [(head, tail) for tail, head in ends] if plan.both_ways else []
+    ours, theirs = (0, 1) if kind == SUPPLY else (1, 0)
+    others = {pair[theirs] for pair in ends}
+    names = list(table.places)
+    found = [names[number - 1] for number in dict.fromkeys(pair[ours] for pair in ends) if number not in others]
+    taken = {term.place for term in plan.terms if term.kind in KINDS}
     if len(found) == 1 and found[0] not in taken:
-        return Terminal(found[0])
-    raise TableFault(_which(kind, found, list(plan.places)))
-
-
-def _which(kind: str, found: Sequence[str], places: Sequence[str]) -> str:
-    """The message if the table does not name its source or its sink."""
-    way = "leads to" if kind == "source" else "leads away from"
-    where = "does it flow from" if kind == "source" else "does it flow to"
-    choice = found or places
+        return found[0]
+    where = "does it flow from" if kind == SUPPLY else "does it flow to"
+    choice = found or names
     listed = ", ".join(map(shown, choice[:MOST_TOLD])) + (", .." if len(choice) > MOST_TOLD else "")
     why = f"nothing {way} any of these: {listed}" if found else f"there is no place that nothing {way}; the places are {listed}"
-    return f'where {where}? {why}; say --{kind} "{display(choice[0])}"' + (", as often as there are such places" if len(found) > 1 else "")
-
-
-def _titles(table: Table, named: dict[str, str]) -> dict[str, str]:
-    """The titles of the columns that are known."""
-    if named or not table.heading:
-        return named
-    cells = dict(zip(COLUMNS, table.heading.cells))
-    return {column: cleaned(cell) for column, cell in cells.items()}
-
-
-def _spoken(title: str) -> str:
-    """A title, if it says what its cells are."""
-    return title if title.casefold() not in PLAIN_TITLES and len(title) <= LONGEST_TITLE and title.isprintable() else ""
+    many = ", as often as there are such places" if len(found) > 1 else ""
+    raise TableFault(f'where {where}? {why}; say --{KINDS[kind]} "{display(choice[0])}"{many}')

@@ -1,4 +1,4 @@
-"""The options that say what a table is: its columns, its sources and sinks, its limits and its encoding."""
+"""The options that say what a table is, in every tool: its columns, its numbers, its sources and sinks, its limits and its encoding."""
 
 from __future__ import annotations
 
@@ -6,12 +6,12 @@ import argparse
 import re
 from decimal import Decimal
 
-from .table_problem import Plan, Terminal, terminal_of, terminals_of
-from .tables.cells import cleaned
-from .tables.reading import ARCS, LIMITS, Form, Reading, Table, TableFault, decoded, read_table
-from .tool import read_file, standard_input
+from .cells import cleaned
+from .columns import CAPACITY, HEAD, NAME, TAIL
+from .opening import PLACE_TABLES, Wanted
+from .rows import Reading
 
-COLUMNS = ("tail", "head", "capacity", "name")
+COLUMNS = (TAIL, HEAD, CAPACITY, NAME)
 
 
 def encoding(word: str) -> str:
@@ -40,15 +40,17 @@ def add_options(parser: argparse._ActionsContainer) -> None:
     add("--head", metavar="TITLE", help="the title of the column of heads")
     add("--capacity", metavar="TITLE", help="the title of the column of capacities")
     add("--name", metavar="TITLE", help="the title of the column of the names of arcs")
+    add("--decimal", metavar="SIGN", choices=[".", ","], default="", help="the decimal sign of all numbers, a point or a comma")
     add("--both-ways", action="store_true", help="make of each row two arcs, there and back")
-    add("--scale", metavar="K", type=scale, help="numbers may be decimal; K times each counts, and is a whole number")
+    add("--scale", metavar="K", type=scale, help="K times each number is a whole number, and counts; by default the least power of ten")
     add("--source", metavar="PLACE[=LIMIT]", action="append", default=[], help="a source, which gives at most LIMIT; may be repeated")
     add("--sink", metavar="PLACE[=LIMIT]", action="append", default=[], help="a sink, which takes at most LIMIT; may be repeated")
     add("--sources", metavar="FILE", help="a table of sources and their limits")
     add("--sinks", metavar="FILE", help="a table of sinks and their limits")
     add("--node-limits", metavar="FILE", help="a table of places and the most that may pass through each")
+    add("--places", metavar="FILE", dest="place_table", help="a table of places: what each gives, takes and lets through")
     add("--raw-names", action="store_true", help="take names in tables as they are, also those with an apostrophe before = + - @")
-    add("--encoding", metavar="NAME", type=encoding, help="how the tables are encoded, as in latin-1 (UTF-8)")
+    add("--encoding", metavar="NAME", type=encoding, help="how the tables are encoded, as in latin-1 (found)")
 
 
 def parsed(parser: argparse.ArgumentParser, given: list[str], fixed: int = 0) -> argparse.Namespace:
@@ -65,7 +67,7 @@ def parsed(parser: argparse.ArgumentParser, given: list[str], fixed: int = 0) ->
         words.source, words.sink = words.places[:1], words.places[1:]
     titles = {column: getattr(words, column) for column in COLUMNS}
     words.titles = {column: title for column, title in titles.items() if title is not None}
-    if words.titles and not {"tail", "head", "capacity"} <= words.titles.keys():
+    if words.titles and not {TAIL, HEAD, CAPACITY} <= words.titles.keys():
         parser.error("--tail, --head and --capacity are given together")
     if len({cleaned(title) for title in words.titles.values()}) < len(words.titles):
         parser.error("two of --tail, --head, --capacity and --name name the same column")
@@ -77,32 +79,14 @@ def names_terminals(words: argparse.Namespace) -> bool:
     return bool(words.source or words.sink) or words.sources is not None or words.sinks is not None
 
 
-def reading_of(words: argparse.Namespace, form: Form) -> Reading:
-    """How the arguments say that a table of this form is read."""
-    return Reading(words.titles if form is ARCS else {}, words.scale, words.raw_names)
+def says_table(words: argparse.Namespace) -> bool:
+    """Whether the arguments say something of a table."""
+    given = [words.scale, words.node_limits, words.place_table, words.encoding]
+    return names_terminals(words) or bool(words.titles or words.both_ways or words.decimal) or any(it is not None for it in given)
 
 
-def read(path: str | None, form: Form, words: argparse.Namespace) -> Table:
-    """The table in a file, or on standard input if there is no path."""
-    data = standard_input().read() if path is None else read_file(path)
-    try:
-        text = decoded(data, words.encoding)
-    except TableFault as fault:
-        fault.path = path or ""
-        raise
-    return read_table(text, form, path or "", reading_of(words, form))
-
-
-def plan_of(words: argparse.Namespace, arcs: Table) -> Plan:
-    """The plan that the arguments ask for, with a table of arcs."""
-    plan = Plan(arcs, [], [], None, words.both_ways)
-
-    def terminals(named: list[str], path: str | None) -> list[Terminal]:
-        listed = [] if path is None else terminals_of(read(path, LIMITS, words), plan.places)
-        return [terminal_of(word, plan.places, words.scale) for word in named] + listed
-
-    plan.sources = terminals(words.source, words.sources)
-    plan.sinks = terminals(words.sink, words.sinks)
-    if words.node_limits is not None:
-        plan.limits = read(words.node_limits, LIMITS, words)
-    return plan
+def wanted_of(words: argparse.Namespace) -> Wanted:
+    """What the arguments say of the tables."""
+    tables = {option: getattr(words, option) for option in PLACE_TABLES if getattr(words, option) is not None}
+    reading = Reading(words.titles, words.decimal, words.raw_names)
+    return Wanted(reading, words.encoding, words.scale, words.both_ways, tuple(words.source), tuple(words.sink), tables)

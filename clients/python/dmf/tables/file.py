@@ -1,0 +1,241 @@
+"""From the bytes of a file to rows of cells: tables of comma-separated values in any usual encoding, and sheets of workbooks.
+
+Commas, semicolons, tabs or bars separate columns, whichever fits the first rows best. A row with quoted ends of lines goes by its first
+line. A file of another kind is named for what it is.
+"""
+
+from __future__ import annotations
+
+import codecs
+import csv
+import io
+import re
+from collections.abc import Callable, Iterator, Sequence
+from dataclasses import dataclass
+from itertools import islice
+from typing import NamedTuple, Optional
+
+from ..quantity import readings
+from ..text import fields
+from .faults import TableFault
+
+DELIMITERS = ",;\t|"
+# How many rows the search for the delimiter reads, of how many bytes; and how many rows are read at once.
+SAMPLE, SAMPLE_BYTES = 20, 1 << 18
+PIECE = 1 << 10
+# The most bytes that a workbook may unpack to.
+LARGEST_WORKBOOK = 1 << 30
+BYTE_ORDER_MARKS = {
+    codecs.BOM_UTF8: "utf-8-sig",
+    codecs.BOM_UTF32_LE: "utf-32",
+    codecs.BOM_UTF32_BE: "utf-32",
+    codecs.BOM_UTF16_LE: "utf-16",
+    codecs.BOM_UTF16_BE: "utf-16",
+}
+# What files of other kinds begin with.
+KINDS = {
+    b"\x1f\x8b": "a gzip file",
+    b"BZh": "a bzip2 file",
+    b"\xfd7zXZ": "an xz file",
+    b"\x28\xb5\x2f\xfd": "a zstd file",
+    b"7z\xbc\xaf": "a 7z archive",
+    b"Rar!": "a RAR archive",
+    b"%PDF": "a PDF document",
+    b"\x89PNG": "a picture",
+    b"\xff\xd8\xff": "a picture",
+    b"GIF8": "a picture",
+    b"PAR1": "a Parquet file",
+    b"SQLite format 3": "a database of SQLite",
+    b"\x7fELF": "a program",
+    b"{\\rtf": "a document (RTF)",
+    b"\xd0\xcf\x11\xe0": "an Excel workbook of before 2007, or one with a password",
+}
+PROBLEMS = {b"max": "a max-flow problem", b"min": "a min-cost problem", b"sp": "a shortest-path problem", b"asn": "an assignment problem"}
+WANTED = "a table is a CSV file, or a workbook (.xlsx or .ods)"
+_MARKUP = re.compile(rb"\s*(?:<\?xml|<!doctype|<html|\{\s*\"|\[\s*[\[{])", re.IGNORECASE)
+_SEPARATOR = re.compile(rb"(?:\xef\xbb\xbf)?sep=([,;\t|])\r?\n", re.IGNORECASE)
+_LINE_END = re.compile("\r\n|\r|\n")
+
+
+class Exact(str):
+    """A cell that a workbook has as a number: digits, and a point if it needs one."""
+
+    __slots__ = ()
+
+
+class Rows(NamedTuple):
+    """Rows one below the other: the line in which each begins, and its cells as texts."""
+
+    lines: Sequence[int]
+    cells: list[list[str]]
+
+
+@dataclass(frozen=True)
+class Sheet:
+    """A table whose rows can be read again and again. `path` names it, with its sheet if it has one, and `notes` say what was taken for
+    granted."""
+
+    path: str
+    read: Callable[[], Iterator[Rows]]
+    notes: tuple[str, ...] = ()
+
+    def sample(self, most: int = SAMPLE) -> Rows:
+        """The first rows that are not blank. What is wrong with a quote is left for later."""
+        lines: list[int] = []
+        cells: list[list[str]] = []
+        try:
+            for piece in self.read():
+                for line, row in zip(*piece):
+                    if not is_blank(row):
+                        lines.append(line)
+                        cells.append(row)
+                    if len(cells) == most:
+                        return Rows(lines, cells)
+        except TableFault:
+            pass
+        return Rows(lines, cells)
+
+
+def is_blank(row: list[str]) -> bool:
+    """Whether a row has only white space or delimiters, since another delimiter may have been guessed."""
+    return not any(cell and cell.strip(DELIMITERS + " ") and not cell.isspace() for cell in row)
+
+
+def csv_sheet(data: bytes, path: str, encoding: Optional[str], width: int) -> Sheet:
+    """The table of at least so many columns in the bytes of a CSV file. Raises a `TableFault`."""
+    what = _other_kind(data)
+    if what:
+        raise TableFault(f"it is {what}; {WANTED}")
+    found, note = (encoding, "") if encoding else _encoding_of(data)
+    skipped = _SEPARATOR.match(data)
+    body = data[skipped.end() :] if skipped else data
+    delimiter = skipped[1].decode() if skipped else _delimiter_of(data[:SAMPLE_BYTES], found, width)
+    return Sheet(path, lambda: _rows_of(body, found, delimiter, 2 if skipped else 1), (note,) if note else ())
+
+
+def _other_kind(data: bytes) -> str:
+    """What a file of another kind is."""
+    what = next((what for mark, what in KINDS.items() if data.startswith(mark)), "")
+    if what or not data:
+        return what
+    if data.startswith(b"PK\x03\x04"):
+        return "a zip file"
+    if _MARKUP.match(data):
+        return "a page of HTML or XML" if data.lstrip()[:1] == b"<" else "a JSON file"
+    head = (fields(line) for line in data[:4096].split(b"\n"))
+    first: list[bytes] = next((found for found in head if found and found[0] != b"c"), [])
+    if len(first) == 4 and first[0] == b"p" and all(it.strip(b"\r").isdigit() for it in first[2:]):
+        return PROBLEMS.get(first[1], "a problem of the DIMACS format")
+    if len(first) == 2 and first[0] == b"s" and first[1].isdigit():
+        return "a solution"
+    return ""
+
+
+def _encoding_of(data: bytes) -> tuple[str, str]:
+    """The encoding of bytes, and a note if it was taken for granted. Raises a `TableFault` if there is none for certain."""
+    for mark, name in BYTE_ORDER_MARKS.items():
+        if data.startswith(mark):
+            _judge_bytes(data, name)
+            return name, ""
+    head = data[:4096]
+    for first, name in (1, "utf-16-le"), (0, "utf-16-be"):
+        if head[first::2].count(0) > len(head) // 4:
+            raise TableFault(f"every other byte is 0, as {name.upper()} has it: --encoding {name}")
+    if data.isascii():
+        return "utf-8", ""
+    try:
+        data.decode()
+    except UnicodeDecodeError as fault:
+        return _western(data, fault)
+    return "utf-8", ""
+
+
+def _western(data: bytes, fault: UnicodeDecodeError) -> tuple[str, str]:
+    """Windows-1252, which has all letters of Latin-1 at the same places, if the bytes can be that."""
+    begin = data.rfind(b"\n", 0, fault.start) + 1
+    line = data.count(b"\n", 0, fault.start) + 1
+    try:
+        shown = re.split(r"[,;\t|\r\n\"]", data[begin : fault.start + 200].decode("cp1252", "replace"))
+        data.decode("cp1252")
+    except UnicodeDecodeError as other:
+        at = data.count(b"\n", 0, other.start) + 1
+        hint = _likely(data)
+        raise TableFault(f"the byte 0x{data[other.start]:02x} is neither UTF-8 nor Windows-1252; --encoding {hint}?", at) from None
+    seen, place = 0, fault.start - begin
+    for piece in shown:
+        seen += len(piece) + 1
+        if seen > place:
+            return "cp1252", f"the file is not UTF-8: line {line} is read as Windows-1252, as in {piece.strip()[:40]!r}; --encoding names another"
+    return "cp1252", f"the file is not UTF-8, and is read as Windows-1252 (line {line}); --encoding names another"
+
+
+def _likely(data: bytes) -> str:
+    """The encoding that bytes look like. charset-normalizer takes French and Spanish for other languages, so this only advises."""
+    try:
+        import charset_normalizer
+    except ImportError:
+        return "cp850"
+    best = charset_normalizer.from_bytes(data[:SAMPLE_BYTES]).best()
+    return best.encoding if best else "cp850"
+
+
+def _judge_bytes(data: bytes, encoding: str) -> None:
+    """Raises a `TableFault` if these bytes are not of this encoding."""
+    try:
+        data.decode(encoding)
+    except UnicodeError as fault:
+        start = fault.start if isinstance(fault, UnicodeDecodeError) else 0
+        line = data[:start].decode(encoding, "replace").count("\n") + 1
+        shown = f"0x{data[start]:02x}" if start < len(data) else "after the last"
+        name = "UTF-8" if encoding == "utf-8-sig" else encoding
+        raise TableFault(f"the byte {shown} is not {name}", line) from None
+
+
+def _rows_of(data: bytes, encoding: str, delimiter: str, line: int = 1) -> Iterator[Rows]:
+    """The rows of a table, some thousands at once, blank ones too. Raises a `TableFault` if a quote is wrong, or a byte."""
+    csv.field_size_limit(max(csv.field_size_limit(), len(data) + 1))
+    reader = csv.reader(io.TextIOWrapper(io.BytesIO(data), encoding, newline=""), delimiter=delimiter, strict=True)
+    cells: list[list[str]] = [[]]
+    while cells:
+        cells, before, fault = [], reader.line_num, None
+        try:
+            cells += islice(reader, PIECE)
+        except csv.Error as error:
+            fault = _quote_fault(str(error))
+        except UnicodeError:
+            _judge_bytes(data, encoding)
+            raise
+        lines: Sequence[int] = range(line, line + len(cells))
+        if fault or reader.line_num - before != len(cells):
+            lines = [line]
+            lines += [line := line + _line_count(row) for row in cells]
+            line = lines.pop()
+        else:
+            line += len(cells)
+        yield Rows(lines, cells)
+        if fault:
+            raise TableFault(fault, line)
+
+
+def _line_count(row: list[str]) -> int:
+    return 1 + sum(len(_LINE_END.findall(cell)) for cell in row if "\n" in cell or "\r" in cell)
+
+
+def _quote_fault(said: str) -> str:
+    if "NUL" in said:
+        return "a cell has the character U+0000, which no cell may have"
+    return "a quote is not closed" if "end of data" in said else "a quote inside quotes is not written twice"
+
+
+def _delimiter_of(data: bytes, encoding: str, width: int) -> str:
+    """The delimiter of a table of at least so many columns: the one with which most of its first rows have them, and among several the
+    one with which most of their cells are numbers."""
+    # A letter may be cut at the end of these bytes.
+    text = data.decode(encoding, "replace").encode("utf-8", "replace")
+
+    def score(delimiter: str) -> tuple[int, int, int]:
+        sample = Sheet("", lambda: _rows_of(text, "utf-8", delimiter)).sample().cells
+        cells = [cell for row in sample for cell in row]
+        return sum(len(row) >= width for row in sample), sum(bool(readings(cell)) for cell in cells), len(cells)
+
+    return max(DELIMITERS, key=score)

@@ -1,0 +1,30 @@
+"""The problem text of a network of a table."""
+
+from __future__ import annotations
+
+from collections.abc import Iterator
+from itertools import chain
+
+from .comments import comments
+from .network import Net
+
+# How many lines are made at once.
+PIECE = 1 << 11
+
+
+def problem_text(net: Net) -> str:
+    """The problem, with what it is and its names in comments."""
+    names = (f"c node {number} {name}\n" for number, name in enumerate(net.node_names, 1))
+    arc_names = (f"c arc {number} {name}\n" for number, name in net.arc_names.items())
+    head = f"p max {len(net.node_names)} {len(net.tails)}\nn {net.source} s\nn {net.sink} t\n"
+    return "".join(chain([comments(net.described)], names, arc_names, [head], _arc_lines(net)))
+
+
+def _arc_lines(net: Net) -> Iterator[str]:
+    for begin in range(0, len(net.tails), PIECE):
+        columns = [column[begin : begin + PIECE] for column in (net.tails, net.heads, net.capacities)]
+        count = len(columns[0])
+        numbers = [0] * (3 * count)
+        for place, column in enumerate(columns):
+            numbers[place::3] = column
+        yield "a %d %d %d\n" * count % tuple(numbers)

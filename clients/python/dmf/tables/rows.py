@@ -1,0 +1,406 @@
+"""From rows to columns: the places of a table of arcs, each with its number, and the amounts; or the places of a table of places, each
+with what it gives, takes or lets through. White space of any kind inside a name becomes one space, and around it none."""
+
+from __future__ import annotations
+
+import unicodedata
+from array import array
+from collections.abc import Mapping, Sequence
+from dataclasses import dataclass, field
+from decimal import Decimal
+from itertools import chain, islice
+from operator import itemgetter
+from typing import NamedTuple, Optional
+
+from ..numbering import NODES
+from ..spreadsheet import name_in
+from .cells import cleaned, shown
+from .columns import ARCS, CAPACITY, HEAD, LIMIT, NAME, PLACE, PLACE_COLUMNS, TAIL, Form, Layout, layout_of, unit_of
+from .faults import Faults, TableFault
+from .file import Exact, Rows, Sheet, is_blank
+from .quantities import Amounts
+
+# The most characters of a cell. A longer one mostly has a quote that is not closed.
+LONGEST_CELL = 131_072
+# With what a cell begins that may be no name as it stands; one that is empty has nothing there.
+_ODD_FIRST = ("", " ", "'")
+# What stands in the cell of a source or a sink that has no limit.
+MARKS = {"x", "yes", "ja", "oui", "si", "s\xed", "true", "wahr", "vrai", "unlimited", "unbegrenzt", "\u2713"}
+
+
+@dataclass(frozen=True)
+class Reading:
+    """How a table is read: `titles` has the title of each column that was named, by the column; `sign` is the decimal sign, if it was
+    given; `raw_names` says that no apostrophe protects a name."""
+
+    titles: Mapping[str, str] = field(default_factory=dict)
+    sign: str = ""
+    raw_names: bool = False
+
+
+class Said(NamedTuple):
+    """What a row says of a place: by the column, a cell that is not blank."""
+
+    line: int
+    place: str
+    cells: dict[str, str]
+
+
+@dataclass
+class Table:
+    """The rows of a table of arcs: `places` has the number of each place, from 1 on, `tails` and `heads` those of each row, `labels`
+    the names of the rows, if there are any, and `lines` the lines in which they begin. `said` has the rows of places. `heading` is the
+    first row if it was read as titles although nobody named any, and `begins_bare` says that it was not. `respelled` has for each name
+    that the table also writes with other spaces one of these other ways."""
+
+    sheet: Sheet
+    layout: Layout
+    amounts: Amounts
+    places: dict[str, int] = field(default_factory=dict)
+    tails: array[int] = field(default_factory=lambda: array(NODES))
+    heads: array[int] = field(default_factory=lambda: array(NODES))
+    lines: array[int] = field(default_factory=lambda: array("Q"))
+    labels: list[str] = field(default_factory=list)
+    said: list[Said] = field(default_factory=list)
+    heading: list[str] = field(default_factory=list)
+    begins_bare: bool = False
+    respelled: dict[str, str] = field(default_factory=dict)
+    notes: list[str] = field(default_factory=list)
+
+    @property
+    def path(self) -> str:
+        return self.sheet.path
+
+    def fault(self, reason: str, line: int = 0) -> TableFault:
+        return TableFault(reason, line, self.path)
+
+
+def name_of(cell: str, *, is_raw: bool = False) -> str:
+    """The name in a cell. Raises a ValueError if it has a control character, or half a character."""
+    name = cleaned(name_in(cell.strip(), is_raw=is_raw))
+    for letter in name if not name.isprintable() else "":
+        if unicodedata.category(letter) in ("Cc", "Cs"):
+            raise ValueError(f"has the character U+{ord(letter):04X}, which no name may have")
+    return name
+
+
+def are_plain(cells: list[str]) -> bool:
+    """Whether each of these cells is a name as it stands."""
+    text = "\n".join(("", *cells, ""))
+    is_cleaned = not any(odd in text for odd in ("  ", "\n ", " \n", "\n'"))
+    return is_cleaned and text.replace("\n", "").isprintable() and text.count("\n") == len(cells) + 1 and len(text) <= LONGEST_CELL
+
+
+class _Numbers(dict[str, int]):
+    """The number of the place that each cell names; 0 if it names none. A new place gets the next number."""
+
+    def __init__(self, is_raw: bool) -> None:
+        super().__init__()
+        self.is_raw = is_raw
+        self.places: dict[str, int] = {}
+        # For each name the first cell that writes it; and see `Table`.
+        self.spellings: dict[str, str] = {}
+        self.respelled: dict[str, str] = {}
+
+    def of(self, cells: list[str]) -> list[int] | None:
+        """The numbers of these cells; None, and no new number, if one names no place."""
+        known = len(self.places)
+        numbers = list(map(self.__getitem__, cells))
+        if 0 not in numbers:
+            return numbers
+        self.places = dict(islice(self.places.items(), known))
+        for cell in [cell for cell, number in self.items() if not 0 < number <= known]:
+            del self[cell]
+        return None
+
+    def __missing__(self, cell: str) -> int:
+        if cell.isprintable() and "  " not in cell and cell[:1] not in _ODD_FIRST and cell[-1] != " " and cell not in self.spellings and len(cell) <= LONGEST_CELL:
+            # A name as it stands.
+            self[cell] = number = self.places.setdefault(cell, len(self.places) + 1)
+            return number
+        number = 0
+        if cell.strip() and len(cell) <= LONGEST_CELL:
+            try:
+                name = name_of(cell, is_raw=self.is_raw)
+            except ValueError:
+                name = ""
+            if name:
+                number = self.places.setdefault(name, len(self.places) + 1)
+                if name != cell or name in self.spellings:
+                    self._respell(name, cell)
+        self[cell] = number
+        return number
+
+    def _respell(self, name: str, cell: str) -> None:
+        # A name that is first written as it is needs no entry.
+        first = self.spellings.setdefault(name, name if name in self else cell)
+        if first != cell:
+            self.respelled[name] = cell if cell != name else first
+
+
+class _Reader:
+    """Takes the rows of a table, and their faults."""
+
+    def __init__(self, sheet: Sheet, form: Form, layout: Layout, reading: Reading) -> None:
+        self.form = form
+        self.layout = layout
+        self.reading = reading
+        self.faults = Faults(sheet.path)
+        self.width = len(layout.titles) if layout.line else None
+        self.heading = [title.text for title in layout.titles]
+
+    def column(self, place: int) -> str:
+        return next((f"the {column}" for column, at in self.layout.at.items() if at == place), "a cell")
+
+    def is_passed_over(self, line: int, row: list[str]) -> bool:
+        """Whether a row is blank, the row of titles, or that row once more."""
+        if line == self.layout.line or is_blank(row):
+            return True
+        return bool(self.heading) and [cleaned(cell) for cell in row] == self.heading
+
+    def are_cells_right(self, line: int, row: list[str]) -> bool:
+        """Whether no cell is too long, and no row has more columns than there are titles."""
+        before = self.faults.count
+        for place, cell in enumerate(row):
+            if len(cell) > LONGEST_CELL:
+                long = f"{self.column(place)} has {len(cell)} characters, and {LONGEST_CELL} are the most; is a quote not closed?"
+                self.faults.add(long, line, place + 1)
+            elif self.width is not None and place >= self.width and cell.strip():
+                self.faults.add(f"{len(row)} columns, and {self.width} have titles", line)
+                break
+        return self.faults.count == before
+
+    def name(self, line: int, row: list[str], column: str) -> str:
+        """The name in a cell. If there is none, that is a fault."""
+        place = self.layout.at[column]
+        cell = row[place] if place < len(row) else ""
+        if not cleaned(cell):
+            count = f": the row has {len(row)} column{'s' * (len(row) != 1)}" if place >= len(row) else ""
+            self.faults.add(f"no {column}{count}", line, place + 1)
+            return ""
+        try:
+            return name_of(cell, is_raw=self.reading.raw_names)
+        except ValueError as fault:
+            self.faults.add(f"the {column} {shown(cell)} {fault}", line, place + 1)
+            return ""
+
+    def cell(self, row: list[str], column: str) -> str:
+        place = self.layout.at.get(column, len(row))
+        return row[place] if place < len(row) else ""
+
+
+class _ArcReader(_Reader):
+    """Takes rows of arcs, and of places among them."""
+
+    def __init__(self, sheet: Sheet, layout: Layout, reading: Reading) -> None:
+        super().__init__(sheet, ARCS, layout, reading)
+        at = layout.at[CAPACITY]
+        self.table = Table(sheet, layout, Amounts(CAPACITY, at + 1, sheet.path, unit_of(layout.title(CAPACITY))))
+        self.numbers = _Numbers(reading.raw_names)
+        self.ends = itemgetter(layout.at[TAIL], layout.at[HEAD])
+        self.amount = itemgetter(at)
+        self.label = layout.at.get(NAME)
+        self.needed = max(layout.at[column] for column in (TAIL, HEAD, CAPACITY))
+        # Once a row was not taken together with others, there may be more.
+        self.titles_again: list[int] = []
+
+    def take(self, rows: Rows) -> None:
+        """Takes rows: all together if they are plain, which is several times as fast."""
+        lines, cells = rows
+        if lines and lines[0] == self.layout.line:
+            lines, cells = lines[1:], cells[1:]
+        if cells and not self._take_together(lines, cells):
+            for line, row in zip(lines, cells):
+                self._take_row(line, row)
+
+    def _take_together(self, lines: Sequence[int], cells: list[list[str]]) -> bool:
+        widths = set(map(len, cells))
+        if min(widths) <= self.needed or self.width is not None and max(widths) > self.width or not isinstance(lines, range):
+            return False
+        amounts = list(map(self.amount, cells))
+        named = list(chain.from_iterable(map(self.ends, cells)))
+        if "" in named or self.heading and self.heading[self.layout.at[CAPACITY]] in amounts:
+            return False
+        ends = self.numbers.of(named)
+        if ends is None:
+            return False
+        if self.label is not None:
+            label = self.label
+            labels = [row[label] for row in cells] if min(widths) > label else [row[label] if len(row) > label else "" for row in cells]
+            if not are_plain(labels):
+                if max(map(len, labels)) > LONGEST_CELL or not "".join(labels).isprintable():
+                    return False
+                labels = [cleaned(name_in(it.strip(), is_raw=self.reading.raw_names)) for it in labels]
+            self._put_labels(labels)
+        self.table.tails.extend(ends[0::2])
+        self.table.heads.extend(ends[1::2])
+        self.table.lines.extend(lines)
+        self.table.amounts.add(amounts if Exact in map(type, amounts) else list(map(str.strip, amounts)))
+        return True
+
+    def _put_labels(self, labels: list[str]) -> None:
+        if any(labels) or self.table.labels:
+            self.table.labels += [""] * (len(self.table.tails) - len(self.table.labels)) + labels
+
+    def _take_row(self, line: int, row: list[str]) -> None:
+        if self.is_passed_over(line, row):
+            if line != self.layout.line and not is_blank(row):
+                self.titles_again.append(line)
+            return
+        if not self.are_cells_right(line, row) or self._is_of_place(line, row):
+            return
+        before = self.faults.count
+        names = [self.name(line, row, column) for column in (TAIL, HEAD)]
+        amount = self.cell(row, CAPACITY)
+        if not amount.strip():
+            count = f": the row has {len(row)} column{'s' * (len(row) != 1)}" if self.layout.at[CAPACITY] >= len(row) else ""
+            self.faults.add(f"no {CAPACITY}{count}", line, self.layout.at[CAPACITY] + 1)
+        label = self.name(line, row, NAME) if self.label is not None and cleaned(self.cell(row, NAME)) else ""
+        if self.faults.count > before and not amount.strip():
+            return
+        self._put_labels([label])
+        numbers = [self.numbers[self.cell(row, column)] for column, name in zip((TAIL, HEAD), names)]
+        self.table.tails.append(numbers[0])
+        self.table.heads.append(numbers[1])
+        self.table.lines.append(line)
+        self.table.amounts.add([amount if isinstance(amount, Exact) else amount.strip()])
+
+    def _is_of_place(self, line: int, row: list[str]) -> bool:
+        """Whether a row is of a place, which has no head and no capacity. If so, takes it."""
+        if cleaned(self.cell(row, HEAD)) or cleaned(self.cell(row, CAPACITY)):
+            return False
+        cells = {column: self.cell(row, column) for column in PLACE_COLUMNS if cleaned(self.cell(row, column))}
+        if not cells:
+            return False
+        place = self.name(line, row, TAIL)
+        if place:
+            self.table.said.append(Said(line, place, cells))
+        return True
+
+    def end(self) -> Table:
+        """The table. Raises a `TableFault` if a row has a fault."""
+        table = self.table
+        table.labels += [""] * (len(table.tails) - len(table.labels)) if table.labels else []
+        table.places, table.respelled = self.numbers.places, self.numbers.respelled
+        if self.titles_again:
+            told = ", ".join(map(str, self.titles_again[:9])) + ", .." * (len(self.titles_again) > 9)
+            table.notes.append(f"the titles stand once more, and are passed over: line {told}")
+        table.amounts.settle(table.lines, self.faults, self.reading.sign)
+        self.faults.judge()
+        return table
+
+
+def _first_rows(sheet: Sheet) -> Rows:
+    """The first rows of a sheet. Raises a `TableFault` if there is none."""
+    sample = sheet.sample()
+    if not sample.cells:
+        for _ in sheet.read():
+            # What is wrong with a quote or a byte is told here.
+            pass
+        raise TableFault("the table is empty")
+    return sample
+
+
+def read_arcs(sheet: Sheet, reading: Reading) -> Table:
+    """The table of arcs of a sheet. Raises a `TableFault` with all rows that cannot be read, and if there is none."""
+    sample = _first_rows(sheet)
+    layout = layout_of(sample, ARCS, reading.titles)
+    reader = _ArcReader(sheet, layout, reading)
+    try:
+        _take_all(sheet, reader)
+        table = reader.end()
+    except TableFault as fault:
+        for told in (fault, *fault.others):
+            told.reason += ARCS.hint if not layout.line and told.line == sample.lines[0] else ""
+        raise
+    table.begins_bare = not layout.line
+    table.heading = reader.heading if layout.line and not reading.titles else []
+    if not table.tails:
+        raise TableFault("the table has titles, and no row below them")
+    return table
+
+
+def _take_all(sheet: Sheet, reader: _ArcReader | _PlaceReader) -> None:
+    """Takes all rows. A quote or a byte that is wrong ends them."""
+    try:
+        for rows in sheet.read():
+            reader.take(rows)
+    except TableFault as fault:
+        reader.faults.add(fault.reason, fault.line)
+
+
+class Term(NamedTuple):
+    """What a place gives, takes or lets through (`supply`, `demand` or `limit`): so much, or without a quantity what its arcs carry; and
+    where a table says so, if one does."""
+
+    kind: str
+    place: str
+    quantity: Optional[Decimal]
+    line: int = 0
+    path: str = ""
+
+
+class _PlaceReader(_Reader):
+    """Takes rows of places."""
+
+    def __init__(self, sheet: Sheet, form: Form, layout: Layout, reading: Reading) -> None:
+        super().__init__(sheet, form, layout, reading)
+        self.said: list[Said] = []
+
+    def take(self, rows: Rows) -> None:
+        for line, row in zip(*rows):
+            if self.is_passed_over(line, row) or not self.are_cells_right(line, row):
+                continue
+            place = self.name(line, row, PLACE)
+            cells = {column: cell for column in self.form.amounts if cleaned(cell := self.cell(row, column))}
+            if len(self.form.amounts) == 1 and not cells:
+                (column,) = self.form.amounts
+                at = self.layout.at[column]
+                count = f": the row has {len(row)} column{'s' * (len(row) != 1)}" if at >= len(row) else ""
+                self.faults.add(f"no {column}{count}", line, at + 1)
+            elif place:
+                self.said.append(Said(line, place, cells))
+
+
+class Heading(NamedTuple):
+    """A first row that was read as titles: what would be a place in it, and its amount of this kind."""
+
+    kind: str
+    place: str
+    amount: str
+    line: int
+    path: str
+
+
+def read_places(sheet: Sheet, kinds: Sequence[str], reading: Reading, usual: str = "") -> tuple[list[Term], list[Heading]]:
+    """What a table of places says of these kinds, and the row of its titles. `usual` is the decimal sign of the table of arcs. Raises a
+    `TableFault` with all rows that cannot be read, and if there is none."""
+    form = Form((PLACE,), tuple(kinds))
+    layout = layout_of(_first_rows(sheet), form, {})
+    reader = _PlaceReader(sheet, form, layout, reading)
+    _take_all(sheet, reader)
+    terms = terms_of(reader.said, layout, reader.faults, reading.sign, usual)
+    reader.faults.judge()
+    if not reader.said:
+        raise TableFault("the table has titles, and no row below them")
+    heading = Heading(kinds[0], layout.title(PLACE).text, layout.title(kinds[0]).text, layout.line, sheet.path)
+    return terms, [heading] if layout.line else []
+
+
+def terms_of(said: list[Said], layout: Layout, faults: Faults, sign: str, usual: str) -> list[Term]:
+    """What rows of places say. Where a place may say several things, a supply or a demand of 0 says nothing."""
+    terms: list[Term] = []
+    for kind in PLACE_COLUMNS:
+        rows = [row for row in said if kind in row.cells]
+        marked = [row for row in rows if kind != LIMIT and cleaned(row.cells[kind]).casefold() in MARKS]
+        terms += (Term(kind, row.place, None, row.line, faults.path) for row in marked)
+        numbered = [row for row in rows if row not in marked]
+        amounts = Amounts(kind, layout.at.get(kind, 0) + 1, faults.path, unit_of(layout.title(kind)))
+        if numbered:
+            amounts.add([row.cells[kind] for row in numbered])
+        amounts.settle([row.line for row in numbered], faults, sign, usual)
+        for place, row in enumerate(numbered):
+            quantity = amounts.quantity(place)
+            if quantity or kind == LIMIT or len(layout.at) == 2:
+                terms.append(Term(kind, row.place, quantity, row.line, faults.path))
+    return terms

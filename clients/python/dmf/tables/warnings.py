@@ -1,0 +1,150 @@
+"""What looks like a mistake in a valid plan: it is told, with its lines, and changes nothing."""
+
+from __future__ import annotations
+
+import re
+import unicodedata
+from array import array
+from collections import Counter, defaultdict
+from collections.abc import Iterable, Iterator, Sequence
+from itertools import islice
+from operator import eq
+from typing import Any
+
+from .cells import MOST_TOLD, cleaned, near, shown
+from .columns import ARCS, DEMAND, SUPPLY
+from .network import Net, Plan
+
+# Among how many places a near name is looked for, and among how many arcs a way.
+MOST_PLACES, MOST_WALKED = 2_000, 200_000
+_DIGITS = re.compile("[0-9]+")
+
+
+def warnings(plan: Plan, net: Net) -> Iterator[str]:
+    """The warnings of a plan and its network."""
+    table = plan.arcs
+    yield from _lone_first_row(plan)
+    protected = {name: other for name, other in table.respelled.items() if cleaned(other) != name}
+    spaced = {name: other for name, other in table.respelled.items() if name not in protected}
+    for why, respelled in ("spaces", spaced), ("the apostrophe that protects = + - @", protected):
+        if respelled:
+            told = [f"{shown(other)} is {shown(name)}" for name, other in respelled.items()]
+            yield f"names that differ only in {why} are one place: {', '.join(told[:MOST_TOLD])}"
+    for names in islice(_look_alike(table.places), MOST_TOLD):
+        yield f"names that differ only in case, or in what is not seen, are several places: {_listed(list(map(shown, names)))}"
+    yield from _rows(plan)
+    yield from _lonely(plan)
+    if len(net.tails) <= MOST_WALKED and not _reaches(net):
+        yield "no way leads from a source to a sink over arcs that carry anything"
+
+
+def _listed(parts: Sequence[str]) -> str:
+    rest = len(parts) - MOST_TOLD
+    return ", ".join(parts[:MOST_TOLD]) + (f" and {rest} more" if rest > 0 else "")
+
+
+def _lines(lines: Sequence[int]) -> str:
+    """Lines as they are told: `line 3`, `lines 3, 4`."""
+    return f"line{'s' * (len(lines) > 1)} {_listed(list(map(str, lines)))}"
+
+
+def _seen(name: str) -> str:
+    """A name without what readers hardly see: case, how letters are composed, and characters that show nothing."""
+    if name.isascii():
+        return name.casefold()
+    letters = unicodedata.normalize("NFKC", name).casefold()
+    return "".join(letter for letter in letters if unicodedata.category(letter) != "Cf")
+
+
+def _look_alike(places: Iterable[str]) -> Iterator[list[str]]:
+    """The names of places that look alike."""
+    seen = Counter(map(_seen, places))
+    if len(seen) == sum(seen.values()):
+        return
+    alike: dict[str, list[str]] = {}
+    for place in places:
+        if seen[_seen(place)] > 1:
+            alike.setdefault(_seen(place), []).append(place)
+    yield from alike.values()
+
+
+def _lone_first_row(plan: Plan) -> Iterator[str]:
+    """The warning about a first row that was read as an arc, and whose ends occur nowhere else."""
+    table = plan.arcs
+    if not table.begins_bare:
+        return
+    first = {table.tails[0], table.heads[0]}
+    named = {table.places.get(term.place) for term in plan.terms}
+    if not first & named and not any(end in first for ends in (table.tails, table.heads) for end in islice(ends, 1, None)):
+        yield f"line {table.lines[0]} is taken for an arc, though no other row has its ends{ARCS.hint}"
+
+
+def _rows(plan: Plan) -> Iterator[str]:
+    """Self loops, capacities of 0, and rows that are the same."""
+    table = plan.arcs
+    if any(map(eq, table.tails, table.heads)):
+        yield f"tail and head are the same place: {_lines([line for tail, head, line in zip(table.tails, table.heads, table.lines) if tail == head])}"
+    if 0 in table.amounts.numbers:
+        yield f"the capacity is 0: {_lines([line for line, number in zip(table.lines, table.amounts.numbers) if not number])}"
+    columns: list[Sequence[object]] = [table.tails, table.heads, table.amounts.numbers, *([table.labels] if table.labels else [])]
+    if len(set(map(hash, zip(*columns)))) < len(table.tails):
+        first: dict[tuple[object, ...], int] = {}
+        same = [(first[row], line) for line, row in zip(table.lines, zip(*columns)) if first.setdefault(row, line) != line]
+        if same:
+            yield f"rows are the same, and each counts: {_listed([f'line {line} as {before}' for before, line in same])}"
+
+
+def _lonely(plan: Plan) -> Iterator[str]:
+    """Places that arcs only leave and that are no source, and the other way round."""
+    table = plan.arcs
+    tails, heads = table.tails, table.heads
+    if any(map(eq, tails, heads)):
+        rows = [(tail, head) for tail, head in zip(tails, heads) if tail != head]
+        tails, heads = (array("I", ends) for ends in (zip(*rows) if rows else ((), ())))
+    left, entered = set(tails), set(heads)
+    if plan.both_ways:
+        left = entered = left | entered
+    sources, sinks = ({table.places[term.place] for term in plan.of_kind(kind)} for kind in (SUPPLY, DEMAND))
+    for lonely, ends, reason in (
+        (left - entered - sources, table.tails, "arcs leave, and none enter, a place that is no source"),
+        (entered - left - sinks, table.heads, "arcs enter, and none leave, a place that is no sink"),
+    ):
+        if lonely:
+            yield f"{reason}: {_listed(_LonelyPlaces(plan, sorted(lonely), ends))}"
+
+
+class _LonelyPlaces(Sequence[str]):
+    """Places as they are told: with the line of the first row that has one, and a name that may have been meant."""
+
+    def __init__(self, plan: Plan, numbers: list[int], ends: array[int]) -> None:
+        self.table = plan.arcs
+        self.names = list(plan.arcs.places)
+        self.numbers = numbers
+        self.ends = ends
+
+    def __len__(self) -> int:
+        return len(self.numbers)
+
+    def __getitem__(self, place: int | slice) -> Any:
+        return list(map(self.told, self.numbers[place])) if isinstance(place, slice) else self.told(self.numbers[place])
+
+    def told(self, number: int) -> str:
+        name = self.names[number - 1]
+        line = f" (line {self.table.lines[self.ends.index(number)]})" if number in self.ends else ""
+        is_once = self.table.tails.count(number) + self.table.heads.count(number) == 1
+        others = [it for it in self.names if _DIGITS.sub("", it) != _DIGITS.sub("", name)]
+        return f"{shown(name)}{line}" + (near(name, others) if is_once and len(self.names) <= MOST_PLACES else "")
+
+
+def _reaches(net: Net) -> bool:
+    """Whether a way leads from the source to the sink over arcs that carry anything."""
+    heads: dict[int, list[int]] = defaultdict(list)
+    for tail, head, capacity in zip(net.tails, net.heads, net.capacities):
+        if capacity:
+            heads[tail].append(head)
+    seen, left = {net.source}, [net.source]
+    while left:
+        new = [head for head in heads[left.pop()] if head not in seen]
+        seen.update(new)
+        left += new
+    return net.sink in seen

@@ -1,0 +1,133 @@
+"""Sheets of workbooks: `.xlsx` by openpyxl, and `.ods` by odfpy. A cell that has a number is a number, with the 15 digits that a workbook
+shows; a formula counts as what it gave when the workbook was saved."""
+
+from __future__ import annotations
+
+import datetime
+import importlib
+import io
+import zipfile
+from collections.abc import Iterator
+from functools import partial
+from decimal import Context
+from typing import Any
+
+from .faults import TableFault
+from .file import PIECE, Exact, Rows, Sheet
+
+# The most bytes that a workbook may unpack to.
+LARGEST = 1 << 30
+XLSX, ODS = "xlsx", "ods"
+_SHOWN = Context(prec=15)
+
+
+def is_workbook(data: bytes) -> bool:
+    """Whether a file is a workbook, or another thing that is packed as one is."""
+    return data.startswith(b"PK\x03\x04")
+
+
+def workbook_sheets(data: bytes, path: str) -> list[Sheet]:
+    """The sheets of a workbook that have cells; the path of each ends with its name. Raises a `TableFault`."""
+    kind = _kind(data)
+    try:
+        sheets = _xlsx(data, path) if kind == XLSX else _ods(data, path)
+    except (TableFault, MemoryError):
+        raise
+    except ImportError as error:
+        package = {"openpyxl": "openpyxl", "odf": "odfpy"}.get(str(error.name).partition(".")[0], str(error.name))
+        debian = {"openpyxl": "python3-openpyxl", "odfpy": "python3-odf"}.get(package, package)
+        how = f"pip install {package}, or apt install {debian}"
+        raise TableFault(f"a workbook (.{kind}) needs the package {package}, which is not there ({how}); or save the sheet as CSV") from None
+    except Exception as error:
+        raise TableFault(f"the workbook (.{kind}) is damaged: {str(error)[:200]}") from None
+    return [sheet for sheet in sheets if sheet.sample(1).cells]
+
+
+def _kind(data: bytes) -> str:
+    """Which workbook it is. Raises a `TableFault` for what is none."""
+    try:
+        with zipfile.ZipFile(io.BytesIO(data)) as archive:
+            names = {member.filename: member.file_size for member in archive.infolist()}
+            kind = archive.read("mimetype") if names.get("mimetype", LARGEST) < 200 else b""
+    except (zipfile.BadZipFile, OSError, ValueError, RuntimeError) as error:
+        raise TableFault(f"it is a damaged zip file or workbook: {error}") from None
+    size = sum(names.values())
+    if size > LARGEST:
+        raise TableFault(f"the workbook unpacks to {size} bytes, and {LARGEST} are the most")
+    if kind.startswith(b"application/vnd.oasis.opendocument.spreadsheet"):
+        return ODS
+    if "xl/workbook.xml" in names:
+        return XLSX
+    what = "a binary workbook (.xlsb)" if "xl/workbook.bin" in names else "a text document" if "word/document.xml" in names or kind else "a zip file"
+    raise TableFault(f"it is {what}; a table is a CSV file, or a workbook (.xlsx or .ods)")
+
+
+def _text(value: Any) -> str:
+    """What a cell has, as a text."""
+    if value is None or isinstance(value, str):
+        return value or ""
+    if isinstance(value, bool):
+        return str(value).upper()
+    if isinstance(value, int):
+        return Exact(value)
+    if isinstance(value, float):
+        return Exact(f"{_SHOWN.create_decimal(repr(value)):f}") if value - value == 0 else str(value)
+    if isinstance(value, datetime.datetime) and value.time() == datetime.time():
+        return value.date().isoformat()
+    return str(value)
+
+
+def _xlsx(data: bytes, path: str) -> list[Sheet]:
+    openpyxl = importlib.import_module("openpyxl")
+    book = openpyxl.load_workbook(io.BytesIO(data), read_only=True, data_only=True)
+    return [Sheet(f"{path}#{sheet.title}", partial(_xlsx_rows, sheet)) for sheet in book.worksheets]
+
+
+def _xlsx_rows(sheet: Any) -> Iterator[Rows]:
+    """The rows of a sheet, some thousands at once."""
+    # What a workbook says of its size may be wrong.
+    sheet.reset_dimensions()
+    line, cells = 1, []
+    for row in sheet.iter_rows(values_only=True):
+        cells.append([value if type(value) is str else _text(value) for value in row])
+        if len(cells) == PIECE:
+            yield Rows(range(line, line + len(cells)), cells)
+            line, cells = line + len(cells), []
+    yield Rows(range(line, line + len(cells)), cells)
+
+
+def _ods(data: bytes, path: str) -> list[Sheet]:
+    opendocument, table = importlib.import_module("odf.opendocument"), importlib.import_module("odf.table")
+    book = opendocument.load(io.BytesIO(data))
+    sheets = []
+    for sheet in book.spreadsheet.getElementsByType(table.Table):
+        sheets.append(Sheet(f"{path}#{sheet.getAttribute('name')}", partial(_ods_rows, sheet, table)))
+    return sheets
+
+
+def _ods_rows(sheet: Any, table: Any) -> Iterator[Rows]:
+    """The rows of a sheet. One that stands for many blank ones is passed over."""
+    line = 1
+    for row in sheet.getElementsByType(table.TableRow):
+        cells: list[str] = []
+        for cell in row.childNodes:
+            text = _ods_text(cell)
+            count = int(cell.getAttribute("numbercolumnsrepeated") or 1)
+            cells += [text] * (count if text else min(count, 1024))
+        while cells and not cells[-1]:
+            cells.pop()
+        count = int(row.getAttribute("numberrowsrepeated") or 1)
+        if cells:
+            yield Rows(range(line, line + count), [list(cells) for _ in range(min(count, PIECE * 256))])
+        line += count
+
+
+def _ods_text(cell: Any) -> str:
+    """What a cell has, as a text."""
+    kind = cell.getAttribute("valuetype")
+    if kind in ("float", "currency", "percentage"):
+        return Exact(f"{_SHOWN.create_decimal(cell.getAttribute('value')):f}")
+    if kind == "date":
+        return str(cell.getAttribute("datevalue"))
+    teletype = importlib.import_module("odf.teletype")
+    return "\n".join(teletype.extractText(part) for part in cell.childNodes if part.qname[1] == "p")
