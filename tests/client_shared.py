@@ -91,3 +91,15 @@ def stop(process: int) -> None:
     os.kill(process, signal.SIGSTOP)
     while state_of(process) != "T":
         time.sleep(0.001)
+
+
+@contextlib.contextmanager
+def interrupted_soon() -> Iterator[None]:
+    """A block that is broken off after a moment as by Ctrl-C."""
+    before = signal.signal(signal.SIGALRM, signal.default_int_handler)
+    signal.setitimer(signal.ITIMER_REAL, 0.05)
+    try:
+        yield
+    finally:
+        signal.setitimer(signal.ITIMER_REAL, 0)
+        signal.signal(signal.SIGALRM, before)

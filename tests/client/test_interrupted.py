@@ -18,7 +18,7 @@ from typing import Any
 
 import pytest
 from built import heed_interrupts
-from client_shared import BUILT, CLIENT, PIPES, dmf, ends, is_running, pipes, script, stop
+from client_shared import BUILT, CLIENT, PIPES, dmf, ends, interrupted_soon, is_running, pipes, script, stop
 from desk_shared import wait_until_asked
 from dmf import running
 from tool_runs import wait_until_asleep
@@ -87,18 +87,6 @@ def all_told(network: dmf.Network[str]) -> list[tuple[object, ...]]:
             found.append(told(network))
     network.undo(on)
     return found
-
-
-@contextlib.contextmanager
-def interrupted_soon() -> Iterator[None]:
-    """A block that is broken off after a moment as by Ctrl-C."""
-    before = signal.signal(signal.SIGALRM, signal.default_int_handler)
-    signal.setitimer(signal.ITIMER_REAL, 0.05)
-    try:
-        yield
-    finally:
-        signal.setitimer(signal.ITIMER_REAL, 0)
-        signal.signal(signal.SIGALRM, before)
 
 
 @contextlib.contextmanager
