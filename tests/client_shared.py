@@ -3,7 +3,9 @@
 import contextlib
 import importlib
 import os
+import signal
 import tempfile
+import time
 from collections.abc import Iterable, Iterator
 from typing import Any
 
@@ -70,10 +72,34 @@ def written(text: bytes) -> Iterator[str]:
         yield file.name
 
 
-def is_running(process: int) -> bool:
-    """Whether a process is there that has not ended."""
+def state_of(process: int) -> str:
+    """The state of a process as the system writes it, such as `T` for one that is stopped; nothing for one that is not there."""
     try:
         with open(f"/proc/{process}/stat") as stat:
-            return stat.read().rsplit(")", 1)[1].split()[0] != "Z"
+            return stat.read().rsplit(")", 1)[1].split()[0]
     except FileNotFoundError:
-        return False
+        return ""
+
+
+def is_running(process: int) -> bool:
+    """Whether a process is there that has not ended."""
+    return state_of(process) not in ("Z", "")
+
+
+def stop(process: int) -> None:
+    """Stops a process. Until it has stopped, it may take what it waits for."""
+    os.kill(process, signal.SIGSTOP)
+    while state_of(process) != "T":
+        time.sleep(0.001)
+
+
+@contextlib.contextmanager
+def interrupted_soon() -> Iterator[None]:
+    """A block that is broken off after a moment as by Ctrl-C."""
+    before = signal.signal(signal.SIGALRM, signal.default_int_handler)
+    signal.setitimer(signal.ITIMER_REAL, 0.05)
+    try:
+        yield
+    finally:
+        signal.setitimer(signal.ITIMER_REAL, 0)
+        signal.signal(signal.SIGALRM, before)

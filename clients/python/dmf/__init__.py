@@ -86,6 +86,7 @@ if TYPE_CHECKING:
         TerminalNamedTwice as TerminalNamedTwice,
         TooFewArcs as TooFewArcs,
         TooManyArcs as TooManyArcs,
+        Unbounded as Unbounded,
         UnknownCommand as UnknownCommand,
         UnknownLine as UnknownLine,
         UsedByTwoProcesses as UsedByTwoProcesses,
@@ -94,6 +95,7 @@ if TYPE_CHECKING:
     )
     from .executable import program as program
     from .network import Network as Network, Row as Row
+    from .once import MatrixFlow as MatrixFlow, maximum_flow as maximum_flow, minimum_cut as minimum_cut, value as value
     from .solution import Cut as Cut, Solution as Solution
     from .sources import from_networkx as from_networkx, from_scipy as from_scipy, read as read
     from .sweeping import (
@@ -110,6 +112,7 @@ _NAMES = {
     "arcs": ["Arc"],
     "executable": ["program"],
     "network": ["Network", "Row"],
+    "once": ["MatrixFlow", "maximum_flow", "minimum_cut", "value"],
     "solution": ["Cut", "Solution"],
     "sources": ["from_networkx", "from_scipy", "read"],
     "sweeping": ["SweepResult", "each_arc_closed", "each_capacity_raised", "each_node_shut", "each_pair_added", "sweep"],

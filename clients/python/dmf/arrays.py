@@ -9,7 +9,7 @@ import importlib
 import re
 import sys
 from array import array
-from collections.abc import Hashable, Iterable, Iterator, Mapping
+from collections.abc import Hashable, Iterable, Iterator, Mapping, Sequence
 from typing import Any
 
 from .arcs import Columns, Node, OpenArcs
@@ -47,6 +47,14 @@ def problem_lines(columns: Columns[Any], capacities: array[int]) -> Iterator[byt
         end = min(begin + size, count)
         piece = [column[begin:end] for column in (columns.tails, columns.heads, capacities)]
         yield _plain_lines(piece) if np is None else _lines(np, piece)
+
+
+def problem_pieces(columns: Columns[Any], capacities: array[int], source: int, sink: int, more: Sequence[tuple[int, int, int]] = ()) -> Iterator[bytes]:
+    """The text of a problem, in pieces. More arcs may follow those of the columns."""
+    yield b"p max %d %d\nn %d s\nn %d t\n" % (len(columns.numbers), len(columns) + len(more), source, sink)
+    yield from problem_lines(columns, capacities)
+    for arc in more:
+        yield b"a %d %d %d\n" % arc
 
 
 def _plain_lines(columns: list[array[int]]) -> bytes:

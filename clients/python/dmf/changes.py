@@ -67,36 +67,41 @@ class Changes:
 
     def begin_call(self) -> None:
         """Takes the present state as that to which `roll_back` leads, and forgets what the change past the bound did."""
-        self._now = self._now._replace(back=None)
-        oldest = self._changes[self.place - self.most - 1] if self.place > self.most else ""
+        place, value, back = self._now
+        if back is not None:
+            self._now = _Now(place, value)
+        oldest = self._changes[place - self.most - 1] if place > self.most else ""
         if isinstance(oldest, Change):
-            self._changes[self.place - self.most - 1] = oldest.command
+            self._changes[place - self.most - 1] = oldest.command
 
     def note(self, change: Change, value: int) -> None:
         """Notes a change that the program made, makes it here, and drops what was undone. The flow has this value then."""
-        place = self.place
-        self._now = self._now._replace(back=_Back(self._now, made=[change], dropped=self._changes[place:]))
-        self._changes[place:] = [change]
+        now = self._now
+        back = _Back(now, made=[change], dropped=self._changes[now.place :])
+        self._now = _Now(now.place, now.value, back)
+        self._changes[now.place :] = [change]
         self._make(change)
-        self._now = self._now._replace(place=place + 1, value=value)
+        self._now = _Now(now.place + 1, value, back)
 
     def redo(self, count: int, value: int) -> None:
         """Redoes so many changes, which exist. The flow has this value then."""
-        place = self.place
-        changes = [change for change in self._changes[place : place + count] if isinstance(change, Change)]
-        self._now = self._now._replace(back=_Back(self._now, made=changes))
+        now = self._now
+        changes = [change for change in self._changes[now.place : now.place + count] if isinstance(change, Change)]
+        back = _Back(now, made=changes)
+        self._now = _Now(now.place, now.value, back)
         for change in changes:
             self._make(change)
-        self._now = self._now._replace(place=place + count, value=value)
+        self._now = _Now(now.place + count, value, back)
 
     def undo(self, count: int, value: int) -> None:
         """Undoes so many changes, which exist. The flow has this value then."""
-        place = self.place
-        changes = [change for change in self._changes[place - count : place] if isinstance(change, Change)]
-        self._now = self._now._replace(back=_Back(self._now, unmade=changes))
+        now = self._now
+        changes = [change for change in self._changes[now.place - count : now.place] if isinstance(change, Change)]
+        back = _Back(now, unmade=changes)
+        self._now = _Now(now.place, now.value, back)
         for change in reversed(changes):
             self._unmake(change)
-        self._now = self._now._replace(place=place - count, value=value)
+        self._now = _Now(now.place - count, value, back)
 
     def roll_back(self) -> None:
         """Goes back to the state before the present call, whatever of the call was done."""

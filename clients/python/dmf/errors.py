@@ -42,6 +42,10 @@ class NoCapacity(Error, LookupError):
     """An edge of a graph lacks the attribute with its capacity."""
 
 
+class Unbounded(Error, OverflowError):
+    """The flow from the source to the sink has no bound, since a path has only arcs of infinite capacity."""
+
+
 class HistoryOutOfRange(Error, ValueError):
     """The number of changes that can be undone must be a whole number from 0 to 1,000,000."""
 

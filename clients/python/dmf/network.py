@@ -15,7 +15,7 @@ from .errors import ArcIsOpen, Refused, SessionEnded
 from .kept import Kept, Whole, columns_of, whole
 from .names import comments
 from .notebook import MOST_DRAWN, Look, table
-from .process import Program, bound
+from .process import Program, bound, where
 from .running import Running, alone, started
 from .solution import Cut, Solution
 from .tables.comments import Described
@@ -115,9 +115,7 @@ class Network(Running[Node]):
         try:
             self._begin(started(kept, program), kept)
         except Refused as refused:
-            # The lines of the arcs stand after three others.
-            number = (refused.line or 0) - 3
-            raise Refused.of(refused.text, repr(kept.handle(number)) if number >= 1 else "") from None
+            raise where(refused, kept.handle) from None
 
     @classmethod
     def _of(cls, kept: Kept[Node], program: Program) -> Network[Node]:

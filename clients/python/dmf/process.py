@@ -9,7 +9,7 @@ import re
 import subprocess
 import tempfile
 import weakref
-from collections.abc import Iterator, Sequence
+from collections.abc import Callable, Iterator, Sequence
 from typing import IO, Optional, Union
 
 from . import executable
@@ -176,14 +176,8 @@ class Child:
         self._told.seek(0)
         told = self._told.read(MOST_TOLD).decode(errors="replace").strip()
         self.end()
-        found = _TOLD.fullmatch(told)
-        told = "\n".join(map(display, told.split("\n")))
-        self.why_ended = self._why_broken or f"dmf {executable.ended(status)}{': ' if told else ''}{told}"
-        if found and (found[1] or found[2] in Refused.kinds):
-            refused = Refused.of(display(found[2]), f"line {found[1]} of the problem" if found[1] else "")
-            refused.line = int(found[1]) if found[1] else None
-            return refused
-        return SessionEnded(self.why_ended)
+        self.why_ended = self._why_broken or f"dmf {executable.ended(status)}{': ' if told else ''}{_shown(told)}"
+        return _refusal(told) or SessionEnded(self.why_ended)
 
     def _status(self) -> int | None:
         """The status of the program once it has ended. A program that goes on without reading or writing lines is killed, and gives
@@ -194,6 +188,49 @@ class Child:
             self.process.kill()
             self.process.wait()
             return None
+
+
+def _shown(told: str) -> str:
+    """What a program wrote on standard error, as it can be shown."""
+    return "\n".join(map(display, told.split("\n")))
+
+
+def _refusal(told: str) -> Refused | None:
+    """The refusal of a problem that a program wrote on standard error, if it is one."""
+    found = _TOLD.fullmatch(told)
+    if not found or not found[1] and found[2] not in Refused.kinds:
+        return None
+    refused = Refused.of(display(found[2]), f"line {found[1]} of the problem" if found[1] else "")
+    refused.line = int(found[1]) if found[1] else None
+    return refused
+
+
+def where(refused: Refused, handle: Callable[[int], object]) -> Refused:
+    """The refusal of a problem that was made of arcs, with the faulty one. The lines of the arcs stand after three others."""
+    number = (refused.line or 0) - 3
+    return Refused.of(refused.text, repr(handle(number)) if number >= 1 else "")
+
+
+def answer_to(file: IO[bytes], program: Program, words: list[str]) -> bytes:
+    """What the program answers to a problem's file, from its present place on. Raises what `start` raises."""
+    used = executable.program() if program is None else os.fspath(program)
+    pipe = subprocess.PIPE
+    try:
+        # In a session of its own: Ctrl-C at a terminal is for the caller alone, who then ends the program.
+        ran = subprocess.run([used, *words], stdin=file, stdout=pipe, stderr=pipe, start_new_session=True)
+    except OSError as error:
+        if error.filename == used:
+            executable.refuse_unrun(used, error)
+        raise
+    if ran.returncode == 0:
+        return ran.stdout
+    told = ran.stderr[:MOST_TOLD].decode(errors="replace").strip()
+    refused = _refusal(told)
+    if refused:
+        raise refused
+    ended = SessionEnded(f"dmf {executable.ended(ran.returncode)}{': ' if told else ''}{_shown(told)}")
+    executable.refuse_unfit(used, ended)
+    raise ended
 
 
 def _end(process: subprocess.Popen[bytes], told: IO[bytes], owner: int) -> None:

@@ -249,15 +249,11 @@ class Running(Generic[Node]):
 
 def started(kept: Kept[Any], program: Program) -> Child:
     """A session that is in the state of what is kept. Raises what `start` raises, and `SessionEnded` if it comes to another value."""
-    columns = kept.columns
+    capacities = kept.first_capacities()
+    added = kept.added[: kept.first_count - len(kept.columns)]
+    more = [(kept.number(arc.tail), kept.number(arc.head), capacities[arc.number - 1]) for arc in added]
     with tempfile.NamedTemporaryFile("wb", prefix="dmf-", suffix=".max") as file:
-        head = f"p max {len(columns.numbers)} {kept.first_count}\nn {kept.number(kept.source)} s\nn {kept.number(kept.sink)} t\n"
-        file.write(head.encode())
-        capacities = kept.first_capacities()
-        file.writelines(arrays.problem_lines(columns, capacities))
-        for arc in kept.added[: kept.first_count - len(columns)]:
-            line = f"a {kept.number(arc.tail)} {kept.number(arc.head)} {capacities[arc.number - 1]}\n"
-            file.write(line.encode())
+        file.writelines(arrays.problem_pieces(kept.columns, capacities, kept.number(kept.source), kept.number(kept.sink), more))
         file.flush()
         child = start(file.name, program, session_words(kept.most))
     value = child.carry_out(kept.commands())

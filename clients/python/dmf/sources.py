@@ -9,7 +9,7 @@ from collections import Counter
 from typing import Any
 
 from .arcs import Columns, Node
-from .arrays import PIECE, is_unbounded, no_capacity, numpy_for, read_lines
+from .arrays import PIECE, no_capacity, numpy_for, read_lines, with_infinite
 from .kept import Kept, Whole, whole
 from .network import Network
 from .numbering import AMOUNTS, NODES
@@ -87,19 +87,26 @@ def from_networkx(
 
     Raises `NoCapacity` if an edge lacks the attribute and there is no `infinite`, and what `Network` raises.
     """
-    infinite = None if infinite is None else whole(infinite, "infinite")
-    rows: list[tuple[Any, Any, Any, Any]] = []
+    filled = None if infinite is None else whole(infinite, "infinite")
+    rows: list[Any] = rows_of_graph(graph, capacity, may_lack=filled is not None)
+    if filled is not None:
+        rows = [with_infinite(row, filled) for row in rows]
+    return Network(rows, source, sink, nodes=graph, program=program, history=history)
+
+
+def rows_of_graph(graph: Any, capacity: str, *, may_lack: bool) -> list[tuple[Any, ...]]:
+    """The arcs of a graph of networkx, with their keys: each edge is one, or two opposite ones, one after the other, if the graph is
+    undirected. The capacity is the attribute `capacity`, or None if the edge lacks it. Raises `NoCapacity` if it may not."""
+    rows: list[tuple[Any, ...]] = []
     edges = graph.edges(keys=True, data=True) if graph.is_multigraph() else graph.edges(data=True)
     for tail, head, *key, attributes in edges:
-        if capacity not in attributes and infinite is None:
+        if capacity not in attributes and not may_lack:
             raise no_capacity((tail, head, *key), capacity)
         amount = attributes.get(capacity)
-        if infinite is not None and is_unbounded(amount):
-            amount = infinite
         rows.append((tail, head, amount, (tail, head, *key) if key else None))
         if not graph.is_directed() and tail != head:
             rows.append((head, tail, amount, (head, tail, *key) if key else None))
-    return Network(rows, source, sink, nodes=graph, program=program, history=history)
+    return rows
 
 
 def from_scipy(

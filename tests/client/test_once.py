@@ -1,0 +1,170 @@
+"""Maximum flows, minimum cuts and greatest values by one call each, compared with those of networkx and scipy on random graphs."""
+
+from __future__ import annotations
+
+import os
+import signal
+from collections import Counter
+from random import Random
+from typing import Any
+
+import pytest
+from client_shared import PIPES, dmf, interrupted_soon, needs, script, there
+
+numpy, pandas, networkx, sparse, csgraph = map(there, ("numpy", "pandas", "networkx", "scipy.sparse", "scipy.sparse.csgraph"))
+DICTIONARY = {"lake": {"mill": 3, "town": 2}, "mill": {"town": 5, "sea": 2}, "town": {"sea": 3}}
+FLOWS = {"lake": {"mill": 3, "town": 2}, "mill": {"town": 1, "sea": 2}, "town": {"sea": 3}, "sea": {}}
+with_networkx = needs(networkx, "python3-networkx", "graphs of networkx were not solved")
+with_scipy = needs(csgraph, "python3-scipy", "matrices of scipy were not solved")
+
+
+def test_dictionaries() -> None:
+    assert dmf.maximum_flow(DICTIONARY, "lake", "sea") == (5, FLOWS)
+    assert dmf.minimum_cut(DICTIONARY, "lake", "sea") == (5, ({"lake"}, {"mill", "town", "sea"}))
+    assert dmf.value(DICTIONARY, "lake", "sea") == 5
+    attributes = {tail: {head: {"capacity": room, "width": 1} for head, room in heads.items()} for tail, heads in DICTIONARY.items()}
+    assert dmf.maximum_flow(attributes, "lake", "sea") == (5, FLOWS)
+    # Of two pipes one wide leads to the sea each way.
+    assert dmf.value(attributes, "lake", "sea", "width") == 2
+
+
+def test_rows_and_columns() -> None:
+    assert dmf.value(PIPES, "lake", "sea") == dmf.value(iter(PIPES), "lake", "sea") == 5
+    assert dmf.minimum_cut([*PIPES, ("lake", "sea", 1, "canal")], "lake", "sea") == (6, ({"lake"}, {"mill", "town", "sea"}))
+    assert dmf.value([("a", "b", None), ("b", "c", 3)], "a", "c", infinite=9) == 3
+    with pytest.raises(TypeError, match="^a flow in the shape of the graph needs a graph of networkx, .* and not a list: make a Network of it$"):
+        dmf.maximum_flow(PIPES, "lake", "sea")
+    with dmf.Network(PIPES, "lake", "sea") as network:
+        with pytest.raises(TypeError, match="^a Network has the method solve"):
+            dmf.value(network, "lake", "sea")
+
+
+@needs(pandas, "python3-pandas", "frames were not solved")
+def test_frames_and_arrays() -> None:
+    frame = pandas.DataFrame(PIPES, columns=["tail", "head", "capacity"])
+    assert (dmf.value(frame, "lake", "sea"), dmf.minimum_cut(frame, "lake", "sea")[1][0]) == (5, {"lake"})
+    assert dmf.value(frame.rename(columns={"capacity": "room"}), "lake", "sea", "room") == 5
+    columns = numpy.array([0, 0, 1, 1, 2]), numpy.array([1, 2, 2, 3, 3]), numpy.array([3, 2, 5, 2, numpy.inf])
+    assert dmf.value(columns, 0, 3, infinite=3) == 5
+
+
+def random_graph(random: Random, kind: Any) -> Any:
+    graph = kind()
+    count = random.randrange(2, 9)
+    graph.add_nodes_from(f"n{node}" for node in range(count))
+    for _ in range(random.randrange(20)):
+        graph.add_edge(f"n{random.randrange(count)}", f"n{random.randrange(count)}", capacity=random.randrange(9))
+    return graph
+
+
+def judge_flow(edges: list[tuple[Any, Any, int, int]], value: int) -> None:
+    """Edges, with their capacities and flows, have a flow of a value from n0 to n1."""
+    excess: Counter[Any] = Counter()
+    for tail, head, room, flow in edges:
+        assert 0 <= flow <= room
+        excess[head] += flow
+        excess[tail] -= flow
+    assert {node: amount for node, amount in excess.items() if amount} == ({"n0": -value, "n1": value} if value else {})
+
+
+@with_networkx
+@pytest.mark.parametrize("kind", ["Graph", "DiGraph"])
+@pytest.mark.parametrize("seed", range(25))
+def test_graphs(kind: str, seed: int) -> None:
+    graph = random_graph(Random(f"graph {kind} {seed}"), getattr(networkx, kind))
+    wanted, flows = networkx.maximum_flow(graph, "n0", "n1")
+    value, found = dmf.maximum_flow(graph, "n0", "n1")
+    assert (value, dmf.value(graph, "n0", "n1")) == (wanted, wanted)
+    assert {node: set(heads) for node, heads in found.items()} == {node: set(heads) for node, heads in flows.items()}
+    judge_flow([(tail, head, graph[tail][head]["capacity"], flow) for tail, heads in found.items() for head, flow in heads.items()], wanted)
+    # An edge without a direction carries in one of them.
+    assert kind == "DiGraph" or not any(flow and found[head][tail] for tail, heads in found.items() for head, flow in heads.items())
+    amount, (side, others) = dmf.minimum_cut(graph, "n0", "n1")
+    _, (largest, _) = networkx.minimum_cut(graph, "n0", "n1")
+    # Every minimum cut has the smallest side on the side of the source.
+    assert (amount, side | others, side & others, side <= largest) == (wanted, set(graph), set(), True)
+    edges = graph.edges(data="capacity")
+    assert sum(room for tail, head, room in edges if tail in side and head in others or kind == "Graph" and tail in others and head in side) == wanted
+
+
+@with_networkx
+@pytest.mark.parametrize("kind", ["MultiGraph", "MultiDiGraph"])
+@pytest.mark.parametrize("seed", range(10))
+def test_multigraphs(kind: str, seed: int) -> None:
+    """networkx has no flows of these, but those of the graph whose edges carry as much as all between two nodes."""
+    graph = random_graph(Random(f"multigraph {kind} {seed}"), getattr(networkx, kind))
+    single = networkx.DiGraph() if kind == "MultiDiGraph" else networkx.Graph()
+    single.add_nodes_from(graph)
+    for tail, head, room in graph.edges(data="capacity"):
+        so_far = single[tail][head]["capacity"] if single.has_edge(tail, head) else 0
+        single.add_edge(tail, head, capacity=so_far + room)
+    value, found = dmf.maximum_flow(graph, "n0", "n1")
+    assert value == networkx.maximum_flow_value(single, "n0", "n1")
+    edges = [(tail, head, key, flow) for tail, heads in found.items() for head, flows in heads.items() for key, flow in flows.items()]
+    assert {edge[:3] for edge in edges} == {(tail, head, key) for tail, heads in graph.adjacency() for head in heads for key in heads[head]}
+    judge_flow([(tail, head, graph[tail][head][key]["capacity"], flow) for tail, head, key, flow in edges], value)
+
+
+@with_networkx
+def test_edges_without_a_bound() -> None:
+    """As in networkx: an edge without the attribute, or with an infinite one, has no bound."""
+    graph = networkx.DiGraph([("a", "b", {"capacity": float("inf")}), ("b", "c", {"capacity": 4}), ("a", "c", {"capacity": 2}), ("b", "d")])
+    assert dmf.maximum_flow(graph, "a", "c") == networkx.maximum_flow(graph, "a", "c")
+    assert dmf.minimum_cut(graph, "a", "c")[0] == networkx.minimum_cut_value(graph, "a", "c") == 6
+    for call, theirs in (dmf.value, networkx.maximum_flow_value), (dmf.maximum_flow, networkx.maximum_flow), (dmf.minimum_cut, networkx.minimum_cut):
+        with pytest.raises(networkx.NetworkXUnbounded):
+            theirs(graph, "a", "d")
+        with pytest.raises(dmf.Unbounded, match="^the flow has no bound: "):
+            call(graph, "a", "d")
+    assert dmf.value(graph, "a", "d", infinite=3) == 3
+    # A flow as large as all bounded edges together is no flow without a bound.
+    assert dmf.value({"a": {"b": 5}, "b": {"c": None}}, "a", "c") == 5
+
+
+@with_scipy
+@pytest.mark.parametrize("seed", range(25))
+def test_matrices(seed: int) -> None:
+    random = numpy.random.default_rng(seed)
+    count = int(random.integers(2, 9))
+    dense = random.integers(0, 9, (count, count)) * random.integers(0, 2, (count, count))
+    numpy.fill_diagonal(dense, 0)
+    matrix = sparse.csr_matrix(dense.astype(numpy.int32))
+    theirs = csgraph.maximum_flow(matrix, 0, count - 1)
+    found = dmf.maximum_flow(matrix, 0, count - 1)
+    assert (found.flow_value, type(found.flow_value), dmf.value(matrix, 0, count - 1)) == (theirs.flow_value, int, theirs.flow_value)
+    flow = found.flow.toarray()
+    assert (found.flow.format, found.flow.shape) == (theirs.flow.format, theirs.flow.shape)
+    assert (flow == -flow.T).all() and (flow <= dense).all()
+    wanted = numpy.zeros(count, int)
+    wanted[0], wanted[-1] = theirs.flow_value, -theirs.flow_value
+    assert (flow.sum(axis=1) == wanted).all()
+    amount, (side, others) = dmf.minimum_cut(matrix, 0, count - 1)
+    assert (amount, sorted(side | others)) == (theirs.flow_value, list(range(count)))
+    assert dense[numpy.ix_(sorted(side), sorted(others))].sum() == theirs.flow_value
+
+
+def test_faults() -> None:
+    for call in dmf.value, dmf.minimum_cut, dmf.maximum_flow:
+        with pytest.raises(dmf.NoSuchNode, match="^no such node: 'pond'$"):
+            call(DICTIONARY, "lake", "pond")
+        with pytest.raises(dmf.SourceAndSinkAreTheSame):
+            call(DICTIONARY, "lake", "lake")
+        with pytest.raises(dmf.NotANumber, match=r"^not a number: -1 in \('a', 'b', -1, None\)$"):
+            call({"a": {"b": -1}}, "a", "b")
+        with pytest.raises(dmf.CapacitiesPast64Bits, match="^capacities past 64 bits: <Arc 2: 'b' to 'c'>$"):
+            call({"a": {"b": 2**63}, "b": {"c": 2**63}}, "a", "c")
+        with pytest.raises(dmf.NoProgram, match="^/nowhere/dmf cannot be run: "):
+            call(DICTIONARY, "lake", "sea", program="/nowhere/dmf")
+        with script("echo dmf: no luck >&2; exit 9") as program:
+            with pytest.raises(dmf.NoProgram, match="is not dmf"):
+                call(DICTIONARY, "lake", "sea", program=program)
+
+
+def test_nothing_is_left_behind() -> None:
+    """No process, and no file, also where Ctrl-C comes."""
+    with script("exec sleep 60") as program, pytest.raises(KeyboardInterrupt), interrupted_soon():
+        dmf.value(DICTIONARY, "lake", "sea", program=program)
+    assert dmf.value(DICTIONARY, "lake", "sea") == 5
+    with pytest.raises(ChildProcessError):
+        os.waitpid(-1, os.WNOHANG)
+    assert signal.getitimer(signal.ITIMER_REAL) == (0, 0)
