@@ -94,10 +94,10 @@ def stop(process: int) -> None:
 
 
 @contextlib.contextmanager
-def interrupted_soon() -> Iterator[None]:
+def interrupted_soon(seconds: float = 0.05) -> Iterator[None]:
     """A block that is broken off after a moment as by Ctrl-C."""
     before = signal.signal(signal.SIGALRM, signal.default_int_handler)
-    signal.setitimer(signal.ITIMER_REAL, 0.05)
+    signal.setitimer(signal.ITIMER_REAL, seconds)
     try:
         yield
     finally:

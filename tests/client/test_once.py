@@ -2,14 +2,13 @@
 
 from __future__ import annotations
 
-import os
-import signal
 from collections import Counter
+from pathlib import Path
 from random import Random
 from typing import Any
 
 import pytest
-from client_shared import PIPES, dmf, interrupted_soon, needs, script, there
+from client_shared import PIPES, dmf, interrupted_soon, is_running, needs, script, there
 
 numpy, pandas, networkx, sparse, csgraph = map(there, ("numpy", "pandas", "networkx", "scipy.sparse", "scipy.sparse.csgraph"))
 DICTIONARY = {"lake": {"mill": 3, "town": 2}, "mill": {"town": 5, "sea": 2}, "town": {"sea": 3}}
@@ -161,10 +160,8 @@ def test_faults() -> None:
 
 
 def test_nothing_is_left_behind() -> None:
-    """No process, and no file, also where Ctrl-C comes."""
-    with script("exec sleep 60") as program, pytest.raises(KeyboardInterrupt), interrupted_soon():
-        dmf.value(DICTIONARY, "lake", "sea", program=program)
-    assert dmf.value(DICTIONARY, "lake", "sea") == 5
-    with pytest.raises(ChildProcessError):
-        os.waitpid(-1, os.WNOHANG)
-    assert signal.getitimer(signal.ITIMER_REAL) == (0, 0)
+    """Ctrl-C ends the program."""
+    with script('echo $$ >"$0.process"; exec sleep 60') as program:
+        with pytest.raises(KeyboardInterrupt), interrupted_soon(0.5):
+            dmf.value(DICTIONARY, "lake", "sea", program=program)
+        assert not is_running(int(Path(f"{program}.process").read_text()))

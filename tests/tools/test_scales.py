@@ -81,7 +81,7 @@ def test_the_package(tmp_path: Path) -> None:
         copy = network.copy()
         assert (copy.problem(), read_problem(copy.problem().encode()).described.measure.scale) == (PROBLEM, 100)
         copy.end()
-        assert network._look(set()).drawing.amount(0) == "0/14.7"
+        assert network._look(set())().drawing.amount(0) == "0/14.7"
     with dmf.Network([("A", "B", 3)], "A", "B") as network:
         assert (network.scale, network.problem().startswith("c node 1 A\n")) == ("", True)
 

@@ -3,38 +3,51 @@
 from __future__ import annotations
 
 from collections.abc import Callable, Sequence
-from typing import Any, NamedTuple
+from typing import Any
 
 from .arcs import Arc
 from .errors import HistoryOutOfRange, NothingToRedo, NothingToUndo
 
 
-class Change(NamedTuple):
+class Change:
     """A change: its command; the number of each arc whose capacity it changed, with its capacity before and after; and the arc that it
     added, with its capacity and the number of the closed arc that it replaces, if it does. A closed arc has no capacity."""
 
-    command: str
-    capacities: Sequence[tuple[int, int | None, int | None]] = ()
-    added: tuple[Arc[Any], int, int | None] | None = None
+    __slots__ = "command", "capacities", "added"
+
+    def __init__(
+        self, command: str, capacities: Sequence[tuple[int, int | None, int | None]] = (), added: tuple[Arc[Any], int, int | None] | None = None
+    ) -> None:
+        self.command = command
+        self.capacities = capacities
+        self.added = added
 
 
-class _Now(NamedTuple):
+class _Now:
     """The present state: how many changes led to it, forgotten ones counted; the value of its flow; and the way back from it to the
-    state before the present call, if that has changed anything."""
+    state before the present call, if that has changed anything. It is never changed, but another one takes its place."""
 
-    place: int = 0
-    value: int = 0
-    back: _Back | None = None
+    __slots__ = "place", "value", "back"
+
+    def __init__(self, place: int = 0, value: int = 0, back: _Back | None = None) -> None:
+        self.place = place
+        self.value = value
+        self.back = back
 
 
-class _Back(NamedTuple):
+class _Back:
     """The state before a call, and what the call may have done since: changes that it made, those that it undid, and undone changes that
     it dropped. An error that broke the call off may have left each of these half done."""
 
-    now: _Now
-    made: Sequence[Change] = ()
-    unmade: Sequence[Change] = ()
-    dropped: Sequence[Change | str] | None = None
+    __slots__ = "now", "made", "unmade", "dropped"
+
+    def __init__(
+        self, now: _Now, made: Sequence[Change] = (), unmade: Sequence[Change] = (), dropped: Sequence[Change | str] | None = None
+    ) -> None:
+        self.now = now
+        self.made = made
+        self.unmade = unmade
+        self.dropped = dropped
 
 
 class Changes:
@@ -67,9 +80,9 @@ class Changes:
 
     def begin_call(self) -> None:
         """Takes the present state as that to which `roll_back` leads, and forgets what the change past the bound did."""
-        place, value, back = self._now
-        if back is not None:
-            self._now = _Now(place, value)
+        place = self._now.place
+        if self._now.back is not None:
+            self._now = _Now(place, self._now.value)
         oldest = self._changes[place - self.most - 1] if place > self.most else ""
         if isinstance(oldest, Change):
             self._changes[place - self.most - 1] = oldest.command
@@ -151,4 +164,4 @@ def _with_own_arc(change: Change, again: Callable[[Arc[Any]], Arc[Any]]) -> Chan
     if change.added is None:
         return change
     arc, capacity, replaced = change.added
-    return change._replace(added=(again(arc), capacity, replaced))
+    return Change(change.command, change.capacities, (again(arc), capacity, replaced))

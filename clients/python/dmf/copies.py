@@ -14,7 +14,7 @@ from .errors import Error, NoProgram, SessionEnded
 from .kept import Kept, whole
 from .network import Network
 from .process import MOST_TEXT, Child, Program
-from .text import LARGEST, MOST_ARCS
+from .lexical import LARGEST, MOST_ARCS
 
 # A command of a case: ("cap", arc, capacity), ("close", arc), ("open", arc), ("shut", node) or ("add", tail, head, capacity).
 Command = Tuple[Any, ...]

@@ -10,12 +10,11 @@ import re
 import shutil
 import signal
 import subprocess
-from pathlib import Path
 
 from .errors import NoProgram, SessionEnded
-from .text import display
+from .lexical import display
 
-PACKAGE = Path(__file__).resolve().parent
+PACKAGE = os.path.dirname(os.path.realpath(__file__))
 # Where pip puts the executable, below this package.
 OWN = "bin/dmf"
 # Where this package can lie in a repository, and where `./install` and Debian put it, with the place of the program above that.
@@ -50,30 +49,31 @@ def program() -> str:
 
 def _own() -> str | None:
     """The executable inside this package. Whatever unpacked it may have lost its mode."""
-    own = PACKAGE / OWN
-    if not own.is_file():
+    own = os.path.join(PACKAGE, OWN)
+    if not os.path.isfile(own):
         return None
     if not os.access(own, os.X_OK):
         with contextlib.suppress(OSError):
-            own.chmod(0o755)
-    return str(own)
+            os.chmod(own, 0o755)
+    return own
 
 
 @functools.cache
 def _beside() -> str | None:
     """The program of the repository, or of the install, that this package lies in. In a repository the first call builds it, if need
     be, and reports on standard error how far it is. Raises `NoProgram` if it cannot be built."""
+    parts = PACKAGE.split(os.sep)
     for place, name in PLACES.items():
-        path = Path(*PACKAGE.parts[: -len(place)]) / name
-        if PACKAGE.parts[-len(place) :] == place and path.is_file():
+        path = os.path.join(os.sep.join(parts[: -len(place)]), name)
+        if tuple(parts[-len(place) :]) == place and os.path.isfile(path):
             try:
-                status = subprocess.run([str(path), "--version"], stdin=subprocess.DEVNULL, stdout=subprocess.DEVNULL).returncode
+                status = subprocess.run([path, "--version"], stdin=subprocess.DEVNULL, stdout=subprocess.DEVNULL).returncode
             except OSError as error:
-                refuse_unrun(str(path), error)
+                refuse_unrun(path, error)
                 raise
             if status:
                 raise NoProgram(f"there is no program: {path} {ended(status)}; {OTHER}")
-            return str(path)
+            return path
     return None
 
 

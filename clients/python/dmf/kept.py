@@ -8,14 +8,16 @@ from array import array
 from collections import defaultdict
 from collections.abc import Callable, Hashable, Iterable, Mapping, MappingView, Set
 from itertools import count, islice
-from typing import Any, Generic, NoReturn, SupportsIndex, Union
+from typing import TYPE_CHECKING, Any, Generic, NoReturn, SupportsIndex, Union
 
 from .arcs import Added, Arc, Columns, Handles, Node, OpenArcs, one_of
 from .changes import Change, Changes
 from .errors import ArcIsClosed, NoSuchArc, NotAnArc, NotANumber, NumberTooLarge, shown
+from .lexical import LARGEST
 from .numbering import AMOUNTS, NODES, WholeNodes
-from .tables.comments import Described
-from .text import LARGEST
+
+if TYPE_CHECKING:
+    from .tables.comments import Described
 
 # A whole number, which may also come as a float without a fraction.
 Whole = Union[SupportsIndex, float]
@@ -181,7 +183,7 @@ class Kept(Changes, Generic[Node]):
         # The arcs of the network from which this one was copied. Their handles name the arcs here too.
         self.origin: OpenArcs[Node] | None = None
         # What the problem tells of its table.
-        self.described = Described()
+        self._described: Described | None = None
         self._added_index: Added[Node] | None = None
         self._opened: OpenArcs[Node] | None = None
         self.begin_here()
@@ -196,6 +198,19 @@ class Kept(Changes, Generic[Node]):
         self._first_closed = frozenset(self.closed)
         # The first capacities of those arcs that have another one now.
         self._first: dict[int, int] = {}
+
+    @property
+    def described(self) -> Described:
+        """What the problem tells of its table."""
+        if self._described is None:
+            from .tables.comments import Described
+
+            self._described = Described()
+        return self._described
+
+    @described.setter
+    def described(self, described: Described) -> None:
+        self._described = described
 
     def number(self, node: Node) -> int:
         """The number of a node. Raises `NoSuchNode`."""
@@ -358,7 +373,7 @@ class Kept(Changes, Generic[Node]):
         """The same arcs, with handles of their own for the added ones."""
         copy = Kept(self.columns, self.capacities[:], self.source, self.sink, self.most)
         copy.closed = set(self.closed)
-        copy.described = self.described
+        copy._described = self._described
         copy.origin = self.opened() if self.origin is None else self.origin
         for arc, replaced in zip(self.added, self.replaced):
             copy.put_added(again(arc), replaced)

@@ -3,25 +3,27 @@
 from __future__ import annotations
 
 import contextlib
+import functools
 import weakref
 from array import array
 from collections.abc import Callable, Hashable, Iterable, Iterator
-from typing import Any, NoReturn, Tuple, Union
+from typing import TYPE_CHECKING, Any, NoReturn, Tuple, Union
 
 from . import arrays
-from .arcs import Arc, Columns, Node
+from .arcs import Arc, Columns, Node, OpenArcs
 from .changes import Change
 from .errors import ArcIsOpen, Refused, SessionEnded
 from .kept import Kept, Whole, columns_of, whole
-from .names import comments
-from .notebook import MOST_DRAWN, Look, table
 from .process import Program, bound, where
 from .running import Running, alone, started
 from .solution import Cut, Solution
-from .tables.comments import Described
-from .tables.comments import comments as table_comments
-from .text import told_scale
 
+if TYPE_CHECKING:
+    from .notebook import Look
+    from .tables.comments import Described
+
+# A network with more arcs than these is shown as a table, since nobody would find an arc in a picture of it.
+MOST_DRAWN = 300
 # An arc as the caller gives it: its tail, its head, its capacity and, if it has one, its key.
 Row = Union[Tuple[Node, Node, Whole], Tuple[Node, Node, Whole, Hashable]]
 
@@ -137,6 +139,8 @@ class Network(Running[Node]):
     @property
     def scale(self) -> str:
         """What the numbers of a table were multiplied by, as the problem that was read tells it; empty if it tells none."""
+        from .text import told_scale
+
         return told_scale(self._kept.described)
 
     @property
@@ -289,7 +293,7 @@ class Network(Running[Node]):
                 raise ValueError
         names = self._kept.columns.names
         look = self._look(set(side)) if self._kept.open_count <= MOST_DRAWN else None
-        return Cut(capacity, frozenset(names[node - 1] for node in side), tuple(self._kept.leaving(side)), look)
+        return Cut(capacity, frozenset(names[node - 1] for node in side), tuple(self._kept.leaving(side)), names, look)
 
     @alone
     def problem(self, *, names: bool = True, escapes: bool = False) -> str:
@@ -300,6 +304,9 @@ class Network(Running[Node]):
 
         Raises `NameNotWritable` if `dmf.read` would read a name as another one: if it has a line feed or blanks around it, or if two
         nodes have the same name. With `escapes` what cannot be written of a name, such as a line feed, is written as `\\x0a`."""
+        from .names import comments
+        from .tables.comments import Described, comments as table_comments
+
         opened = self._kept.opened()
         before = table_comments(Described(self._kept.described.measure))
         if names:
@@ -368,18 +375,30 @@ class Network(Running[Node]):
         return self._look_now().svg()
 
     def _repr_html_(self) -> str:
+        from .notebook import table
+
         flow = self.flow()
         rows = ((*row, capacity) for row, capacity in zip(flow._rows(), flow._flows.capacities()))
         return table(repr(self)[1:-1], ("arc", "tail", "head", "flow", "capacity"), len(flow), rows)
 
     @alone
     def _look_now(self) -> Look:
-        return self._look(set())
+        return self._look(set())()
 
-    def _look(self, side: set[int]) -> Look:
-        """How the network looks now."""
+    def _look(self, side: set[int]) -> Callable[[], Look]:
+        """What makes the picture of the network as it is now."""
         flows = self._flows()
         flows.settle(self._asked_flow)
         kept = self._kept
         ends = kept.number(kept.source), kept.number(kept.sink)
-        return Look(flows.arcs, ends, flows.numbers(), flows.capacities(), side, kept.described)
+        return functools.partial(_look_of, kept._described, flows.arcs, ends, flows.numbers(), flows.capacities()[:], side)
+
+
+def _look_of(
+    described: Described | None, arcs: OpenArcs[Any], ends: tuple[int, int], flows: array[int], capacities: array[int], side: set[int]
+) -> Look:
+    """How a network looks. Whoever looks at it needs more modules."""
+    from .notebook import Look
+    from .tables.comments import Described
+
+    return Look(arcs, ends, flows, capacities, side, described or Described())

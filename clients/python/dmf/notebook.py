@@ -11,13 +11,12 @@ from typing import Any
 
 from .arcs import OpenArcs
 from .names import picture_names
+from .network import MOST_DRAWN
 from .picture import Drawing, picture
 from .tables.comments import Described
 from .text import Problem
 from .timeline import Arc
 
-# A network with more arcs than these is shown as a table, since nobody would find an arc in a picture of it.
-MOST_DRAWN = 300
 # How many rows of a table are shown.
 MOST_ROWS = 20
 # How long Graphviz may take, in seconds.

@@ -14,7 +14,7 @@ from typing import IO, Optional, Union
 
 from . import executable
 from .errors import Error, HistoryOutOfRange, Refused, SessionEnded, shown
-from .text import display
+from .lexical import display
 
 FilePath = Union[str, bytes, "os.PathLike[str]", "os.PathLike[bytes]"]
 Program = Optional[FilePath]

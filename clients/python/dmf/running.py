@@ -12,9 +12,9 @@ from . import arrays
 from .arcs import Arc, Node, Owner
 from .errors import Error, NoSuchArc, Refused, SessionEnded, UsedByTwoProcesses, UsedByTwoThreads, shown
 from .kept import Kept
+from .lexical import display
 from .process import Child, Program, session_words, start
 from .solution import Flows, Solution
-from .text import display
 
 # A session takes 1,000,000 lines, so another one takes its place before.
 MOST_LINES = 900_000

@@ -3,14 +3,15 @@
 from __future__ import annotations
 
 from array import array
-from collections.abc import Callable, Hashable, ItemsView, Iterator, Mapping, ValuesView
-from dataclasses import dataclass, field
-from typing import Any, Generic, TypeVar, overload
+from collections.abc import Callable, Hashable, ItemsView, Iterator, Mapping, Sequence, ValuesView
+from typing import TYPE_CHECKING, Any, Generic, TypeVar, overload
 
 from . import arrays
 from .arcs import Arc, Node, OpenArcs
 from .errors import NoSuchArc, SessionEnded
-from .notebook import Look, table
+
+if TYPE_CHECKING:
+    from .notebook import Look
 
 Other = TypeVar("Other")
 
@@ -197,6 +198,8 @@ class Solution(Mapping[Arc[Node], int], Generic[Node]):
         return f"<Solution of value {self.value} on {len(self)} arcs>"
 
     def _repr_html_(self) -> str:
+        from .notebook import table
+
         return table(f"value {self.value}", ("arc", "tail", "head", "flow"), len(self), self._rows())
 
     def _rows(self) -> Iterator[tuple[object, ...]]:
@@ -204,22 +207,48 @@ class Solution(Mapping[Arc[Node], int], Generic[Node]):
             yield arc.number if arc.given_key is None else arc.given_key, arc.tail, arc.head, flow
 
 
-@dataclass(frozen=True)
 class Cut(Generic[Node]):
     """The smallest minimum cut: `capacity` is its capacity, `side` the nodes that every minimum cut has on the side of the source,
-    and `arcs` the open arcs that lead out of these, in their order. A notebook shows it as a picture if Graphviz is installed and the
-    network is not large, and else as a table."""
+    `other_side` all other nodes, and `arcs` the open arcs that lead from the first to the second, in their order. A notebook shows it as a
+    picture if Graphviz is installed and the network is not large, and else as a table. Two cuts are equal if their capacities, sides and arcs are."""
 
     __module__ = __package__
 
-    capacity: int
-    side: frozenset[Node]
-    arcs: tuple[Arc[Node], ...]
-    _look: Look | None = field(default=None, repr=False, compare=False)
+    def __init__(
+        self,
+        capacity: int,
+        side: frozenset[Node],
+        arcs: tuple[Arc[Node], ...],
+        nodes: Sequence[Node] = (),
+        look: Callable[[], Look] | None = None,
+    ) -> None:
+        self.capacity = capacity
+        self.side = side
+        self.arcs = arcs
+        self._nodes = nodes
+        self._look = look
+
+    @property
+    def other_side(self) -> frozenset[Node]:
+        """The nodes on the side of the sink."""
+        return frozenset(node for node in self._nodes if node not in self.side)
+
+    def __eq__(self, other: object) -> bool:
+        if not isinstance(other, Cut):
+            return NotImplemented
+        return (self.capacity, self.side, self.arcs) == (other.capacity, other.side, other.arcs)
+
+    def __hash__(self) -> int:
+        return hash((self.capacity, self.side))
+
+    def __repr__(self) -> str:
+        return f"Cut(capacity={self.capacity!r}, side={self.side!r}, arcs={self.arcs!r})"
 
     def _repr_svg_(self) -> str | None:
-        return self._look.svg() if self._look else None
+        return self._look().svg() if self._look else None
 
     def _repr_html_(self) -> str:
+        from .notebook import table
+
         rows = ((arc.number if arc.given_key is None else arc.given_key, arc.tail, arc.head) for arc in self.arcs)
         return table(f"cut of capacity {self.capacity}", ("arc", "tail", "head"), len(self.arcs), rows)

@@ -16,13 +16,16 @@ from collections.abc import Iterable, Iterator
 from dataclasses import dataclass, field
 from typing import NamedTuple
 
+from . import lexical
+from .lexical import ARC as ARC
+from .lexical import LARGEST as LARGEST
+from .lexical import LONGEST as LONGEST
+from .lexical import MOST_ARCS as MOST_ARCS
+from .lexical import MOST_NODES as MOST_NODES
+from .lexical import NODE as NODE
 from .tables.comments import Described, described
 
-LARGEST = 2**64 - 1
-LONGEST = len(str(LARGEST))
-MOST_NODES = 16_777_216
-MOST_ARCS = 134_217_728
-NODE, ARC = "node", "arc"
+display = lexical.display
 FIELD_COUNTS = {b"p": 4, b"n": 3, b"a": 4}
 
 _FIELD = re.compile(rb"[^ \t]+")
@@ -35,8 +38,6 @@ _NAMED = {
 }
 # The size of the pieces that are searched for names, in bytes.
 PIECE = 1 << 16
-# Control characters of a terminal, ends of lines, and marks that turn the direction in which text is shown; halves of characters.
-_UNSHOWN = re.compile("[\x00-\x1f\x7f-\x9f\u061c\u200e\u200f\u2028-\u202e\u2066-\u2069\ud800-\udfff]")
 
 
 class Fault(Exception):
@@ -112,17 +113,6 @@ def number(digits: bytes) -> int:
     if len(significant) > LONGEST or (value := int(significant or b"0")) > LARGEST:
         raise Fault("number too large", digits)
     return value
-
-
-def display(name: str) -> str:
-    """A text in a form that can be shown: a character that would steer a terminal, end a line or turn the direction of the text is
-    written as `\x1b`, and so on."""
-    return _UNSHOWN.sub(_escaped, name)
-
-
-def _escaped(found: re.Match[str]) -> str:
-    code = ord(found[0])
-    return f"\\x{code:02x}" if code < 256 else f"\\u{code:04x}"
 
 
 def told_scale(described: Described) -> str:
