@@ -2,6 +2,7 @@
 
 from __future__ import annotations
 
+import time
 from collections import Counter
 from pathlib import Path
 from random import Random
@@ -11,6 +12,7 @@ import pytest
 from client_shared import PIPES, dmf, interrupted_soon, is_running, needs, script, there
 
 numpy, pandas, networkx, sparse, csgraph = map(there, ("numpy", "pandas", "networkx", "scipy.sparse", "scipy.sparse.csgraph"))
+SECONDS = 20
 DICTIONARY = {"lake": {"mill": 3, "town": 2}, "mill": {"town": 5, "sea": 2}, "town": {"sea": 3}}
 FLOWS = {"lake": {"mill": 3, "town": 2}, "mill": {"town": 1, "sea": 2}, "town": {"sea": 3}, "sea": {}}
 with_networkx = needs(networkx, "python3-networkx", "graphs of networkx were not solved")
@@ -162,6 +164,9 @@ def test_faults() -> None:
 def test_nothing_is_left_behind() -> None:
     """Ctrl-C ends the program."""
     with script('echo $$ >"$0.process"; exec sleep 60') as program:
-        with pytest.raises(KeyboardInterrupt), interrupted_soon(0.5):
+        with pytest.raises(KeyboardInterrupt), interrupted_soon(1):
             dmf.value(DICTIONARY, "lake", "sea", program=program)
-        assert not is_running(int(Path(f"{program}.process").read_text()))
+        process, until = int(Path(f"{program}.process").read_text()), time.monotonic() + SECONDS
+        while is_running(process):
+            assert time.monotonic() < until
+            time.sleep(0.01)
