@@ -1,46 +1,24 @@
-"""Maximum flows and what-if sessions in Python, by the program `dmf`.
-
-A network is made from arcs. Its nodes may have any hashable names, and each change is answered with the value of the flow
-that is left:
+"""Maximum flows, minimum cuts and what-if sessions, by the program `dmf`.
 
 >>> import dmf
->>> network = dmf.Network(
-...     [("lake", "mill", 3), ("lake", "town", 2), ("mill", "town", 5), ("mill", "sea", 2), ("town", "sea", 3)],
-...     source="lake", sink="sea")
->>> plan = network.solve()
->>> plan.value, plan["mill", "town"]
-(5, 1)
->>> cut = network.cut()
->>> cut.capacity, cut.side, [(arc.tail, arc.head) for arc in cut.arcs]
-(5, frozenset({'lake'}), [('lake', 'mill'), ('lake', 'town')])
+>>> network = dmf.Network([("lake", "mill", 3), ("mill", "sea", 2), ("lake", "sea", 1)], source="lake", sink="sea")
+>>> network.solve().value, network.cap(("mill", "sea"), 1), network.undo()
+(3, 2, 3)
 
-What if the pipe from the town to the sea carries only 1? And with one from the lake to the sea beside it? `add` gives the new
-arc, by which it can be named:
+help(dmf.Network)         a network: its changes, flows and cuts; undo
+help(dmf.Solution)        a flow: by arcs, as an array, a frame, a matrix, a dictionary
+help(dmf.Cut)             the limit: its capacity, its arcs, its two sides
+help(dmf.maximum_flow)    of a graph of networkx or a matrix of scipy in one call; also
+                          minimum_cut, and value alone
+help(dmf.read)            a network of a file; also from_networkx, from_scipy, and
+                          Network.from_arrays, Network.from_frame
+help(dmf.sweep)           thousands of changes, each alone; each_arc_closed,
+                          each_node_shut, each_capacity_raised, each_pair_added
+help(dmf.Error)           the base of all exceptions; each refusal is one, as
+                          dmf.NoSuchArc: dir(dmf) has all names
+help(dmf.program)         which program runs
 
->>> network.cap(("town", "sea"), 1)
-3
->>> canal = network.add("lake", "sea", 7)
->>> network.solve()[canal]
-7
-
-Three steps back the first plan stands again, arc for arc:
-
->>> network.undo(3)
-5
->>> network.flow() == plan
-True
-
-What is refused changes nothing, and raises an exception of its own:
-
->>> network.close(canal)
-Traceback (most recent call last):
-...
-dmf.NoSuchArc: no such arc: <Arc 6: 'lake' to 'sea'>
->>> network.end()
-
-A network is a running `dmf session`. It ends with `end`, with the `with` block that it is made for, when nothing refers to it
-any more, or with the interpreter. The program is the one that the argument `program` names, or else that of `dmf.program()`. A
-network is for one thread at a time: a call beside another one raises `UsedByTwoThreads`, and does nothing.
+docs/PYTHON.md says what calls cost, and how to come from networkx, scipy and igraph.
 """
 
 from __future__ import annotations

@@ -38,10 +38,47 @@ class Network(Running[Node]):
 
     `program` is the path of the program, and `history` the most changes that can be undone, from 0 to 1,000,000.
 
+    A network is a running `dmf session`. It ends with `end`, with the `with` block that it is made for, when nothing refers to it any
+    more, or with the interpreter. It is for one thread at a time.
+
     Raises a `Refused` if the problem has a fault, `NotAnArc` for a row of another form, `HistoryOutOfRange`, `SessionEnded` if the
     program fails, and `NoProgram` if none is found that fits. Each method that asks the program raises `SessionEnded` if the program has
     ended, and `UsedByTwoThreads` if another thread is using the network. Ctrl-C, or whatever else breaks a call off, leaves the network as
     it was before the call; the next call begins a new session in the same state.
+
+    >>> network = Network(
+    ...     [("lake", "mill", 3), ("lake", "town", 2), ("mill", "town", 5), ("mill", "sea", 2), ("town", "sea", 3)],
+    ...     source="lake", sink="sea")
+    >>> plan = network.solve()
+    >>> plan.value, plan["mill", "town"]
+    (5, 1)
+    >>> cut = network.cut()
+    >>> cut.capacity, cut.side, [(arc.tail, arc.head) for arc in cut.arcs]
+    (5, frozenset({'lake'}), [('lake', 'mill'), ('lake', 'town')])
+
+    What if the pipe from the town to the sea carries only 1? And with one from the lake to the sea beside it? `add` gives the new
+    arc, by which it can be named:
+
+    >>> network.cap(("town", "sea"), 1)
+    3
+    >>> canal = network.add("lake", "sea", 7)
+    >>> network.solve()[canal]
+    7
+
+    Three steps back the first plan stands again, arc for arc:
+
+    >>> network.undo(3)
+    5
+    >>> network.flow() == plan
+    True
+
+    What is refused changes nothing, and raises an exception of its own:
+
+    >>> network.close(canal)
+    Traceback (most recent call last):
+    ...
+    dmf.NoSuchArc: no such arc: <Arc 6: 'lake' to 'sea'>
+    >>> network.end()
     """
 
     __module__ = __package__
