@@ -76,11 +76,15 @@ def _try_together(network: Network[Any], cases: list[_Lines], answers: list[Answ
 
 
 class Copy:
-    """A solved copy of a network, which is begun when a case comes, and anew where its program ends."""
+    """A solved copy of a network, which is begun when a case comes, and anew where its program ends. Its problem may be in a file that
+    several copies read."""
 
-    def __init__(self, kept: Kept[Any], program: Program) -> None:
+    def __init__(self, kept: Kept[Any], program: Program, path: str | None = None) -> None:
         self._kept = kept
         self._program = program
+        self._path = path
+        # How long it took to begin, in seconds, each time counted.
+        self.begin_seconds = 0.0
         self._is_over = False
         self._lock = threading.Lock()
         # What may be added to the capacities.
@@ -164,12 +168,14 @@ class Copy:
         if self._is_over:
             raise SessionEnded("the sweep was ended")
         if self.network is None:
-            network = Network._of(self._kept.copy(), self._program)
+            began = time.monotonic()
+            network = Network._of(self._kept.copy(), self._program, self._path)
             with self._lock:
                 self.network = network
                 if self._is_over:
                     network._stop("the sweep was ended")
             network.solve()
+            self.begin_seconds += time.monotonic() - began
         return self.network
 
     def end(self) -> None:

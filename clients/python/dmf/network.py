@@ -157,10 +157,10 @@ class Network(Running[Node]):
             raise where(refused, kept.handle) from None
 
     @classmethod
-    def _of(cls, kept: Kept[Node], program: Program) -> Network[Node]:
-        """A network on a session of its own that has carried out the commands of what is kept."""
+    def _of(cls, kept: Kept[Node], program: Program, path: str | None = None) -> Network[Node]:
+        """A network on a session of its own that has carried out the commands of what is kept, on the first problem at this path."""
         made = cls.__new__(cls)
-        made._begin(started(kept, program), kept)
+        made._begin(started(kept, program, path), kept)
         return made
 
     @property

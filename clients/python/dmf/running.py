@@ -2,10 +2,11 @@
 
 from __future__ import annotations
 
+import contextlib
 import functools
 import tempfile
 import weakref
-from collections.abc import Callable
+from collections.abc import Callable, Iterator
 from typing import Any, Generic, TypeVar, cast
 
 from . import arrays
@@ -247,15 +248,23 @@ class Running(Generic[Node]):
             raise NoSuchArc(repr(arc))
 
 
-def started(kept: Kept[Any], program: Program) -> Child:
-    """A session that is in the state of what is kept. Raises what `start` raises, and `SessionEnded` if it comes to another value."""
+@contextlib.contextmanager
+def problem_file(kept: Kept[Any]) -> Iterator[str]:
+    """The path of a file with the first problem of what is kept, for as long as the block takes."""
     capacities = kept.first_capacities()
     added = kept.added[: kept.first_count - len(kept.columns)]
     more = [(kept.number(arc.tail), kept.number(arc.head), capacities[arc.number - 1]) for arc in added]
     with tempfile.NamedTemporaryFile("wb", prefix="dmf-", suffix=".max") as file:
         file.writelines(arrays.problem_pieces(kept.columns, capacities, kept.number(kept.source), kept.number(kept.sink), more))
         file.flush()
-        child = start(file.name, program, session_words(kept.most))
+        yield file.name
+
+
+def started(kept: Kept[Any], program: Program, path: str | None = None) -> Child:
+    """A session that is in the state of what is kept, whose first problem is in the file at this path, if that is given. Raises what
+    `start` raises, and `SessionEnded` if it comes to another value."""
+    with problem_file(kept) if path is None else contextlib.nullcontext(path) as path:
+        child = start(path, program, session_words(kept.most))
     value = child.carry_out(kept.commands())
     if value != kept.value:
         child.kill(f"the session was ended: begun anew, it came to the value {value}, and not to {kept.value}")

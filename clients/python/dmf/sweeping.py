@@ -22,6 +22,7 @@ from .errors import Error, JobsOutOfRange, NotAnArc, UnknownCommand, shown
 from .kept import Kept, Whole, is_unordered, whole
 from .network import Network
 from .process import MOST_KEPT, Program
+from .running import problem_file
 
 if TYPE_CHECKING:
     from concurrent.futures import Executor, Future
@@ -265,37 +266,74 @@ _Pending = Callable[[], "list[Answer]"]
 
 
 class _Here(_Tries):
-    """Programs of this process, each with a thread that waits for it."""
+    """Programs of this process, each with a thread that waits for it. They read one file. The first tries the cases alone, and another one
+    begins whenever those that are there have tried cases for as long as it took them to begin: so a small sweep takes one program, and no
+    sweep more than twice the processor time of its cases."""
 
     def __init__(self, kept: Kept[Any], program: Program, want_cut: bool, jobs: int) -> None:
         # It takes 1 MB, and nothing else needs it.
         from concurrent.futures import ThreadPoolExecutor
 
         super().__init__(4 * jobs)
+        self._begin_copy = functools.partial(Copy, kept, program)
         self._want_cut = want_cut
-        self._copies = [Copy(kept, program) for _ in range(jobs)]
-        self._free = list(self._copies)
+        self._jobs = jobs
+        self._stack = contextlib.ExitStack()
+        self._file = problem_file(kept)
+        self._path: str | None = None
+        self._copies: list[Copy] = []
+        # The copies that no thread has, and how long cases were tried so far, in seconds. Whoever waits for a copy waits for a change.
+        self._free: list[Copy] = []
+        self._tried = 0.0
+        self._is_over = False
+        self._changed = threading.Condition()
         self._threads = ThreadPoolExecutor(jobs, "dmf-sweep")
 
     def begin(self, cases: list[Plain | Error]) -> _Pending:
         return self._threads.submit(self._answers, cases).result
 
     def _answers(self, cases: list[Plain | Error]) -> list[Answer]:
-        # No more threads than copies; taking from a list and putting back is done at once.
-        copy = self._free.pop()
-        began = time.monotonic()
+        copy = self._take()
+        began, before = time.monotonic(), copy.begin_seconds
         try:
             return copy.answers(cases, self._want_cut)
         finally:
-            self._free.append(copy)
-            self.learn(len(cases), time.monotonic() - began)
+            seconds = time.monotonic() - began - (copy.begin_seconds - before)
+            with self._changed:
+                self._free.append(copy)
+                self._tried += seconds
+                self._changed.notify_all()
+            self.learn(len(cases), seconds)
+
+    def _take(self) -> Copy:
+        """A copy that no other thread has: one that has begun, or another one if that is worth it."""
+        with self._changed:
+            self._changed.wait_for(lambda: self._free or self._is_worth_another())
+            if self._free:
+                return self._free.pop()
+            self._path = self._path or self._stack.enter_context(self._file)
+            copy = self._begin_copy(self._path)
+            if self._is_over:
+                copy.break_off()
+            self._copies.append(copy)
+            return copy
+
+    def _is_worth_another(self) -> bool:
+        count = len(self._copies)
+        if self._is_over or not count:
+            return True
+        return count < self._jobs and self._tried >= sum(copy.begin_seconds for copy in self._copies) > 0
 
     def close(self) -> None:
+        with self._changed:
+            self._is_over = True
+            self._changed.notify_all()
         for copy in self._copies:
             copy.break_off()
         self._threads.shutdown(cancel_futures=True)
         for copy in self._copies:
             copy.end()
+        self._stack.close()
 
 
 def _workers(executor: Any) -> int:
