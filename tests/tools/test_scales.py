@@ -79,7 +79,7 @@ def test_the_package(tmp_path: Path) -> None:
         assert (network.scale, network.problem()) == ("100", PROBLEM)
         assert network.problem(names=False) == SCALE + PLAIN[PLAIN.index("p max") :]
         copy = network.copy()
-        assert (copy.problem(), read_problem(copy.problem().encode()).described.measure.scale) == (PROBLEM, 100)
+        assert (copy.problem(), read_problem(copy.problem().encode()).described.measure.scale == 100) == (PROBLEM, True)
         copy.end()
         assert network._look(set())().drawing.amount(0) == "0/14.7"
     with dmf.Network([("A", "B", 3)], "A", "B") as network:
