@@ -22,7 +22,7 @@ from xml.etree import ElementTree
 import pytest
 from board_running import Board, board
 from built import BUILT
-from desk_shared import ODD, PIPES, SECONDS, run, swept, wait_until_asked
+from desk_shared import ODD, PIPES, SECONDS, run, stop_session, swept, wait_until_asked
 from dmf import Network, desk_sweep
 from dmf.board import Answer
 from dmf.board import Board as InBoard
@@ -322,7 +322,7 @@ def test_stop() -> None:
         # With nothing to stop, this does nothing.
         (session,) = it.sessions()
         assert (it.post("stop"), it.sessions()) == ((200, b"{}"), [session])
-        os.kill(session, signal.SIGSTOP)
+        stop_session(session)
         with ThreadPoolExecutor() as threads:
             shut = threads.submit(it.post, "do", what="shut", node=5, turn=state["turn"])
             wait_until_asked(session)
@@ -331,7 +331,7 @@ def test_stop() -> None:
             assert (status, json.loads(told)["error"]) == (409, "it was stopped. The session was begun again, with the steps that were made"), told
             assert it.state() == state
             (session,) = it.sessions()
-            os.kill(session, signal.SIGSTOP)
+            stop_session(session)
             shut = threads.submit(it.post, "do", what="shut", node=5, turn=state["turn"])
             wait_until_asked(session)
             assert it.end() == 130

@@ -4,7 +4,6 @@ reload; the page's end; and what the documents show of it, which `--write` makes
 from __future__ import annotations
 
 import itertools
-import json
 import os
 import re
 import shutil
@@ -17,7 +16,7 @@ from typing import Any
 
 import pytest
 from board_running import Board, board
-from desk_shared import ODD, PIPES, ROOT, SCRIPT, STORY, run, swept, wait_until_asked
+from desk_shared import ODD, PIPES, ROOT, SCRIPT, STORY, run, stop_session, swept, wait_until_asked
 from dmf.board_server import Door
 
 for program in "chromium", "chromedriver", "dot":
@@ -263,7 +262,7 @@ def test_long(driver: Any) -> None:
         assert page.after(lambda: page.press("Close it")) == 155
         page.choose("node-5", "Mill")
         (session,) = it.sessions()
-        os.kill(session, signal.SIGSTOP)
+        stop_session(session)
         page.press("Shut it")
         stop = driver.find_element(By.ID, "end")
         page.wait(stop.is_displayed)
