@@ -92,6 +92,13 @@ def sessions_of(pid: int) -> list[int]:
     return sorted(found)
 
 
+def stop_session(session: int) -> None:
+    """Stops a session, and waits until it is stopped: until then it may read on."""
+    os.kill(session, signal.SIGSTOP)
+    while b") T " not in (Path("/proc") / str(session) / "stat").read_bytes():
+        os.sched_yield()
+
+
 def wait_until_asked(session: int) -> None:
     """Waits until a session that is stopped has a command to read."""
     until = time.monotonic() + SECONDS

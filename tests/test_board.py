@@ -22,8 +22,8 @@ from xml.etree import ElementTree
 import pytest
 from board_running import Board, board
 from built import BUILT
-from desk_shared import ODD, PIPES, SECONDS, run, swept, wait_until_asked
-from dmf import Network, desk
+from desk_shared import ODD, PIPES, SECONDS, run, stop_session, swept, wait_until_asked
+from dmf import Network, desk_sweep
 from dmf.board import Answer
 from dmf.board import Board as InBoard
 from dmf.desk import Desk
@@ -69,7 +69,10 @@ REFUSED: list[tuple[dict[str, Any], str]] = [
     ({"what": "close", "arc": 0}, "there is no arc #0"),
     ({"what": "close", "arc": -1}, "there is no arc #-1"),
     ({"what": "open", "arc": 1}, "is open"),
-    ({"what": "cap", "arc": 1, "capacity": "1.5"}, "the number '1.5' is no whole number"),
+    ({"what": "cap", "arc": 1, "capacity": "1,200"}, "'1,200' may be 1.2 or 1200"),
+    ({"what": "cap", "arc": 1, "capacity": "-200 %"}, "'-200 %' makes -110 of 110, which is below 0"),
+    ({"what": "cap", "arc": 1, "capacity": "1e-30"}, "with the decimals of 0.000000000000000000000000000001 the capacities would be together past"),
+    ({"what": "cap", "arc": 99, "capacity": "5"}, "there is no arc #99"),
     ({"what": "cap", "arc": 1, "capacity": ""}, "a number is wanted"),
     ({"what": "cap", "arc": 1, "capacity": "18446744073709551616"}, "is past 18446744073709551615"),
     ({"what": "shut", "node": 99}, "there is no place #99"),
@@ -255,7 +258,7 @@ def test_session_that_ends() -> None:
         assert "SIGKILL. The session was begun again" in state["told"] and not it.state()["told"]
         _, sent, table = it.ask(it.root + f"plan.csv?turn={turn}")
         rows = list(csv.DictReader(io.StringIO(table.decode())))
-        assert (len(rows), sum(int(row["flow"]) for row in rows if row["to"] == "Harbour")) == (13, 155), f"the table: {table!r}"
+        assert (len(rows), sum(int(row["flow (litres per second)"]) for row in rows if row["to"] == "Harbour")) == (13, 155), f"the table: {table!r}"
         assert "attachment" in sent.get("Content-Disposition", ""), f"the table is no file: {sent}"
         assert b"p max 9 13" in it.ask(it.root + f"problem.max?turn={turn}")[2]
 
@@ -296,7 +299,7 @@ def test_unforeseen(monkeypatch: pytest.MonkeyPatch, error: Exception) -> None:
         raise error
 
     asked: list[tuple[object, str, str, dict[str, Any]]] = [(Network, "shut", "do", {"what": "shut", "node": 5})]
-    asked += [(desk, "sweep", "sweep", {"arcs": [1, 2, 3]}), (Network, "solve", "do", {"what": "close", "arc": 3})]
+    asked += [(desk_sweep, "sweep", "sweep", {"arcs": [1, 2, 3]}), (Network, "solve", "do", {"what": "close", "arc": 3})]
     for at, name, path, content in asked:
         with monkeypatch.context() as patched:
             patched.setattr(at, name, failing)
@@ -319,7 +322,7 @@ def test_stop() -> None:
         # With nothing to stop, this does nothing.
         (session,) = it.sessions()
         assert (it.post("stop"), it.sessions()) == ((200, b"{}"), [session])
-        os.kill(session, signal.SIGSTOP)
+        stop_session(session)
         with ThreadPoolExecutor() as threads:
             shut = threads.submit(it.post, "do", what="shut", node=5, turn=state["turn"])
             wait_until_asked(session)
@@ -328,7 +331,7 @@ def test_stop() -> None:
             assert (status, json.loads(told)["error"]) == (409, "it was stopped. The session was begun again, with the steps that were made"), told
             assert it.state() == state
             (session,) = it.sessions()
-            os.kill(session, signal.SIGSTOP)
+            stop_session(session)
             shut = threads.submit(it.post, "do", what="shut", node=5, turn=state["turn"])
             wait_until_asked(session)
             assert it.end() == 130

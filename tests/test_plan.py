@@ -20,7 +20,8 @@ from dmf.plan import Plan
 
 WATER = water_problem()
 
-LIMITED = subprocess.run(
+# With the Mill's two nodes as comments tell them.
+LIMITED = b"c inner node 10 half 5\nc inner arc 15 limit 5\n" + subprocess.run(
     [ROOT / "tools/dmf-problem", "--node-limits", "examples/water/pumps.csv", "--table", PIPES, "Reservoir", "Harbour"],
     capture_output=True, check=True, timeout=SECONDS, cwd=ROOT,
 ).stdout  # fmt: skip
@@ -225,7 +226,13 @@ LINES = {
     "shut mill": "no place is called 'mill'; is it 'Mill'",
     "sovle": "no command is called 'sovle'; is it 'solve'",
     'close "Mill Lane': 'a quote (") is not closed',
-    "cap Mill Lane ten": "'ten' is no whole number",
+    "cap Mill Lane ten": "'ten' is no number",
+    "cap Mill Lane 1,200": "'1,200' may be 1.2 or 1200",
+    "cap Mill Lane -45.5": "'-45.5' makes -0.5 of 45, which is below 0",
+    "cap Mill Lane 10 %": "'10 %' is a share: write it with + or - before it, or the whole amount",
+    "add Mill Station +5": "'+5' changes an amount, and here is none yet",
+    "add Mill Station 1 200": "this can mean several things",
+    "undo 1.5": "'1.5' is no number of steps",
     "cap": "wanted is: cap ARC NUMBER",
     "undo": "there is no step to undo",
     "redo": "there is no step to redo",
@@ -261,6 +268,32 @@ def test_scripts() -> None:
         assert row and tuple(map(int, row.groups())) == trials[name], f"what-if {name}: {ran.stdout}"
     assert "it would be 120 litres per second: 45 less" in ran.stdout, f"what-if close: {ran.stdout}"
     assert ran.stdout.count("solve: value 165") == 1, f"what-if leaves steps: {ran.stdout}"
+
+
+def test_many() -> None:
+    """All arcs of which something is so are changed in one step, which is undone as one."""
+    rises = [pipe.name for pipe in water() if "rise" in pipe.name]
+    wider = [pipe._replace(capacity=2 * pipe.capacity) if pipe.capacity <= 30 else pipe for pipe in water()]
+    mill = [pipe for pipe in water() if pipe.head != "Mill" or pipe.capacity >= 40]
+    limit = {"North rise", "Mill Lane", "South main"}
+    more = [pipe._replace(capacity=pipe.capacity + 5) if pipe.name in limit else pipe for pipe in water()]
+    typed = "solve\nclose where name ~ RISE\nsolve\nopen where name ~ rise\nsolve\nundo 4\n"
+    typed += "cap where capacity <= 30 +100 %\nsolve\nundo 2\nclose where to ~ mill and capacity < 40\nsolve\nundo 2\ncap where limit +5\nsolve\nsteps\n"
+    ran = run("dmf-plan", PIPES, typed=typed)
+    told = [line for line in ran.stdout.splitlines() if not line.startswith("  ")]
+    assert [re.findall("^[0-9]+ [a-z]+(?=:)|^value", line)[0] for line in told] == [
+        "value", "2 closed", "value", "2 opened", "value", "value", "4 changed", "value", "value", "1 closed", "value", "value", "3 changed", "value"
+    ]  # fmt: skip
+    solved = values("".join(f"{told[at]}\n" for at in (0, 2, 4, 7, 10, 13)))
+    assert solved == [165, without(*rises), 165, greatest(wider), greatest(mill), greatest(more)]
+    assert "2   3 arcs where limit: +5: value 165" in ran.stdout
+    lines = ["close where", "close where and full", "close where name = x", "cap where full", "close where name ~ zzz", "cap where full 1,200", "open where full"]
+    ran = run("dmf-plan", PIPES, typed="solve\n" + "".join(f"{line}\n" for line in lines))
+    said = [line.partition(": ")[2].partition(": ")[2] for line in ran.stderr.splitlines()[2:]]
+    conditions = "wanted after where is: name ~ TEXT, "
+    wanted = [conditions, conditions, "'name = x' is no condition; wanted is: name", conditions, "of the 14 open arcs this is so of none"]
+    wanted += ["'1,200' may be 1.2 or 1200", "of the 0 closed arcs this is so of none"]
+    assert all(line.startswith(begin) for line, begin in zip(said, wanted)) and len(said) == len(wanted), said
 
 
 @pytest.mark.parametrize("closing", ["2>&-", "2>/dev/full"])
@@ -308,7 +341,7 @@ def test_files() -> None:
         assert values(again.stdout) == [3], f"a saved problem: {again}"
         assert b"digraph" in Path(folder, "plan.dot").read_bytes()
         rows = Path(folder, "plan.csv").read_text().splitlines()
-        assert (len(rows), rows[0]) == (3, "number,name,from,to,flow,capacity,full,in cut"), f"a saved table: {rows}"
+        assert (len(rows), rows[0]) == (3, "number,name,from,to,flow (litres),capacity (litres),full,in cut"), f"a saved table: {rows}"
         for name, text, status, told in (
             ("two.csv", "A,C,1\nB,C,1\n", 3, "--source \"A\", as often"),
             ("ring.csv", "A,B,1\nB,A,1\n", 3, "there is no place that nothing leads to"),

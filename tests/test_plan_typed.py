@@ -11,7 +11,7 @@ import time
 from pathlib import Path
 
 import pytest
-from desk_shared import PIPES, ROOT, SECONDS, desk_of, end_session, sessions_of, wait_until_asked, water_problem, without
+from desk_shared import PIPES, ROOT, SECONDS, desk_of, end_session, sessions_of, stop_session, wait_until_asked, water_problem, without
 from dmf import Network
 from dmf.plan import Plan
 from tool_runs import wait_until_asleep
@@ -62,7 +62,7 @@ def test_broken_off() -> None:
             terminal.type(f"{typed}\n")
             terminal.wait(prompt)
         (session,) = sessions_of(terminal.pid)
-        os.kill(session, signal.SIGSTOP)
+        stop_session(session)
         terminal.type('shut "South Tower"\n')
         wait_until_asked(session)
         wait_until_asleep(terminal.pid)

@@ -55,7 +55,7 @@ COMMANDS, REPLIES, SESSION_TOLD = (" / ".join(turn[at] for turn in TURNS) for at
 TRANSCRIPT = " / ".join(f"{command} / {reply}" for command, reply, _ in TURNS)
 TRANSCRIPT_TOLD = " / ".join(f"{command} / {told}" for command, _, told in TURNS)
 # A place with a limit: two nodes of one name, and the arc between them.
-LIMITED = "c node 1 Port / c node 2 Depot / c node 3 Shop / c node 4 Depot / c arc 3 limit of Depot / p max 4 3 / n 1 s / n 3 t"
+LIMITED = "c inner node 4 half 2 / c inner arc 3 limit 2 / c node 1 Port / c node 2 Depot / c node 3 Shop / c node 4 Depot / c arc 3 limit of Depot / p max 4 3 / n 1 s / n 3 t"
 LIMITED += " / a 1 2 9 / a 4 3 7 / a 2 4 5"
 ODD_NAMES = b"c node 1 a\x1b[31mb\nc node 2 \xe2\x80\xaeabc\nc arc 1 x\x07\xc2\x9by\np max 2 1\nn 1 s\nn 2 t\na 1 2 5\n"
 FORGED = "c arc 1 Mill Lane / p max 3 2 / n 1 s / n 3 t / a 1 2 5 / a 2 3 4"
@@ -142,14 +142,14 @@ TOLD_OF: dict[str, tuple[Text, Text | None, Text, Text]] = {
         LIMITED,
         None,
         "s 5 / f 1 2 5 / f 4 3 5 / f 2 4 5 / c cut 5 / c side 1 / c side 2",
-        "value 5 /   1 Port -> Depot: 5 of 9 /   2 Depot -> Shop: 5 of 7 /   3 limit of Depot: 5 of 5"
-        " / limit 5 /   source's side: Port, Depot /   3 limit of Depot: 5",
+        "value 5 /   1 Port -> Depot: 5 of 9 /   2 Depot -> Shop: 5 of 7 /   3 what Depot lets through: 5 of 5"
+        " / limit 5 /   source's side: Port, Depot /   3 what Depot lets through: 5",
     ),
     "both nodes of a place on one side": (
         LIMITED.replace("a 4 3 7", "a 4 3 4"),
         None,
         "s 4 / f 1 2 4 / f 4 3 4 / f 2 4 4 / c cut 4 / c side 1 / c side 2 / c side 4",
-        "value 4 /   1 Port -> Depot: 4 of 9 /   2 Depot -> Shop: 4 of 4 /   3 limit of Depot: 4 of 5"
+        "value 4 /   1 Port -> Depot: 4 of 9 /   2 Depot -> Shop: 4 of 4 /   3 what Depot lets through: 4 of 5"
         " / limit 4 /   source's side: Port, Depot /   2 Depot -> Shop: 4",
     ),
     "names that would steer a terminal": (

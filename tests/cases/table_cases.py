@@ -49,7 +49,7 @@ a 2 4 5
 # Two sources, the second limited, and one sink.
 MILLS = "Mill,Town,7\nHill,Town,9\nHill,Mill,2\nMill,Hill,4\n"
 JOINED = """c inner node 4 sources
-c inner arc 5 supply 1
+c inner arc 5 supply 1 unlimited
 c inner arc 6 supply 3
 c node 1 Mill
 c node 2 Town

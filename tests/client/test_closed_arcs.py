@@ -11,7 +11,7 @@ from client_shared import dmf, pipes
 from desk_shared import run
 from dmf.board import Board
 from dmf.desk import Desk
-from dmf.desk_steps import Trial
+from dmf.desk_steps import DeskFault, Trial
 from dmf.tables.subject import Subject
 
 HALF, LARGEST = 2**63, 2**64 - 1
@@ -93,7 +93,7 @@ def test_a_second_arc_past_64_bits() -> None:
     """Its value is None whether the arc is in the cut or not: no such arc can be added."""
     desk = Desk(Subject("a test", f"p max 3 2\nn 1 s\nn 3 t\na 1 2 {HALF + 5}\na 2 3 4\n".encode()), with_solve=True)
     assert list(desk.sweep([1, 2])) == [Trial(1, 0, None), Trial(2, 0, 8)]
-    with pytest.raises(dmf.CapacitiesPast64Bits):
+    with pytest.raises(DeskFault, match="together past 18446744073709551615"):
         desk.double(1)
     desk.close(1)
     desk.add(desk.names.place("#1"), desk.names.place("#2"), 2)

@@ -17,14 +17,14 @@ c inner node 41 sources
 c inner node 42 sinks
 c inner node 43 half 4
 c inner arc 72 supply 2
-c inner arc 74 demand 9
+c inner arc 74 demand 9 unlimited
 c inner arc 75 limit 4
 """
 SAID = Described(
     Measure(Decimal(10), "l/s", "pipes.csv", ","),
     {41: "sources", 42: "sinks"},
     {43: 4},
-    {72: Role("supply", 2), 74: Role("demand", 9), 75: Role("limit", 4)},
+    {72: Role("supply", 2), 74: Role("demand", 9, is_unlimited=True), 75: Role("limit", 4)},
 )
 PROBLEM = "p max 50 0\nn 1 s\nn 2 t\n"
 
@@ -43,7 +43,7 @@ def test_there_and_back() -> None:
     "text",
     [
         "", PROBLEM, PROBLEM + TEXT.partition("\n")[2], "c node 1 c unit l/s\n", "c  unit l/s\n", "c unit\n", "c unit  \n", "c decimal sign ;\n",
-        "c inner node 41 wells\n", "c inner node 43 half\n", "c inner arc 72 supply x\n", "c inner arc 72 supply 2 of Mill\n", "cc unit l/s\n",
+        "c inner node 41 wells\n", "c inner node 43 half\n", "c inner arc 72 supply x\n", "c inner arc 72 supply 2 of Mill\n", "c inner arc 72 supply 2 unlimited or not\n", "cc unit l/s\n",
     ],
 )  # fmt: skip
 def test_other_comments(text: str) -> None:

@@ -1,4 +1,5 @@
-"""What is written under a scale says so first, in every tool that the numbers go through; without a scale nothing of it is written."""
+"""What is written of decimal numbers has them as the table does, with their unit, in every tool that they go through; and of whole numbers
+without a unit nothing but these is written."""
 
 from __future__ import annotations
 
@@ -14,7 +15,7 @@ from dmf.board_picture import Picture
 from dmf.desk import Desk
 from dmf.desk_text import picture_text
 from dmf.tables.subject import Subject
-from dmf.text import read_problem, read_scale, scale_comment
+from dmf.text import read_problem
 from tool_runs import Tools
 
 TABLE = "from,to,litres,name\nA,B,14.7,pipe\nA,B,0.06,\n"
@@ -22,9 +23,11 @@ SCALE = "c capacities are those of the table times 100\n"
 # 14.7 and 0.06, a hundred times.
 PROBLEM = f"{SCALE}c node 1 A\nc node 2 B\nc arc 1 pipe\np max 2 2\nn 1 s\nn 2 t\na 1 2 1470\na 1 2 6\n"
 PLAIN = PROBLEM.removeprefix(SCALE)
+# The same of a table of a unit.
+IN_LITRES = f"{SCALE}c unit litres\nc table pipes.csv\n{PLAIN}"
 ANSWER = "s 1476\nf 1 2 1470\nf 1 2 6\n"
-NOTE = "all numbers are those of the table times 100\n"
-SCALED = ["flow (times 100)", "capacity (times 100)"]
+LEGEND = "numbers in litres, from pipes.csv"
+TITLES = ["flow (litres)", "capacity (litres)"]
 
 
 def test_dmf_problem(tools: Tools, tmp_path: Path) -> None:
@@ -40,44 +43,33 @@ def test_dmf_problem(tools: Tools, tmp_path: Path) -> None:
     assert ran.out.decode().splitlines()[0] == "c capacities are those of the table times 0.00000001"
 
 
-@pytest.mark.parametrize(
-    ("text", "scale"),
-    [
-        (SCALE, "100"), (SCALE.replace("\n", "\r\n"), "100"), (f"c of today\n\n  {SCALE}p max 2 0\n", "100"), (SCALE[:-1], "100"),
-        (SCALE.replace("100", "0.5"), "0.5"), (SCALE.replace("100", "ten"), ""), (f"c node 1 {SCALE}", ""), (f"c node 1 {SCALE}x {SCALE}{SCALE}", "100"), (PLAIN, ""), ("", ""),
-    ],
-)  # fmt: skip
-def test_comment(text: str, scale: str) -> None:
-    assert read_scale(text.encode()) == scale
-    assert scale_comment(scale) == (f"c capacities are those of the table times {scale}\n" if scale else "")
-
-
 def test_dmf_names(tools: Tools, tmp_path: Path) -> None:
     def told(problem: str, answer: str, *words: str) -> str:
         ran = tools.run("dmf-names", tmp_path, ["problem", *words], answer, {"problem": problem})
         assert (ran.status, ran.err) == (0, b"")
         return ran.out.decode()
 
-    plain = told(PLAIN, ANSWER)
-    assert plain.startswith("value 1476\n")
-    assert told(PROBLEM, ANSWER) == NOTE + plain
-    # Once, before all answers.
-    assert told(PROBLEM, f"{ANSWER}c hello\n{ANSWER}").count(NOTE) == 1
-    table = list(csv.reader(io.StringIO(told(PROBLEM, ANSWER, "--csv"))))
-    assert table[0] == ["number", "name", "from", "to", *SCALED, "full", "in cut"]
-    assert table[1:] == list(csv.reader(io.StringIO(told(PLAIN, ANSWER, "--csv"))))[1:]
+    assert told(PLAIN, ANSWER) == "value 1476\n  1 pipe, A -> B: 1470 of 1470\n  2 A -> B: 6 of 6\n"
+    assert told(PROBLEM, ANSWER) == "value 14.76\n  1 pipe, A -> B: 14.7 of 14.7\n  2 A -> B: 0.06 of 0.06\n"
+    assert told(IN_LITRES, ANSWER) == told(PROBLEM, ANSWER).replace("14.76\n", "14.76 litres\n")
+    table = list(csv.reader(io.StringIO(told(IN_LITRES, ANSWER, "--csv"))))
+    assert table == [
+        ["number", "name", "from", "to", *TITLES, "full", "in cut"], ["1", "pipe", "A", "B", "14.7", "14.7", "yes", ""],
+        ["2", "", "A", "B", "0.06", "0.06", "yes", ""],
+    ]  # fmt: skip
     printed = PLAIN[PLAIN.index("p max") :]
-    text = told(PROBLEM, printed)
-    assert text == NOTE + PROBLEM
+    for problem in PROBLEM, IN_LITRES:
+        assert told(problem, printed) == problem
 
 
 def test_dmf_dot(tools: Tools, tmp_path: Path) -> None:
-    def drawn(problem: str) -> list[str]:
-        return tools.run("dmf-dot", tmp_path, ["problem", "-"], ANSWER, {"problem": problem}).out.decode().splitlines()
+    def drawn(problem: str) -> str:
+        return tools.run("dmf-dot", tmp_path, ["problem", "-"], ANSWER, {"problem": problem}).out.decode()
 
-    plain, scaled = drawn(PLAIN), drawn(PROBLEM)
-    assert [line for line in scaled if line not in plain] == [f'  label="{NOTE[:-1]}"']
-    assert [line for line in scaled if line in plain] == plain
+    plain = drawn(PLAIN)
+    assert drawn(PROBLEM) == plain.replace("1470/1470", "14.7/14.7").replace("6/6", "0.06/0.06")
+    rest = [line for line in drawn(IN_LITRES).splitlines() if line not in drawn(PROBLEM).splitlines()]
+    assert rest == [f'  label="{LEGEND}"']
 
 
 def test_the_package(tmp_path: Path) -> None:
@@ -87,9 +79,9 @@ def test_the_package(tmp_path: Path) -> None:
         assert (network.scale, network.problem()) == ("100", PROBLEM)
         assert network.problem(names=False) == SCALE + PLAIN[PLAIN.index("p max") :]
         copy = network.copy()
-        assert (copy.problem(), read_problem(copy.problem().encode()).scale) == (PROBLEM, "100")
+        assert (copy.problem(), read_problem(copy.problem().encode()).described.measure.scale) == (PROBLEM, 100)
         copy.end()
-        assert network._look(set()).drawing.problem.scale == "100"
+        assert network._look(set()).drawing.amount(0) == "0/14.7"
     with dmf.Network([("A", "B", 3)], "A", "B") as network:
         assert (network.scale, network.problem().startswith("c node 1 A\n")) == ("", True)
 
@@ -103,16 +95,21 @@ def test_dmf_sweep(tmp_path: Path) -> None:
         assert (ran.returncode, ran.stderr) == (0, "")
         return list(csv.reader(io.StringIO(ran.stdout)))
 
-    head, *rows = swept(PROBLEM)
-    assert head == ["case", "commands", "name", "value (times 100)", "difference (times 100)", "refused"]
-    assert swept(PLAIN) == [["case", "commands", "name", "value", "difference", "refused"], *rows]
-    assert swept(PROBLEM, "--top", "1") == [head, rows[0]]
+    assert swept(PLAIN) == [
+        ["case", "commands", "name", "value", "difference", "refused"], ["1", "close 1", "pipe", "6", "-1470", ""],
+        ["2", "close 2", "A -> B", "1470", "-6", ""],
+    ]  # fmt: skip
+    head, *rows = swept(IN_LITRES)
+    assert head == ["case", "commands", "name", "value (litres)", "difference (litres)", "refused"]
+    assert [row[3:5] for row in rows] == [["0.06", "-14.7"], ["14.7", "-0.06"]]
+    assert swept(PROBLEM)[1:] == rows
+    assert swept(IN_LITRES, "--top", "1") == [head, rows[0]]
     table = tmp_path / "table.csv"
-    swept(PROBLEM, "--table", str(table))
+    swept(IN_LITRES, "--table", str(table))
     assert list(csv.reader(table.open()))[0] == [*head, "problem"]
     whole = table.read_text()
     table.write_text("".join(whole.splitlines(keepends=True)[:2]))
-    swept(PROBLEM, "--table", str(table))
+    swept(IN_LITRES, "--table", str(table))
     assert table.read_text() == whole
     path.write_text(PLAIN)
     ran = run("dmf-sweep", str(path), "--close-each", "--table", str(table))
@@ -121,25 +118,27 @@ def test_dmf_sweep(tmp_path: Path) -> None:
 
 @pytest.mark.parametrize("is_table", [False, True])
 def test_dmf_plan(tmp_path: Path, is_table: bool) -> None:
-    """A table under a scale, and the problem that dmf-problem made of it, are told and saved with it."""
+    """A table of decimal numbers, and the problem that was made of it, are told and saved in its numbers, and with the scale of the
+    problem."""
     path = tmp_path / ("pipes.csv" if is_table else "pipes.max")
-    path.write_text(TABLE if is_table else PROBLEM)
+    path.write_text(TABLE if is_table else IN_LITRES)
     files = [f"{tmp_path}/plan.{kind}" for kind in ("csv", "max", "dot")]
     typed = f"solve\nsave {files[0]}\nsave {files[1]}\ndraw {files[2]}\n"
     ran = run("dmf-plan", str(path), *["--scale", "100", "A", "B"] * is_table, typed=typed)
-    assert (ran.returncode, ran.stderr) == (0, f"dmf-plan: {NOTE}")
-    assert ran.stdout.startswith(f"value 1476 {'litres' if is_table else 'units'} times 100, 1476 more, the greatest\n")
+    assert (ran.returncode, ran.stderr) == (0, "")
+    assert ran.stdout.startswith("value 14.76 litres, 14.76 more, the greatest\n")
     table, problem, drawn = (Path(file).read_text() for file in files)
-    assert table.splitlines()[0] == f"number,name,from,to,{','.join(SCALED)},full,in cut"
-    assert problem == PROBLEM
-    assert f'  label="{NOTE[:-1]}"\n' in drawn
+    assert table.splitlines()[:2] == [f"number,name,from,to,{','.join(TITLES)},full,in cut", "1,pipe,A,B,14.7,14.7,yes,yes"]
+    assert [line for line in problem.splitlines() if not line.startswith("c decimal sign")] == IN_LITRES.splitlines()
+    assert f'  label="{LEGEND}"\n' in drawn
 
 
 @needs(shutil.which("dot"), "graphviz", "no picture of a board was drawn")
-@pytest.mark.parametrize("scale", ["", "100"])
-def test_pictures_of_a_desk(scale: str) -> None:
+@pytest.mark.parametrize("problem", [PLAIN, IN_LITRES])
+def test_pictures_of_a_desk(problem: str) -> None:
     """Those of a board, too."""
-    desk = Desk(Subject("a test", (PROBLEM if scale else PLAIN).encode()), with_solve=True)
+    desk = Desk(Subject("a test", problem.encode()), with_solve=True)
+    amounts = "1470/1470" if problem == PLAIN else "14.7/14.7"
     for drawn in picture_text(desk), Picture(desk).svg((), [1, 2], to_take=True):
-        assert (NOTE[:-1] in drawn) == bool(scale)
+        assert (LEGEND in drawn, amounts in drawn) == (problem != PLAIN, True)
     desk.end()

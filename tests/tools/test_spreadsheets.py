@@ -11,6 +11,7 @@ import pytest
 from desk_shared import run
 from dmf.desk import Desk
 from dmf.desk_text import table
+from dmf.quantity import Measure
 from dmf.spreadsheet import ArcRow, cell_of, line, name_in, plan_table
 from dmf.tables.file import csv_sheet
 from dmf.tables.rows import Reading, read_arcs
@@ -59,7 +60,7 @@ def test_names_differ(names: list[str]) -> None:
 def test_a_table_of_a_plan(names: list[str]) -> None:
     """A table that is written with any names is read with these, except that white space is one space there."""
     name, tail, head = (" ".join(re.sub("[^ -~＝＋－＠]", "", name).split()) or "x" for name in names)
-    text = plan_table([ArcRow(1, name, tail, head, 3, 4, None)], "", raw_names=False)
+    text = plan_table([ArcRow(1, name, tail, head, 3, 4, None)], Measure(), raw_names=False)
     titles = {"tail": "from", "head": "to", "capacity": "capacity", "name": "name"}
     table = read_arcs(csv_sheet(text.encode(), "", None, 3), Reading(titles))
     places = list(table.places)
@@ -127,5 +128,5 @@ def test_one_place_in_two_forms(tools: Tools, tmp_path: Path) -> None:
 
 
 def test_numbers_are_not_protected() -> None:
-    text = plan_table([ArcRow(1, "", "a", "b", -5, -5, True)], "", raw_names=False)
+    text = plan_table([ArcRow(1, "", "a", "b", -5, -5, True)], Measure(), raw_names=False)
     assert text.splitlines()[1] == "1,,a,b,-5,-5,yes,yes"

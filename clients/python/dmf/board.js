@@ -17,10 +17,22 @@ const noun = () => state.noun || "connection";
 const units = () => (state.unit ? " " + state.unit : "");
 const upper = (text) => text.charAt(0).toUpperCase() + text.slice(1);
 
-// What was won or lost from one value to another. Values are texts, since they may be past what a number holds.
+// Amounts are texts, as 30.5, since they may be past what a number holds. They are reckoned as whole numbers, with more decimals than any
+// amount has.
+const DECIMALS = 80;
+function whole(text) {
+  const [before, after = ""] = text.split(".");
+  return BigInt(before + after.padEnd(DECIMALS, "0"));
+}
+function amount(number) {
+  const digits = String(number).padStart(DECIMALS + 1, "0");
+  return digits.slice(0, -DECIMALS) + `.${digits.slice(-DECIMALS)}`.replace(/\.?0*$/, "");
+}
+
+// What was won or lost from one value to another.
 function moved(before, after) {
-  const by = BigInt(after) - BigInt(before);
-  return by === 0n ? "no change" : by > 0n ? `${by} more` : `${-by} less`;
+  const by = whole(after) - whole(before);
+  return by === 0n ? "no change" : by > 0n ? `${amount(by)} more` : `${amount(-by)} less`;
 }
 
 function trouble(text, ...acts) {
@@ -91,7 +103,8 @@ async function patiently(answer) {
 }
 at("end").addEventListener("click", () => ask("stop", {}));
 
-// Does something, and shows what came of it. A second click meanwhile was meant for what is not shown yet.
+// Does something, and shows what came of it, by these words or else by those of the step. A second click meanwhile was meant for what is
+// not shown yet.
 async function act(content, words) {
   if (acting) return;
   acting = true;
@@ -102,7 +115,7 @@ async function act(content, words) {
   const told = await patiently(ask("do", content));
   acting = false;
   if (told) {
-    news(`${upper(words)}: ${told.value}${units()}` + (before === null ? "" : `, ${moved(before, told.value)}`));
+    news(`${upper(words || told.steps[told.at].text)}: ${told.value}${units()}` + (before === null ? "" : `, ${moved(before, told.value)}`));
     await show(told);
   }
   at("main").setAttribute("aria-busy", String(acting));
@@ -121,6 +134,7 @@ function showState() {
   const first = state.steps[0].value;
   at("value").replaceChildren(make("strong", state.value), `${units()} can be sent from ${state.source} to ${state.sink}, and not more`
     + (state.at ? ` (${moved(first, state.value)} than at the beginning).`.replace("no change than", "as much as") : "."));
+  at("legend").textContent = `45/60: 45${units()} flow where 60 fit`;
   at("notes").hidden = !state.notes.length;
   at("notes").lastElementChild.replaceChildren(...state.notes.map((note) => make("li", note)));
   at("places").replaceChildren(...state.names.map((name) => make("option", [], { value: name })));
@@ -144,9 +158,12 @@ function showState() {
 
 const number = (text) => make("td", text, { class: "number" });
 const cell = (content) => make("td", content);
-const pick = (arc, text = arc.label) => cell(make("button", text, { type: "button", class: "link", onclick: () => choose({ arc: arc.number }) }));
+// An arc that stands for a limit of a place is seen at that place.
+const pick = (arc, text = arc.label) => cell(make("button", text, { type: "button", class: "link",
+  onclick: () => choose(arc.node ? { node: arc.node } : { arc: arc.number }) }));
 
 function fill(id, heads, rows) {
+  at(id).createCaption().textContent = state.unit && `in ${state.unit}`;
   at(id).tHead.replaceChildren(make("tr", heads.map((head, place) => make("th", head, { scope: "col", class: place ? "number" : "" }))));
   at(id).tBodies[0].replaceChildren(...rows.map((row) => make("tr", row)));
 }
@@ -162,7 +179,7 @@ async function showPicture() {
   at("drawn-note").textContent = told.reason || (part ? `${told.arcs.length} of ${state.arcs}: what lies nearest to ${where}. ` : "")
     + `Click a ${noun()} or a place to see more, and to change it.`;
   at("near-limit").hidden = !near;
-  at("try-all").textContent = part ? `Try each ${noun()} in the picture` : `Try each ${noun()}`;
+  at("try-all").textContent = `Try each ${noun()}`;
   at("take-svg").href = `picture.svg?near=${near}&turn=${state.turn}`;
   at("listed-head").textContent = `The ${told.arcs.length} in the picture, as a table`;
   fill("arcs", [upper(noun()), "flows", "fits", ""], told.arcs.map((arc) => [pick(arc), number(arc.closed ? "closed" : arc.flow),
@@ -271,25 +288,39 @@ function aboutArc(arc) {
     + (arc.limit ? ", and part of the limit: a wider one may bring more." : ", and no part of the limit: a wider one brings nothing.");
   const about = [make("h3", arc.short), make("p", `From ${arc.tail} to ${arc.head}. ${words}`)];
   if (arc.closed) return [...about, button("Open it again", () => act({ what: "open", arc: arc.number }, `${arc.short} is open`))];
-  const room = make("input", [], { id: "capacity", inputmode: "numeric", value: arc.capacity, autocomplete: "off" });
   return [...about,
     button("Close it", () => act({ what: "close", arc: arc.number }, `${arc.short} is closed`)),
     button("Put a second one beside it", () => act({ what: "double", arc: arc.number }, `a second ${arc.short}`)),
-    form([make("label", [`What it can carry${state.unit ? " in" : ""}${units()} `, room])], "Set",
-      () => act({ what: "cap", arc: arc.number, capacity: room.value }, `${arc.short} carries ${room.value}`))];
+    setting(arc, "What it can carry", "capacity")];
+}
+
+// The form that gives an arc another capacity.
+function setting(arc, words, id) {
+  const room = make("input", [], { id, value: arc.capacity, autocomplete: "off", "aria-describedby": `${id}-forms` });
+  return form([make("label", [`${words}${state.unit ? " in" : ""}${units()} `, room]), make("span", "or +10 %, or -5 ", { id: `${id}-forms`, class: "soft" })],
+    "Set", () => act({ what: "cap", arc: arc.number, capacity: room.value }, ""));
+}
+
+// What a place gives, takes or lets through.
+function aboutRole(arc) {
+  const most = arc.unlimited ? `no limit, and ${arc.flow}${units()} flow` : `${arc.capacity}${units()}, of which ${arc.flow} flow`;
+  const limit = arc.unlimited ? "" : arc.limit ? " It is part of the limit: more may bring more." : arc.full ? " That is all, and no part of the limit: more brings nothing." : "";
+  return [make("p", `${upper(arc.short)}: ${most}.${limit}`),
+    setting(arc.unlimited ? { ...arc, capacity: "" } : arc, upper(arc.short), `capacity-${arc.number}`)];
 }
 
 function aboutPlace(place) {
-  const kind = place.is_source ? " It all comes from here." : place.is_sink ? " It all goes here." : "";
+  const kind = place.is_source ? (place.name === state.source ? " It all comes from here." : " It is one of the sources.")
+    : place.is_sink ? (place.name === state.sink ? " It all goes here." : " It is one of the sinks.") : "";
   const about = [make("h3", place.name), make("p", `${place.in}${units()} come in, and ${place.out} go out.${kind}`
-    + (place.shut ? " It is shut." : ""))];
+    + (place.shut ? " It is shut." : "")), ...place.roles.filter((role) => !role.closed).flatMap(aboutRole)];
   if (place.shut) about.push(button("Open it again", () => act({ what: "open-place", node: place.node }, `${place.name} is open`)));
   if (place.open) about.push(button("Shut it", () => act({ what: "shut", node: place.node }, `${place.name} is shut`)));
   if (shown.length < state.arcs) {
     about.push(button("Show what is near it", () => { near = place.node; showPicture(); }, "plain"));
   }
   const head = make("input", [], { list: "places", autocomplete: "off", id: "new-head" });
-  const room = make("input", [], { inputmode: "numeric", autocomplete: "off", id: "new-capacity" });
+  const room = make("input", [], { autocomplete: "off", id: "new-capacity" });
   const name = make("input", [], { autocomplete: "off", id: "new-name" });
   about.push(form([make("p", `A new ${noun()} from here:`), make("label", ["leads to ", head]), make("label", [`carries${units()} `, room]),
     make("label", ["name (may be left out) ", name])], "Add it",
@@ -317,7 +348,8 @@ async function find() {
 at("text").addEventListener("input", find);
 at("search").addEventListener("submit", (event) => { event.preventDefault(); at("found").querySelector("button")?.click(); });
 
-// Trying each of these in turn. Where they are not all, `which` says so.
+// Trying each of these in turn. Where they are not all, `which` says so. The table has those that matter most.
+const MOST_ROWS = 300;
 async function sweep(numbers, which) {
   const turn = (sweeping += 1), rows = [], all = numbers.length;
   at("trials").hidden = false;
@@ -337,8 +369,8 @@ async function sweep(numbers, which) {
   }
 }
 
-const loss = (row) => BigInt(state.value) - BigInt(row.closed);
-const gain = (row) => (row.doubled ? BigInt(row.doubled) - BigInt(state.value) : 0n);
+const loss = (row) => whole(state.value) - whole(row.closed);
+const gain = (row) => (row.doubled ? whole(row.doubled) - whole(state.value) : 0n);
 const largest = (rows, of) => rows.reduce((most, row) => (of(row) > most ? of(row) : most), 0n);
 
 function verdict(rows, which) {
@@ -346,10 +378,10 @@ function verdict(rows, which) {
   const having = (of, most) => rows.filter((row) => of(row) === most);
   const named = (some) => some.map((row) => row.short).slice(0, 5).join(" or ") + (some.length > 5 ? " or others" : "");
   const worst = having(loss, lost);
-  const second = worst.length !== 1 || !worst[0].doubled ? "" : gain(worst[0]) ? `; a second one brings ${gain(worst[0])} more` : "; a second one brings nothing";
+  const second = worst.length !== 1 || !worst[0].doubled ? "" : gain(worst[0]) ? `; a second one brings ${amount(gain(worst[0]))} more` : "; a second one brings nothing";
   const those = which ? " " + which : "", any = which || "of them";
-  return (lost ? `Worst to lose${those}: ${named(worst)}, ${lost}${units()} less${second}. ` : `None ${any} is missed alone. `)
-    + (won ? `Best${those} to have a second of: ${named(having(gain, won))}, ${won}${units()} more.` : `A second one of any ${any} alone brings nothing.`);
+  return (lost ? `Worst to lose${those}: ${named(worst)}, ${amount(lost)}${units()} less${second}. ` : `None ${any} is missed alone. `)
+    + (won ? `Best${those} to have a second of: ${named(having(gain, won))}, ${amount(won)}${units()} more.` : `A second one of any ${any} alone brings nothing.`);
 }
 
 function showTrials(rows) {
@@ -359,16 +391,18 @@ function showTrials(rows) {
     made.style.setProperty("--part", Number((by * 1000n) / most) / 1000);
     return made;
   };
-  const sorted = [...rows].sort((one, other) => (loss(other) > loss(one) ? 1 : loss(other) < loss(one) ? -1 : Number(gain(other) - gain(one))));
-  fill("trials", [upper(noun()), "with it closed", "", "with a second one", ""], sorted.map((row) => [pick(row, row.short),
-    number(row.closed), cell(loss(row) ? [bar(loss(row), ""), `${loss(row)} less`] : "no change"),
-    number(row.doubled || "too large"), cell(gain(row) ? [bar(gain(row), "gain"), `${gain(row)} more`] : "no change")]));
+  const greater = (one, other) => (one > other ? -1 : one < other ? 1 : 0);
+  const sorted = rows.map((row) => [loss(row), gain(row), row])
+    .sort((one, other) => greater(one[0], other[0]) || greater(one[1], other[1])).slice(0, MOST_ROWS);
+  fill("trials", [upper(noun()), "with it closed", "", "with a second one", ""], sorted.map(([lost, won, row]) => [
+    pick(row, row.short), number(row.closed), cell(lost ? [bar(lost, ""), `${amount(lost)} less`] : "no change"),
+    number(row.doubled || "too large"), cell(won ? [bar(won, "gain"), `${amount(won)} more`] : "no change")]));
   for (const place of [2, 4]) at("trials").tHead.rows[0].cells[place].className = "";
 }
 
-at("try-all").addEventListener("click", () => {
-  const opened = shown.filter((arc) => !arc.closed), what = opened.length < shown.length ? "open ones shown" : "shown";
-  sweep(opened.map((arc) => arc.number), shown.length < state.arcs ? `of the ${opened.length} ${what}` : "");
+at("try-all").addEventListener("click", async () => {
+  const told = await ask("opened");
+  if (told) sweep(told.arcs, "");
 });
 at("try-limit").addEventListener("click", () => {
   const rest = state.limit.length < state.limit_count ? "first " : "";

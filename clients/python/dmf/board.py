@@ -20,10 +20,11 @@ from typing import Any, Union
 
 from .board_picture import NoPicture, Picture
 from .desk import Desk
+from .desk_amounts import amount
 from .desk_steps import DeskFault, Trial, unforeseen
 from .desk_text import near as near_arcs
 from .desk_text import problem, table
-from .tables.reading import whole_number
+from .quantity import plain_text
 
 # How long a request may sweep before it answers with the results so far, in seconds.
 PORTION = 0.25
@@ -99,7 +100,8 @@ class Sweep:
 
 
 class Board:
-    """What a board shows of a desk, and does for its page. All numbers of flows are texts, since a script rounds the larger ones."""
+    """What a board shows of a desk, and does for its page. All amounts are quantities, and texts, since a script rounds the larger
+    ones; the state tells their unit."""
 
     def __init__(self, desk: Desk) -> None:
         self.desk = desk
@@ -122,6 +124,7 @@ class Board:
             "arc": (lambda number: self._arc(_whole(number, "number")), ("number",)),
             "place": (lambda node: self._place(_whole(node, "node")), ("node",)),
             "find": (self._found, ("text",)),
+            "opened": (self._opened, ()),
             "picture.svg": (self._picture_file, ("near", "turn")),
             "plan.csv": (self._table_file, ("turn",)),
             "problem.max": (self._problem_file, ("turn",)),
@@ -216,14 +219,16 @@ class Board:
         if what == "again":
             desk.begin_again()
         elif what in ("close", "open", "double"):
-            {"close": desk.close, "open": desk.open, "double": desk.double}[what](content["arc"])
+            calls: dict[str, Callable[[int], object]] = {"close": desk.close, "open": desk.open, "double": desk.double}
+            calls[what](content["arc"])
         elif what == "cap":
-            desk.cap(content["arc"], _amount(content["capacity"]))
+            present = desk.line(content["arc"]).capacity
+            desk.cap(content["arc"], amount(content["capacity"], desk.measure, present))
         elif what in ("shut", "open-place"):
             {"shut": desk.shut, "open-place": desk.open_place}[what](names.place_of(content["node"]))
         elif what == "add":
             tail, head = names.place_of(content["tail"]), names.place(content["head"])
-            desk.add(tail, head, _amount(content["capacity"]), " ".join(content["name"].split()))
+            desk.add(tail, head, amount(content["capacity"], desk.measure), " ".join(content["name"].split()))
         else:
             # The first step is the solve that the board begins with.
             desk.go_to(content["step"] + 1)
@@ -232,20 +237,20 @@ class Board:
         """What the page shows beside the picture."""
         desk, names = self.desk, self.desk.names
         cut = list(desk.cut_arcs())
-        side = list(dict.fromkeys(names.node(node) for node in sorted(desk.side())))
+        side = names.side(desk.side())
         steps = desk.steps
         return {
             "title": desk.subject.path,
-            "unit": desk.subject.unit,
+            "unit": desk.measure.told_unit,
             "noun": desk.subject.noun,
             "notes": list(desk.subject.notes),
-            "source": names.node(desk.source),
-            "sink": names.node(desk.sink),
-            "value": str(desk.value),
-            "arcs": sum(not line.is_replaced for line in desk.lines),
+            "source": names.terminal(desk.source),
+            "sink": names.terminal(desk.sink),
+            "value": plain_text(desk.value),
+            "arcs": len(desk.pictured()),
             "places": len(names.places),
             "at": desk.at - 1,
-            "steps": [{"text": step.text, "value": str(step.value)} for step in steps],
+            "steps": [{"text": step.text, "value": plain_text(step.value)} for step in steps],
             "limit": [self._arc(number) for number in cut[:MOST_LISTED]],
             "limit_count": len(cut),
             "side": side[:MOST_SIDE],
@@ -255,18 +260,20 @@ class Board:
 
     def _arc(self, number: int) -> Json:
         desk, names = self.desk, self.desk.names
-        line, flow = desk.line(number), desk.flow(number)
+        line, flow, role = desk.line(number), desk.flow(number), desk.role(number)
         return {
             "number": number,
+            "node": role.node if role else 0,
             "name": names.arc_name(number),
             "label": names.arc(number),
             "short": names.short(number),
             "tail": names.node(line.tail),
             "head": names.node(line.head),
-            "flow": str(flow),
-            "capacity": str(line.capacity),
+            "flow": plain_text(flow),
+            "capacity": plain_text(line.capacity),
             "closed": line.is_closed,
             "replaced": line.is_replaced,
+            "unlimited": line.is_unlimited,
             "full": flow > 0 and flow == line.capacity,
             "limit": number in desk.cut_arcs(),
         }
@@ -274,15 +281,17 @@ class Board:
     def _place(self, node: int) -> Json:
         desk = self.desk
         place = desk.names.place_of(node)
-        entering = [n for n, line in enumerate(desk.lines, 1) if line.head == place.entry and not line.is_closed]
-        leaving = [n for n, line in enumerate(desk.lines, 1) if line.tail == place.exit and not line.is_closed]
+        opened = [number for number in desk.pictured() if not desk.lines[number - 1].is_closed]
+        entering = [number for number in opened if desk.lines[number - 1].head == place.entry]
+        leaving = [number for number in opened if desk.lines[number - 1].tail == place.exit]
         return {
             "node": node,
             "name": desk.names.node(node),
-            "in": str(sum(map(desk.flow, entering))),
-            "out": str(sum(map(desk.flow, leaving))),
-            "is_source": desk.source in place,
-            "is_sink": desk.sink in place,
+            "in": plain_text(sum(map(desk.flow, entering))),
+            "out": plain_text(sum(map(desk.flow, leaving))),
+            "roles": [self._arc(number) for number, _ in desk.roles().get(place.entry, ())],
+            "is_source": place.entry in desk.sources,
+            "is_sink": place.entry in desk.sinks,
             "shut": bool(desk.shut_nodes & set(place)),
             "open": bool(entering or leaving),
             "side": node in desk.side(),
@@ -314,11 +323,15 @@ class Board:
         self._judge_turn(_whole(turn, "turn"))
         return Answer(200, "text/plain; charset=utf-8", problem(self.desk).encode(), "problem.max")
 
+    def _opened(self) -> Json:
+        """The arcs that can be tried: the open ones of the table and those that were added."""
+        return {"arcs": [number for number in self.desk.pictured() if not self.desk.lines[number - 1].is_closed]}
+
     def _found(self, text: str) -> Json:
         """The first places and arcs whose names contain a text, and whether there are more."""
         wanted, names = text.casefold(), self.desk.names
         places = ((label, place.entry) for label, place in names.places.items() if wanted in label.casefold())
-        lines = ((names.arc(number), number) for number, line in enumerate(self.desk.lines, 1) if not line.is_replaced)
+        lines = ((names.arc(number), number) for number in self.desk.pictured())
         arcs = ((label, number) for label, number in lines if wanted in label.casefold())
         found_places, found_arcs = (list(islice(found, MOST_FOUND + 1)) for found in (places, arcs))
         found = [{"node": node, "label": label} for label, node in found_places[:MOST_FOUND]]
@@ -356,9 +369,9 @@ class Board:
         """The result for each of the first arcs."""
         self._judge_turn(turn)
         trials = self._portion(numbers)
-        doubled = ("" if trial.doubled is None else str(trial.doubled) for trial in trials)
-        rows = [{**self._arc(it.arc), "closed": str(it.closed), "doubled": second} for it, second in zip(trials, doubled)]
-        return {"value": str(self.desk.value), "trials": rows, "left": numbers[len(trials) :]}
+        doubled = ("" if trial.doubled is None else plain_text(trial.doubled) for trial in trials)
+        rows = [{**self._arc(it.arc), "closed": plain_text(it.closed), "doubled": second} for it, second in zip(trials, doubled)]
+        return {"value": plain_text(self.desk.value), "trials": rows, "left": numbers[len(trials) :]}
 
 
 # The requests, with the fields that each needs.
@@ -380,11 +393,3 @@ def _whole(text: str, name: str) -> int:
     if not re.fullmatch("[0-9]{1,9}", text):
         raise WrongForm(f"{name} is a whole number")
     return int(text)
-
-
-def _amount(text: str) -> int:
-    """The capacity that a planner wrote. Raises a `DeskFault`."""
-    try:
-        return whole_number(text.strip())
-    except ValueError as fault:
-        raise DeskFault(f"the number {text.strip()[:40]!r} {fault}" if text.strip() else "a number is wanted") from None

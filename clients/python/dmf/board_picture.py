@@ -8,27 +8,30 @@ import subprocess
 from collections import Counter
 from collections.abc import Iterator
 from dataclasses import dataclass
+from typing import NamedTuple
 from xml.etree import ElementTree
 
 from .desk import Desk
 from .desk_steps import DeskFault
+from .folding import AT_PLACE
 from .picture import CUT, SIDE, UNUSED, drawn_line, quoted
-from .text import scale_note
+from .quantity import POINT, plain_text
 
 SVG = "http://www.w3.org/2000/svg"
 # How long Graphviz may take, in seconds.
 PATIENCE = 20
-# A text as wide as any number of an arc, while its capacity has so many digits.
+# A text as wide as any digit of a number, and what stands in place of the numbers of a closed arc.
 WIDEST, CLOSED = "8", "closed"
 STYLE = f"""
 text {{ font-family: Helvetica, Arial, sans-serif; }}
 .full path {{ stroke-width: 2.5; }}
 .unused path, .unused polygon, .closed path, .closed polygon {{ stroke: {UNUSED}; }}
 .unused polygon, .closed polygon {{ fill: {UNUSED}; }}
+.node.cut ellipse {{ stroke: {CUT}; stroke-width: 2.5; }}
 .unused text, .closed text, .shut text {{ fill: {UNUSED}; }}
 .closed path {{ stroke-dasharray: 5 2; }}
 .cut path, .cut polygon {{ stroke: {CUT}; }}
-.cut polygon, .cut text {{ fill: {CUT}; }}
+.cut polygon, .arc.cut text, text.cut {{ fill: {CUT}; }}
 .side ellipse.inner {{ fill: {SIDE}; }}
 .shut ellipse {{ stroke: {UNUSED}; }}
 .part ellipse {{ stroke-dasharray: 5 2; }}
@@ -41,12 +44,33 @@ class NoPicture(DeskFault):
     """Why there is no picture."""
 
 
+class _Arc(NamedTuple):
+    """What a layout depends on of an arc; `widest` is the widest text that its numbers may have."""
+
+    number: int
+    tail: int
+    head: int
+    name: str
+    widest: str
+
+
+class _Node(NamedTuple):
+    """What a layout depends on of a place. Its roles are the arcs that stand for what it gives, takes or lets through, each with its
+    words there and the widest text of its numbers."""
+
+    node: int
+    label: str
+    roles: tuple[tuple[int, str, str], ...]
+    is_whole: bool
+    is_shut: bool
+
+
 @dataclass(frozen=True)
 class _Shape:
-    """What a layout depends on: the arcs, the nodes, and how wide each number may be."""
+    """What a layout depends on: the arcs, and the places."""
 
-    arcs: tuple[tuple[int, int, int, str, int], ...]
-    nodes: tuple[tuple[int, str, bool, bool], ...]
+    arcs: tuple[_Arc, ...]
+    nodes: tuple[_Node, ...]
 
 
 def _label(text: str) -> str:
@@ -77,36 +101,46 @@ class Picture:
         return ElementTree.tostring(root, encoding="unicode")
 
     def _shape_of(self, arcs: list[int], chosen: tuple[int, ...]) -> _Shape:
-        desk, names = self._desk, self._desk.names
-        lines = [desk.lines[number - 1] for number in arcs]
-        drawn = Counter(node for line in lines for node in line[:2])
-        drawn.update(dict.fromkeys(chosen, 0))
-        is_whole = len(arcs) == sum(not line.is_replaced for line in desk.lines)
+        desk, names, place = self._desk, self._desk.names, self._desk.folding.place
+
+        def ends(number: int) -> tuple[int, int]:
+            return place(desk.lines[number - 1].tail), place(desk.lines[number - 1].head)
+
+        drawn = Counter(node for number in arcs for node in ends(number))
+        drawn.update(dict.fromkeys(map(place, chosen), 0))
+        pictured = desk.pictured()
+        is_whole = len(arcs) == len(pictured)
         if is_whole:
-            drawn.update(dict.fromkeys((desk.source, desk.sink), 0))
-        degrees = drawn if is_whole else Counter(node for line in desk.lines if not line.is_replaced for node in line[:2])
+            drawn.update(dict.fromkeys((*desk.sources, *desk.sinks), 0))
+        degrees = drawn if is_whole else Counter(node for number in pictured for node in ends(number))
+        roles = desk.roles()
+
+        def told(node: int) -> tuple[tuple[int, str, str], ...]:
+            at_node = () if node in desk.shut_nodes else roles.get(node, ())
+            return tuple((number, AT_PLACE[kind], _widest(desk, number)) for number, kind in at_node)
+
         return _Shape(
+            tuple(_Arc(number, *ends(number), names.arc_name(number), _widest(desk, number)) for number in arcs),
             tuple(
-                (number, line.tail, line.head, names.arc_name(number), max(len(str(line.capacity)), 1))
-                for number, line in zip(arcs, lines)
+                _Node(node, names.node(node), told(node), drawn[node] == degrees[node], node in desk.shut_nodes)
+                for node in sorted(drawn)
             ),
-            tuple((node, names.node(node), drawn[node] == degrees[node], node in desk.shut_nodes) for node in sorted(drawn)),
         )
 
     def _lines(self, shape: _Shape) -> Iterator[str]:
         yield "digraph dmf {\n  rankdir=LR; bgcolor=transparent; ranksep=0.2"
         yield '  node [fontname="Helvetica"]\n  edge [fontname="Helvetica", fontsize=11]'
-        if self._desk.subject.scale:
-            yield f'  fontname="Helvetica"; label={quoted(scale_note(self._desk.subject.scale))}'
-        for node, label, is_whole, is_shut in shape.nodes:
-            looks = {"id": quoted(f"node-{node}"), "label": quoted(_label(label), *["shut"] * is_shut)}
-            if node in (self._desk.source, self._desk.sink):
+        if self._desk.measure.legend:
+            yield f'  fontname="Helvetica"; fontsize=11; label={quoted(self._desk.measure.legend)}'
+        for it in shape.nodes:
+            roles = [f"{words} {widest}" for _, words, widest in it.roles]
+            looks = {"id": quoted(f"node-{it.node}"), "label": quoted(_label(it.label), *roles, *["shut"] * it.is_shut)}
+            if it.node in (*self._desk.sources, *self._desk.sinks):
                 looks["peripheries"] = "2"
-            yield drawn_line(str(node), looks)
-        for number, tail, head, name, digits in shape.arcs:
-            widest = max(f"{WIDEST * digits}/{WIDEST * digits}", CLOSED, key=len)
-            label = quoted(_label(name), widest) if name else quoted(widest)
-            yield drawn_line(f"{tail} -> {head}", {"id": quoted(f"arc-{number}"), "label": label})
+            yield drawn_line(str(it.node), looks)
+        for arc in shape.arcs:
+            label = quoted(_label(arc.name), arc.widest) if arc.name else quoted(arc.widest)
+            yield drawn_line(f"{arc.tail} -> {arc.head}", {"id": quoted(f"arc-{arc.number}"), "label": label})
         yield "}"
 
     def _fill(self, root: ElementTree.Element, shape: _Shape) -> None:
@@ -123,20 +157,44 @@ class Picture:
             line, flow = desk.lines[number - 1], desk.flow(number)
             is_full = flow > 0 and flow == line.capacity
             looks = {"closed": line.is_closed, "cut": number in cut, "full": is_full, "unused": not flow and not line.is_closed}
-            state = CLOSED if line.is_closed else f"{flow}/{line.capacity}"
-            group.findall(f"{{{SVG}}}text")[-1].text = state
+            group.findall(f"{{{SVG}}}text")[-1].text = _amounts(desk, number)
             _mark(group, "arc", looks, f"{desk.names.arc(number)}: {spoken(desk, number)}{', limit' * (number in cut)}")
-        for node, label, is_whole, is_shut in shape.nodes:
-            group = groups[f"node-{node}"]
+        for it in shape.nodes:
+            group = groups[f"node-{it.node}"]
             for ellipse in group.findall(f"{{{SVG}}}ellipse")[:1]:
                 ellipse.set("class", "inner")
-            _mark(group, "node", {"side": node in side, "shut": is_shut, "part": not is_whole}, label)
+            label = it.label
+            # The first text is the name.
+            for text, (number, words, _) in zip(group.findall(f"{{{SVG}}}text")[1:], it.roles):
+                text.text = f"{words} {_amounts(desk, number)}"
+                text.set("class", "cut" if number in cut else "")
+                label += f", {words} {spoken(desk, number)}{', limit' * (number in cut)}"
+            is_cut = any(number in cut for number, *_ in it.roles)
+            _mark(group, "node", {"side": it.node in side, "shut": it.is_shut, "part": not it.is_whole, "cut": is_cut}, label)
+
+
+def _widest(desk: Desk, number: int) -> str:
+    """The widest text that the numbers of an arc may have, while its capacity has so many digits."""
+    capacity = re.sub("[0-9]", WIDEST, plain_text(desk.lines[number - 1].capacity))
+    decimals = desk.measure.decimals
+    flow = capacity.partition(POINT)[0] + bool(decimals) * (POINT + WIDEST * decimals)
+    return max(f"{flow}/{capacity}", CLOSED, key=len)
+
+
+def _amounts(desk: Desk, number: int) -> str:
+    """The flow on an arc and its capacity, in short."""
+    line, flow = desk.lines[number - 1], plain_text(desk.flow(number))
+    return CLOSED if line.is_closed else flow if line.is_unlimited else f"{flow}/{plain_text(line.capacity)}"
 
 
 def spoken(desk: Desk, number: int) -> str:
     """The flow on an arc, in words."""
     line, flow = desk.line(number), desk.flow(number)
-    return CLOSED if line.is_closed else f"{flow} of {line.capacity}{', full' if flow and flow == line.capacity else ''}"
+    if line.is_closed:
+        return CLOSED
+    if line.is_unlimited:
+        return desk.told(flow)
+    return f"{plain_text(flow)} of {desk.told(line.capacity)}{', full' if flow and flow == line.capacity else ''}"
 
 
 def _mark(group: ElementTree.Element, kind: str, looks: dict[str, bool], label: str) -> None:

@@ -2,10 +2,11 @@
 
 from __future__ import annotations
 
-from collections.abc import Iterator, Sequence
+from collections.abc import Iterable, Iterator, Sequence
 
 from . import Arc as Handle
 from .desk_steps import DeskFault, Node, Place
+from .folding import Folding, listed, role_phrase, role_words
 from .tables.cells import cleaned, near, shown
 from .text import display
 
@@ -15,61 +16,75 @@ ARROWS = (" -> ", "->", " - ", "-")
 
 
 class Names:
-    """The names of places and arcs, and which of them a text means."""
+    """The names of places and arcs, and which of them a text means. What is not of the table goes by what it means there: a place with
+    a limit is one, and the arc that has its limit is `what Mill lets through`."""
 
-    def __init__(self, node_names: dict[int, str], handles: dict[int, Handle[Node]], nodes: Sequence[Node]) -> None:
+    def __init__(self, node_names: dict[int, str], handles: dict[int, Handle[Node]], nodes: Sequence[Node], folding: Folding) -> None:
         self._handles = handles
+        self._folding = folding
         self._node_names = [node_names.get(number, str(number)) for number in range(1, len(nodes) + 1)]
         self._labels = [*map(display, self._node_names)]
         self.nodes = {node: number for number, node in enumerate(nodes, 1)}
         self.places: dict[str, Place] = {}
         self._several: dict[str, list[int]] = {}
         called: dict[str, list[int]] = {}
-        for number, label in enumerate(self._labels, 1):
-            called.setdefault(cleaned(label), []).append(number)
+        for number in folding.places(range(1, len(self._labels) + 1)):
+            called.setdefault(cleaned(self._labels[number - 1]), []).append(number)
         self._arcs: dict[str, list[int]] = {}
         self._between: dict[tuple[int, int], list[int]] = {}
         for number in handles:
             self.put(number)
         for label, numbers in called.items():
             if len(numbers) == 1:
-                self.places[label] = Place(numbers[0], numbers[0])
-            elif self._is_limited(label, numbers):
-                self.places[label] = Place(*numbers)
+                self.places[label] = Place(numbers[0], folding.second(numbers[0]))
             else:
                 self._several[label] = numbers
-
-    def _is_limited(self, label: str, numbers: list[int]) -> bool:
-        """Whether these nodes are the two halves of a place with a limit, as `dmf-problem` makes them."""
-        entry, *rest = numbers
-        between = self._between.get((entry, rest[0]), []) if len(rest) == 1 else []
-        return any(self.arc_name(number) == f"limit of {label}" for number in between)
 
     def put(self, number: int) -> None:
         """Takes in an arc."""
         self._between.setdefault(self._ends(number), []).append(number)
-        name = self.arc_name(number)
-        if name:
-            self._arcs.setdefault(cleaned(name), []).append(number)
+        for name in self._typed(number):
+            self._arcs.setdefault(name, []).append(number)
 
     def drop(self, number: int) -> None:
         """Takes out an arc that was taken in."""
         self._between[self._ends(number)].remove(number)
-        name = self.arc_name(number)
-        if name:
-            self._arcs[cleaned(name)].remove(number)
+        for name in self._typed(number):
+            self._arcs[name].remove(number)
+
+    def _typed(self, number: int) -> set[str]:
+        """The names by which an arc can be typed: how it is called, and its name in the problem."""
+        return {cleaned(name) for name in (self.arc_name(number), display(self.given_arc(number))) if name}
 
     def _ends(self, number: int) -> tuple[int, int]:
         handle = self._handles[number]
         return self.nodes[handle.tail], self.nodes[handle.head]
 
     def node(self, number: int) -> str:
-        """How a node is called."""
-        return self._labels[number - 1]
+        """How a node's place is called."""
+        return self._labels[self._folding.place(number) - 1]
+
+    def terminal(self, node: int) -> str:
+        """How the source of the network is called, or its sink: where it joins several places, by these."""
+        return listed(map(self.node, self._folding.ends(node)))
+
+    def side(self, nodes: Iterable[int]) -> list[str]:
+        """The places that have these nodes, by their names."""
+        return [*map(self.node, self._folding.places(sorted(nodes)))]
+
+    def phrase(self, number: int) -> str:
+        """The beginning of a sentence about the capacity of an arc: `Mill Lane carries`."""
+        role = self._folding.role(*self._ends(number))
+        return role_phrase(role, self.node) if role else f"{self.short(number)} carries"
+
+    def is_role(self, number: int) -> bool:
+        """Whether an arc is none of the table, but stands for what a place gives, takes or lets through."""
+        return self._folding.role(*self._ends(number)) is not None
 
     def arc_name(self, number: int) -> str:
         """The name of an arc, or nothing."""
-        return display(self.given_arc(number))
+        role = self._folding.role(*self._ends(number))
+        return role_words(role, self.node) if role else display(self.given_arc(number))
 
     def given_node(self, number: int) -> str:
         """The name of a node as it was given, which may have what nobody can see."""
@@ -85,10 +100,9 @@ class Names:
         return f"{self.node(tail)} -> {self.node(head)}"
 
     def arc(self, number: int) -> str:
-        """An arc by its name and its ends. An arc that joins the two halves of a place goes by its name alone."""
+        """An arc by its name and its ends."""
         name = self.arc_name(number)
-        tail, head = self._ends(number)
-        return self.ends(number) if not name else name if self.node(tail) == self.node(head) else f"{name}, {self.ends(number)}"
+        return self.ends(number) if not name else name if self.is_role(number) else f"{name}, {self.ends(number)}"
 
     def short(self, number: int) -> str:
         """An arc by its name, or else by its ends."""
@@ -103,16 +117,16 @@ class Names:
             listed = ", ".join(f"#{number}" for number in self._several[name][:MOST_LISTED])
             raise DeskFault(f"several nodes are called {shown(name)}: {listed}; say one by its number")
         number = self._numbered(name)
-        if number and number <= len(self._labels):
-            return Place(number, number)
+        if number:
+            return self.place_of(number)
         raise DeskFault(f"no place is called {shown(name)}{near(name, self.places)}")
 
     def place_of(self, node: int) -> Place:
-        """The place of a node. Raises a `DeskFault` if no node has this number."""
-        if not 1 <= node <= len(self._labels):
+        """The place of a node. Raises a `DeskFault` if no place has a node of this number."""
+        if not 1 <= node <= len(self._labels) or self._folding.is_joint(node):
             raise DeskFault(f"there is no place #{node}")
-        place = self.places.get(cleaned(self.node(node)), Place(node, node))
-        return place if node in place else Place(node, node)
+        first = self._folding.place(node)
+        return Place(first, self._folding.second(first))
 
     def is_place(self, text: str) -> bool:
         return cleaned(text) in self.places
@@ -159,8 +173,7 @@ class Names:
 
     def called(self, number: int) -> str:
         """A text that means an arc: its name, or else its ends."""
-        tail, head = self._ends(number)
-        return self.arc_name(number) or f"{self.node(tail)}-{self.node(head)}"
+        return self.arc_name(number) or "-".join(map(self.node, self._ends(number)))
 
     def list(self, numbers: Sequence[int]) -> str:
         listed = ", ".join(f"#{number} ({self.arc(number)})" for number in numbers[:MOST_LISTED])

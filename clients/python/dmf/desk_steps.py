@@ -1,4 +1,5 @@
-"""What a desk's steps are made of: places and arcs, changes, steps, trials, and why the desk refuses a request."""
+"""What a desk's steps are made of: places and arcs, changes, steps, trials, and why the desk refuses a request. All amounts are
+quantities, as the table has them."""
 
 from __future__ import annotations
 
@@ -6,6 +7,7 @@ from dataclasses import dataclass
 from typing import NamedTuple, Union
 
 from .errors import Error
+from .quantity import Quantity
 
 Node = Union[int, str]
 
@@ -24,14 +26,16 @@ class Place(NamedTuple):
 
 class Line(NamedTuple):
     """An arc as it is: its ends by their numbers, and its capacity, which one that is closed had before. `is_shut` says that it was
-    closed when a place was shut, and `is_replaced` that it was closed and then opened again, as another arc."""
+    closed when a place was shut, and `is_replaced` that it was closed and then opened again, as another arc. `is_unlimited` says that it
+    is what a source gives, or a sink takes, as much as the arcs there carry."""
 
     tail: int
     head: int
-    capacity: int
+    capacity: Quantity
     is_closed: bool = False
     is_shut: bool = False
     is_replaced: bool = False
+    is_unlimited: bool = False
 
 
 class Was(NamedTuple):
@@ -55,7 +59,11 @@ class ArcChange:
 
 @dataclass(frozen=True)
 class Cap(ArcChange):
-    capacity: int
+    capacity: Quantity
+
+
+class Follow(Cap):
+    """An unlimited source or sink follows the arcs there."""
 
 
 class Close(ArcChange):
@@ -70,7 +78,7 @@ class Reopen(ArcChange):
 class Add:
     tail: int
     head: int
-    capacity: int
+    capacity: Quantity
     name: str | None = None
 
 
@@ -89,7 +97,7 @@ class Step:
 
     text: str
     changes: tuple[Change, ...]
-    value: int
+    value: Quantity
     before: tuple[Was, ...]
     shut_before: frozenset[int]
 
@@ -104,8 +112,8 @@ class Trial:
     the capacities would exceed 64 bits."""
 
     arc: int
-    closed: int
-    doubled: int | None
+    closed: Quantity
+    doubled: Quantity | None
 
 
 def unforeseen(error: BaseException) -> str:

@@ -7,10 +7,12 @@ from typing import cast
 from . import timeline
 from .desk import Desk
 from .desk_steps import Line
+from .folding import renumbered
 from .names import written
 from .picture import Drawing, nearest, picture
 from .spreadsheet import ArcRow, plan_table
-from .text import ARC, NODE, Problem, scale_comment
+from .tables.comments import comments
+from .text import ARC, NODE, Problem
 
 MOST_DRAWN = 300
 
@@ -24,14 +26,14 @@ def table(desk: Desk) -> str:
             number, names.arc_name(number), names.node(line.tail), names.node(line.head), desk.flow(number), line.capacity,
             None if crossing is None else number in crossing,
         )
-        for number, line in enumerate(desk.lines, 1) if not line.is_closed
+        for number, line in enumerate(desk.lines, 1) if not line.is_closed and not names.is_role(number)
     )  # fmt: skip
-    return plan_table(rows, desk.subject.scale, raw_names=desk.subject.raw_names)
+    return plan_table(rows, desk.measure, raw_names=desk.subject.raw_names)
 
 
 def problem(desk: Desk) -> str:
-    """The problem of the open arcs, with its scale and the names of places and arcs in comments; what cannot be written of a name is
-    escaped. It needs no session, so that it can be had where that has ended."""
+    """The problem of the open arcs, with what comments say of its table and the names of places and arcs; what cannot be written of a
+    name is escaped. It needs no session, so that it can be had where that has ended."""
     names = desk.names
     opened = {number: line for number, line in enumerate(desk.lines, 1) if not line.is_closed}
     labels = ((number, names.given_node(number)) for number in range(1, len(names.nodes) + 1))
@@ -39,8 +41,10 @@ def problem(desk: Desk) -> str:
     keys = ((place, names.given_arc(number)) for place, number in enumerate(opened, 1))
     arcs = "".join(f"c arc {place} {written(ARC, place, key)}\n" for place, key in keys if key.strip(" \t"))
     head = f"p max {len(names.nodes)} {len(opened)}\nn {desk.source} s\nn {desk.sink} t\n"
-    lines = "".join(f"a {line.tail} {line.head} {line.capacity}\n" for line in opened.values())
-    return scale_comment(desk.subject.scale) + nodes + arcs + head + lines
+    whole = desk.measure.whole
+    lines = "".join(f"a {line.tail} {line.head} {whole(line.capacity)}\n" for line in opened.values())
+    said = renumbered(desk.subject.described, ((line.tail, line.head) for line in opened.values()), desk.limited())
+    return comments(said) + nodes + arcs + head + lines
 
 
 def drawing(desk: Desk) -> Drawing:
@@ -52,7 +56,8 @@ def drawing(desk: Desk) -> Drawing:
     drawn = Problem(len(labels), desk.source, desk.sink, [], labels, arc_names, desk.subject.described)
     flows = [None if desk.lines[number - 1].is_closed else desk.flow(number) for number in numbers]
     side = desk.side() if desk.is_greatest else set()
-    return Drawing(drawn, arcs_of([desk.lines[number - 1] for number in numbers]), flows, side, set(desk.shut_nodes))
+    lines = arcs_of([desk.lines[number - 1] for number in numbers])
+    return Drawing(drawn, lines, flows, side, set(desk.shut_nodes), has_quantities=True, limited=desk.limited())
 
 
 def arcs_of(lines: list[Line]) -> list[timeline.Arc]:
@@ -68,10 +73,9 @@ def picture_text(desk: Desk) -> str:
 def near(desk: Desk, nodes: tuple[int, ...], most: int = MOST_DRAWN) -> list[int]:
     """The numbers of the nearest arcs: nearest to these nodes, or to the cut if none are given."""
     numbers = [number for number, line in enumerate(desk.lines, 1) if not line.is_replaced]
-    if len(numbers) <= most:
-        return numbers
     lines = arcs_of([desk.lines[number - 1] for number in numbers])
     ends = (nodes[0], nodes[-1]) if nodes else (desk.source, desk.sink)
     side = desk.side() if desk.is_greatest and not nodes else set()
-    found = nearest(Drawing(Problem(len(desk.names.nodes), *ends, []), lines, [], side), most)
+    drawn = Drawing(Problem(len(desk.names.nodes), *ends, [], described=desk.subject.described), lines, [], side)
+    found = drawn.drawn if len(drawn.drawn) <= most else nearest(drawn, most)
     return [numbers[place] for place in found]

@@ -8,42 +8,22 @@ import difflib
 import os
 import subprocess
 import sys
-from collections.abc import Callable, Iterable, Iterator
+from collections.abc import Callable, Iterable
 from pathlib import Path
 
 from .desk import Desk
-from .desk_steps import DeskFault, Place, Trial, unforeseen
+from .desk_amounts import amount
+from .desk_steps import DeskFault, Trial, unforeseen
 from .desk_text import picture_text, problem, table
-from .errors import Error, Refused
-from .plan_words import (
-    ALWAYS,
-    ARC,
-    CHANGES,
-    CLOSED,
-    COMMAND,
-    COMMANDS,
-    FLOW,
-    PLACE,
-    Word,
-    count_of,
-    is_number,
-    no_words,
-    number_of,
-    one_name,
-    split,
-    typed_form,
-)
-from .quantity import LARGEST
+from .errors import Error
+from .plan_completion import history, matches, typed_line
+from .plan_meaning import WHERE, arcs_told, arcs_where, capped, capped_where, last_closed, new_arc
+from .plan_words import ALWAYS, CHANGES, COMMANDS, Word, count_of, no_words, one_name, split
+from .quantity import EXACT, Quantity, plain_text
 from .tables.cells import shown
 from .text import display
 from .tool import ToolFault, write_file
 
-try:
-    import readline
-except ImportError:  # A Python without it has no completion and no history.
-    readline = None  # type: ignore[assignment]
-
-MOST_REMEMBERED = 2_000
 MOST_SIDE = 30
 # How long Graphviz may take, in seconds.
 PATIENCE = 60
@@ -62,7 +42,6 @@ class Plan(cmd.Cmd):
         self.line_number = 0
         self._written: set[str] = set()
         self._matches: list[str] = []
-        self._unit = f" {desk.subject.unit}" if desk.subject.unit else ""
         self._do = {
             "solve": self._solve, "cut": self._cut, "flow": self._flow, "close": self._close, "open": self._open, "cap": self._cap,
             "add": self._add, "shut": self._shut, "undo": self._undo, "redo": self._redo, "steps": self._steps, "try": self._try,
@@ -103,8 +82,6 @@ class Plan(cmd.Cmd):
         except KeyboardInterrupt:
             self.tell("")
             self.refuse("broken off")
-        except Refused as refused:
-            self.refuse(_spoken(refused))
         except Exception as error:
             self.refuse(unforeseen(error))
         if self.desk.has_ended:
@@ -148,7 +125,7 @@ class Plan(cmd.Cmd):
     def run_typed(self) -> None:
         """Takes lines from a person, to the end."""
         self.tell(self.greeting(), "`help` lists the commands, `quit` ends.")
-        with _history():
+        with history():
             while True:
                 try:
                     self.postcmd(False, "")
@@ -166,26 +143,26 @@ class Plan(cmd.Cmd):
                 return
 
     def greeting(self) -> str:
-        names = self.desk.names
-        ends = f"from {names.node(self.desk.source)} to {names.node(self.desk.sink)}"
-        return f"{display(self.desk.subject.path)}: {ends}, {len(self.desk.lines)} arcs between {len(names.nodes)} places."
+        desk = self.desk
+        ends = f"from {desk.names.terminal(desk.source)} to {desk.names.terminal(desk.sink)}"
+        places = len(desk.folding.places(range(1, len(desk.names.nodes) + 1)))
+        return f"{display(desk.subject.path)}: {ends}, {len(desk.pictured())} arcs between {places} places."
 
     def postcmd(self, stop: bool, line: str) -> bool:
         if not stop:
-            self.prompt = str(self._guarded(self._prompt) or f"{self.desk.value}> ")
+            self.prompt = str(self._guarded(self._prompt) or f"{plain_text(self.desk.value)}> ")
         return stop
 
     def _prompt(self) -> str:
         desk = self.desk
         state = "ended" if desk.has_ended else "greatest" if desk.is_greatest else "not greatest"
-        return f"{'try, ' * desk.trials}{desk.value}, {state}> "
+        return f"{'try, ' * desk.trials}{plain_text(desk.value)}, {state}> "
 
-    def _value(self, before: int | None = None) -> str:
+    def _value(self, before: Quantity | None = None) -> str:
         """The present value, and its difference to the one before."""
         value = self.desk.value
-        moved = f", {value - before} more" if before is not None and value > before else ""
-        moved = f", {before - value} less" if before is not None and value < before else moved
-        return f"value {value}{self._unit}{moved}" + (", the greatest" if self.desk.is_greatest else "; more can be sent: solve")
+        moved = "" if before is None or value == before else f", {_moved(before, value)}"
+        return f"value {self.desk.told(value)}{moved}" + (", the greatest" if self.desk.is_greatest else "; more can be sent: solve")
 
     # What the commands do.
 
@@ -194,17 +171,31 @@ class Plan(cmd.Cmd):
         make()
         self.tell(self._value(before))
 
+    def _change_each(self, make: Callable[[], object], count: int, done: str) -> None:
+        """Makes a step of so many arcs."""
+        before = self.desk.value
+        make()
+        self.tell(f"{count} {done}: {self._value(before)}")
+
     def _solve(self, words: list[str]) -> None:
         no_words(words, "solve")
         self._change(self.desk.solve)
 
     def _close(self, words: list[str]) -> None:
+        if words[:1] == [WHERE]:
+            numbers = arcs_where(self.desk, words[1:])
+            self._change_each(lambda: self.desk.close(*numbers, words=arcs_told(numbers, words)), len(numbers), "closed")
+            return
         number = self.desk.the_arc(one_name(words, "close"))
         self._change(lambda: self.desk.close(number))
 
     def _open(self, words: list[str]) -> None:
         if not words:
-            self._change(self._last_closed())
+            self._change(last_closed(self.desk))
+            return
+        if words[:1] == [WHERE]:
+            numbers = arcs_where(self.desk, words[1:], are_closed=True)
+            self._change_each(lambda: self.desk.open(*numbers, words=arcs_told(numbers, words)), len(numbers), "opened")
             return
         name = " ".join(words)
         desk = self.desk
@@ -214,52 +205,18 @@ class Plan(cmd.Cmd):
             number = desk.the_arc(name, is_closed=True)
             self._change(lambda: desk.open(number))
 
-    def _last_closed(self) -> Callable[[], object]:
-        """Opens the arc or the place that was closed or shut last, and still is."""
-        desk = self.desk
-        for step in reversed(desk.steps[: desk.at]):
-            for number, line in reversed(step.before):
-                now = desk.lines[number - 1]
-                if line and not line.is_closed and now.is_closed and not now.is_replaced:
-                    shut = [node for node in (now.tail, now.head) if now.is_shut and node in desk.shut_nodes]
-                    if not now.is_shut:
-                        return lambda: desk.open(number)  # noqa: B023
-                    if shut:
-                        return lambda: desk.open_place(desk.names.place(desk.names.node(shut[0])))  # noqa: B023
-        raise DeskFault("nothing is closed")
-
     def _cap(self, words: list[str]) -> None:
-        if len(words) < 2:
-            raise DeskFault(f"wanted is: {COMMANDS['cap'].form}")
-        number, capacity = self.desk.the_arc(" ".join(words[:-1])), number_of(words[-1])
+        if words[:1] == [WHERE]:
+            capacities, told = capped_where(self.desk, words)
+            self._change_each(lambda: self.desk.cap_each(capacities, told), len(capacities), "changed")
+            return
+        number, text = capped(self.desk, words)
+        capacity = amount(text, self.desk.measure, self.desk.line(number).capacity)
         self._change(lambda: self.desk.cap(number, capacity))
 
     def _add(self, words: list[str]) -> None:
-        tail, head, capacity, name = self._new_arc(words)
+        tail, head, capacity, name = new_arc(self.desk, words)
         self._change(lambda: self.desk.add(tail, head, capacity, name))
-
-    def _new_arc(self, words: list[str]) -> tuple[Place, Place, int, str]:
-        """The places, the capacity and the name that the words of `add` mean, if they can mean one thing only."""
-        places = self.desk.names
-        found = []
-        if "->" in words[1:] and not any(map(is_number, words[: words.index("->")])):
-            # In the words by which arcs are listed.
-            words = [*words[: words.index("->")], *words[words.index("->") + 1 :]]
-        for at in range(2, len(words)):
-            if not is_number(words[at]):
-                continue
-            for middle in range(1, at):
-                tail, head = " ".join(words[:middle]), " ".join(words[middle:at])
-                if places.is_place(tail) and places.is_place(head):
-                    found.append((places.place(tail), places.place(head), number_of(words[at]), " ".join(words[at + 1 :])))
-        if len(found) == 1:
-            return found[0]
-        if found:
-            raise DeskFault("this can mean several things; put the names in quotes")
-        if len(words) < 3:
-            raise DeskFault(f"wanted is: {COMMANDS['add'].form}")
-        # The fault of the likeliest meaning, in which each name is one word.
-        return places.place(words[0]), places.place(words[1]), number_of(words[2]), " ".join(words[3:])
 
     def _shut(self, words: list[str]) -> None:
         place = self.desk.names.place(one_name(words, "shut"))
@@ -287,20 +244,21 @@ class Plan(cmd.Cmd):
     def _steps(self, words: list[str]) -> None:
         no_words(words, "steps")
         steps = self.desk.steps
-        self.tell(f"  {0:>3} {'*' if self.desk.at == 0 else ' '} {display(self.desk.subject.path)}: value 0")
+        self.tell(f"  {0:>3} {'*' if self.desk.at == 0 else ' '} {display(self.desk.subject.path)}: value {self.desk.told(0)}")
         for number, step in enumerate(steps, 1):
             mark = "*" if number == self.desk.at else " "
-            self.tell(f"  {number:>3} {mark} {step.text}: value {step.value}{' (undone)' if number > self.desk.at else ''}")
+            undone = " (undone)" if number > self.desk.at else ""
+            self.tell(f"  {number:>3} {mark} {step.text}: value {self.desk.told(step.value)}{undone}")
 
     def _cut(self, words: list[str]) -> None:
         no_words(words, "cut")
         desk = self.desk
         if not desk.is_greatest:
             raise DeskFault("the flow is not greatest, so there is no limit to tell; `solve` first")
-        side = list(dict.fromkeys(desk.names.node(node) for node in sorted(desk.side())))
+        side = desk.names.side(desk.side())
         more = f" and {len(side) - MOST_SIDE} more" if len(side) > MOST_SIDE else ""
-        self.tell(f"limit {desk.value}{self._unit}", f"  source's side: {', '.join(side[:MOST_SIDE])}{more}")
-        self.tell(*(f"  #{number} {desk.names.arc(number)}: {desk.line(number).capacity}" for number in desk.cut_arcs()))
+        self.tell(f"limit {desk.told(desk.value)}", *[f"  source's side: {', '.join(side[:MOST_SIDE])}{more}"] * bool(side))
+        self.tell(*(f"  #{number} {desk.names.arc(number)}: {plain_text(desk.line(number).capacity)}" for number in desk.cut_arcs()))
 
     def _flow(self, words: list[str]) -> None:
         desk = self.desk
@@ -316,7 +274,8 @@ class Plan(cmd.Cmd):
     def _arc_line(self, number: int) -> str:
         line, flow = self.desk.line(number), self.desk.flow(number)
         is_full = flow and flow == line.capacity
-        state = "closed" if line.is_closed else f"{flow} of {line.capacity}{', full' if is_full else ''}"
+        amounts = f"{plain_text(flow)} of {plain_text(line.capacity)}{', full' if is_full else ''}"
+        state = "closed" if line.is_closed else f"{plain_text(flow)}, no limit" if line.is_unlimited else amounts
         return f"  #{number} {self.desk.names.arc(number)}: {state}"
 
     def _what_if(self, words: list[str]) -> None:
@@ -336,7 +295,7 @@ class Plan(cmd.Cmd):
             finally:
                 self.write = write
             value = desk.value
-        self.tell(f"it would be {value}{self._unit}: {_moved(base, value)}")
+        self.tell(f"it would be {desk.told(value)}: {_moved(base, value)}")
 
     def _sweep(self, words: list[str]) -> None:
         desk = self.desk
@@ -359,10 +318,10 @@ class Plan(cmd.Cmd):
         if self.is_typed and len(wanted) > 20:
             sys.stderr.write("\r\033[K")
         for trial in sorted(trials, key=lambda trial: trial.closed):
-            second = "past 64 bits" if trial.doubled is None else f"{trial.doubled} ({_moved(base, trial.doubled)})"
-            self.tell(
-                f"  #{trial.arc} {desk.names.arc(trial.arc)}: closed {trial.closed} ({_moved(base, trial.closed)}), a second one {second}"
-            )
+            doubled = "past 64 bits" if trial.doubled is None else f"{plain_text(trial.doubled)} ({_moved(base, trial.doubled)})"
+            second = "twice as much" if desk.role(trial.arc) else "a second one"
+            closed = f"closed {plain_text(trial.closed)} ({_moved(base, trial.closed)})"
+            self.tell(f"  #{trial.arc} {desk.names.arc(trial.arc)}: {closed}, {second} {doubled}")
 
     def _draw(self, words: list[str]) -> None:
         path = self._new_file(words, "draw", [*DRAWN, ".dot"])
@@ -417,82 +376,20 @@ class Plan(cmd.Cmd):
         no_words(words, "quit")
         return True
 
-    # Completion.
-
     def complete(self, text: str, state: int) -> str | None:  # type: ignore[override]
         """The match of this number for what stands before the cursor."""
         if state == 0:
             with contextlib.suppress(Error, DeskFault):
                 self._matches = []
-                self._matches = self.matches(readline.get_line_buffer()[: readline.get_endidx()], text)
+                self._matches = matches(self.desk, typed_line(), text)
         return self._matches[state] if state < len(self._matches) else None
-
-    def matches(self, line: str, text: str) -> list[str]:
-        """What may replace `text` at the end of the line: the rest of each word that begins so."""
-        words = split(line)
-        if not words or words[-1].start + len(words[-1].text) < len(line) and not words[-1].is_open and line[-1] in " \t":
-            words.append(Word("", len(line)))
-        *before, last = words
-        begun = last.text.casefold()
-        found = dict.fromkeys(name for name in self._candidates([word.text for word in before]) if name.casefold().startswith(begun))
-        # The part of the word before `text` stays, since readline replaces `text` alone.
-        typed = len(line) - len(text) - last.start
-        return sorted(f"{typed_form(name, last.is_open)} "[typed:] for name in found)
-
-    def _candidates(self, before: list[str]) -> Iterator[str]:
-        """The words that may stand after these."""
-        desk, names = self.desk, self.desk.names
-        if before[:1] == ["what-if"]:
-            if len(before) == 1:
-                yield from ("each", *CHANGES)
-                return
-            if before[1] == "each":
-                yield from {2: ["arc"], 3: ["of", "at"]}.get(len(before), names.places if before[3:4] == ["at"] else ["the", "cut"])
-                return
-            before = before[1:]
-        takes = COMMANDS[before[0]].takes if before and before[0] in COMMANDS else ""
-        if not before or takes == COMMAND and len(before) == 1:
-            yield from COMMANDS
-        elif takes == PLACE and len(before) <= (2 if before[0] == "add" else 1):
-            yield from names.places
-        elif takes in (ARC, FLOW) and len(before) == 1:
-            yield from (names.called(n) for n, line in enumerate(desk.lines, 1) if not line.is_closed or takes == FLOW)
-            if takes == FLOW:
-                yield from names.places
-        elif takes == CLOSED and len(before) == 1:
-            yield from (names.called(n) for n, line in enumerate(desk.lines, 1) if line.is_closed and not line.is_replaced)
-            yield from (names.node(node) for node in sorted(desk.shut_nodes))
 
 
 def _nothing(_: str) -> None:
     pass
 
 
-def _moved(before: int, after: int) -> str:
+def _moved(before: Quantity, after: Quantity) -> str:
     """What is gained or lost."""
-    return f"{after - before} more" if after > before else f"{before - after} less" if after < before else "no change"
-
-
-def _spoken(refused: Refused) -> str:
-    """A refusal of the program in a planner's words."""
-    return f"the capacities would be together past {LARGEST}" if refused.text == "capacities past 64 bits" else str(refused)
-
-
-@contextlib.contextmanager
-def _history() -> Iterator[None]:
-    """Keeps the typed lines in a file, from one session to the next, if that can be written."""
-    if readline is None:
-        yield
-        return
-    state = os.environ.get("XDG_STATE_HOME", "")
-    folder = Path(state if os.path.isabs(state) else os.path.expanduser("~/.local/state")) / "dmf"
-    readline.set_completer_delims(" \t")
-    readline.set_history_length(MOST_REMEMBERED)
-    with contextlib.suppress(OSError):
-        readline.read_history_file(folder / "plan_history")
-    try:
-        yield
-    finally:
-        with contextlib.suppress(OSError):
-            folder.mkdir(mode=0o700, parents=True, exist_ok=True)
-            readline.write_history_file(folder / "plan_history")
+    by = EXACT.subtract(after, before)
+    return f"{plain_text(abs(by))} {'more' if by > 0 else 'less'}" if by else "no change"

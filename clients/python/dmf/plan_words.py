@@ -5,9 +5,10 @@ from __future__ import annotations
 from typing import NamedTuple
 
 from .desk_steps import DeskFault
+from .quantity import readings
 from .tables.cells import cleaned, shown
-from .tables.reading import whole_number
 
+LONGEST_COUNT = 12
 FLOW, PLACE, ARC, CLOSED, COMMAND, EACH = "flow", "place", "arc", "closed", "command", "each"
 
 
@@ -23,13 +24,17 @@ ARCS_SAID = (
     'An arc goes by its name, by its ends as in Mill-Town or "Mill Town", or by its number as in #7. A name with spaces stands in quotes, '
     "or as it is where that can mean one thing alone."
 )
+MANY_SAID = (
+    'In place of ARC, where and conditions name all arcs of which these are so, in one step: close where name ~ DN200, '
+    "cap where capacity < 60 and full +10 %, open where to ~ Mill."
+)
 COMMANDS = {
     "solve": Help("solve", "Finds the greatest value that can be sent, going on from the present flow."),
     "cut": Help("cut", "Shows the limit: the arcs that hold the value where it is, and the places on the source's side of them."),
     "flow": Help("flow [ARC|PLACE]", "Shows what flows on each arc, or on one, or on those at a place.", FLOW),
-    "close": Help("close ARC", f"Closes an arc. {ARCS_SAID}", ARC),
+    "close": Help("close ARC", f"Closes an arc. {ARCS_SAID} {MANY_SAID}", ARC),
     "open": Help("open [ARC|PLACE]", "Opens an arc that is closed, or a place that is shut; alone, what was closed or shut last.", CLOSED),
-    "cap": Help("cap ARC NUMBER", f"Gives an arc another capacity. {ARCS_SAID}", ARC),
+    "cap": Help("cap ARC NUMBER", f"Gives an arc another capacity: 47.3, or +10 % or -5 of what it has. {ARCS_SAID} {MANY_SAID}", ARC),
     "add": Help("add PLACE PLACE NUMBER [NAME]", "Adds an arc from the first place to the second, with a capacity.", PLACE),
     "shut": Help("shut PLACE", "Closes each arc at a place.", PLACE),
     "undo": Help("undo [NUMBER]", "Takes back the last step, or so many."),
@@ -121,17 +126,14 @@ def one_name(words: list[str], command: str) -> str:
 
 
 def is_number(word: str) -> bool:
-    return word.isascii() and word.isdigit()
-
-
-def number_of(word: str) -> int:
-    try:
-        return whole_number(word)
-    except ValueError as fault:
-        raise DeskFault(f"{shown(word)} {fault}") from None
+    """Whether a word can be a number."""
+    return bool(readings(word))
 
 
 def count_of(words: list[str], command: str) -> int:
+    """How many steps a command is about."""
     if len(words) > 1:
         raise DeskFault(f"wanted is: {COMMANDS[command].form}")
-    return number_of(words[0]) if words else 1
+    if words and not (words[0].isascii() and words[0].isdigit() and len(words[0]) < LONGEST_COUNT):
+        raise DeskFault(f"{shown(words[0])} is no number of steps")
+    return int(words[0]) if words else 1

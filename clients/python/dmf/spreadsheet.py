@@ -4,6 +4,9 @@ A spreadsheet runs a cell that begins with one of = + - @, a tab or an end of a 
 apostrophe before it if such a character is its first, or the first after apostrophes. A reader takes one apostrophe off where one or
 more stand before such a character. So each name comes back as it was: `=a` is written `'=a`, `'=a` is written `''=a`, and `'a` stays.
 Only names are written and read in this way, so numbers stay numbers.
+
+Numbers are those of the table that a problem was made of, and have its decimal sign. Where that is a comma, semicolons stand between
+cells, as spreadsheets write it then.
 """
 
 from __future__ import annotations
@@ -13,7 +16,7 @@ import re
 from collections.abc import Iterable, Sequence
 from typing import NamedTuple
 
-from .text import scaled
+from .quantity import COMMA, POINT, Measure, Quantity, plain_text
 
 # The last four are the wide forms of the first four.
 DANGEROUS = "=+\\-@\t\r\n\uff1d\uff0b\uff0d\uff20"
@@ -43,17 +46,27 @@ class _Lines:
         self.lines.append(text.removesuffix(self.END) + "\n")
 
 
-def lines(rows: Iterable[Sequence[object]]) -> str:
+def delimiter(measure: Measure) -> str:
+    """What stands between the cells of a table with such numbers."""
+    return ";" if measure.sign == COMMA else ","
+
+
+def number_cell(number: Quantity, measure: Measure) -> str:
+    """The cell of a quantity."""
+    return plain_text(number).replace(POINT, measure.sign or POINT)
+
+
+def lines(rows: Iterable[Sequence[object]], measure: Measure = Measure()) -> str:
     """The lines of a table with these cells."""
     written = _Lines()
     # With this end of a line, a carriage return in a name is quoted; without quotes it would be read as the end of a line.
-    csv.writer(written, lineterminator=_Lines.END).writerows(rows)
+    csv.writer(written, delimiter=delimiter(measure), lineterminator=_Lines.END).writerows(rows)
     return "".join(written.lines)
 
 
-def line(cells: Sequence[object]) -> str:
+def line(cells: Sequence[object], measure: Measure = Measure()) -> str:
     """A line of a table."""
-    return lines([cells])
+    return lines([cells], measure)
 
 
 class ArcRow(NamedTuple):
@@ -64,21 +77,22 @@ class ArcRow(NamedTuple):
     name: str
     tail: str
     head: str
-    flow: int
-    capacity: int
+    flow: Quantity
+    capacity: Quantity
     is_in_cut: bool | None
 
 
-def plan_table(rows: Iterable[ArcRow], scale: str, *, raw_names: bool) -> str:
-    """The table of a plan, whose titles tell its scale. `raw_names` says that names stand in it as they are."""
+def plan_table(rows: Iterable[ArcRow], measure: Measure, *, raw_names: bool) -> str:
+    """The table of a plan, whose titles tell its unit. `raw_names` says that names stand in it as they are."""
 
     def cells(row: ArcRow) -> list[object]:
         names = [cell_of(name, is_raw=raw_names) for name in (row.name, row.tail, row.head)]
+        amounts = [number_cell(number, measure) for number in (row.flow, row.capacity)]
         in_cut = "" if row.is_in_cut is None else _yes(row.is_in_cut)
-        return [row.number, *names, row.flow, row.capacity, _yes(row.flow == row.capacity), in_cut]
+        return [row.number, *names, *amounts, _yes(row.flow == row.capacity), in_cut]
 
-    titles = ["number", "name", "from", "to", scaled("flow", scale), scaled("capacity", scale), "full", "in cut"]
-    return lines([titles]) + lines(map(cells, rows))
+    titles = ["number", "name", "from", "to", measure.title("flow"), measure.title("capacity"), "full", "in cut"]
+    return lines([titles], measure) + lines(map(cells, rows), measure)
 
 
 def _yes(is_so: bool) -> str:

@@ -14,11 +14,9 @@ from __future__ import annotations
 import re
 from collections.abc import Iterable, Iterator
 from dataclasses import dataclass, field
-from decimal import Decimal
 from typing import NamedTuple
 
-from .quantity import Measure
-from .tables.comments import Described, comments, described
+from .tables.comments import Described, described
 
 LARGEST = 2**64 - 1
 LONGEST = len(str(LARGEST))
@@ -78,10 +76,6 @@ class Problem:
     arc_names: dict[int, str] = field(default_factory=dict)
     described: Described = Described()
 
-    @property
-    def scale(self) -> str:
-        return told_scale(self.described)
-
 
 class Naming(NamedTuple):
     """A comment that gives a name: to what, `node` or `arc`, by which number's field, and which. `start` is the place in the text at
@@ -131,29 +125,9 @@ def _escaped(found: re.Match[str]) -> str:
     return f"\\x{code:02x}" if code < 256 else f"\\u{code:04x}"
 
 
-def scale_comment(scale: str) -> str:
-    """The comment that tells the scale of a problem; nothing without one."""
-    return comments(Described(Measure(Decimal(scale or 1))))
-
-
-def read_scale(text: bytes) -> str:
-    """What the numbers of a table were multiplied by, as a comment of its problem tells it; nothing without that comment."""
-    return told_scale(described(text))
-
-
 def told_scale(described: Described) -> str:
     """The scale of a problem as it is told: nothing if it changes no number."""
     return "" if described.measure.scale == 1 else f"{described.measure.scale:f}"
-
-
-def scaled(title: str, scale: str) -> str:
-    """The title of numbers under a scale."""
-    return f"{title} (times {scale})" if scale else title
-
-
-def scale_note(scale: str) -> str:
-    """What is told beside numbers under a scale."""
-    return f"all numbers are those of the table times {scale}"
 
 
 def namings(text: bytes) -> Iterator[Naming]:

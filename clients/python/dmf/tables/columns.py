@@ -35,6 +35,8 @@ _WORDS = {
 USUAL = {role: words.split() for role, words in _WORDS.items()}
 # Titles of a column that do not say in what its cells are counted.
 PLAIN_TITLES = {"", "limite", *USUAL[CAPACITY], *USUAL[NAME], *USUAL[LIMIT], "title"}
+# Those of names that say what an arc is all the same.
+PLAIN_TITLES -= set("pipe rohr leitung tuyau tubo tuberia road strasse route calle".split())
 LONGEST_UNIT = 40
 # How many titles a message lists.
 MOST_LISTED = 20

@@ -8,11 +8,12 @@
     c inner node 42 sinks
     c inner node 43 half 4
     c inner arc 72 supply 2
-    c inner arc 74 demand 9
+    c inner arc 74 demand 9 unlimited
     c inner arc 75 limit 4
 
 An inner node or arc is not of the table. A node joins several sources, or sinks, or is the second half of a place with a limit, here of
-node 4. An arc carries what a source gives, what a sink takes, or what a place lets through; the node of the place follows.
+node 4. An arc carries what a source gives, what a sink takes, or what a place lets through; the node of the place follows. An unlimited one
+carries as much as the arcs at the place.
 
 Each stands before the problem line and begins its line, with one blank between its words; the scale may stand anywhere. Of two that say
 the same thing the first counts.
@@ -37,7 +38,7 @@ _SCALE = re.compile(rf"[ \t]*{SCALE_WORDS} ([0-9]+(?:\.[0-9]+)?)[ \t]*\r?(?:\n|\
 _SAID = {words: re.compile(rf"^{words}([^\n]*?)[ \t]*\r?$", re.MULTILINE) for words in (UNIT_WORDS, TABLE_WORDS, SIGN_WORDS)}
 _INNER = re.compile(
     rf"^{INNER_WORDS}(?:node ([0-9]{{1,19}}) (?:({SOURCES}|{SINKS})|half ([0-9]{{1,19}}))"
-    rf"|arc ([0-9]{{1,19}}) ({SUPPLY}|{DEMAND}|{LIMIT}) ([0-9]{{1,19}}))[ \t]*\r?$",
+    rf"|arc ([0-9]{{1,19}}) ({SUPPLY}|{DEMAND}|{LIMIT}) ([0-9]{{1,19}})( unlimited)?)[ \t]*\r?$",
     re.MULTILINE,
 )
 
@@ -45,10 +46,12 @@ _INNER = re.compile(
 @dataclass(frozen=True)
 class Role:
     """What an arc that is not of the table carries: what a source gives (`supply`), a sink takes (`demand`) or a place lets through
-    (`limit`); and the node of the place, its first half if it has two."""
+    (`limit`); and the node of the place, its first half if it has two. The capacity of an unlimited one is as much as the arcs at the
+    place carry."""
 
     kind: str
     node: int
+    is_unlimited: bool = False
 
 
 @dataclass(frozen=True)
@@ -85,13 +88,13 @@ def described(text: bytes) -> Described:
     joints: dict[int, str] = {}
     halves: dict[int, int] = {}
     roles: dict[int, Role] = {}
-    for node, joined, first, arc, kind, place in _INNER.findall(_between(head, INNER_WORDS)):
+    for node, joined, first, arc, kind, place, unlimited in _INNER.findall(_between(head, INNER_WORDS)):
         if joined:
             joints.setdefault(int(node), joined)
         elif node:
             halves.setdefault(int(node), int(first))
         else:
-            roles.setdefault(int(arc), Role(kind, int(place)))
+            roles.setdefault(int(arc), Role(kind, int(place), bool(unlimited)))
     return Described(measure, joints, halves, roles)
 
 
@@ -134,7 +137,8 @@ def _lines(described: Described) -> Iterable[str]:
             yield f"{words}{written}"
     yield from (f"{INNER_WORDS}node {number} {ends}" for number, ends in described.joints.items())
     yield from (f"{INNER_WORDS}node {number} half {first}" for number, first in described.halves.items())
-    yield from (f"{INNER_WORDS}arc {number} {role.kind} {role.node}" for number, role in described.roles.items())
+    for number, role in described.roles.items():
+        yield f"{INNER_WORDS}arc {number} {role.kind} {role.node}{' unlimited' * role.is_unlimited}"
 
 
 def _written(text: str) -> str:

@@ -223,7 +223,7 @@ class _Maker:
             inner, outer = (self.exit(place), place) if is_source else (place, self.exit(place))
             most = unlimited[inner] if term.quantity is None else self.whole(term, term.quantity)
             ends = (joint, outer) if is_source else (outer, joint)
-            self.add_arc(*ends, most, f"{kind} of {term.place}", Role(kind, place))
+            self.add_arc(*ends, most, f"{kind} of {term.place}", Role(kind, place, term.quantity is None))
         return joint
 
     def net(self) -> Net:

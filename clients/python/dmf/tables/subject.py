@@ -6,8 +6,8 @@ import argparse
 from dataclasses import dataclass
 from functools import cached_property
 
-from ..quantity import Measure, plain_text
-from ..text import display, fields, lines, scale_note, told_scale
+from ..quantity import Measure
+from ..text import display, fields, lines
 from ..tool import ToolFault
 from .cells import MOST_TOLD, shown
 from .columns import DEMAND, NAME, SUPPLY, spoken
@@ -46,14 +46,6 @@ class Subject:
         """How the problem's numbers stand for quantities."""
         return self.described.measure
 
-    @property
-    def scale(self) -> str:
-        return told_scale(self.described)
-
-    @property
-    def unit(self) -> str:
-        return f"{self.measure.unit or 'units'} times {plain_text(self.measure.scale)}" if self.scale else self.measure.unit
-
 
 def add_words(parser: argparse.ArgumentParser) -> None:
     """Adds the words that name the file, and what a table in it is."""
@@ -77,7 +69,7 @@ def read_subject(words: argparse.Namespace) -> Subject:
         if is_problem(words.path, data):
             if says_table(words):
                 raise ToolFault(f"{words.path} has a problem, which names its own source and sink: the options are for tables", 2)
-            return _noted(words, data)
+            return Subject(words.path, data, raw_names=words.raw_names)
         return _of_table(words, data)
     except TableFault as fault:
         fault.name_path(words.path)
@@ -92,18 +84,13 @@ def is_problem(path: str, data: bytes) -> bool:
     return first is not None and first[:2] == [b"p", b"max"] or path.endswith(".max")
 
 
-def _noted(words: argparse.Namespace, text: bytes, noun: str = "", notes: tuple[str, ...] = ()) -> Subject:
-    """A subject whose notes tell its scale."""
-    scale = told_scale(described(text))
-    return Subject(words.path, text, noun, (scale_note(scale),) * bool(scale) + notes, words.raw_names)
-
-
 def _of_table(words: argparse.Namespace, data: bytes) -> Subject:
     plan = plan_of(wanted_of(words), words.path, data)
     notes = complete(plan)
     net = net_of(plan)
     noun = spoken(plan.arcs.layout.title(NAME).text)
-    return _noted(words, problem_text(net).encode(), noun, (*plan.notes, *notes, *warnings(plan, net)))
+    told = (*plan.notes, *notes, *warnings(plan, net))
+    return Subject(words.path, problem_text(net).encode(), noun, told, words.raw_names)
 
 
 def complete(plan: Plan) -> list[str]:

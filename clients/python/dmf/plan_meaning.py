@@ -1,0 +1,140 @@
+"""What the words of a line of dmf-plan mean on a desk: arcs, amounts, and arcs by what is so of them."""
+
+from __future__ import annotations
+
+import contextlib
+import operator
+from collections.abc import Callable
+from itertools import groupby
+
+from .desk import Desk
+from .desk_amounts import amount, is_amount
+from .desk_steps import DeskFault, Place
+from .plan_words import COMMANDS, is_number
+from .quantity import Quantity
+from .tables.cells import shown
+
+WHERE, AND = "where", "and"
+COMPARED: dict[str, Callable[[Quantity, Quantity], bool]] = {
+    "<": operator.lt, "<=": operator.le, "=": operator.eq, ">=": operator.ge, ">": operator.gt,
+}  # fmt: skip
+CONDITIONS = 'name ~ TEXT, from ~ TEXT, to ~ TEXT, capacity < NUMBER, flow >= NUMBER, full, limit; with "and" between two'
+
+
+def last_closed(desk: Desk) -> Callable[[], object]:
+    """Opens the arc or the place that was closed or shut last, and still is."""
+    for step in reversed(desk.steps[: desk.at]):
+        for number, line in reversed(step.before):
+            now = desk.lines[number - 1]
+            if line and not line.is_closed and now.is_closed and not now.is_replaced:
+                shut = [node for node in (now.tail, now.head) if now.is_shut and node in desk.shut_nodes]
+                if not now.is_shut:
+                    return lambda: desk.open(number)  # noqa: B023
+                if shut:
+                    return lambda: desk.open_place(desk.names.place_of(shut[0]))  # noqa: B023
+    raise DeskFault("nothing is closed")
+
+
+def capped(desk: Desk, words: list[str]) -> tuple[int, str]:
+    """The arc and the amount that the words of `cap` mean, if they can mean one thing only."""
+    found = []
+    # An amount may be several words: 1 200, +10 %, 12 l/s.
+    for at in range(1, len(words)):
+        text = " ".join(words[at:])
+        plain = text.removesuffix(desk.measure.unit)
+        with contextlib.suppress(DeskFault):
+            if is_amount(plain.strip()):
+                found.append((desk.the_arc(" ".join(words[:at])), text))
+    if len(found) > 1:
+        raise DeskFault("this can mean several things; put the name in quotes")
+    if len(words) < 2:
+        raise DeskFault(f"wanted is: {COMMANDS['cap'].form}")
+    # The fault of the likeliest meaning, in which the amount is one word.
+    return found[0] if found else (desk.the_arc(" ".join(words[:-1])), words[-1])
+
+
+def new_arc(desk: Desk, words: list[str]) -> tuple[Place, Place, Quantity, str]:
+    """The places, the capacity and the name that the words of `add` mean, if they can mean one thing only."""
+    places = desk.names
+    found: list[tuple[Place, Place, str, str]] = []
+    if "->" in words[1:] and not any(map(is_number, words[: words.index("->")])):
+        # In the words by which arcs are listed.
+        words = [*words[: words.index("->")], *words[words.index("->") + 1 :]]
+    for at in range(2, len(words)):
+        if not is_number(words[at]):
+            continue
+        for middle in range(1, at):
+            tail, head = " ".join(words[:middle]), " ".join(words[middle:at])
+            if places.is_place(tail) and places.is_place(head):
+                ends = places.place(tail), places.place(head)
+                # An amount may be several words, as 1 200.
+                found += ((*ends, " ".join(words[at:end]), " ".join(words[end:])) for end in _ends_of_amount(desk, words, at))
+    if len(found) > 1:
+        raise DeskFault("this can mean several things; put the names in quotes, and the number")
+    if not found and len(words) < 3:
+        raise DeskFault(f"wanted is: {COMMANDS['add'].form}")
+    if found:
+        (entry, exit, text, label), *_ = found
+    else:
+        # The fault of the likeliest meaning, in which each name is one word.
+        entry, exit, text, label = places.place(words[0]), places.place(words[1]), words[2], " ".join(words[3:])
+    return entry, exit, amount(text, desk.measure), label
+
+
+def _ends_of_amount(desk: Desk, words: list[str], at: int) -> list[int]:
+    """After which words an amount may end that begins at one of these. Its unit belongs to it."""
+    unit = desk.measure.unit.split()
+    ends = [end for end in range(at + 1, len(words) + 1) if is_amount(" ".join(words[at:end]))]
+    return [end + len(unit) if unit and words[end : end + len(unit)] == unit else end for end in ends]
+
+
+def arcs_where(desk: Desk, words: list[str], *, are_closed: bool = False) -> list[int]:
+    """The open arcs, or the closed ones, of which conditions are so. Raises a `DeskFault` if there are none."""
+    conditions = [_condition(desk, list(part)) for is_and, part in groupby(words, AND.__eq__) if not is_and]
+    if not conditions or words[0] == AND or words[-1] == AND:
+        raise DeskFault(f"wanted after where is: {CONDITIONS}")
+    numbers = [number for number in desk.pictured() if desk.lines[number - 1].is_closed == are_closed]
+    found = [number for number in numbers if all(is_so(number) for is_so in conditions)]
+    if not found:
+        raise DeskFault(f"of the {len(numbers)} {'closed' if are_closed else 'open'} arcs this is so of none")
+    return found
+
+
+def _condition(desk: Desk, words: list[str]) -> Callable[[int], bool]:
+    """Whether a condition is so of an arc."""
+    if words == ["full"]:
+        return lambda number: 0 < desk.flow(number) == desk.line(number).capacity
+    if words == ["limit"]:
+        if not desk.is_greatest:
+            raise DeskFault("the flow is not greatest, so there is no limit to tell; `solve` first")
+        return lambda number: number in desk.cut_arcs()
+    if len(words) < 3:
+        raise DeskFault(f"{shown(' '.join(words))} is no condition; wanted is: {CONDITIONS}")
+    what, sign, text = words[0], words[1], " ".join(words[2:])
+    names: dict[str, Callable[[int], str]] = {
+        "name": desk.names.arc_name,
+        "from": lambda number: desk.names.node(desk.line(number).tail),
+        "to": lambda number: desk.names.node(desk.line(number).head),
+    }
+    numbers: dict[str, Callable[[int], Quantity]] = {"capacity": lambda number: desk.line(number).capacity, "flow": desk.flow}
+    if what in names and sign == "~":
+        sought = text.casefold()
+        return lambda number: sought in names[what](number).casefold()
+    if what in numbers and sign in COMPARED:
+        bound = amount(text, desk.measure)
+        return lambda number: COMPARED[sign](numbers[what](number), bound)
+    raise DeskFault(f"{shown(' '.join(words))} is no condition; wanted is: {CONDITIONS}")
+
+
+def capped_where(desk: Desk, words: list[str]) -> tuple[dict[int, Quantity], str]:
+    """The capacities that arcs get, of which conditions are so, and the words of that step. An amount is the last word, or the last two."""
+    size = 2 if words[-1] == "%" or not is_amount(words[-1]) else 1
+    text, conditions = " ".join(words[-size:]), words[1:-size]
+    numbers = arcs_where(desk, conditions)
+    capacities = {number: amount(text, desk.measure, desk.line(number).capacity) for number in numbers}
+    return capacities, f"{arcs_told(numbers, words[:-size])}: {text}"
+
+
+def arcs_told(numbers: list[int], words: list[str]) -> str:
+    """Arcs of which conditions are so, in the words of a step."""
+    return f"{len(numbers)} arc{'s' * (len(numbers) != 1)} {' '.join(words)}"
