@@ -5,6 +5,7 @@ import pickle
 import re
 import tempfile
 from collections.abc import Callable
+from typing import Any
 
 import pytest
 from client_shared import PIPES, ROOT, answering, dmf, pipes, script
@@ -192,3 +193,36 @@ def test_a_problem_is_refused_for_a_reason_that_came_later() -> None:
     with script("echo dmf: line 5: too windy >&2; exit 3") as program:
         with pytest.raises(dmf.Refused, match="^refused: too windy: <Arc 2: 'lake' to 'town'>$"):
             pipes(program=program)
+
+
+NEAR: list[tuple[Callable[[Any], object], str]] = [
+    (lambda network: network.shut("Mil"), "no such node: 'Mil'; is it 'Mill'?"),
+    (lambda network: network.shut("mill"), "no such node: 'mill'; is it 'Mill'?"),
+    (lambda network: network.shut("harbour"), "no such node: 'harbour'"),
+    (lambda network: network.shut("7"), "no such node: '7'; is it 7?"),
+    (lambda network: network.shut(8), "no such node: 8; is it '8'?"),
+    (lambda network: network.shut(9), "no such node: 9"),
+    (lambda network: network.add("Mill", "Twon", 1), "no such node: 'Twon'; is it 'Town'?"),
+    (lambda network: network.close("cannal"), "no such arc: 'cannal'; is it 'canal'?"),
+    (lambda network: network.close(("Town", "Mill")), "no such arc: ('Town', 'Mill'); is it ('Mill', 'Town')?"),
+    (lambda network: network.close(("Mil", "Town")), "no such arc: ('Mil', 'Town'); is it 'Mill'?"),
+    (lambda network: network.flow()["cannal"], "no such arc: 'cannal'; is it 'canal'?"),
+    (lambda network: network.arc("river"), "no such arc: 'river'"),
+    (lambda network: next(dmf.sweep(network, [[("close", "cannal")]])).refusal and network.close("cannal"), "no such arc: 'cannal'; is it 'canal'?"),
+]
+
+
+@pytest.mark.parametrize("call, wanted", NEAR)
+def test_what_was_meant(call: Callable[[Any], object], wanted: str) -> None:
+    rows: list[Any] = [("Mill", "Town", 3), ("Town", 7, 2, "canal"), (7, "8", 1)]
+    with dmf.Network(rows, "Mill", "8") as network:
+        with pytest.raises(dmf.Refused) as caught:
+            call(network)
+        assert str(caught.value) == wanted
+
+
+def test_many_names() -> None:
+    """Among many names none is looked for."""
+    with dmf.Network([(f"n{number}", f"n{number + 1}", 1) for number in range(3_000)], "n0", "n3000") as network:
+        with pytest.raises(dmf.NoSuchNode, match="^no such node: 'n3001'$"):
+            network.shut("n3001")

@@ -168,7 +168,24 @@ class Columns(Generic[Node]):
         """The number of a node. Raises `NoSuchNode`, also for a value that cannot be hashed."""
         with contextlib.suppress(KeyError, TypeError):
             return self.numbers[node]
-        raise NoSuchNode(shown(node))
+        raise NoSuchNode(shown(node) + self._near_node(node))
+
+    def _near_node(self, node: Node) -> str:
+        from .hints import near_node
+
+        try:
+            return near_node(node, self.numbers)
+        except TypeError:
+            return ""
+
+    def no_such_arc(self, key: Hashable) -> NoSuchArc:
+        """The refusal of a key, or of a pair of ends, that no arc has."""
+        from .hints import near_arc
+
+        try:
+            return NoSuchArc(shown(key) + near_arc(key, self.numbers, self.keys, self.named))
+        except TypeError:
+            return NoSuchArc(shown(key))
 
     def named(self, key: Hashable) -> list[int]:
         """The numbers of the arcs of a key, or of a pair of ends, in their order. Raises `NoSuchArc` for a value that cannot be
@@ -353,8 +370,12 @@ class OpenArcs(Generic[Node]):
             if not self.has(key) or not self.is_open(key.number):
                 raise NoSuchArc(repr(key))
             return key
-        found = [self.handles.of(number) for number in self.columns.named(key) if self.is_open(number)]
-        return one_of(found + [arc for arc in self._added_index.named(key) if self.is_open(arc.number)], key)
+        numbers = self.columns.named(key)
+        added = self._added_index.named(key)
+        if not numbers and not added:
+            raise self.columns.no_such_arc(key)
+        found = [self.handles.of(number) for number in numbers if self.is_open(number)]
+        return one_of(found + [arc for arc in added if self.is_open(arc.number)], key)
 
     def between(self, tail: Node, head: Node) -> list[int]:
         """The numbers of the open arcs from one node to another. Raises `NoSuchNode`."""

@@ -261,7 +261,9 @@ class Kept(Changes, Generic[Node]):
             raise NoSuchArc(repr(key))
         numbers = [*self.columns.named(key), *(arc.number for arc in self._added_named(key))]
         opened = [number for number in numbers if number not in self.closed]
-        if opened or not numbers:
+        if not numbers:
+            raise self.columns.no_such_arc(key)
+        if opened:
             return one_of(list(map(self.handle, opened)), key)
         return one_of([self.handle(number) for number in numbers if number not in self.replaced], key, "closed")
 
