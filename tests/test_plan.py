@@ -78,7 +78,7 @@ def test_random() -> None:
     def value() -> int:
         node = desk.names.node
         lines = (desk.lines[number - 1] for number in opened())
-        return greatest([pipes[0]._replace(tail=node(it.tail), head=node(it.head), capacity=it.capacity) for it in lines])
+        return greatest([pipes[0]._replace(tail=node(it.tail), head=node(it.head), capacity=int(it.capacity)) for it in lines])
 
     acts: list[Callable[[], object]] = [
         lambda: desk.close(chance.choice(opened())),

@@ -93,6 +93,10 @@ class Folding:
         return ((number, role) for number, (tail, head) in enumerate(ends, 1) if (role := self.role(tail, head)))
 
 
+# What is told of a table of arcs from which these are left out.
+LEFT_OUT = "what places give, take or let through at most is not in this table; the problem has it"
+
+
 def role_words(role: Role, label: Callable[[int], str]) -> str:
     """What an arc that is none of a table stands for: `what Mill gives at most`."""
     return f"what {role_phrase(role, label)}"
