@@ -82,7 +82,7 @@ fn is_right(alloc: Global, state: &State, found: &Found) -> Result<bool, Fail> {
 /// Value and side are right, and the ordinary search finds no path after the engine.
 #[test]
 fn engine_finds_greatest_flows(rt: HostRuntime) -> Result<(), Fail> {
-    for seed in 0..7200 {
+    for seed in 0..100_000 {
         let state = network(rt.alloc(), seed)?;
         let (source, sink) = (state.source(), state.sink());
         let flows = likely_greatest(rt.alloc(), state.nodes(), source, sink, state.arcs())?;
