@@ -312,12 +312,14 @@ def text_of(lines: Lines, random: Random, comment: bytes, fault_share: float) ->
 
 
 def words_of(command: bytes, random: Random) -> tuple[bytes, ...]:
-    """Words that ask for this, with or without a cut, brief replies and a bound of the history; some of them are faulty."""
+    """Words that ask for this, with or without a cut, brief replies, any greatest flow and a bound of the history; some of them are
+    faulty."""
     path = [random.choices([PROBLEM, b"missing.max", b"folder"], [98, 1, 1])[0]] if command != b"solve" else []
     cut = [b"--cut"] * random.randrange(2) if command != b"check" else []
     bound = [[b"--history", b"%d" % random.choice(BOUNDS)]] if command == b"session" and random.random() < 0.5 else []
-    brief = [b"--brief"] * random.randrange(2) if command == b"session" else []
-    parts = [[word] for word in cut + brief + path] + bound
+    brief = [b"--brief"] * random.randrange(2) if command != b"check" else []
+    any_flow = [b"--any"] * random.randrange(2) if command == b"solve" else []
+    parts = [[word] for word in cut + brief + any_flow + path] + bound
     words = [command] + [word for part in random.sample(parts, len(parts)) for word in part]
     if words == [b"solve"] and random.random() < 0.3:
         words = []
@@ -329,7 +331,7 @@ def words_of(command: bytes, random: Random) -> tuple[bytes, ...]:
 BOUNDS = [0, 1, 1, 2, 3, 5, 1_000_000, 1_000_001]
 ODD_WORDS = (
     [b"--history", b"--history=2", b"+1", b"1000001", b"-1"]
-    + [b"solve", b"session", b"check", b"help", b"--help", b"-h", b"--version", b"-V", b"--brief", b"--cut", b"--", b"wash", b"--wash"]
+    + [b"solve", b"session", b"check", b"help", b"--help", b"-h", b"--version", b"-V", b"--any", b"--brief", b"--cut", b"--", b"wash", b"--wash"]
     + [PROBLEM, b"missing.max", b"folder", b"\xff", b"", b"./" + PROBLEM]
 )
 

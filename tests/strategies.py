@@ -159,13 +159,14 @@ def texts(draw: st.DrawFn, lines: Lines, comment: bytes) -> bytes:
 
 CUTS = st.sampled_from([(), (b"--cut",)])
 BRIEF = st.sampled_from([(), (), (b"--brief",)])
+ANY = st.sampled_from([(), (b"--any",)])
 BOUNDS: st.SearchStrategy[tuple[bytes, ...]] = st.sampled_from([(), (), (b"--history", b"0"), (b"--history", b"1"), (b"--history", b"2")])
 
 
 @st.composite
 def solves(draw: st.DrawFn) -> Case:
     text = draw(texts(problem_lines(draw(networks())), b"cx"))
-    return Case("a solve", (b"solve", *draw(CUTS)), text, text)
+    return Case("a solve", (b"solve", *draw(ANY), *draw(BRIEF), *draw(CUTS)), text, text)
 
 
 @st.composite

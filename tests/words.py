@@ -15,11 +15,11 @@ from oracle.program import Outcome
 from worked_forms import CROSSED, CROSSED_FLOW, Worked, text
 
 # How the program and its commands are used.
-USAGE = """Usage: dmf [solve [--cut] [--progress]] <FILE
+USAGE = """Usage: dmf [solve [--any] [--brief] [--cut] [--progress]] <FILE
        dmf session [--brief] [--cut] [--history N] [--progress] PROBLEM
        dmf check PROBLEM <SOLUTION
 """
-SOLVE = "Usage: dmf solve [--cut] [--progress] <FILE\n"
+SOLVE = "Usage: dmf solve [--any] [--brief] [--cut] [--progress] <FILE\n"
 SESSION = "Usage: dmf session [--brief] [--cut] [--history N] [--progress] PROBLEM\n"
 CHECK = "Usage: dmf check PROBLEM <SOLUTION\n"
 # The tools around the program, by their files.
@@ -47,6 +47,7 @@ REFUSED = [
     ("--cut", "unexpected argument '--cut' found"),
     ("--progress", "unexpected argument '--progress' found"),
     ("--brief", "unexpected argument '--brief' found"),
+    ("--any", "unexpected argument '--any' found"),
     ("session", "<PROBLEM>"),
     ("session --cut", "<PROBLEM>"),
     ("check", "<PROBLEM>"),
@@ -55,7 +56,11 @@ REFUSED = [
     ("check --cut P", "unexpected argument '--cut' found"),
     ("check --progress P", "unexpected argument '--progress' found"),
     ("check --brief P", "unexpected argument '--brief' found"),
-    ("solve --brief", "unexpected argument '--brief' found"),
+    ("check --any P", "unexpected argument '--any' found"),
+    ("session --any P", "unexpected argument '--any' found"),
+    ("solve --any P", "unexpected argument 'P' found"),
+    ("solve --brief --any --brief", "cannot be used multiple times"),
+    ("solve --any --any", "cannot be used multiple times"),
     ("session --brief", "<PROBLEM>"),
     ("session --brief --brief P", "cannot be used multiple times"),
     ("session --brief --cut P --brief", "cannot be used multiple times"),
@@ -100,7 +105,8 @@ HELPS: list[tuple[str, tuple[str, ...]]] = [
     ("help", HELP),
     ("--help wash", HELP),
     ("solve --help", (SOLVE, "--cut       Write the smallest minimum cut after the solution\n", "--progress  Tell on standard error how far it is\n")),
-    ("solve --help", ("\n  $ dmf solve --cut <network.max\n  s 5\n",)),
+    ("solve --help", ("--any       Write any flow of the greatest value, found sooner\n", "--brief     Write the value in place of the solution\n")),
+    ("solve --help", ("\n  $ dmf solve --cut <network.max\n  s 5\n", "\nWith --brief the line c solve value VALUE stands for the solution.")),
     ("session --help", (SESSION, "<PROBLEM>  The file with the problem\n")),
     ("session --help", ("--brief        Answer a solve by its value in place of the solution\n",)),
     ("session --help", ("--cut          Write the smallest minimum cut after each solution\n",)),
@@ -121,6 +127,7 @@ VERSIONS = [("--version", "dmf 0.1.0\n"), ("-V", "dmf 0.1.0\n")]
 
 # What may stand after a command; the words of one part stand together.
 PARTS = ("--brief",), ("--cut",), ("--history", "1"), ("--progress",), (PROBLEM.decode(),)
+SOLVE_PARTS = ("--any",), *PARTS
 # What else may stand after `session`: other ways to write a bound, and paths that look like other words. Of these paths only one has
 # a file.
 SESSION_WORDS = "--history=+1 problem.max", "--history +1 problem.max", "--history 01 problem.max", "--history 0 problem.max", "-- problem.max", "-- --cut", "-", "solve"
@@ -129,11 +136,12 @@ INPUTS = {"solve": text(CROSSED), "session": b"solve\ncap 5 1\nundo\nundo\n", "c
 
 
 def orders(command: str) -> Iterator[Case]:
-    """The parts after a command in every order: all of them after `session`, three after the others, which take fewer. And each
-    part twice, with the path after it or between; and what else may stand after `session`."""
-    most = len(PARTS) if command == "session" else 3
-    chosen = [order for count in range(most + 1) for order in permutations(PARTS, count)]
-    chosen += [order for part in PARTS for order in ((part, part, PARTS[-1]), (part, PARTS[-1], part))]
+    """The parts after a command in every order: all of them after `session`, four after `solve` and three after `check`, which take fewer.
+    And each part twice, with the path after it or between; and what else may stand after `session`."""
+    parts = SOLVE_PARTS if command == "solve" else PARTS
+    most = {"session": len(PARTS), "solve": 4}.get(command, 3)
+    chosen = [order for count in range(most + 1) for order in permutations(parts, count)]
+    chosen += [order for part in parts for order in ((part, part, PARTS[-1]), (part, PARTS[-1], part))]
     lines = [" ".join([command, *(word for part in order for word in part)]) for order in chosen]
     lines += [f"session {words}" for words in SESSION_WORDS if command == "session"]
     for line in lines:

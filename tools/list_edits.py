@@ -39,6 +39,8 @@ OF_ITS_ANSWER = "follows from the clause of what the call answers"
 FOR_CALLERS = "for a caller's type to keep: the bodies here do nothing"
 REASONS = {
     "run_solve (optimal)": A_LAW,
+    "run_solve_any (optimal)": A_LAW,
+    "run_solve_brief (optimal)": A_LAW,
     "run_solve_watched (optimal)": A_LAW,
     "write_problem (stands)": A_LAW,
     "Side::eq (same)": OF_ITS_ANSWER,

@@ -31,6 +31,8 @@ BRIEF_CUT = "program/test_worked.py::test_worked[each brief reply with its cut]"
 KEPT = "program/test_worked.py::test_worked[one state is kept]"
 ON_TERMINAL = "program/test_terminal.py::test_session"
 ASKED = "program/test_progress.py::test_asked_session"
+QUICK = "program/test_quick_solves.py"
+SOLVE = "rt.alloc(), &mut problem, &mut out, "
 SINK, COMMANDS = "WatchedSink::new(out, &progress)", "WatchedCommands::new(StdSource::new(rt.stdin()), &progress)"
 HOLD = "hold_session(\n            rt,\n            problem.as_str(),\n            SolveReply { cut, brief },\n            progress,\n            history,\n        )"
 # Each wiring of `main` and of what it calls beside the runs: what is called for which words, and what goes where.
@@ -42,10 +44,13 @@ WIRINGS = [
         ("a status is another", "program_status(outcome)", "program_status(outcome) / 2", ENDED),
         ("the help is a fault", "print(rt, text.as_str())", "Err(Fault::Usage(text))", "program/test_program.py::test_help[--help]"),
         ("wrong words are help", "return Err(Fault::Usage(text))", "return print(rt, text.as_str())", "program/test_program.py::test_refused_words[an unknown word]"),
-        ("a solve has no cut", "solve(rt, cut, progress)", "solve(rt, cut && progress, progress)", f"{SOLVED}, with the cut]"),
-        ("each solve has a cut", "solve(rt, cut, progress)", "solve(rt, true, progress)", f"{SOLVED}]"),
-        ("a solve reports unasked", "solve(rt, cut, progress)", "solve(rt, cut, true)", f"{SOLVED}]"),
-        ("a solve does not report", "solve(rt, cut, progress)", "solve(rt, cut, false)", "program/test_progress.py::test_asked_solve"),
+        ("a solve has no cut", "{ cut, brief, any }", "{ cut: cut && progress, brief, any }", f"{SOLVED}, with the cut]"),
+        ("each solve has a cut", "{ cut, brief, any }", "{ cut: true, brief, any }", f"{SOLVED}]"),
+        ("a brief solve is whole", "{ cut, brief, any }", "{ cut, brief: brief && progress, any }", f"{QUICK}::test_examples[a.max]"),
+        ("any flow will do for each solve", "{ cut, brief, any }", "{ cut, brief, any: any || progress }", f"{QUICK}::test_no_path_is_left"),
+        ("no flow but one will do", "{ cut, brief, any }", "{ cut, brief, any: any && !progress }", f"{QUICK}::test_no_path_is_left"),
+        ("a solve reports unasked", "any }, progress)", "any }, true)", f"{SOLVED}]"),
+        ("a solve does not report", "any }, progress)", "any }, false)", "program/test_progress.py::test_asked_solve"),
         ("a check is a session", "check(rt, problem.as_str())", "hold_session(rt, problem.as_str(), SolveReply { cut: false, brief: false }, false, 0)", CHECKED),
         ("a session is a check", HOLD, "check(rt, problem.as_str())", HELD),
         ("cuts and brief replies change places", "{ cut, brief }", "{ cut: brief, brief: cut }", BRIEF),
@@ -67,9 +72,11 @@ WIRINGS = [
     ),
     *in_file(
         "dmf_host/src/runs.rt",
-        ("nothing says that a problem is typed", "invite(rt);", "if want_cut { invite(rt); }", "program/test_terminal.py::test_typed_problem"),
-        ("the cut of a solve is lost", "&mut out, want_cut, ", "&mut out, want_cut && want_progress, ", f"{SOLVED}, with the cut]"),
-        ("the progress of a solve is not as asked", "Progress::new(rt, want_progress)", "Progress::new(rt, want_cut)", f"{SOLVED}, with the cut]"),
+        ("nothing says that a problem is typed", "invite(rt);", "if wanted.cut { invite(rt); }", "program/test_terminal.py::test_typed_problem"),
+        ("the cut of a solve is lost", f"run_solve_watched({SOLVE}wanted.cut", f"run_solve_watched({SOLVE}want_progress", f"{SOLVED}, with the cut]"),
+        ("the cut of a brief solve is lost", f"run_solve_brief({SOLVE}wanted.cut", f"run_solve_brief({SOLVE}want_progress", f"{QUICK}::test_examples[a.max]"),
+        ("the cut of any flow is lost", f"run_solve_any({SOLVE}wanted.cut", f"run_solve_any({SOLVE}want_progress", f"{QUICK}::test_examples[a.max]"),
+        ("the progress of a solve is not as asked", "Progress::new(rt, want_progress)", "Progress::new(rt, wanted.cut)", f"{SOLVED}, with the cut]"),
         ("a check reports unasked", "Progress::new(rt, false)", "Progress::new(rt, true)", CHECKED),
         ("the texts of a check change places", "&mut problem, &mut solution, ", "&mut solution, &mut problem, ", CHECKED),
     ),

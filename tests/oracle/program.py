@@ -4,7 +4,8 @@ from __future__ import annotations
 
 import re
 from collections.abc import Callable, Sequence
-from typing import NamedTuple
+from dataclasses import replace
+from typing import NamedTuple, Protocol
 
 from .network import State, is_greatest, solved
 from .problem import read_problem
@@ -17,13 +18,43 @@ WELL, SOME_REFUSED, NOT_GREATEST = 0, 1, 1
 USAGE, TEXT_FAULT, STREAM_FAULT, NO_MEMORY = 2, 3, 4, 5
 
 
+class Texts(Protocol):
+    """Some texts, as those that a pattern matches."""
+
+    def fullmatch(self, string: bytes, /) -> object:
+        """Something that is not None, if the text is one of them."""
+
+
+class AnySolution(NamedTuple):
+    """The solutions on the network of a state that have its value, each with this text after it."""
+
+    state: State
+    cut: bytes
+
+    def state_of(self, string: bytes) -> State | None:
+        """The state whose solution a text writes, line for line in the order of the arcs, whatever its value. None of them is closed."""
+        text = string.removesuffix(self.cut)
+        flows = [int(line.rpartition(b" ")[2]) for line in text.splitlines()[1:] if line.rpartition(b" ")[2].isdigit()]
+        state = replace(self.state, flows=tuple(flows))
+        is_within = len(flows) == len(state.arcs) and all(flow <= arc.cap for arc, flow in zip(state.arcs, flows))
+        try:
+            read_solution(text, self.state)
+        except LineFault:
+            return None
+        return state if is_within and string == solution_text(state) + self.cut else None
+
+    def fullmatch(self, string: bytes, /) -> State | None:
+        state = self.state_of(string)
+        return state if state and state.value() == self.state.value() else None
+
+
 class Outcome(NamedTuple):
     """How a run ends: its status, what it writes to standard output, and what it tells on standard error. A pattern stands for
-    the texts that it matches, where the documents do not have the text itself."""
+    the texts that it matches, where the documents do not have the text itself, and a judge for those that it takes."""
 
     status: int
-    written: bytes | re.Pattern[bytes]
-    told: bytes | re.Pattern[bytes] = b""
+    written: bytes | Texts
+    told: bytes | Texts = b""
 
     def allows(self, status: int | None, out: bytes, err: bytes) -> bool:
         """Whether a run that ended so ended as this says."""
@@ -34,12 +65,14 @@ class Outcome(NamedTuple):
 
 
 class Asked(NamedTuple):
-    """What words ask for: a command, what is wanted of a solve's reply, the bound of the history, and the path where one is."""
+    """What words ask for: a command, what is wanted of a solve's reply, the bound of the history, the path where one is, and whether any
+    greatest flow will do."""
 
     command: str
     wanted: SolveReply
     bound: int
     path: str = ""
+    is_any: bool = False
 
 
 class Ended(Exception):
@@ -61,7 +94,11 @@ VERSION = Outcome(WELL, b"dmf 0.1.0\n")
 REFUSED_WORDS = Outcome(USAGE, b"", re.compile(rb"error: .*\nUsage: dmf.*\n", re.DOTALL))
 REFUSED_VALUE = Outcome(USAGE, b"", re.compile(rb"error: .*\n", re.DOTALL))
 NO_TEXT = Outcome(USAGE, b"", told("a word is not UTF-8"))
-FLAGS: dict[str, tuple[str, ...]] = {"solve": ("--cut", "--progress"), "session": ("--brief", "--cut", "--progress"), "check": ()}
+FLAGS: dict[str, tuple[str, ...]] = {
+    "solve": ("--any", "--brief", "--cut", "--progress"),
+    "session": ("--brief", "--cut", "--progress"),
+    "check": (),
+}
 
 
 def help_on(words: list[str]) -> Outcome:
@@ -83,9 +120,12 @@ def judged(read: Callable[..., State], *texts: object) -> State:
         raise Ended(TEXT_FAULT, told(fault)) from None
 
 
-def solve(problem: bytes, want_cut: bool) -> Outcome:
+def solve(problem: bytes, wanted: SolveReply, is_any: bool) -> Outcome:
     state = solved(judged(read_problem, bounded(problem)))
-    return Outcome(WELL, solution_text(state) + (cut_of(state) if want_cut else b""))
+    cut = cut_of(state) if wanted.cut else b""
+    if wanted.brief:
+        return Outcome(WELL, written("c", "solve", "value", state.value()) + cut)
+    return Outcome(WELL, AnySolution(state, cut) if is_any else solution_text(state) + cut)
 
 
 def check(problem: bytes, solution: bytes) -> Outcome:
@@ -179,7 +219,7 @@ def asked_of(command: str, words: list[str]) -> Asked | Outcome:
     if len(paths) < path_count:
         return REFUSED_WORDS
     wanted = SolveReply(cut="--cut" in flags, brief="--brief" in flags)
-    return Asked(command, wanted, MOST_KEPT if bound is None else bound, *paths)
+    return Asked(command, wanted, MOST_KEPT if bound is None else bound, "".join(paths), "--any" in flags)
 
 
 def run(words: Sequence[bytes], standard_input: bytes, refusals: Refusals | None = None) -> Outcome:
@@ -191,10 +231,10 @@ def run(words: Sequence[bytes], standard_input: bytes, refusals: Refusals | None
     asked_for = asked(texts)
     if isinstance(asked_for, Outcome):
         return asked_for
-    command, wanted, bound, path = asked_for
+    command, wanted, bound, path, is_any = asked_for
     try:
         if command == "solve":
-            return solve(standard_input, wanted.cut)
+            return solve(standard_input, wanted, is_any)
         if command == "check":
             return check(read_file(path), standard_input)
         return session(read_file(path), standard_input, wanted, bound, refusals)

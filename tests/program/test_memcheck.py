@@ -51,6 +51,7 @@ SESSION = f"session {PROBLEM.decode()}"
 CASES = [
     case("a solve", "solve", CROSSED),
     case("a solve with its cut", "solve --cut", CROSSED),
+    case("a solve by any flow, with the cut", "solve --any --cut", CROSSED),
     case("a check", f"check {PROBLEM.decode()}", CROSSED_FLOW),
     case("a check of another flow", f"check {PROBLEM.decode()}", "s 0"),
     case("a session", SESSION, CHANGES),

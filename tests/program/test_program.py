@@ -52,6 +52,7 @@ REFUSED_WORDS = {
     "two problems are named": ["session", A, "examples/b.max"],
     "no problem is checked": ["check"],
     "a cut of a check": ["check", "--cut", A],
+    "any flow of a session": ["session", "--any", A],
     "progress alone": ["--progress"],
     "progress of a check": ["check", "--progress", A],
     "a history alone": ["--history", "1"],

@@ -38,6 +38,8 @@ MORE = [
     Case("one state is kept", (b"session", b"--history", b"1", PROBLEM), text(CROSSED), text(ADDING)),
     Case("no state is kept, and cuts are told", (b"session", b"--cut", b"--history", b"0", PROBLEM), text(CROSSED), LONG),
     Case("one state is kept, and cuts are told", (b"session", b"--cut", b"--history", b"1", PROBLEM), text(CROSSED), LONG),
+    Case("a solve for its value and its cut", (b"solve", b"--brief", b"--cut"), text(CROSSED), text(CROSSED)),
+    Case("a solve by any flow, with the cut", (b"solve", b"--any", b"--cut"), text(CROSSED), text(CROSSED)),
     Case("the help", (b"--help",), b"", b""),
     Case("the help of a command", (b"help", b"session"), b"", b""),
     Case("the version", (b"--version",), b"", b""),

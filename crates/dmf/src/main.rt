@@ -5,7 +5,8 @@ ghost use Rattle.std.specs.Prelude.{◌≤◌};
 
 use dmf_arguments::{Arguments, MAX_HISTORY, Mode, WordsFault, read_arguments};
 use dmf_host::{
-    Fault, check, explain, open_problem, output, print, program_status, solve, tell, words,
+    Fault, SolveAnswer, check, explain, open_problem, output, print, program_status, solve, tell,
+    words,
 };
 use dmf_progress::{Progress, WatchedCommands, WatchedSink, WatchedSolve, WatchedSource};
 use dmf_runs::{SolveReply, Status, run_session_watched};
@@ -39,7 +40,7 @@ fn run(rt: &HostRuntime) -> Result<Status, Fault> {
         Err(WordsFault::NoMemory) => return Err(Fault::NO_MEMORY),
     };
     match mode {
-        Mode::Solve { cut } => solve(rt, cut, progress),
+        Mode::Solve { cut, any } => solve(rt, SolveAnswer { cut, brief, any }, progress),
         Mode::Session {
             cut,
             history,

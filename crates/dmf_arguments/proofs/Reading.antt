@@ -8,7 +8,7 @@ use Rattle.clap.specs.declared.error.kind.ErrorKind.{ErrorKind}
 use Rattle.clap.specs.declared.error.kind.ErrorKind.TheVariants.{OutOfMemory}
 use Rattle.clap.proofs.OnLiterals.{clap_on_literals}
 use Rattle.dmf_arguments.specs.CommandLine.{Asked, arguments, asked_of}
-use Rattle.dmf_arguments.specs.Words.{Asks, IsToldOf, Tells, holding}
+use Rattle.dmf_arguments.specs.Words.{Asks, IsToldOf, Tells, holding, solving}
 use Rattle.dmf_arguments.specs.declared.words.WordsFault.{WordsFault}
 use Rattle.dmf_arguments.specs.declared.words.WordsFault.TheVariants.{NoMemory}
 
@@ -34,9 +34,9 @@ module _ (kinds : Kinds) (kind : ErrorKind) (fault : WordsFault) (among : (kind 
   short asked clean =
       let memory : fault ≡ NoMemory = elim among [ inl e ↦ tells.memory e | inr one ↦ absurd (subst (IsAmong kind) clean one) ] in (
         λ is. memory,
-        λ cut progress brief text path is. memory,
-        λ cut brief progress text bound path is written. memory,
-        λ cut brief progress text path is. memory,
+        λ cut brief any progress text path is. memory,
+        λ cut brief progress any text bound path is written. memory,
+        λ cut brief any progress text path is. memory,
       )
 
   -- Where a parse gives some kinds of fault, the answer tells of one of these.
@@ -44,36 +44,43 @@ module _ (kinds : Kinds) (kind : ErrorKind) (fault : WordsFault) (among : (kind 
   told first others are = elim among [ inl e ↦ inl (tells.memory e) | inr one ↦ inr (kind, subst (IsAmong kind) are one, tells) ]
 
 -- What the arguments of a parsed command ask for.
-pub record AskedRows (rows : List Row) (flag brief progress bound path : Option Text) : Type 0 where
+pub record AskedRows (rows : List Row) (flag brief any progress bound path : Option Text) : Type 0 where
   pub flag_is : one_of (codes "cut") rows ≡ flag
   pub brief_is : one_of (codes "brief") rows ≡ brief
+  pub any_is : one_of (codes "any") rows ≡ any
   pub progress_is : one_of (codes "progress") rows ≡ progress
   pub bound_is : one_of (codes "history") rows ≡ bound
   pub path_is : first_of (codes "problem") rows ≡ path
 
 -- the name of a parsed command, and the texts of its arguments
 abbrev Parts : Type 0
-Parts = Text × Option Text × Option Text × Option Text × Option Text × Option Text
+Parts = Text × Option Text × Option Text × Option Text × Option Text × Option Text × Option Text
 
 -- Where a command was found, what is asked for is what its rows say.
-pub asked_rows : (found : Option (Text × List Row)) (rows : List Row) (name : Text) (flag brief progress bound path : Option Text)
-    → Some rows ≡ option_map (λ p. p.1) found → asked_of found ≡ Some (name, flag, brief, progress, bound, path)
-    → AskedRows rows flag brief progress bound path
-asked_rows None rows name flag brief progress bound path has asked = cc
-asked_rows (Some p) rows name flag brief progress bound path has asked =
+pub asked_rows : (found : Option (Text × List Row)) (rows : List Row) (name : Text) (flag brief any progress bound path : Option Text)
+    → Some rows ≡ option_map (λ p. p.1) found → asked_of found ≡ Some (name, flag, brief, any, progress, bound, path)
+    → AskedRows rows flag brief any progress bound path
+asked_rows None rows name flag brief any progress bound path has asked = cc
+asked_rows (Some p) rows name flag brief any progress bound path has asked =
     let same : rows ≡ p.1 = cc in
     rw same (record {
       flag_is = ap (option_and_then (λ (q : Parts). q.1)) asked;
       brief_is = ap (option_and_then (λ (q : Parts). q.2)) asked;
-      progress_is = ap (option_and_then (λ (q : Parts). q.3)) asked;
-      bound_is = ap (option_and_then (λ (q : Parts). q.4)) asked;
-      path_is = ap (option_and_then (λ (q : Parts). q.5)) asked;
+      any_is = ap (option_and_then (λ (q : Parts). q.3)) asked;
+      progress_is = ap (option_and_then (λ (q : Parts). q.4)) asked;
+      bound_is = ap (option_and_then (λ (q : Parts). q.5)) asked;
+      path_is = ap (option_and_then (λ (q : Parts). q.6)) asked;
     })
 
 -- Sessions that are asked for with equal parts are equal.
 pub same-holding : {cut wanted brief short progress told : Bool} {n bound : ℕ} {problem path : Text} → cut ≡ wanted → brief ≡ short → progress ≡ told
     → n ≡ bound → problem ≡ path → holding cut brief progress n problem ≡ holding wanted short told bound path
 same-holding c b t n p = cc
+
+-- Solves that are asked for with equal parts are equal.
+pub same-solving : {cut wanted brief short any some progress told : Bool} → cut ≡ wanted → brief ≡ short → any ≡ some → progress ≡ told
+    → solving cut brief any progress ≡ solving wanted short some told
+same-solving c b a p = cc
 
 -- a flag reads as its text says
 pub flag_reads : (cut read : Bool) (text : Option Text) → (text ≡ Some (codes "true") → read ≡ true)

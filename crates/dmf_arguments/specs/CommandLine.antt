@@ -30,7 +30,9 @@ abbrev pub problem_rule : Rule
 problem_rule = record (new_rule (codes "problem")) { value_names = 1; required = true }
 
 abbrev pub solve_line : App
-solve_line = with_rule (with_rule (new_app (codes "solve")) (flag_rule (codes "cut"))) (flag_rule (codes "progress"))
+solve_line =
+    with_rule (with_rule (with_rule (with_rule (new_app (codes "solve")) (flag_rule (codes "any"))) (flag_rule (codes "brief")))
+    (flag_rule (codes "cut"))) (flag_rule (codes "progress"))
 
 abbrev pub session_line : App
 session_line =
@@ -56,15 +58,16 @@ IsRule rule arg = (rule_of arg ≡ rule) × (arg.global ≡ false)
 abbrev pub IsLine : App → Command → Type 0
 IsLine line made = (app_of made ≡ line) × ((fields_of made).has_globals ≡ false)
 
--- the command that a parse finds, with the texts of its three flags, of its bound and of its path, where it has them
+-- the command that a parse finds, with the texts of its four flags, of its bound and of its path, where it has them
 abbrev pub Asked : Type 0
-Asked = Option (Text × Option Text × Option Text × Option Text × Option Text × Option Text)
+Asked = Option (Text × Option Text × Option Text × Option Text × Option Text × Option Text × Option Text)
 
 abbrev pub asked_of : Option (Text × List Row) → Asked
 asked_of = option_map (λ found. (
   found.0,
   one_of (codes "cut") found.1,
   one_of (codes "brief") found.1,
+  one_of (codes "any") found.1,
   one_of (codes "progress") found.1,
   one_of (codes "history") found.1,
   first_of (codes "problem") found.1,

@@ -30,30 +30,34 @@ HasFaults kinds words = (name : Text) → faults_in (name ∷ words) ≡ kinds
 abbrev pub IsTaken : List Text → Asked → Type 0
 IsTaken words asked = HasFaults [] words × ((name : Text) → asked_in (name ∷ words) ≡ asked)
 
--- a solve, with the cut and progress or without; a session, with the cut, brief replies and progress or without; a check
-abbrev pub solve_of : Bool → Bool → Asked
-solve_of cut progress = Some (codes "solve", Some (bool_text cut), None, Some (bool_text progress), None, None)
+-- a solve, with the cut, a brief answer, any greatest flow and progress or without; a session, with the cut, brief replies and progress or
+-- without; a check
+abbrev pub solve_of : Bool → Bool → Bool → Bool → Asked
+solve_of cut brief any progress =
+    Some (codes "solve", Some (bool_text cut), Some (bool_text brief), Some (bool_text any), Some (bool_text progress), None, None)
 
 abbrev pub session_of : Bool → Bool → Bool → Text → Asked
 session_of cut brief progress path =
-    Some (codes "session", Some (bool_text cut), Some (bool_text brief), Some (bool_text progress), Some (codes "1000000"), Some path)
+    Some (codes "session", Some (bool_text cut), Some (bool_text brief), None, Some (bool_text progress), Some (codes "1000000"), Some path)
 
 abbrev pub check_of : Text → Asked
-check_of path = Some (codes "check", None, None, None, None, Some path)
+check_of path = Some (codes "check", None, None, None, None, None, Some path)
 
 -- words that begin with an option, whatever stands after it
 abbrev pub misplaced : List Text → List (List Text)
-misplaced rest = (codes "--cut" ∷ rest) ∷ (codes "--brief" ∷ rest) ∷ (codes "--progress" ∷ rest) ∷ (codes "--history" ∷ rest) ∷ []
+misplaced rest = (codes "--cut" ∷ rest) ∷ (codes "--brief" ∷ rest) ∷ (codes "--any" ∷ rest) ∷ (codes "--progress" ∷ rest)
+    ∷ (codes "--history" ∷ rest) ∷ []
 
 -- words with an option after a command that does not take it
 abbrev pub strange : Text → List (List Text)
-strange word = (codes "solve" ∷ codes "--brief" ∷ []) ∷ (codes "solve" ∷ codes "--history" ∷ word ∷ [])
-    ∷ (codes "check" ∷ codes "--cut" ∷ word ∷ []) ∷ (codes "check" ∷ codes "--brief" ∷ word ∷ [])
+strange word = (codes "solve" ∷ codes "--history" ∷ word ∷ []) ∷ (codes "session" ∷ codes "--any" ∷ word ∷ [])
+    ∷ (codes "check" ∷ codes "--any" ∷ word ∷ []) ∷ (codes "check" ∷ codes "--cut" ∷ word ∷ []) ∷ (codes "check" ∷ codes "--brief" ∷ word ∷ [])
     ∷ (codes "check" ∷ codes "--progress" ∷ word ∷ []) ∷ (codes "check" ∷ codes "--history" ∷ word ∷ []) ∷ []
 
 -- words that say an option twice
 abbrev pub repeated : Text → List (List Text)
-repeated word = (codes "solve" ∷ codes "--cut" ∷ codes "--cut" ∷ []) ∷ (codes "solve" ∷ codes "--progress" ∷ codes "--progress" ∷ [])
+repeated word = (codes "solve" ∷ codes "--any" ∷ codes "--any" ∷ []) ∷ (codes "solve" ∷ codes "--brief" ∷ codes "--brief" ∷ [])
+    ∷ (codes "solve" ∷ codes "--cut" ∷ codes "--cut" ∷ []) ∷ (codes "solve" ∷ codes "--progress" ∷ codes "--progress" ∷ [])
     ∷ (codes "session" ∷ codes "--cut" ∷ codes "--cut" ∷ word ∷ []) ∷ (codes "session" ∷ codes "--brief" ∷ codes "--brief" ∷ word ∷ [])
     ∷ (codes "session" ∷ codes "--progress" ∷ codes "--progress" ∷ word ∷ []) ∷ []
 
@@ -64,11 +68,13 @@ helps rest = (codes "--help" ∷ rest) ∷ (codes "solve" ∷ codes "--help" ∷
 
 pub record PlainWords : Type 0 where
   pub nothing : IsTaken [] None
-  pub solve : IsTaken (codes "solve" ∷ []) (solve_of false false)
-  pub solve_cut : IsTaken (codes "solve" ∷ codes "--cut" ∷ []) (solve_of true false)
-  pub solve_progress : IsTaken (codes "solve" ∷ codes "--progress" ∷ []) (solve_of false true)
-  pub solve_both : IsTaken (codes "solve" ∷ codes "--cut" ∷ codes "--progress" ∷ []) (solve_of true true)
-  pub solve_turned : IsTaken (codes "solve" ∷ codes "--progress" ∷ codes "--cut" ∷ []) (solve_of true true)
+  pub solve : IsTaken (codes "solve" ∷ []) (solve_of false false false false)
+  pub solve_cut : IsTaken (codes "solve" ∷ codes "--cut" ∷ []) (solve_of true false false false)
+  pub solve_brief : IsTaken (codes "solve" ∷ codes "--brief" ∷ []) (solve_of false true false false)
+  pub solve_any : IsTaken (codes "solve" ∷ codes "--any" ∷ []) (solve_of false false true false)
+  pub solve_progress : IsTaken (codes "solve" ∷ codes "--progress" ∷ []) (solve_of false false false true)
+  pub solve_all : IsTaken (codes "solve" ∷ codes "--any" ∷ codes "--brief" ∷ codes "--cut" ∷ codes "--progress" ∷ []) (solve_of true true true true)
+  pub solve_turned : IsTaken (codes "solve" ∷ codes "--progress" ∷ codes "--cut" ∷ codes "--brief" ∷ []) (solve_of true true false true)
   pub session : (path : Text) → IsPlain path → IsTaken (codes "session" ∷ path ∷ []) (session_of false false false path)
   pub session_cut : (path : Text) → IsPlain path → IsTaken (codes "session" ∷ codes "--cut" ∷ path ∷ []) (session_of true false false path)
   pub cut_behind : (path : Text) → IsPlain path → IsTaken (codes "session" ∷ path ∷ codes "--cut" ∷ []) (session_of true false false path)

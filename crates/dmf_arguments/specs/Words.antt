@@ -13,16 +13,16 @@ use Rattle.dmf_arguments.specs.declared.words.Mode.TheVariants as mode
 use Rattle.dmf_arguments.specs.declared.words.WordsFault.{WordsFault}
 use Rattle.dmf_arguments.specs.declared.words.WordsFault.TheVariants.{Help, Usage, NoMemory}
 
--- The task of the program, with the path of the problem's file. A solve and a session say whether the cut is wanted, and whether
--- progress is wanted where standard error is no terminal. A session also says, between these two, whether a reply to a solve is brief,
--- and after them the bound of its history.
+-- The task of the program, with the path of the problem's file. A solve and a session say whether the cut is wanted, whether a solve is
+-- answered briefly, and last whether progress is wanted where standard error is no terminal. A solve also says before that whether any
+-- greatest flow will do, and a session after it the bound of its history.
 pub data Task : Type 0 where
-  solving : Bool → Bool → Task
+  solving : Bool → Bool → Bool → Bool → Task
   holding : Bool → Bool → Bool → ℕ → Text → Task
   checking : Text → Task
 
 abbrev pub task_with : Bool → Bool → Mode → Task
-task_with brief progress (mode.Solve cut) = solving cut progress
+task_with brief progress (mode.Solve cut any) = solving cut brief any progress
 task_with brief progress (mode.Session cut history problem) = holding cut brief progress history problem.bytes.items
 task_with brief progress (mode.Check problem) = checking problem.bytes.items
 
@@ -35,7 +35,7 @@ Gives task = λ result. MatchResult result (λ asked. task_of asked ≡ task) (�
 
 -- The bound of a session's history is at most 1,000,000.
 abbrev pub HasBound : Mode → Type 0
-HasBound (mode.Solve cut) = ⊤
+HasBound (mode.Solve cut any) = ⊤
 HasBound (mode.Session cut history problem) = history ≤ 1000000
 HasBound (mode.Check problem) = ⊤
 
@@ -47,23 +47,23 @@ pub record IsBound (text : Text) (bound : ℕ) : Type 0 where
 
 -- ---- what a parse finds asks for a task: each flag by its text, `true` or `false`
 
--- No command asks to solve, without the cut and without progress.
+-- No command asks to solve, with none of the flags.
 abbrev pub AsksNothing : Asked → Result Arguments WordsFault → Type 0
-AsksNothing asked result = asked ≡ None → Gives (solving false false) result
+AsksNothing asked result = asked ≡ None → Gives (solving false false false false) result
 
 abbrev pub AsksSolve : Asked → Result Arguments WordsFault → Type 0
-AsksSolve asked result = (cut progress : Bool) (brief text path : Option Text)
-    → asked ≡ Some (codes "solve", Some (bool_text cut), brief, Some (bool_text progress), text, path)
-    → Gives (solving cut progress) result
+AsksSolve asked result = (cut brief any progress : Bool) (text path : Option Text)
+    → asked ≡ Some (codes "solve", Some (bool_text cut), Some (bool_text brief), Some (bool_text any), Some (bool_text progress), text, path)
+    → Gives (solving cut brief any progress) result
 
 abbrev pub AsksSession : Asked → Result Arguments WordsFault → Type 0
-AsksSession asked result = (cut brief progress : Bool) (text : Text) (bound : ℕ) (path : Text)
-    → asked ≡ Some (codes "session", Some (bool_text cut), Some (bool_text brief), Some (bool_text progress), Some text, Some path)
+AsksSession asked result = (cut brief progress : Bool) (any : Option Text) (text : Text) (bound : ℕ) (path : Text)
+    → asked ≡ Some (codes "session", Some (bool_text cut), Some (bool_text brief), any, Some (bool_text progress), Some text, Some path)
     → IsBound text bound → Gives (holding cut brief progress bound path) result
 
 abbrev pub AsksCheck : Asked → Result Arguments WordsFault → Type 0
-AsksCheck asked result = (cut brief progress text : Option Text) (path : Text)
-    → asked ≡ Some (codes "check", cut, brief, progress, text, Some path) → Gives (checking path) result
+AsksCheck asked result = (cut brief any progress text : Option Text) (path : Text)
+    → asked ≡ Some (codes "check", cut, brief, any, progress, text, Some path) → Gives (checking path) result
 
 abbrev pub Asks : Asked → Result Arguments WordsFault → Type 0
 Asks asked result = AsksNothing asked result × AsksSolve asked result × AsksSession asked result × AsksCheck asked result

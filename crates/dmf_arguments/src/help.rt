@@ -3,7 +3,13 @@
 /// The version, which `dmf --version` writes after the program's name.
 pub const VERSION: &str = "0.1.0";
 
-/// The option `--brief`.
+/// The option `--any`.
+pub const ANY: &str = "Write any flow of the greatest value, found sooner";
+
+/// The option `--brief` of a solve.
+pub const VALUE: &str = "Write the value in place of the solution";
+
+/// The option `--brief` of a session.
 pub const BRIEF: &str = "Answer a solve by its value in place of the solution";
 
 /// The option `--cut` of a solve.
@@ -35,7 +41,7 @@ pub struct Help {
 /// The help of `dmf`.
 pub const PROGRAM: Help = Help {
     about: "Find how much a network can carry and where its limit is, and try out changes",
-    usage: "dmf [solve [--cut] [--progress]] <FILE
+    usage: "dmf [solve [--any] [--brief] [--cut] [--progress]] <FILE
        dmf session [--brief] [--cut] [--history N] [--progress] PROBLEM
        dmf check PROBLEM <SOLUTION",
     notes: "How much can the network carry, and where is its limit?
@@ -71,7 +77,7 @@ each command and tool says more. man dmf has the formats.",
 /// The help of `dmf solve`.
 pub const SOLVE: Help = Help {
     about: "Find how much can be sent, and on which arcs (as dmf alone does)",
-    usage: "dmf solve [--cut] [--progress] <FILE",
+    usage: "dmf solve [--any] [--brief] [--cut] [--progress] <FILE",
     notes: "Example:
   $ dmf solve --cut <network.max
   s 5
@@ -87,6 +93,10 @@ The line s has how much can be sent in all, the value of the flow. The lines f
 follow the arcs of the problem in their order: from node, to node, and the flow
 on the arc. With --cut, c cut has how much the arcs at the limit can carry, and
 each c side names a node on the source's side of that limit.
+
+With --brief the line c solve value VALUE stands for the solution. With --any
+the flow may be another of the same value, and another version of dmf may write
+another. Where many flows are greatest, both find theirs sooner.
 
 man dmf has the formats.",
 };

@@ -17,9 +17,11 @@ pub const MAX_HISTORY: u32 = 1_000_000;
 /// A run that the arguments ask for.
 #[derive(Debug, Drop, PartialEq, Eq)]
 pub enum Mode {
-    /// Solve the problem on standard input. The cut follows the solution if it is wanted.
+    /// Solve the problem on standard input. The cut follows the solution if it is wanted. With `any` the solution may be any greatest
+    /// flow.
     Solve {
         cut: bool,
+        any: bool,
     },
     /// Hold a session on the problem in the file at this path. The cut follows each solution if it is wanted, and at most so many
     /// states are kept before the present one.
@@ -34,8 +36,8 @@ pub enum Mode {
     },
 }
 
-/// All that the arguments ask for: a run; whether it reports progress even if standard error is no terminal; and for a session whether
-/// it answers a solve with the value instead of the solution.
+/// All that the arguments ask for: a run; whether it reports progress even if standard error is no terminal; and whether a solve is
+/// answered with the value instead of the solution, in a session too.
 #[derive(Debug, Drop, PartialEq, Eq)]
 pub struct Arguments {
     pub mode: Mode,
@@ -80,9 +82,9 @@ pub fn read_words(alloc: Global, words: Vec<String>) -> Result<Mode, WordsFault>
 /// Reads the program's arguments, of which the first is its name.
 ///
 /// No words after it, or `solve`, ask for [`Mode::Solve`]. `session PROBLEM` asks for [`Mode::Session`], and `check PROBLEM` for
-/// [`Mode::Check`]. The flags `--cut` and `--progress` may stand after `solve` and `session`. `--brief` and `--history N` may stand
-/// after `session` alone. N is a number up to [`MAX_HISTORY`], which is its default. `--help` may stand after each command or alone. A
-/// PROBLEM that begins with a dash stands after `--`.
+/// [`Mode::Check`]. The flags `--brief`, `--cut` and `--progress` may stand after `solve` and `session`, `--any` after `solve` alone,
+/// and `--history N` after `session` alone. N is a number up to [`MAX_HISTORY`], which is its default. `--help` may stand after each
+/// command or alone. A PROBLEM that begins with a dash stands after `--`.
 ///
 /// `--help` gives [`WordsFault::Help`], and so do `help`, alone or before a command, and `--version` alone. All other words give
 /// [`WordsFault::Usage`]. The texts are those of `clap`. [`WordsFault::NoMemory`] may come in place of any answer.
@@ -132,6 +134,8 @@ fn solve<'a>(alloc: Global) -> Result<Command<'a>, AllocError>
     ensures { IfOk result (IsLine solve_line) }
 {
     named(alloc, "solve", help::SOLVE)
+        .arg(flag(alloc, "any", help::ANY))?
+        .arg(flag(alloc, "brief", help::VALUE))?
         .arg(flag(alloc, "cut", help::CUT))?
         .arg(flag(alloc, "progress", help::PROGRESS))
 }
@@ -217,15 +221,19 @@ fn arguments_of(alloc: Global, matches: &ArgMatches<'_>) -> Result<Arguments, Wo
         }),
         Some((_, solve)) => Ok(Arguments {
             progress: solve.get_flag("progress"),
-            brief: false,
+            brief: solve.get_flag("brief"),
             mode: Mode::Solve {
                 cut: solve.get_flag("cut"),
+                any: solve.get_flag("any"),
             },
         }),
         None => Ok(Arguments {
             progress: false,
             brief: false,
-            mode: Mode::Solve { cut: false },
+            mode: Mode::Solve {
+                cut: false,
+                any: false,
+            },
         }),
     }
 }

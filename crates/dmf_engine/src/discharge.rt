@@ -1,7 +1,7 @@
 //! Discharging a node: pushes, relabels and gaps.
 use crate::engine::Engine;
 use crate::links::head_of;
-use crate::list::{read, within, write};
+use crate::list::{mask_of, masked, read, within, write};
 
 /// A node that is discharged.
 #[derive(Drop)]
@@ -63,11 +63,15 @@ impl Engine {
     fn admissible(&self, at: &Discharge) -> u32 {
         let links = within(&self.links.all, at.current, at.end);
         let labels = &self.labels[..];
+        if labels.is_empty() {
+            return at.end;
+        }
+        let mask = mask_of(labels);
         let wanted = at.label.wrapping_sub(1);
         let direction = self.direction;
         let mut place = at.current;
         for link in links {
-            if direction.can_leave(link.word) && read(labels, head_of(link.word), 0) == wanted {
+            if direction.can_leave(link.word) && masked(labels, link.word, mask) == wanted {
                 return place;
             }
             place = place.wrapping_add(1);
@@ -79,8 +83,7 @@ impl Engine {
     #[inline(always)]
     fn push_over(&mut self, at: &mut Discharge) -> bool {
         let head = head_of(self.links.at(at.current).word);
-        let amount = self.links.room(self.direction, at.current).min(at.excess);
-        self.links.push(self.direction, at.current, amount);
+        let amount = self.links.push(self.direction, at.current, at.excess);
         self.receive(head, amount);
         at.excess = at.excess.saturating_sub(amount);
         at.excess == 0
@@ -134,10 +137,14 @@ impl Engine {
             label: self.nodes,
             place: end,
         };
+        if labels.is_empty() {
+            return least;
+        }
+        let mask = mask_of(labels);
         let mut place = start;
         for link in within(&self.links.all, start, end) {
             if direction.can_leave(link.word) {
-                let label = read(labels, head_of(link.word), 0);
+                let label = masked(labels, link.word, mask);
                 if label < least.label {
                     least = Least { label, place };
                 }

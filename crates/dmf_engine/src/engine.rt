@@ -2,7 +2,7 @@
 use crate::buckets::Buckets;
 use crate::direction::Direction;
 use crate::links::{Links, head_of};
-use crate::list::{Row, read, write};
+use crate::list::{Row, power_from, read, write};
 use dmf_state::NoMemory;
 use std::alloc::Global;
 
@@ -15,7 +15,8 @@ pub struct Engine {
     pub nodes: u32,
     /// From which end excess is pushed.
     pub direction: Direction,
-    /// The labels of the nodes: lower bounds of their distances to the goal.
+    /// The labels of the nodes: lower bounds of their distances to the goal. Their number is a power of two, so that a word's label is found
+    /// without a test.
     pub labels: Vec<u32>,
     /// The current arc of each node, as a place.
     pub currents: Vec<u32>,
@@ -46,7 +47,7 @@ impl Engine {
             links,
             nodes,
             direction,
-            labels: vec![in alloc; 0u32; size]?,
+            labels: vec![in alloc; 0u32; power_from(size)]?,
             currents: vec![in alloc; 0u32; size]?,
             excess: vec![in alloc; 0u64; size]?,
             buckets: Buckets::new(alloc, size)?,
@@ -55,6 +56,24 @@ impl Engine {
             since: 0,
             budget: 0,
         })
+    }
+
+    /// The links, with what has been pushed over them.
+    pub fn into_links(self) -> Links {
+        let Engine {
+            links,
+            nodes: _,
+            direction: _,
+            labels: _,
+            currents: _,
+            excess: _,
+            buckets: _,
+            queue: _,
+            chance: _,
+            since: _,
+            budget: _,
+        } = self;
+        links
     }
 
     /// The label of a node.
@@ -75,19 +94,16 @@ impl Engine {
         self.budget = self.budget.saturating_sub(u64::from(work));
     }
 
-    /// Pushes as much to the goal as can come there, and leaves at nodes on the way what cannot. `false` if the budget ended first.
-    pub fn push_to_goal(&mut self, most: u64) -> bool {
+    /// Pushes as much to the goal as can come there, and leaves at nodes on the way what cannot. If the budget ends first, more could come.
+    pub fn push_to_goal(&mut self, most: u64) {
         self.label_all();
         self.saturate();
         for _ in 0..self.budget {
-            if self.budget == 0 {
-                return false;
+            let top = self.buckets.top;
+            if self.budget == 0 || top == 0 {
+                return;
             }
             self.spend(1);
-            let top = self.buckets.top;
-            if top == 0 {
-                return true;
-            }
             let node = self.buckets.take_active(top);
             if node == 0 {
                 self.buckets.top = top.wrapping_sub(1);
@@ -98,7 +114,6 @@ impl Engine {
                 }
             }
         }
-        false
     }
 
     /// Pushes over each link of the base as much as it takes.
@@ -108,8 +123,7 @@ impl Engine {
             let word = self.links.at(place).word;
             let node = head_of(word);
             if self.direction.can_leave(word) && self.label(node) < self.nodes {
-                let amount = self.links.room(self.direction, place);
-                self.links.push(self.direction, place, amount);
+                let amount = self.links.push(self.direction, place, u64::MAX);
                 self.receive(node, amount);
             }
         }

@@ -1,4 +1,6 @@
 //! Lists that are safe at any index.
+ghost use Rattle.std.specs.Prelude.{◌<◌, length};
+
 use crate::links::Link;
 use dmf_state::NoMemory;
 use std::alloc::Global;
@@ -21,6 +23,34 @@ pub fn write<T: Copy + Drop>(items: &mut [T], index: u32, item: T) {
     if index < items.len() {
         items[index] = item;
     }
+}
+
+/// The least power of two from a number on, up to 2^25.
+pub fn power_from(number: usize) -> usize {
+    let mut power = 1usize;
+    for _ in 0..25 {
+        if power < number {
+            power = power.wrapping_mul(2);
+        }
+    }
+    power
+}
+
+/// The largest index of a list.
+#[inline(always)]
+pub fn mask_of(items: &[u32]) -> usize
+    requires { 0 < length items.now }
+    ensures { result < length items.now }
+{
+    items.len() - 1
+}
+
+/// The item at the part of a word that a mask leaves.
+#[inline(always)]
+pub fn masked(items: &[u32], word: u32, mask: usize) -> u32
+    requires { mask < length items.now }
+{
+    items[word as usize & mask]
 }
 
 /// The items from `start` up to `end`. None where these are no places of the list.

@@ -187,8 +187,7 @@ impl Engine {
             let word = self.links.at(place).word;
             if self.direction.takes_back(word) {
                 let head = head_of(word);
-                let amount = self.links.room(self.direction, place).min(left);
-                self.links.push(self.direction, place, amount);
+                let amount = self.links.push(self.direction, place, left);
                 let given = self.excess_at(head).wrapping_add(amount);
                 write(&mut self.excess, head, given);
                 left = left.saturating_sub(amount);

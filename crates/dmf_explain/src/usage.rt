@@ -8,7 +8,7 @@ use std::fmt;
 pub enum Meant<'a> {
     /// To solve the problem in this file, which has to come from standard input.
     Solve {
-        with_cut: bool,
+        flags: SolveFlags,
         file: &'a str,
     },
     /// To check a problem's solution, or to run commands on a problem, from this file, which has to come from standard input.
@@ -23,13 +23,29 @@ pub enum Meant<'a> {
     },
 }
 
+/// The flags before a file to be solved.
+#[derive(Clone, Copy, Default)]
+pub struct SolveFlags {
+    any: bool,
+    brief: bool,
+    cut: bool,
+}
+
+impl fmt::Display for SolveFlags {
+    fn fmt<W: fmt::Write>(&self, f: &mut fmt::Formatter<W>) -> fmt::Result {
+        let any = if self.any { "--any " } else { "" };
+        let brief = if self.brief { "--brief " } else { "" };
+        let cut = if self.cut { "--cut " } else { "" };
+        write!(f, "{any}{brief}{cut}")
+    }
+}
+
 impl fmt::Display for Meant<'_> {
     fn fmt<W: fmt::Write>(&self, f: &mut fmt::Formatter<W>) -> fmt::Result {
         match self {
-            Meant::Solve { with_cut, file } => {
-                let cut = if *with_cut { "--cut " } else { "" };
+            Meant::Solve { flags, file } => {
                 let shown = Shown(file.as_bytes());
-                write!(f, "dmf solve {cut}<{shown}")
+                write!(f, "dmf solve {flags}<{shown}")
             }
             Meant::Input {
                 command,
@@ -54,7 +70,7 @@ pub fn meant_by<'a>(words: &'a [String], most: u32) -> Option<Meant<'a>> {
         [_, command, rest @ ..] if command.as_str() == "solve" => solve_of(rest),
         [_, command, problem, file] => input_of(command.as_str(), problem.as_str(), file.as_str()),
         [_, file] if is_file_name(file.as_str()) => Some(Meant::Solve {
-            with_cut: false,
+            flags: SolveFlags::default(),
             file: file.as_str(),
         }),
         _ => None,
@@ -76,19 +92,21 @@ fn input_of<'a>(command: &'a str, problem: &'a str, file: &'a str) -> Option<Mea
 
 /// The solve that the words after `solve` may mean: they have one file beside the flags, whose name needs no quotes.
 fn solve_of(words: &[String]) -> Option<Meant<'_>> {
-    let mut with_cut = false;
+    let mut flags = SolveFlags::default();
     let mut meant: Option<&str> = None;
     for word in words {
         let word = word.as_str();
         match word {
-            "--cut" => with_cut = true,
+            "--any" => flags.any = true,
+            "--brief" => flags.brief = true,
+            "--cut" => flags.cut = true,
             "--progress" => {}
             file if meant.is_none() && is_file_name(file) => meant = Some(file),
             _ => return None,
         }
     }
     let file = meant?;
-    Some(Meant::Solve { with_cut, file })
+    Some(Meant::Solve { flags, file })
 }
 
 /// Whether the word may name a file, by a name that needs no quotes.

@@ -5,7 +5,7 @@ pub use arguments::words;
 pub use explained::explain;
 pub use fault::Fault;
 pub use files::{open_problem, output};
-pub use runs::{check, solve};
+pub use runs::{SolveAnswer, check, solve};
 pub use told::{print, program_status, tell};
 
 mod arguments;

@@ -3,20 +3,37 @@ use crate::fault::Fault;
 use crate::files::{open_problem, output};
 use dmf_explain::invite;
 use dmf_progress::{Progress, WatchedSink, WatchedSolve, WatchedSource};
-use dmf_solving::{run_check, run_solve_watched};
+use dmf_solving::{run_check, run_solve_any, run_solve_brief, run_solve_watched};
 use dmf_streams::Status;
 use dmf_text::StdSource;
 
-/// Solves the problem on standard input, and tells the cut where it is wanted.
+/// What a solve is to write.
+#[derive(Clone, Copy)]
+pub struct SolveAnswer {
+    /// Whether the cut is wanted.
+    pub cut: bool,
+    /// Whether the value will do.
+    pub brief: bool,
+    /// Whether any greatest flow will do.
+    pub any: bool,
+}
+
+/// Solves the problem on standard input, and writes what is wanted.
 #[inline(never)]
-pub fn solve(rt: &HostRuntime, want_cut: bool, want_progress: bool) -> Result<Status, Fault> {
+pub fn solve(rt: &HostRuntime, wanted: SolveAnswer, want_progress: bool) -> Result<Status, Fault> {
     let out = output(rt)?;
     invite(rt);
     let progress = Progress::new(rt, want_progress);
     let mut out = WatchedSink::new(out, &progress);
     let mut problem = WatchedSource::of_input(StdSource::new(rt.stdin()), &progress);
     let mut watch = WatchedSolve::new(&progress);
-    let outcome = run_solve_watched(rt.alloc(), &mut problem, &mut out, want_cut, &mut watch);
+    let outcome = if wanted.brief {
+        run_solve_brief(rt.alloc(), &mut problem, &mut out, wanted.cut, &mut watch)
+    } else if wanted.any {
+        run_solve_any(rt.alloc(), &mut problem, &mut out, wanted.cut, &mut watch)
+    } else {
+        run_solve_watched(rt.alloc(), &mut problem, &mut out, wanted.cut, &mut watch)
+    };
     progress.end();
     Ok(outcome?)
 }

@@ -7,3 +7,4 @@ pub use dmf_runs::{
     refusal_text, run_check, run_commands, run_commands_watched, run_session, run_session_bounded,
     run_session_watched, run_solve, run_solve_watched, status_of,
 };
+pub use dmf_solving::{run_solve_any, run_solve_brief};

@@ -1,4 +1,4 @@
-ghost use Rattle.dmf_solving.specs.Laws.{WrittenIsOptimal};
+ghost use Rattle.dmf_solving.specs.Laws.{AnyIsOptimal, ValueIsOptimal, WrittenIsOptimal};
 
 use dmf_solver::{greatest_is_optimal, solved_is_greatest};
 use dmf_text::accepted_is_state;
@@ -7,6 +7,16 @@ use dmf_text::accepted_is_state;
 /// smallest minimum cut.
 pub fn written_is_optimal()
     ensures { WrittenIsOptimal }
+{
+    accepted_is_state();
+    solved_is_greatest();
+    greatest_is_optimal();
+}
+
+/// The same law of the value that a run for the value writes, and of the solution that a run for any greatest flow writes.
+pub fn any_is_optimal()
+    ensures value { ValueIsOptimal }
+    ensures any { AnyIsOptimal }
 {
     accepted_is_state();
     solved_is_greatest();

@@ -1,6 +1,7 @@
 //! Solving a problem, from bytes to bytes.
 ghost use Rattle.std.specs.Prelude.{IfOk};
 ghost use Rattle.dmf_solver.specs.Change.{Solve, Becomes};
+ghost use Rattle.dmf_solver.specs.Greatest.{IsGreatest};
 ghost use Rattle.dmf_solver.specs.Planning.{IsSideWanted};
 ghost use Rattle.dmf_solving.specs.SolveRun.{RunsSolve};
 ghost use Rattle.dmf_solving.specs.Laws.{WrittenIsOptimal};
@@ -53,20 +54,21 @@ pub fn run_solve_watched<P: Source, W: Sink, V: Watch>(
 
 /// A state with a maximum flow, and a cut if one is wanted.
 #[derive(Drop)]
-struct Solved {
-    state: State,
-    side: Option<Side>,
+pub struct Solved {
+    pub state: State,
+    pub side: Option<Side>,
 }
 
 /// Augments the state's flow to a maximum flow, and finds the smallest side of its network if that is wanted. Drops the state if memory
 /// is refused.
-fn solve<V: Watch>(
+pub fn solve<V: Watch>(
     alloc: Global,
     mut state: State,
     want_cut: bool,
     watch: &mut V,
 ) -> Result<Solved, NoMemory>
     ensures becomes { IfOk result (λ solved. Becomes state Solve solved.state) }
+    ensures greatest { IfOk result (λ solved. IsGreatest solved.state.network solved.state.flows) }
     ensures side { IfOk result (λ solved. IsSideWanted want_cut solved.state.network solved.side) }
 {
     watch.begun(&state);

@@ -1,4 +1,4 @@
-//! Tests of the engine: the values of its flows beside those of a solve.
+//! Tests of the engine, and of solves that begin at its flows or at wrong ones.
 #![tactic(auto)]
 
 #[cfg(test)]

@@ -133,7 +133,7 @@ fn asked(alloc: Global, line: &str) -> Result<Result<Mode, WordsFault>, AllocErr
 /// The number of a run's mode, or that of a fault after 10.
 fn number_of(asked: &Result<Mode, WordsFault>) -> u32 {
     match asked {
-        Ok(Mode::Solve { cut: _ }) => 1,
+        Ok(Mode::Solve { cut: _, any: _ }) => 1,
         Ok(
             Mode::Session {
                 cut: _,

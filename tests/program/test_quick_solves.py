@@ -1,0 +1,119 @@
+"""Compares solves by any greatest flow (`dmf solve --brief` and `--any`) with ordinary ones: on networks of each family of the benchmark, on
+the examples, and on random ones. On the families the ordinary search is seen to find no path after the engine. `--long` tries 100,000
+random networks."""
+
+from __future__ import annotations
+
+import shutil
+import subprocess
+import time
+from collections.abc import Iterator
+from pathlib import Path
+from random import Random
+
+import built
+import pytest
+from built import PROBLEM, Case
+from conftest import BUILT, ROOT
+from make_network import problem_of
+from oracle.problem import read_problem
+from oracle.program import AnySolution
+from oracle.texts import LineFault
+from random_cases import fitting, network, plain_text, problem_lines
+
+FAMILIES = "grid", "random", "road", "bip", "ac", "rmf-wide", "rmf-long", "wash-wide", "wash-long"
+ARCS = 3000
+FEW, MANY = 200, 100_000
+SECONDS = 60
+# Longer than reading is silent after its first report, in seconds.
+PAUSE = 0.4
+CHAIN = b"p max 3 2\nn 1 s\nn 3 t\na 1 2 7\na 2 3 4\n"
+
+
+def solved(problem: bytes, *words: bytes) -> bytes:
+    run = built.run(Case("a solve", (b"solve", *words), problem, problem))
+    assert (run.status, run.err) == (0, b""), (words, run)
+    return run.out
+
+
+def parts(answer: bytes) -> tuple[bytes, bytes]:
+    """The value that a solution tells, and the cut after it."""
+    at = answer.index(b"c cut ")
+    return answer.partition(b"\n")[0].removeprefix(b"s "), answer[at:]
+
+
+def difference(problem: bytes) -> str | None:
+    """What is wrong with the quick solves of a problem, if anything."""
+    value, cut = parts(solved(problem, b"--cut"))
+    if solved(problem, b"--brief", b"--cut") != b"c solve value " + value + b"\n" + cut:
+        return "the value or its cut"
+    answer = solved(problem, b"--any", b"--cut")
+    if parts(answer) != (value, cut):
+        return "the value or the cut of any flow"
+    state = AnySolution(read_problem(problem), cut).state_of(answer)
+    return None if state and state.value() == int(value) else "any flow is no flow"
+
+
+@pytest.fixture(scope="module")
+def generated(tmp_path_factory: pytest.TempPathFactory) -> dict[str, bytes]:
+    """A network of each family by its name."""
+    if not shutil.which("g++"):
+        pytest.skip("the families of the benchmark, since g++ is not there")
+    maker = tmp_path_factory.mktemp("families") / "generate"
+    subprocess.run(["g++", "-O1", "-std=c++17", "-o", maker, ROOT / "bench" / "generate.cpp"], check=True)
+    made = {family: subprocess.run([maker, family, str(ARCS), "1990"], capture_output=True, check=True).stdout for family in FAMILIES}
+    return {**made, "levels": problem_of(32, 30, 3, 100, 7).encode()}
+
+
+@pytest.mark.seconds(5)
+def test_families(generated: dict[str, bytes]) -> None:
+    assert {family: difference(problem) for family, problem in generated.items()} == dict.fromkeys(generated)
+
+
+@pytest.mark.parametrize("file", [pytest.param(it, id=it.name) for it in sorted((ROOT / "examples").glob("*.max"))])
+def test_examples(file: Path) -> None:
+    assert difference(file.read_bytes()) is None
+
+
+def told(problems: dict[str, bytes], *words: str) -> dict[str, bytes]:
+    """What runs tell by `--progress`, all at once. Each has a pause between the text and its end, so that the first path is told."""
+    runs = {}
+    for name, problem in problems.items():
+        run = subprocess.Popen(
+            [BUILT, "solve", "--progress", *words], stdin=subprocess.PIPE, stdout=subprocess.DEVNULL, stderr=subprocess.PIPE
+        )
+        assert run.stdin
+        run.stdin.write(problem)
+        run.stdin.flush()
+        runs[name] = run
+    time.sleep(PAUSE)
+    return {name: run.communicate(timeout=SECONDS)[1] for name, run in runs.items()}
+
+
+@pytest.mark.seconds(4)
+def test_no_path_is_left(generated: dict[str, bytes]) -> None:
+    """An ordinary solve tells of a path, and one by the engine's flow of none: the ordinary plan answers never."""
+    problems = {**generated, "a chain": CHAIN}
+    assert {name: b"solving" in text for name, text in told(problems).items()} == dict.fromkeys(problems, True)
+    for word in "--brief", "--any":
+        assert {name: b"solving" in text for name, text in told(problems, word).items()} == dict.fromkeys(problems, False)
+
+
+def random_problems(count: int, seed: str) -> Iterator[bytes]:
+    """Problems without a fault."""
+    for number in range(count):
+        random = Random(f"{seed}/{number}")
+        text = plain_text(problem_lines(fitting(network(random)), random))
+        try:
+            read_problem(text)
+        except LineFault:
+            continue
+        yield text
+
+
+@pytest.mark.seconds(2)
+def test_random(request: pytest.FixtureRequest) -> None:
+    count = MANY if request.config.getoption("--long") else FEW
+    for problem in random_problems(count, f"quick {request.config.getoption('--seed')}"):
+        wrong = difference(problem)
+        assert wrong is None, (wrong, Case("a quick solve", (b"solve", b"--any", b"--cut"), PROBLEM, problem))
