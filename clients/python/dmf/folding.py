@@ -34,6 +34,11 @@ class Folding:
                     self._at_joints[joint].append(role.node)
 
     @property
+    def has_roles(self) -> bool:
+        """Whether an arc can be none of a table."""
+        return bool(self._joints or self._first)
+
+    @property
     def has_unlimited(self) -> bool:
         """Whether a source or a sink is unlimited whose arc is none of the table."""
         return bool(self._unlimited)
