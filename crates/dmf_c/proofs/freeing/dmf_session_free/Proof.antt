@@ -42,14 +42,14 @@ use Rattle.std.proofs.boxed.Box.from_raw.Met.{met}
 use Rattle.dmf_c.specs.Owned.{owns_handle}
 use Rattle.dmf_c.specs.declared.handle.Handle.{Handle}
 use Rattle.dmf_c.specs.contracts.handle.Handle.{the_row as T}
-use Rattle.dmf_c.specs.contracts.closed as closing
-use Rattle.dmf_c.proofs.closed.Met as closing_met
+use Rattle.dmf_c.specs.contracts.freeing.closed as closing
+use Rattle.dmf_c.proofs.freeing.closed.Met as closing_met
 use Rattle.dmf_c.proofs.Passed.{A, LA, drops, al}
 use Rattle.dmf_c.proofs.HandleGlue as handle
 use Rattle.dmf_c.proofs.Destruct++none.drop.Code as nothing-dropped
-use Rattle.dmf_c.specs.contracts.dmf_session_free as f
-use Rattle.dmf_c.proofs.dmf_session_free.Statement.{statement}
-use Rattle.dmf_c.proofs.dmf_session_free.Code as code
+use Rattle.dmf_c.specs.contracts.freeing.dmf_session_free as f
+use Rattle.dmf_c.proofs.freeing.dmf_session_free.Statement.{statement}
+use Rattle.dmf_c.proofs.freeing.dmf_session_free.Code as code
 
 abbrev E : box.Bx
 E = record { row = handle.X; laws = handle.LX; al = al }
@@ -85,13 +85,13 @@ dmf_session_free_spec {M} 𝓤 𝓛 𝓜 𝓡 wired =
     let z : k.Ghost = (((ν, (κ, tt)), (full_share, (full_share, tt)), tt, (al₀, (block_ptr b o, tt)), (gv ∷ [], (vptr b o ∷ [], tt))), g) in
     use1 𝓛 (raw (k.pre z)) (id⊢ 𝓤 _) $
     let allocator = passed 𝓡.env (code.calls-std_heap::GlobalAllocator::allocate 𝓡.env wired) (code.calls-std_heap::GlobalAllocator::deallocate 𝓡.env wired)
-      (code.calls-std_heap::GlobalAllocator::grow 𝓡.env wired) (code.calls-std_heap::GlobalAllocator::shrink 𝓡.env wired) M 𝓤 𝓛 𝓜 𝓡 in
+    (code.calls-std_heap::GlobalAllocator::grow 𝓡.env wired) (code.calls-std_heap::GlobalAllocator::shrink 𝓡.env wired) M 𝓤 𝓛 𝓜 𝓡 in
     let glued = NoDrop.glues "dmf_c::Destruct++none::drop" 𝓡.env (code.calls-dmf_c::Destruct++none::drop 𝓡.env wired) A LA M 𝓤 𝓛 𝓜 𝓡 in
     let called = callee.ended handle.X A ghosts dict drops in
     calls_at ! (framed 𝓤 𝓛.H 𝓜 𝓣) k (met 𝓤 𝓛 𝓜 𝓡 (code.calls-std_alloc::boxed::Box::from_raw 𝓡.env wired) handle.X A handle.LX LA ghosts dict drops allocator glued) z
     (and_then ! (get ! refl) (and_then ! (get ! refl) (no_more !))) (λ u.
     use1 𝓛 (later (some (λ (r : B.Denot). ((‵ (flft ν full_share) ⊛ ‵ (flft κ full_share) ⊛ ‵ ftrue) ⊛ ‵ (B.own_val r (u ∷ []))) ⊛
-      some (λ (ls : Lasts called z.0.0 z.0.3). ‵ (lasts called z.0.0 z.0.3 ls) ⊛ (raw (fact 𝓤 (r.value ≡ g)) ⊛ raw (fact 𝓤 (r.alloc ≡ al₀))))))) (id⊢ 𝓤 (k.post z u)) $
+    some (λ (ls : Lasts called z.0.0 z.0.3). ‵ (lasts called z.0.0 z.0.3 ls) ⊛ (raw (fact 𝓤 (r.value ≡ g)) ⊛ raw (fact 𝓤 (r.alloc ≡ al₀))))))) (id⊢ 𝓤 (k.post z u)) $
     await ! tt $ pick ! (λ r. split ! $ split ! $ drop ! $
     box_out E ! r (u ∷ []) (λ b' o' h' e' us fits'. box_in E ! r b' o' r.value e' refl $ rewrite ! 0 (λ (xs : List Val). ‵ (B.own_val r xs)) (sym us) refl $
     let good : Good (layout B) u = subst (Good (layout B)) (sym (ap only us)) (box.box_typed E h' b' o' fits') in
@@ -100,7 +100,7 @@ dmf_session_free_spec {M} 𝓤 𝓛 𝓜 𝓡 wired =
     let m = triple_of 𝓛 closing.signature (closing.spec 𝓛 𝓜.mem 𝓡.returns) in
     let x : m.Ghost = ((tt, tt, tt, (r, tt), (u ∷ [], tt)), tt) in
     nothing ! $ move ! (1 ∷ 0 ∷ []) $ fjoin ! $ nothing ! $ join ! $ nothing ! $ move ! (1 ∷ 0 ∷ []) $ join ! $ use1 𝓛 (raw (m.pre x)) (id⊢ 𝓤 _) $
-    calls_at ! (framed 𝓤 𝓛.H 𝓜 𝓣) m (closing_met.met 𝓤 𝓛 𝓜 𝓡 (code.calls-dmf_c::closed 𝓡.env wired)) x (and_then ! (get ! refl) (no_more !)) (λ v.
+    calls_at ! (framed 𝓤 𝓛.H 𝓜 𝓣) m (closing_met.met 𝓤 𝓛 𝓜 𝓡 (code.calls-dmf_c::freeing::closed 𝓡.env wired)) x (and_then ! (get ! refl) (no_more !)) (λ v.
     use1 𝓛 (later (some (λ (q : Unit {0}). (‵ ftrue ⊛ ‵ (unit.own_val q (v ∷ []))) ⊛ some (λ (ls : Lasts closing.ended x.0.0 x.0.3). ‵ (lasts closing.ended x.0.0 x.0.3 ls) ⊛ ‵ ftrue))))
     (id⊢ 𝓤 (m.post x v)) $
     await ! tt $ pick ! (λ q. split ! $ split ! $ drop ! $ feq_l ! (λ is_unit. lands_as ! (ap only is_unit) refl (tt, tt) $
