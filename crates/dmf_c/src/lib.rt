@@ -1,10 +1,12 @@
 //! Sessions for C: `include/dmf.h` declares these functions, and docs/LIBRARY.md explains them.
 #![tactic(auto)]
 
+mod building;
 mod code;
 mod commands;
 mod freeing;
 mod handle;
+mod opening;
 mod plan;
 mod reading;
 mod slot;
