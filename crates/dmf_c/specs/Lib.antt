@@ -4,3 +4,6 @@ pub mod Codes
 pub mod Building
 pub mod Built
 pub mod Opening
+pub mod Arrays
+pub mod FaultNumber
+pub mod Texts

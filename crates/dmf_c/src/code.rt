@@ -13,7 +13,7 @@ pub fn answer_code(answer: &Result<Reply, Refusal>) -> u32
     }
 }
 
-fn refusal_code(refusal: Refusal) -> u32
+pub fn refusal_code(refusal: Refusal) -> u32
     ensures { result ≡ refusal_code refusal }
 {
     match refusal {

@@ -1,6 +1,7 @@
 //! Sessions for C: `include/dmf.h` declares these functions, and docs/LIBRARY.md explains them.
 #![tactic(auto)]
 
+mod arrays;
 mod building;
 mod code;
 mod commands;
@@ -10,3 +11,5 @@ mod opening;
 mod plan;
 mod reading;
 mod slot;
+mod texts;
+mod writing;

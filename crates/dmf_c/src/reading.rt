@@ -1,5 +1,5 @@
 //! What C reads of a session. No call changes the session.
-ghost use Rattle.std.specs.Prelude.{◌≡◌, ℕ, pos, length, map};
+ghost use Rattle.std.specs.Prelude.{◌≡◌, pos, length};
 ghost use Rattle.dmf_state.specs.Flow.{flow_value};
 ghost use Rattle.dmf_history.specs.Timeline.{future_of};
 ghost use Rattle.dmf_c.specs.Codes.{OfPresent};
@@ -67,4 +67,12 @@ pub extern "C" fn dmf_session_sink(session: &mut Handle) -> u32
     ensures unchanged { session.new.timeline ≡ session.old.timeline }
 {
     session.plan().present().sink()
+}
+
+/// The version, as a number.
+#[unsafe(no_mangle)]
+pub extern "C" fn dmf_version() -> u32
+    ensures { result ≡ 100 }
+{
+    100
 }
