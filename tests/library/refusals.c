@@ -73,7 +73,7 @@ static enum dmf_status call(dmf_session *session, int step)
     case 6: return dmf_session_problem(session, text, sizeof text, &length);
     case 7: return dmf_session_solution(session, text, sizeof text, &length);
     case 8: return dmf_session_undo(session, 2);
-    case 9: return dmf_session_redo(session, 1);
+    case 9: return dmf_session_redo(session, 2);
     case 10: return dmf_session_close(session, 1);
     default: return dmf_session_shut(session, 3);
     }

@@ -22,7 +22,7 @@ def folder(tmp_path_factory: pytest.TempPathFactory) -> Path:
 
 def compiled(compiler: list[str], source: Path, folder: Path, scratch: Path, *more: str) -> Path:
     program = scratch / "caller"
-    linked = [f"-L{folder}", "-ldmf", f"-Wl,-rpath,{folder}"]
+    linked = [str(folder / "libdmf.so.0"), f"-Wl,-rpath,{folder}"]
     subprocess.run([*compiler, *STRICT, *more, str(source), "-o", str(program), *linked], check=True)
     return program
 

@@ -1,3 +1,4 @@
 pub mod Passed
 pub mod PlanGlue
 pub mod HandleGlue
+pub mod Judging

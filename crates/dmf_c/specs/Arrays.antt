@@ -66,9 +66,13 @@ abbrev pub TellsGreatest : NetworkState → List ℕ → ℕ → Type 0
 TellsGreatest s flows code =
     ((code ≡ 0) × IsGreatest s.network flows) ⊎ ((code ≡ 9) × IsSurpassed s.network flows)
 
--- What a check of these numbers answers, if no memory is refused: as many as there are arcs, their first fault, and whether some flow has a larger value.
+-- The answer about these numbers, one for each arc: their first fault, or whether some flow has a larger value.
+abbrev pub JudgesFlow : NetworkState → List ℕ → ℕ → ℕ → Type 0
+JudgesFlow s flows code place =
+    MatchOption (flow_fault s.network flows) (TellsGreatest s flows code × (place ≡ 0))
+    (λ fault. (code ≡ flow_code fault) × (place ≡ flow_place fault))
+
+-- What a check of these numbers answers, if no memory is refused.
 abbrev pub Judges : NetworkState → List ℕ → ℕ → ℕ → Type 0
 Judges s flows code place =
-    MatchBool (nat_eq (length flows) (length s.network.arcs))
-    (MatchOption (flow_fault s.network flows) (TellsGreatest s flows code × (place ≡ 0)) (λ fault. (code ≡ flow_code fault) × (place ≡ flow_place fault)))
-    ((code ≡ 10) × (place ≡ 0))
+    MatchBool (nat_eq (length flows) (length s.network.arcs)) (JudgesFlow s flows code place) ((code ≡ 10) × (place ≡ 0))

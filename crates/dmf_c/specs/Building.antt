@@ -1,6 +1,6 @@
 -- A network that is built of arrays.
 -- Public: a public contract says no more than this.
-use Rattle.std.specs.Prelude.{ℕ, ◌≡◌, ◌+◌, ◌⊎◌, List, [], ◌∷◌, Option, Some, None, Result, Ok, Err, Bool, ◌^◌, ◌&&◌, not, if◌then◌else◌, length, nat_eq, nat_le}
+use Rattle.std.specs.Prelude.{ℕ, ◌≡◌, ◌+◌, List, ◌∷◌, Option, Some, None, Result, Ok, Err, Bool, ◌^◌, ◌&&◌, not, if◌then◌else◌, length, nat_eq, nat_le}
 use Rattle.dmf_node.specs.Node.{is_node}
 use Rattle.dmf_state.specs.declared.fault.ArcFault.{ArcFault}
 use Rattle.dmf_state.specs.declared.fault.ArcFault.TheVariants.{NoSuchNode, TooManyArcs, SumTooLarge}

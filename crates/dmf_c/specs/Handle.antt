@@ -1,4 +1,5 @@
--- Where a handle's plan is lent.
+-- Where a handle lends its plan.
+-- Private: only contracts inside the crate and proofs use this.
 use Rattle.std.specs.Borrow.{Lends, MutBor, Fml}
 use Rattle.dmf_history.specs.Timeline.{Timeline}
 use Rattle.dmf_c.specs.declared.handle.Handle.{Handle}

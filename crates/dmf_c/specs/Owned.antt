@@ -1,4 +1,5 @@
 -- What C owns at a session's address.
+-- Public: a public contract says no more than this.
 use Rattle.std.specs.Prelude.{Option, None, Some}
 use Rattle.std.specs.Ptr.{Ptr}
 use Rattle.std.specs.Box.Ownership.{box_owns}

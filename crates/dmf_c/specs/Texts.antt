@@ -3,7 +3,6 @@
 use Rattle.std.specs.Prelude.{ℕ, ◌≡◌, List, ◌++◌, drop, length, nat_le, Option, Some, Result, Ok, Err, MatchBool}
 use Rattle.dmf_state.specs.NetworkState.{NetworkState}
 use Rattle.dmf_text.specs.declared.fault.ProblemFault.{ProblemFault}
-use Rattle.dmf_text.specs.Problem.{problem_of}
 use Rattle.dmf_history.specs.Timeline.{Timeline, start}
 use Rattle.dmf_c.specs.FaultNumber.{fault_number}
 

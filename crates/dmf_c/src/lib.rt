@@ -3,6 +3,7 @@
 
 mod arrays;
 mod building;
+mod checking;
 mod code;
 mod commands;
 mod freeing;

@@ -1,14 +1,14 @@
 -- `dmf_session_free` makes the box again, and drops it.
-use Rattle.std.proofs.Common.{◌≡◌, ◌∙◌, List, [], ◌∷◌, ◌++◌, refl, sym, ap, subst, Global}
+use Rattle.std.proofs.Common.{◌≡◌, List, [], ◌∷◌, refl, sym, ap, subst, Global}
 use mir.Raw.{raw as bare}
 use mir.Val.{Val, vptr, vunit}
 use base.Fraction.{full_share}
-use base.Logic.{SProp, ent, emp, never, fst∗, id⊢}
+use base.Logic.{emp, never, fst∗, id⊢}
 use base.Fml.{Lft, ftrue, flft}
 use prog.Wp.{WpFn}
 use types.Logic.{sem}
 use types.Tokens.{lft_new}
-use types.Kit.{done, group, prop, regoal, ‵, raw, ◌⊛◌, some, later, ◌$◌, ◌∵◌, !, qed, move, keep, drop, split, split3, join, fsplit, fjoin, pick, suffices, use0, use1, await, rewrite, feq_i, feq_l}
+use types.Kit.{done, group, prop, regoal, ‵, raw, ◌⊛◌, some, later, ◌$◌, ◌∵◌, !, qed, move, keep, drop, split, split3, join, fjoin, pick, suffices, use0, use1, await, rewrite, feq_i, feq_l}
 use types.Run.{of_opd, unit_lit, no_more, and_then, returns, enter}
 use types.ByLocal.{alloc_all, pass_all, free_all, look_at, get, sets, lands_as}
 use contract.Monad.{fact, fact_i}
@@ -22,7 +22,7 @@ use denote.Param.{layout}
 use denote.RattleType.{RattleType}
 use denote.RawPtr.{Ptr, block_ptr, null_ptr, in_a_block, rawptr_vals, rawptr_Tells}
 use denote.Signature.{plain}
-use denote.Steps.{nothing, only, heard}
+use denote.Steps.{nothing, only}
 use denote.Triple.Clauses.{Lasts, lasts}
 use denote.Triple.Spec.{triple_of}
 use denote.Triple.Call.{calls_at}
@@ -32,7 +32,6 @@ use Rattle.std.proofs.cell.Inside.{Good}
 use Rattle.std.proofs.BoxSteps.Form as box
 use Rattle.std.proofs.BoxSteps.Steps.{box_out, box_in}
 use Rattle.std.proofs.raw_atomic.Walks.{proved}
-use Rattle.std.specs.Box.Ownership.{box_owns}
 use Rattle.std.specs.contracts.impls.GlobalAllocator.TheImpl.{ghosts, dict}
 use Rattle.std.proofs.impls.GlobalAllocator.TheImpl.Met.{passed}
 use Rattle.std.specs.contracts.alloc.Global.{the_row as G}
@@ -40,7 +39,6 @@ use Rattle.std.proofs.alloc.Global.TheLaws as heap
 use Rattle.std.specs.contracts.boxed.Box.from_raw as callee
 use Rattle.std.proofs.boxed.Box.from_raw.Met.{met}
 use Rattle.dmf_c.specs.Owned.{owns_handle}
-use Rattle.dmf_c.specs.declared.handle.Handle.{Handle}
 use Rattle.dmf_c.specs.contracts.handle.Handle.{the_row as T}
 use Rattle.dmf_c.specs.contracts.freeing.closed as closing
 use Rattle.dmf_c.proofs.freeing.closed.Met as closing_met

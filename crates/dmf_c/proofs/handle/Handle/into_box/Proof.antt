@@ -2,12 +2,12 @@
 use Rattle.std.proofs.Common.{◌≡◌, List, [], ◌∷◌, ◌++◌, refl, sym, ap, subst}
 use mir.Syntax.{Dict, impl, tnil, tcons, dnil}
 use mir.Raw.{raw as bare}
-use mir.Val.{Val, vptr, vstruct, vcons, vnil, of_list, has_ty}
+use mir.Val.{Val, vptr, vstruct, vcons, vnil, of_list}
 use base.Logic.{SProp, ent, emp, never, fst∗, id⊢}
 use base.Fml.{Lft, ftrue, flft}
 use prog.Wp.{WpFn}
 use types.Logic.{sem}
-use types.Kit.{done, ‵, raw, ◌⊛◌, some, later, at_ret, prop, regoal, ◌$◌, ◌∵◌, !, qed, by, move, keep, drop, split, split3, join, fsplit, fjoin, fpick, feq_l, pick, suffices, use0, use1, await, rewrite, feq_i}
+use types.Kit.{done, ‵, raw, ◌⊛◌, some, later, at_ret, ◌$◌, ◌∵◌, !, qed, move, keep, drop, split, split3, join, fsplit, fjoin, fpick, feq_l, pick, suffices, use0, use1, await, rewrite, feq_i}
 use types.Run.{stop, fld, of_opd, no_more, and_then, first, blocks, exec, returns, enter}
 use types.ByLocal.{alloc_all, pass_all, free_all, look_at, get, get_in, sets, lands_last, env}
 use types.Part.{sub, whole}
@@ -24,9 +24,9 @@ use denote.Memory.{lone}
 use denote.Param.{layout, arg}
 use denote.Param.Laws.{Laws, arg_laws}
 use denote.Param.NoDrop
-use denote.RattleType.{RattleType, owns}
+use denote.RattleType.{RattleType}
 use denote.RawPtr.{Ptr, block_ptr, null_ptr, ptr_val, in_a_block}
-use denote.Signature.{types_at, plain}
+use denote.Signature.{plain}
 use denote.Steps.{nothing, only, heard}
 use denote.Triple.Clauses.{Lasts, lasts}
 use denote.Triple.Spec.{triple_of}
@@ -41,11 +41,10 @@ use Rattle.dmf_c.specs.contracts.plan.Plan.{the_row as T}
 use Rattle.dmf_c.proofs.plan.Plan.TheLaws.{the_row_laws as LT}
 use Rattle.std.specs.contracts.boxed.Box.from_raw as callee
 use Rattle.std.proofs.boxed.Box.from_raw.Met.{met}
-use Rattle.std.proofs.raw_atomic.Walks.{proved_at, leaves}
+use Rattle.std.proofs.raw_atomic.Walks.{proved_at}
 use Rattle.std.proofs.alloc.Calls.{Al, handle_tells}
 use Rattle.std.proofs.BoxSteps.Form as box
 use Rattle.std.proofs.BoxSteps.Steps.{box_out, box_in}
-use Rattle.std.proofs.ResultValues.{and_tt}
 use Rattle.dmf_c.proofs.Destruct++none.drop.Code as nothing-dropped
 use Rattle.dmf_c.specs.contracts.handle.Handle.{the_row as R}
 use Rattle.dmf_c.specs.contracts.handle.Handle.into_box as f

@@ -4,7 +4,7 @@ use mir.Raw.{raw as bare}
 use mir.Val.{Val, vptr, vstruct, of_list}
 use base.Fraction.{full_share}
 use base.Logic.{SProp, ent, emp, never, fst∗, id⊢}
-use base.Fml.{Lft, ftrue, fsep, flft}
+use base.Fml.{Lft, ftrue, flft}
 use prog.Wp.{WpFn}
 use types.Logic.{sem}
 use types.Tokens.{lft_new}
@@ -40,7 +40,7 @@ use Rattle.std.specs.contracts.impls.GlobalAllocator.TheImpl.{ghosts, dict}
 use Rattle.std.proofs.impls.GlobalAllocator.TheImpl.Met.{passed}
 use Rattle.std.specs.contracts.boxed.Box.into_raw_with_allocator as callee
 use Rattle.std.proofs.boxed.Box.into_raw_with_allocator.Met.{met}
-use Rattle.dmf_c.specs.contracts.handle.Handle.{the_row as R, the_type}
+use Rattle.dmf_c.specs.contracts.handle.Handle.{the_type}
 use Rattle.dmf_c.specs.declared.handle.Handle.{Handle}
 use Rattle.dmf_c.specs.contracts.plan.Plan.{the_row as T}
 use Rattle.dmf_c.proofs.Passed.{A, LA, drops, al}

@@ -40,7 +40,7 @@ use Rattle.std.specs.contracts.impls.GlobalAllocator.TheImpl.{ghosts, dict}
 use Rattle.std.proofs.impls.GlobalAllocator.TheImpl.Met.{passed}
 use Rattle.std.specs.contracts.boxed.Box.into_raw_with_allocator as callee
 use Rattle.std.proofs.boxed.Box.into_raw_with_allocator.Met.{met}
-use Rattle.dmf_c.specs.contracts.slot.Slot.{the_row as R, the_type}
+use Rattle.dmf_c.specs.contracts.slot.Slot.{the_type}
 use Rattle.std.specs.Prelude.{Some}
 use Rattle.dmf_history.specs.Timeline.{Timeline}
 use Rattle.dmf_c.specs.Owned.{owns_handle}

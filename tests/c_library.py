@@ -1,4 +1,4 @@
-"""The C library, which prebuilt/ keeps or the toolchain makes; and its calls, by ctypes."""
+"""The C library, which prebuilt/ keeps or the toolchain makes, and its calls by ctypes."""
 
 from __future__ import annotations
 
@@ -6,32 +6,37 @@ import ctypes
 import gzip
 import shutil
 import subprocess
-from ctypes import byref, c_char, c_size_t, c_uint32, c_uint64, c_void_p
+from ctypes import byref, c_char, c_size_t, c_uint32, c_uint64, c_void_p, create_string_buffer
 from pathlib import Path
 
 import pytest
 
-ROOT = Path(__file__).resolve().parent.parent.parent
+ROOT = Path(__file__).resolve().parent.parent
 KEPT = ROOT / "prebuilt/libdmf-x86_64-linux.so.0.gz"
-BUILT = ROOT / "crates/dmf_c/out/library"
+BUILT = ROOT / "out/library"
 HEADER = ROOT / "include/dmf.h"
 
 
+def is_current(library: Path) -> bool:
+    """Whether the library was made after the last change of what it is made of."""
+    sources = [ROOT / "crates.txt", ROOT / "tools/library", ROOT / "tools/dmf.map"]
+    for part in ("src", "specs", "proofs"):
+        sources += (ROOT / "crates/dmf_c" / part).rglob("*")
+    return library.exists() and all(source.stat().st_mtime <= library.stat().st_mtime for source in sources)
+
+
 def library_folder(scratch: Path) -> Path:
-    """A folder with libdmf.so.0 and a link libdmf.so to it, and libdmf.a where the toolchain is there. Skips where neither can be had."""
-    if shutil.which("rt") and (ROOT / "crates/dmf_c/out").is_dir():
-        made = subprocess.run([ROOT / "tools/library", BUILT], capture_output=True, text=True)
-        assert made.returncode == 0, made.stderr
-        folder = BUILT
-    elif KEPT.exists():
-        folder = scratch
-        (folder / "libdmf.so.0").write_bytes(gzip.decompress(KEPT.read_bytes()))
-    else:
+    """A folder with libdmf.so.0. Skips where it can neither be taken from prebuilt/ nor be made."""
+    if KEPT.exists():
+        (scratch / "libdmf.so.0").write_bytes(gzip.decompress(KEPT.read_bytes()))
+        return scratch
+    if is_current(BUILT / "libdmf.so.0"):
+        return BUILT
+    if shutil.which("rt") is None:
         pytest.skip("prebuilt/ has no libdmf.so.0, and the toolchain that makes it is not here")
-    link = folder / "libdmf.so"
-    if not link.is_symlink():
-        link.symlink_to("libdmf.so.0")
-    return folder
+    made = subprocess.run([ROOT / "tools/library", BUILT], capture_output=True, text=True)
+    assert made.returncode == 0, made.stderr
+    return BUILT
 
 
 class Refused(Exception):
@@ -120,7 +125,8 @@ class CSession:
         length = c_size_t()
         call = getattr(self.calls, f"dmf_session_{name}")
         assert call(self.session, (c_char * 1)(), c_size_t(1), byref(length)) == 10
-        text = (c_char * (length.value + 1))(*b"\xa5" * (length.value + 1))
+        text = create_string_buffer(b"\xa5" * length.value)
+        text[length.value] = b"\xa5"
         want(call(self.session, text, c_size_t(length.value), byref(length)))
-        assert text.raw[-1:] == b"\xa5"
-        return text.raw[:-1]
+        assert text.raw[length.value :] == b"\xa5"
+        return text.raw[: length.value]
