@@ -46,6 +46,8 @@ def wrong_versions() -> Iterator[str]:
         "clients/python/dmf/__init__.py": r'^__version__ = "(.*)"',
         "CHANGELOG.md": r"^## (\d\S*)",
         **{str(page): r'^\.TH \S+ 1 "" "dmf (.*?)"' for page in sorted(Path("docs").glob("*.1"))},
+        "docs/dmf.3": r'^\.TH DMF 3 "" "dmf (.*?)"',
+        "include/dmf.h": r'^#define DMF_VERSION "(.*)"',
     }
     for page, form in told.items():
         found = re.search(form, Path(page).read_text(), re.MULTILINE)

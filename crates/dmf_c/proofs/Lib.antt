@@ -1,0 +1,4 @@
+pub mod Passed
+pub mod PlanGlue
+pub mod HandleGlue
+pub mod Judging

@@ -1,0 +1,9 @@
+pub mod Handle
+pub mod Owned
+pub mod Codes
+pub mod Building
+pub mod Built
+pub mod Opening
+pub mod Arrays
+pub mod FaultNumber
+pub mod Texts

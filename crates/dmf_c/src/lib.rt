@@ -1,0 +1,16 @@
+//! Sessions for C: `include/dmf.h` declares these functions, and docs/LIBRARY.md explains them.
+#![tactic(auto)]
+
+mod arrays;
+mod building;
+mod checking;
+mod code;
+mod commands;
+mod freeing;
+mod handle;
+mod opening;
+mod plan;
+mod reading;
+mod slot;
+mod texts;
+mod writing;

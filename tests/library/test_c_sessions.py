@@ -1,0 +1,160 @@
+"""Sessions of the C library beside the second implementation, which keeps whole states."""
+
+from __future__ import annotations
+
+from collections import Counter
+from pathlib import Path
+from random import Random
+from typing import NamedTuple
+
+import pytest
+import random_cases
+from c_library import CSession, Library, Refused, library_folder
+from oracle.network import State, is_greatest, smallest_side
+from oracle.problem import problem_text
+from oracle.session import Session, SolveReply
+from oracle.solution import solution_text
+from oracle.texts import Fault
+
+CODES = {
+    "no such node": 2, "no such arc": 3, "arc is closed": 4, "capacities past 64 bits": 6,
+    "nothing to undo": 7, "nothing to redo": 8, "flow is not greatest": 9,
+}  # fmt: skip
+STEPS, BATCHES = 20_000, 20
+
+
+class Step(NamedTuple):
+    word: str
+    numbers: tuple[int, ...] = ()
+
+
+@pytest.fixture(scope="module")
+def library(tmp_path_factory: pytest.TempPathFactory) -> Library:
+    return Library(library_folder(tmp_path_factory.mktemp("library")))
+
+
+def random_step(session: Session, random: Random) -> Step:
+    state = session.present()
+    arc, node = random.randint(0, len(state.arcs) + 1), random.randint(0, state.nodes + 1)
+    capacity = random.choice([0, 1, random.randint(0, 9), random.randint(0, 99), 2**64 - 1])
+    count = random.choice([0, 1, 1, 2, random.randint(0, 12)])
+    steps = [
+        Step("solve"), Step("solve"), Step("solve"), Step("cap", (arc, capacity)), Step("cap", (arc, capacity)), Step("close", (arc,)),
+        Step("shut", (node,)), Step("add", (node, random.randint(1, state.nodes), capacity)), Step("undo", (count,)), Step("undo", (count,)),
+        Step("redo", (count,)),
+    ]  # fmt: skip
+    return random.choice(steps)
+
+
+def status_of(session: CSession, step: Step) -> int:
+    try:
+        session.step(step.word, *step.numbers)
+    except Refused as refused:
+        return refused.status
+    return 0
+
+
+def wanted_status(session: Session, step: Step) -> int:
+    try:
+        session.reply(step.word, *step.numbers)
+    except Fault as fault:
+        return CODES[str(fault)]
+    return 0
+
+
+def compare(given: CSession, wanted: Session) -> None:
+    state = wanted.present()
+    assert given.number("value") == state.value()
+    assert given.number("past") == wanted.place
+    assert given.number("future") == len(wanted.states) - 1 - wanted.place
+    assert given.array("flows") == state.flows
+
+
+def compare_texts_and_side(given: CSession, state: State) -> None:
+    assert given.array("capacities") == tuple(arc.cap for arc in state.arcs)
+    assert given.text("problem") == problem_text(state)
+    assert given.text("solution") == solution_text(state)
+    if is_greatest(state):
+        assert given.side() == sorted(smallest_side(state)[0])
+        given.check(state.flows)
+        return
+    with pytest.raises(Refused) as of_side:
+        given.side()
+    with pytest.raises(Refused) as of_check:
+        given.check(state.flows)
+    assert of_side.value.status == of_check.value.status == 9
+
+
+def run_session(library: Library, random: Random, steps: int) -> Counter[str]:
+    """So many steps on one network, each compared. Counts the steps that are taken and those that are refused."""
+    state = random_cases.network(random, most_nodes=10)
+    if state.capacity_sum() >= 2**64 or state.source == state.sink:
+        return Counter()
+    bound = random.choice([0, 1, 3, 1_000_000])
+    wanted = Session(state, SolveReply(), bound)
+    seen: Counter[str] = Counter()
+    with library.open(state.nodes, (state.source, state.sink), [arc[:3] for arc in state.arcs], bound) as given:
+        for at in range(steps):
+            step = random_step(wanted, random)
+            status = wanted_status(wanted, step)
+            assert status_of(given, step) == status, step
+            compare(given, wanted)
+            seen[f"{step.word} {status}"] += 1
+            if at % 10 == 0:
+                compare_texts_and_side(given, wanted.present())
+    return seen
+
+
+@pytest.mark.seconds(3)
+@pytest.mark.parametrize("batch", range(BATCHES))
+def test_random_sessions(library: Library, batch: int, request: pytest.FixtureRequest) -> None:
+    random = Random(f"library {request.config.getoption('--seed')} {batch}")
+    seen: Counter[str] = Counter()
+    while sum(seen.values()) < STEPS // BATCHES:
+        seen += run_session(library, random, 50)
+    for kind in ("solve 0", "cap 0", "cap 3", "close 0", "close 4", "shut 0", "shut 2", "add 0", "add 2", "undo 0", "undo 7", "redo 0", "redo 8"):
+        assert seen[kind] > 0, kind
+
+
+def test_the_first_bad_arc(library: Library) -> None:
+    arcs = [(1, 2, 5), (2, 3, 5), (3, 4, 5), (0, 1, 5)]
+    cases: list[tuple[int, tuple[int, int], list[tuple[int, int, int]], int, int, int]] = [
+        (3, (1, 3), arcs, 9, 2, 2), (4, (1, 4), arcs, 9, 2, 3), (4, (1, 4), [(1, 2, 2**64 - 1), (2, 4, 1)], 9, 6, 1),
+        (1, (1, 1), [], 9, 11, 0), (4, (2, 2), [], 9, 11, 0), (4, (0, 2), [], 9, 11, 0), (4, (1, 5), [], 9, 11, 0),
+        (2**24 + 1, (1, 2), [], 9, 11, 0), (4, (1, 4), [], 1_000_001, 11, 0),
+    ]  # fmt: skip
+    for nodes, ends, some, past, status, place in cases:
+        with pytest.raises(Refused) as told:
+            library.open(nodes, ends, some, past)
+        assert (told.value.status, told.value.place) == (status, place)
+
+
+def test_a_text(library: Library) -> None:
+    text = Path("examples/a.max").read_bytes()
+    with library.read(text) as session:
+        session.step("solve")
+        assert (session.number("value"), session.number("nodes"), session.number("source"), session.number("sink")) == (5, 4, 1, 4)
+        assert session.array("flows") == (3, 2, 1, 2, 3)
+    with pytest.raises(Refused) as told:
+        library.read(text.replace(b"a 2 3 5", b"a 2 9 5"))
+    # No such node, on line 6.
+    assert (told.value.status, told.value.place) == (12, 6_009)
+    with pytest.raises(Refused) as told:
+        library.read(text, 1_000_001)
+    assert told.value.status == 11
+
+
+def test_flows_that_are_checked(library: Library) -> None:
+    with library.open(4, (1, 4), [(1, 2, 3), (1, 3, 2), (2, 3, 5), (2, 4, 2), (3, 4, 3)]) as session:
+        for flows, status, place in [
+            ((3, 2, 1, 2, 3), 0, 0), ((4, 2, 2, 2, 3), 13, 1), ((3, 2, 1, 1, 3), 14, 2), ((0, 0, 0, 0, 0), 9, 0), ((0,) * 4, 10, 0),
+        ]:  # fmt: skip
+            if status == 0:
+                session.check(flows)
+                continue
+            with pytest.raises(Refused) as told:
+                session.check(flows)
+            assert (told.value.status, told.value.place) == (status, place)
+    with library.open(3, (1, 3), [(2, 1, 5), (3, 2, 5)]) as session, pytest.raises(Refused) as told:
+        session.check((4, 4))
+    assert told.value.status == 15
