@@ -7,6 +7,7 @@ import re
 import subprocess
 import tempfile
 from collections.abc import Callable
+from decimal import Decimal
 from pathlib import Path
 from typing import Any, cast
 
@@ -14,6 +15,7 @@ import pytest
 from desk_shared import ODD, PIPES, ROOT, Pipe, SCRIPT, SECONDS, STORY, desk_of, end_session, greatest, run, swept, water, water_problem, without
 from built import BUILT
 from dmf import Network
+from dmf.desk_network import Held
 from dmf.desk_steps import DeskFault, Place
 from dmf.errors import SessionEnded
 from dmf.plan import Plan
@@ -139,6 +141,31 @@ def test_random_decimals(seed: int) -> None:
         if line.startswith("what-if"):
             assert ([(it.text, it.value) for it in desk.steps], list(desk.lines)) == (steps, lines), line
     assert desk.measure.scale >= 1000
+    desk.end()
+
+
+def test_broken_off_while_made_again(monkeypatch: pytest.MonkeyPatch) -> None:
+    """Who stops the desk while its steps are made again on a finer scale, or on a new session, ends that too, and no step is lost."""
+    desk = desk_of(WATER)
+    desk.close(10)
+    make = Held.make
+
+    def stopped(held: Held, text: str, changes: Any) -> Any:
+        if held is not desk._held:
+            desk.break_off("it was stopped")
+        return make(held, text, changes)
+
+    acts: list[Callable[[], object]] = [lambda: desk.cap(11, Decimal("7.5")), desk.begin_again]
+    for act in acts:
+        with monkeypatch.context() as patched:
+            patched.setattr(Held, "make", stopped)
+            with pytest.raises(SessionEnded, match="it was stopped"):
+                act()
+        assert [step.value for step in desk.steps] == [165, 155]
+    desk.begin_again()
+    # Twice as much without the Bridge pipe, and with 15 over Market Street.
+    twice = [it._replace(capacity=15 if it.name == "Market Street" else 2 * it.capacity) for it in water() if it.name != "Bridge pipe"]
+    assert [str(desk.cap(11, Decimal("7.5")).value * 2), str(desk.measure.scale)] == [f"{greatest(twice)}.0", "10"]
     desk.end()
 
 

@@ -47,6 +47,7 @@ class Desk:
         self._program = program
         self._time = _Timeline()
         self._held = Held(subject, program)
+        self._coming: Held | None = None
         if with_solve:
             self.solve()
             self._time.floors.append(1)
@@ -57,8 +58,9 @@ class Desk:
         return self._held.has_ended
 
     def break_off(self, why: str) -> None:
-        """Ends the session at once, also for a thread that waits for it."""
-        self._held.break_off(why)
+        """Ends the session at once, also for a thread that waits for it, and one on which the steps are made again."""
+        for held in filter(None, (self._held, self._coming)):
+            held.break_off(why)
 
     def begin_again(self) -> None:
         """Makes all steps once more, from the first on, on a new session. If that fails, what is kept here stays as it was."""
@@ -67,12 +69,14 @@ class Desk:
 
     def _made_again(self, subject: Subject) -> tuple[Held, list[Step]]:
         """A new session with all steps."""
-        held = Held(subject, self._program)
+        held = self._coming = Held(subject, self._program)
         try:
             return held, [held.make(step.text, step.changes) for step in self._time.done]
         except BaseException:
             held.drop()
             raise
+        finally:
+            self._coming = None
 
     def _take_in(self, amount: Quantity) -> Quantity:
         """An amount that the session's numbers can have from now on: if they have too few decimals, the steps are made again on a new
