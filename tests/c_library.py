@@ -3,7 +3,6 @@
 from __future__ import annotations
 
 import ctypes
-import gzip
 import shutil
 import subprocess
 from ctypes import byref, c_char, c_size_t, c_uint32, c_uint64, c_void_p, create_string_buffer
@@ -12,7 +11,6 @@ from pathlib import Path
 import pytest
 
 ROOT = Path(__file__).resolve().parent.parent
-KEPT = ROOT / "prebuilt/libdmf-x86_64-linux.so.0.gz"
 BUILT = ROOT / "out/library"
 HEADER = ROOT / "include/dmf.h"
 
@@ -27,13 +25,12 @@ def is_current(library: Path) -> bool:
 
 def library_folder(scratch: Path) -> Path:
     """A folder with libdmf.so.0. Skips where it can neither be taken from prebuilt/ nor be made."""
-    if KEPT.exists():
-        (scratch / "libdmf.so.0").write_bytes(gzip.decompress(KEPT.read_bytes()))
+    if subprocess.run([ROOT / "tools/prebuilt", "library", scratch], stdout=subprocess.DEVNULL, stderr=subprocess.DEVNULL).returncode == 0:
         return scratch
     if is_current(BUILT / "libdmf.so.0"):
         return BUILT
     if shutil.which("rt") is None:
-        pytest.skip("prebuilt/ has no libdmf.so.0, and the toolchain that makes it is not here")
+        pytest.skip("prebuilt/ has no libdmf.so.0 of these sources, and the toolchain that makes it is not here")
     made = subprocess.run([ROOT / "tools/library", BUILT], capture_output=True, text=True)
     assert made.returncode == 0, made.stderr
     return BUILT
