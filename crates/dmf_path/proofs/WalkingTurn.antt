@@ -26,6 +26,20 @@ noted-more : (l : Links) (noted : List ℕ) (q v p : ℕ) → IsNoted l noted v 
 noted-more l noted q v p is =
     record { place = is.place; noted_is = Contains-append_left noted (q ∷ []) is.place is.noted_is; tail = is.tail; before = is.before }
 
+-- A node's current link, which is passed and noted
+pub noted-step : {l : Links} {labels rooms current noted : List ℕ} (v q : ℕ) → v < length current → get_or current v 0 ≡ q → tail_of l q ≡ v
+    → q < length l.heads → AreNoted l labels rooms current noted → AreNoted l labels rooms (set current v (q + 1)) (noted ++ q ∷ [])
+noted-step {l = l} {current = current} {noted = noted} v q inside stands tail within are = record {
+  within = All-push (λ p. p < length l.heads) noted q are.within within;
+  each = λ u p node lies early admissible. elim (cases-set current v u (q + 1) inside) [
+    | inr other ↦ noted-more l noted q u p (are.each u p node lies (omega (arith, early, other.1)) admissible)
+    | inl here ↦ elim (cases_lt p q) [
+      | inl less ↦ noted-more l noted q u p (are.each u p node lies (omega (arith, less, stands, ap (λ x. get_or current x 0) here.0)) admissible)
+      | inr same ↦ record { place = q; noted_is = Contains-push noted q; tail = tail ∙ sym here.0; before = omega (arith, same) }
+    ]
+  ];
+}
+
 -- The walk's last node, its first admissible link from the current one on by the rooms, and the place where its links end.
 pub record Turn : Type 0 where
   pub r : Residual
@@ -227,17 +241,7 @@ module _ (t : Turn) where
           subst (λ (x : Residual). back < length x.links.heads) t.on.same (omega (arith, at, back-within)) in
           let from : tail_of t.aim.links back ≡ tail =
           subst (λ (x : Residual). tail_of x.links back ≡ tail) t.on.same (ap (tail_of t.r.links) at ∙ sym is) in
-          rw more (record {
-            within = All-push (λ q. q < length t.aim.links.heads) noted back are.within within;
-            each = λ v p node lies early admissible. elim (cases-set (moved t) tail v (back + 1) back-tail_within) [
-              | inr other ↦ noted-more t.aim.links noted back v p (are.each v p node lies (omega (arith, early, other.1)) admissible)
-              | inl here ↦ elim (cases_lt p back) [
-                | inl less ↦ noted-more t.aim.links noted back v p
-                    (are.each v p node lies (omega (arith, less, stands, ap (λ u. get_or (moved t) u 0) here.0)) admissible)
-                | inr same ↦ record { place = back; noted_is = Contains-push noted back; tail = from ∙ sym here.0; before = omega (arith, same) }
-              ]
-            ];
-          })
+          rw more (noted-step tail back back-tail_within stands from within are)
 
       -- and the walk steps back.
       pub on-stepped : {next : Residual} {new : Way} {back : ℕ} → t.end ≤ t.place → next ≡ put_on t.r t.w.sent (slot_at t.w.slots (t.w.walked - 1))
@@ -250,3 +254,62 @@ module _ (t : Turn) where
           rw (at, put, step) (on-back on-turned t.links t.start_is (last t + 1) some
           (omega (arith, before.1.0.falls, ap (λ u. get_or t.labels u 0) head, ap (λ u. get_or t.labels u 0) (is ∙ tail-is))) (rw is come)
           (subst (λ (x : Residual). AreRooms x.links x.rooms) put sums))
+
+-- The link found leads to a node above the goal whose links are all passed.
+pub record IsSpent (t : Turn) : Type 0 where
+  pub found : t.place < t.end
+  pub above : get_or t.labels t.w.goal 0 < get_or t.labels (get_or t.r.links.heads t.place 0) 0
+  pub passed : get_or t.r.links.first (get_or t.r.links.heads t.place 0 + 1) 0 ≤ get_or (moved t) (get_or t.r.links.heads t.place 0) 0
+
+module _ (t : Turn) (found : t.place < t.end) where
+  lies-spent : LiesAt t.r.links t.node t.place
+  lies-spent = record {
+    from = omega (arith, t.from, t.on.come.walking.current_is.from t.node t.on.come.is_node);
+    below = omega (arith, found, where-ends t);
+  }
+
+  pub within-spent : t.place < length t.r.links.heads
+  within-spent = lies-within t.r.links t.node t.place t.links t.on.come.is_node lies-spent
+
+-- The walk passes it.
+module _ {t : Turn} (is : IsSpent t) where
+  stands-spent : get_or (moved t) t.node 0 ≡ t.place
+  stands-spent = get_or-set_same t.current t.node t.place 0 (node-within t)
+
+  inside-spent : t.node < length (moved t)
+  inside-spent = omega (arith, node-within t, length-set t.current t.node t.place)
+
+  -- It is still on its way,
+  pub on-spent : IsOnWay t.r t.labels (set (moved t) t.node (t.place + 1)) t.aim t.w t.node
+  on-spent =
+      let head_is = (t.links.each t.place (within-spent t is.found)).head in
+      let other : get_or t.r.links.heads t.place 0 ≢ t.w.goal = λ same. omega (arith, is.above, ap (λ u. get_or t.labels u 0) same) in
+      let none : (p : ℕ) (ps : List ℕ) → get_or (moved t) t.node 0 ≤ p → p < t.place + 1 → ¬ IsWalk t.r.links t.labels t.aim.rooms t.w.goal t.node (p ∷ ps) =
+      λ p ps later before walk.
+      let at : p ≡ t.place = omega (arith, later, before, stands-spent) in
+      dead-end t.r.links t.labels t.aim.rooms (moved t) t.w.goal (on-turned t).come.walking.passed head_is other is.passed ps
+      (subst (λ u. IsWalk t.r.links t.labels t.aim.rooms t.w.goal u ps) (ap (λ q. get_or t.r.links.heads q 0) at) walk.1) in
+      on-moved (on-turned t) (t.place + 1) t.other
+      (walking-set (t.place + 1) (on-turned t).come (omega (arith, stands-spent)) (omega (arith, where-ends t, is.found)) none)
+
+  -- less work is left,
+  pub less-spent : work_left t.aim.links t.labels t.w.start (set (moved t) t.node (t.place + 1)) t.node
+      < work_left t.aim.links t.labels t.w.start t.current t.node
+  less-spent =
+      let n : ℕ = length t.aim.links.heads in
+      let same : length t.r.links.heads ≡ n = ap (λ (x : Residual). length x.links.heads) t.on.same in
+      let less = passed-set n (moved t) t.node (t.place + 1) inside-spent (omega (arith, stands-spent))
+      (omega (arith, stands-spent, within-spent t is.found, same)) in
+      let most = not_passed-set n t.current t.node t.place (node-within t) t.from in
+      let fewer : sum_by (λ p. n - p) (set (moved t) t.node (t.place + 1)) + 1 ≤ sum_by (λ p. n - p) t.current = omega (arith, less, most) in
+      omega (arith, mul-le-mul_right (get_or t.labels t.w.start 0 + 1) fewer)
+
+  -- and the link is noted.
+  pub noted-spent : {noted more : List ℕ} → AreNoted t.aim.links t.labels t.aim.rooms (moved t) noted → more ≡ noted ++ t.place ∷ []
+      → AreNoted t.aim.links t.labels t.aim.rooms (set (moved t) t.node (t.place + 1)) more
+  noted-spent are more =
+      let tail : tail_of t.aim.links t.place ≡ t.node =
+      subst (λ (x : Residual). tail_of x.links t.place ≡ t.node) t.on.same (t.links.at_tail t.node t.place t.on.come.is_node (lies-spent t is.found)) in
+      let within : t.place < length t.aim.links.heads =
+      subst (λ (x : Residual). t.place < length x.links.heads) t.on.same (within-spent t is.found) in
+      rw more (noted-step t.node t.place inside-spent stands-spent tail within are)

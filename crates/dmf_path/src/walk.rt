@@ -39,6 +39,11 @@ pub fn walk(
         current[node as usize] = place;
         noted.pass(from, place, labels[node as usize], low);
         if place < end {
+            if links.is_spent(labels, current, low, place) {
+                current[node as usize] = place + 1;
+                noted.note(place);
+                continue;
+            }
             trail.make_way(links);
             let room = links.rooms[place as usize];
             trail.enter(place, room);
@@ -70,6 +75,19 @@ fn end_node(table: &LinkTable, trail: &Trail) -> u32
 
 impl Links {
     ghost use Rattle.dmf_links.specs.LinkTable.{links_of};
+
+    /// Whether the link at this place leads to a node above the goal, which has the label `low`, whose links are all passed.
+    fn is_spent(&self, labels: &[u32], current: &[u32], low: u32, place: u32) -> bool
+        requires place { place < length self.now.table.value.heads.items }
+        requires one_label_each { length labels.now ≡ self.now.table.value.nodes + 1 }
+        requires one_current_each { length current.now ≡ self.now.table.value.nodes + 1 }
+        ensures above { result ≡ true → low < slice_index labels.now (slice_index self.now.table.value.heads.items place) }
+        ensures passed { result ≡ true → slice_index self.now.table.value.first.items (slice_index self.now.table.value.heads.items place + 1)
+            ≤ slice_index current.now (slice_index self.now.table.value.heads.items place) }
+    {
+        let head = self.table.heads[place as usize];
+        labels[head as usize] > low && current[head as usize] >= self.table.first[head as usize + 1]
+    }
 
     /// The first place from `from` up to `end`, where the links of the node end, at which a walk to the goal may go on, or `end`: an
     /// admissible link, and one to the goal if the node is one level above it.

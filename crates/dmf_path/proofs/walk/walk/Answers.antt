@@ -1,5 +1,5 @@
 -- Where the walk begins, a turn that goes on, one that steps back, and what the work is each time.
-use Rattle.std.proofs.Common.{◌≡◌, ◌+◌, ◌<◌, false, inl, inr, set, get_or, refl, ap, sym, subst, ◌∙◌, arith, length}
+use Rattle.std.proofs.Common.{◌≡◌, ◌+◌, ◌<◌, false, true, inl, inr, set, get_or, refl, ap, sym, subst, ◌∙◌, arith, length}
 use Rattle.std.proofs.lemmas.List.{get_or_default}
 use Rattle.dmf_node.specs.Node.{IsNode}
 use Rattle.dmf_links.specs.Links.{tail_of}
@@ -12,10 +12,10 @@ use Rattle.dmf_links.proofs.LinkPlaces.{end-within}
 use Rattle.dmf_path.proofs.WayStart.{last-link_within, on-start, searching-on}
 use Rattle.dmf_path.proofs.WayTurn.{last-leaves, made-aim}
 use Rattle.dmf_path.proofs.WalkingTurn.{Turn, last, moved, work_left, on-turned, noted-from, noted-same, noted-back, no-walk, back-within, back-tail, back-last, back-tail_within}
-use Rattle.dmf_path.proofs.WalkingTurn.{less-back, on-stepped}
+use Rattle.dmf_path.proofs.WalkingTurn.{less-back, on-stepped, IsSpent, within-spent, on-spent, less-spent, noted-spent}
 use Rattle.dmf_path.proofs.WayWalk.{IsFound, slot-found, slot-first, found-within, less-found, is-made, on-found}
 use Rattle.dmf_path.proofs.walk.walk.Goals as goal
-use Rattle.dmf_path.proofs.walk.walk.Goals.{After-first_leading-place, After-pass, After-end_node-node-else-place-end}
+use Rattle.dmf_path.proofs.walk.walk.Goals.{After-first_leading-place, After-pass, After-is_spent, After-end_node-node-else-place-end}
 
 pub end_node-node-requires : goal.end_node-node-requires
 end_node-node-requires c =
@@ -86,6 +86,43 @@ passed c was known =
       ]) are)
       | inr more ↦ noted-from t are more.1 (omega (arith, more.0))
     ]
+
+-- The link found leads to a node above the goal whose links are all passed.
+spent : (c : After-is_spent) → c.is_spent.result ≡ true → c.first_leading-place.result < c.index-end.result.now → IsSpent (turn (goal.at.After-is_spent c).After-first_leading-place)
+spent c is below = record {
+  found = below;
+  above = omega (arith, c.is_spent.ensures.above is, ap (λ g. get_or c.args.labels.now g 0) c.loop-node.invariant.goal);
+  passed = c.is_spent.ensures.passed is;
+}
+
+pub is_spent-requires-clause-place : goal.is_spent-requires-clause-place
+is_spent-requires-clause-place c = within-spent (turn (goal.at.is_spent-requires-clause-place c).After-first_leading-place) c.if-place-end.true
+
+pub overflow_add-current : goal.overflow_add-current
+overflow_add-current c =
+    let t = turn (goal.at.overflow_add-current c).After-first_leading-place in
+    omega (arith, within-spent t c.if-place-end.true, t.links.at_most)
+
+pub loop-node-smaller-then-is_spent : goal.loop-node-smaller-then-is_spent
+loop-node-smaller-then-is_spent c =
+    let t = turn (goal.at.loop-node-smaller-then-is_spent c).After-first_leading-place in
+    let is = spent (goal.at.loop-node-smaller-then-is_spent c).After-is_spent c.if-is_spent.true c.if-place-end.true in
+    subst (λ s. work_left t.aim.links t.labels s (set (moved t) c.loop-node.node (t.place + 1)) c.loop-node.node
+    < work_left t.aim.links t.labels s t.current t.node) c.loop-node.invariant.start (less-spent is)
+
+pub loop-node-preserved-then-is_spent : goal.loop-node-preserved-then-is_spent
+loop-node-preserved-then-is_spent c =
+    let is = spent (goal.at.loop-node-preserved-then-is_spent c).After-is_spent c.if-is_spent.true c.if-place-end.true in
+    let i = c.loop-node.invariant in
+    record {
+      on = on-spent is;
+      skipped = λ was known.
+          let note = c.note.ensures known in
+          noted-spent is (passed (goal.at.loop-node-preserved-then-is_spent c).After-pass was note.0) note.1;
+      start = i.start;
+      goal = i.goal;
+      capacity = i.capacity;
+    }
 
 pub make_way-requires-clause-within : goal.make_way-requires-clause-within
 make_way-requires-clause-within c = slot-found (found (goal.at.make_way-requires-clause-within c).After-first_leading-place c.if-place-end.true)
@@ -168,9 +205,9 @@ end_node-node-requires-else-place-end c =
       last = rw (c.deref-else-place-end.ensures, ap (λ (x : Residual). x.links.heads) back.links) (back-last t (omega (arith, c.if-trail-eq0.false)) back.way);
     }
 
-pub overflow_add-current : goal.overflow_add-current
-overflow_add-current c =
-    let t = turn (goal.at.overflow_add-current c).After-first_leading-place in
+pub overflow_add-current-else-place-end : goal.overflow_add-current-else-place-end
+overflow_add-current-else-place-end c =
+    let t = turn (goal.at.overflow_add-current-else-place-end c).After-first_leading-place in
     let within = back-within t (omega (arith, c.if-trail-eq0.false)) in
     omega (arith, within, c.step_back-back.ensures.place, t.links.at_most)
 
@@ -206,7 +243,7 @@ loop-node-preserved c =
     record {
       on = on-stepped t (omega (arith, c.if-trail-eq0.false)) tail c.if-place-end.false back.links back.way c.step_back-back.new.links.rooms_are back.place;
       skipped = λ was known.
-          let note = c.note.ensures known in
+          let note = c.note-else-place-end.ensures known in
           noted-back t (omega (arith, c.if-trail-eq0.false)) tail (passed (goal.at.loop-node-preserved c).After-pass was note.0) back.place note.1;
       start = ap (λ (w : Way). w.start) back.way ∙ i.start;
       goal = ap (λ (w : Way). w.goal) back.way ∙ i.goal;
