@@ -21,8 +21,7 @@ usable-falls levels r rooms goal links none usable =
       kept = λ all.
           let k = usable.kept all in
           record {
-            lasting = lasting-opens v levels.stepped_back r rooms opens k.lasting;
-            goal_label = k.goal_label;
+            lasting = lasting-opens v levels.noted r rooms opens k.lasting;
             current_is = k.current_is;
             passed = ArePassed-opens r.links v.labels r.rooms rooms goal v.current links opens k.passed;
           };

@@ -140,7 +140,6 @@ module _ {l : Links} (rooms flags : List ℕ) {opens : List ℕ} {start goal nea
               (near-of head head_is) (near-start v p node lies room) (omega (arith, label, label-of v node)));
         };
         start_label = omega (arith, first, few);
-        goal_label = last ∙ goal_side.root_is;
         walk = walk-start (get_or s at 0 + 1) at to_goal.0 (omega arith) met.node met.start_label to_goal.1;
       }
 

@@ -26,6 +26,12 @@ module _ (l : Links) (labels : List ℕ) where
   descends-raised top higher bottom [] more descends = omega arith
   descends-raised top higher bottom (p ∷ ps) more descends = (falls-raised more descends.0, descends.1)
 
+  -- The bottom may be lowered.
+  pub descends-lowered : (top bottom lower : ℕ) (ps : List ℕ) → lower ≤ bottom → Descends l labels top bottom ps → Descends l labels top lower ps
+  descends-lowered top bottom lower [] less descends = omega arith
+  descends-lowered top bottom lower (p ∷ ps) less descends =
+      (descends.0, descends-lowered (get_or labels (get_or l.heads p 0) 0) bottom lower ps less descends.1)
+
   -- Links that fall to a label, and links that fall from it, fall together.
   pub descends-append : (top middle bottom : ℕ) (ps qs : List ℕ) → Descends l labels top middle ps → Descends l labels middle bottom qs
       → Descends l labels top bottom (ps ++ qs)

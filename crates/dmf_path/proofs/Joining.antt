@@ -25,7 +25,7 @@ joined-rest : (long g s label : ℕ) → label ≡ no_label → s ≤ long → l
     → long - s ≡ joined_label long g s
 joined-rest long g s label none most small either = grind (arith, nat_tests)
 
-queued-next : (labels queue : List ℕ) (v label : ℕ) → AreQueued labels queue → v < length labels → AreQueued (set labels v label) (queue ++ v ∷ [])
+pub queued-next : (labels queue : List ℕ) (v label : ℕ) → AreQueued labels queue → v < length labels → AreQueued (set labels v label) (queue ++ v ∷ [])
 queued-next labels queue v label queued inside =
     let long : length (set labels v label) ≡ length labels = length-set labels v label in
     record {

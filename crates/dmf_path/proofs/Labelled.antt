@@ -116,7 +116,6 @@ module _ {l : Links} (rooms flags : List ℕ) {labels : List ℕ} {stop goal : �
     sound = sound-below l labels rooms (get_or labels start 0) (get_or labels stop 0) low
         (sound-valid l labels rooms (get_or labels stop 0) links small-labelled valid-labelled);
     start_label = omega (arith, has, labelled.small start node);
-    goal_label = labelled.root_is;
     walk = walk-down rooms flags labels labels links flagged labelled.backed (λ v is. omega (arith, labelled.small v is, links.at_most_nodes))
         (λ v is set. refl) (get_or labels start 0 + 1) start (omega arith) node has;
   }

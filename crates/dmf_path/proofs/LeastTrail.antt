@@ -40,7 +40,7 @@ module _ (l : Links) (rooms labels : List ℕ) (goal : ℕ) where
         )
 
   -- A walk is a path that is as long as its first label.
-  walk-path : (v : ℕ) (ps : List ℕ) → IsWalk l labels rooms goal v ps
+  pub walk-path : (v : ℕ) (ps : List ℕ) → IsWalk l labels rooms goal v ps
       → IsOpenPath l rooms goal v ps × (length ps + get_or labels goal 0 ≡ get_or labels v 0)
   walk-path v [] walk = (walk, omega (arith, ap (λ u. get_or labels u 0) walk))
   walk-path v (p ∷ ps) walk =
@@ -80,10 +80,10 @@ module _ (l : Links) (rooms labels : List ℕ) (goal : ℕ) where
 -- A trail from the start to the goal is the least path.
 pub least-trail : (l : Links) (places rooms labels current trail : List ℕ) (start goal : ℕ) → AreLinks l → ArePlaces l places → IsNode l.nodes start
     → IsNode l.nodes goal
-    → AreSound l labels rooms (get_or labels start 0) → get_or labels start 0 ≤ l.nodes → get_or labels goal 0 ≡ 0
+    → AreSound l labels rooms (get_or labels start 0) → get_or labels start 0 ≤ l.nodes
     → IsWalking l labels rooms start goal current trail → end_of l start trail ≡ goal
     → IsLeastPath (steps_of (pairs_at l places rooms)) start goal (path_on l places rooms trail)
-least-trail l places rooms labels current trail start goal links are node goal_is sound start_label goal_label walking ends =
+least-trail l places rooms labels current trail start goal links are node goal_is sound start_label walking ends =
     let path : List Step = path_on l places rooms trail in
     let walk = walk-path l rooms labels goal start trail
     (walk-trail l rooms labels goal places current links are walking.passed start trail walking.trail_is ends) in
@@ -96,7 +96,7 @@ least-trail l places rooms labels current trail start goal links are node goal_i
     let has : get_or labels start 0 ≢ no_label = λ none. omega (arith, none, start_label, links.at_most_nodes) in
     let at_start : get_or counts start 0 ≡ get_or labels start 0 = counts-set l.nodes sound.beyond labels start sound.small node has in
     let at_goal : get_or counts goal 0 ≡ get_or labels goal 0 = counts-set l.nodes sound.beyond labels goal sound.small goal_is
-    (λ none. omega (arith, none, goal_label)) in
+    (λ none. omega (arith, none, walk.1, start_label, links.at_most_nodes)) in
     let top : ℕ = get_or labels start 0 in
     record {
       leads = path-of_links l places rooms goal start trail links are node walk.0;

@@ -11,6 +11,8 @@ pub mod Settled
 pub mod SettledSent
 pub mod Lasting
 pub mod Redirected
+pub mod NearGoal
+pub mod FromStart
 pub mod Asides
 mod Leaving
 pub mod Pushing

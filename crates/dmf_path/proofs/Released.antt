@@ -113,7 +113,6 @@ searching-lowered {r} {v} {w} p amount is within off enough made sums =
       order = way.order;
       within = way.within;
       one_slot_each = way.one_slot_each;
-      goal_label = way.goal_label;
     } in
     rw made (
       record {

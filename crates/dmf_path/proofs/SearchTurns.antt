@@ -1,5 +1,5 @@
 -- What a search keeps, from one call to the next.
-use Rattle.std.proofs.Common.{ℕ, ◌≡◌, ◌≢◌, ◌^◌, ◌<◌, ◌≤◌, Bool, true, List, [], length, get_or, refl, ap, sym, ◌∙◌, subst, arith}
+use Rattle.std.proofs.Common.{ℕ, ◌≡◌, ◌≢◌, ◌+◌, ◌^◌, ◌<◌, ◌≤◌, Bool, true, List, [], length, get_or, refl, ap, sym, ◌∙◌, subst, arith}
 use Rattle.std.proofs.lemmas.List.{length-drop, nil_from_length, drop_all}
 use Rattle.dmf_path.specs.declared.trail.Slot.{Slot}
 use Rattle.dmf_node.specs.Node.{IsNode}
@@ -34,14 +34,14 @@ aimed-with r w is start_label sound = record {
 -- With free slots, and if no link is passed that leads to the goal, a search begins.
 pub searching-free : (r : Residual) (v : Labelling) (w : Way) (slots : List Slot) → IsAimed (plainly r w) v.labels w.capacity
     → AreRooms r.links r.rooms → w.sent < 2 ^ 64 → AreCurrent r.links v.current → ArePassed r.links v.labels r.rooms w.goal v.current
-    → length slots ≡ get_or v.labels w.start 0 → get_or v.labels w.goal 0 ≡ 0 → IsSearching r v (with_slots w slots)
-searching-free r v w slots aimed sums small current passed count goal_label =
+    → length slots + get_or v.labels w.goal 0 ≡ get_or v.labels w.start 0 → IsSearching r v (with_slots w slots)
+searching-free r v w slots aimed sums small current passed count =
     let free : told r (with_slots w slots) ≡ r = told-free r w slots in
     record {
       aimed = subst (λ (x : Residual). IsAimed (plainly x w) v.labels w.capacity) (sym free) aimed;
       holding = holding-free r.links w slots r.rooms sums small;
       under_way = subst (λ (x : Residual). IsUnderWay r.links v.labels x.rooms v.current (with_slots w slots)) (sym free)
-          (way-free v.labels r.rooms w slots aimed.goal_is current passed count goal_label);
+          (way-free v.labels r.rooms w slots aimed.goal_is current passed count);
     }
 
 -- If no link falls from the start, a search begins anew.
@@ -60,7 +60,7 @@ searching-fresh r v w links sums small start goal apart capacity begins current 
       capacity_is = capacity;
     } in
     searching-free r v w [] aimed sums small current (passed-fresh r.links v.labels r.rooms w.start w.goal v.current links begins.fresh)
-    (sym begins.fresh.label) begins.goal_label
+    (omega (arith, begins.fresh.label, begins.goal_label))
 
 -- With fresh labels and no slots a search begins anew between two nodes.
 pub searching-new : {r : Residual} (v : Labelling) (w : Way) {new : Way} → AreLinks r.links → AreRooms r.links r.rooms → w.sent < 2 ^ 64
@@ -86,7 +86,7 @@ searching-settled {r} {v} {w} is links way =
     let u = is.under_way in
     rw (links, way) (searching-free (told r w) v w w.slots is.aimed
     (AreRooms-settled r.links r.takes_back w.sent (filled_slots w) r.rooms is.aimed.links is.holding.rooms_are) is.holding.small
-    u.walking.current_is u.walking.passed u.one_slot_each u.goal_label)
+    u.walking.current_is u.walking.passed u.one_slot_each)
 
 -- and has the same network and ends.
 pub plainly-settled : (r : Residual) (w : Way) {next : Residual} {new : Way} → next ≡ told r w → new ≡ emptied w → plainly next new ≡ sought r w
@@ -117,7 +117,7 @@ fresh-mark (fresh is) = is
 fresh-way : {r : Residual} {v : Labelling} {w : Way} → IsSearching r v w → IsFresh r.links v.labels w.start → w ≡ with_slots w []
 fresh-way {r} {w} is is_fresh =
     let way = is.under_way in
-    let none : length w.slots ≡ 0 = way.one_slot_each ∙ is_fresh.label in
+    let none : length w.slots ≡ 0 = omega (arith, way.one_slot_each, is_fresh.label) in
     let slots : w.slots ≡ [] = nil_from_length w.slots none in
     let rest : rest_slots w ≡ [] = nil_from_length (rest_slots w) (omega (arith, length-drop w.rest w.slots, none)) in
     let walked : w.walked ≡ 0 = omega (arith, way.order, way.within, none) in
@@ -142,7 +142,7 @@ searching-over {v} {w} next {current} is is_fresh same links sums at_first =
     } in
     let begins : BeginsFresh next.links v.labels w.start w.goal = record {
       long = omega (arith, a.one_label_each, same);
-      goal_label = is.under_way.goal_label;
+      goal_label = omega (arith, is.under_way.one_slot_each, is_fresh.label);
       fresh = still;
     } in (
       subst (IsSearching next other) (sym (fresh-way is is_fresh)) (searching-fresh next other w links sums is.holding.small (rw same a.start_is)

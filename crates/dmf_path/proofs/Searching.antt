@@ -12,7 +12,7 @@ use Rattle.dmf_path.proofs.Steps.{path_on, step_on, bottleneck_up_to-path_on}
 use Rattle.dmf_path.proofs.LeastTrail.{least-trail}
 use Rattle.dmf_path.proofs.Pushed.{FallsOn-trail, NoneOpens, OpensUpwards, none-pushed, opens-pushed}
 use Rattle.dmf_path.proofs.PushedPairs.{pushed_pairs-pushed}
-use Rattle.dmf_path.proofs.Descending.{Descends, descends-trail}
+use Rattle.dmf_path.proofs.Descending.{Descends, descends-lowered, descends-trail}
 use Rattle.dmf_path.proofs.Settled.{length-settled}
 use Rattle.dmf_path.proofs.SettledSent.{CanSend, CanSend-least, settled-sent, bottleneck-left}
 use Rattle.dmf_path.proofs.UnderWayWhole.{IsWhole, is-whole, slot-room}
@@ -52,9 +52,8 @@ can-augment {r} {places} {v} {w} limit {amount} places_are is joins least =
     let long : length rooms ≡ length l.heads = is.holding.rooms_are.0 in
     let told : after ≡ settled l takes_back w.sent w.slots rooms = ap (λ (ss : List Slot). settled l takes_back w.sent ss rooms) whole.filled in
     let after_long : length after ≡ length l.heads = length-settled l takes_back w.sent (filled_slots w) rooms ∙ long in
-    let bottom : get_or labels (end_of l w.start (places_of w.slots)) 0 ≡ 0 = ap (λ v. get_or labels v 0) whole.ends ∙ way.goal_label in
     let descends : Descends l labels (get_or labels w.start 0) 0 (places_of w.slots) =
-    subst (λ b. Descends l labels (get_or labels w.start 0) b (places_of w.slots)) bottom
+    descends-lowered l labels (get_or labels w.start 0) (get_or labels (end_of l w.start (places_of w.slots)) 0) 0 (places_of w.slots) (omega arith)
     (descends-trail l labels after v.current w.start (places_of w.slots) a.links a.start_is whole.trail) in
     let falls = FallsOn-trail labels after v.current w.start (places_of w.slots) a.links a.start_is whole.trail in
     let have : HaveLeft w.sent rooms w.slots = subst (HaveLeft w.sent rooms) whole.filled is.holding.have in
@@ -76,7 +75,7 @@ can-augment {r} {places} {v} {w} limit {amount} places_are is joins least =
       augments = record {
         path = path_on l places after (places_of w.slots);
         least = least-trail l places after labels v.current (places_of w.slots) w.start w.goal a.links places_are a.start_is a.goal_is a.sound a.start_label
-            way.goal_label walking whole.ends;
+            walking whole.ends;
         amount_is = least ∙ sym (bottleneck-left w.sent limit (settled l takes_back w.sent w.slots rooms) w.slots (λ i inside.
             slot-room l labels (get_or labels w.start 0) 0 w.slots i descends inside takes_back w.sent rooms a.links long have))
             ∙ ap (λ rs. bottleneck_on rs limit (places_of w.slots)) (sym told) ∙ sym (bottleneck_up_to-path_on l places after (places_of w.slots) limit);

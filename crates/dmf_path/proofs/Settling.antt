@@ -1,5 +1,5 @@
 -- All links leave, and no push is held any more.
-use Rattle.std.proofs.Common.{ℕ, ◌≡◌, ◌^◌, ◌<◌, Bool, List, [], ◌++◌, length, drop, get_or, ap, sym, ◌∙◌, subst, arith}
+use Rattle.std.proofs.Common.{ℕ, ◌≡◌, ◌+◌, ◌^◌, ◌<◌, Bool, List, [], ◌++◌, length, drop, get_or, ap, sym, ◌∙◌, subst, arith}
 use Rattle.std.proofs.lemmas.List.{append-nil, drop_all}
 use Rattle.dmf_path.specs.declared.trail.Slot.{Slot}
 use Rattle.dmf_node.specs.Node.{IsNode}
@@ -58,8 +58,8 @@ holding-free l w slots rooms sums small = record {
 -- and the walk begins, if no link is passed that leads to the goal.
 pub way-free : {l : Links} (labels after : List ℕ) {current : List ℕ} (w : Way) (slots : List Slot) → IsNode l.nodes w.goal → AreCurrent l current
     → ArePassed l labels after w.goal current
-    → length slots ≡ get_or labels w.start 0 → get_or labels w.goal 0 ≡ 0 → IsUnderWay l labels after current (with_slots w slots)
-way-free {l} labels after {current} w slots goal current_is passed count label =
+    → length slots + get_or labels w.goal 0 ≡ get_or labels w.start 0 → IsUnderWay l labels after current (with_slots w slots)
+way-free {l} labels after {current} w slots goal current_is passed count =
     let none : drop (length slots) slots ≡ [] = drop_all (length slots) slots (omega arith) in
     record {
       walking = record { current_is = current_is; passed = passed; trail_is = tt };
@@ -69,5 +69,4 @@ way-free {l} labels after {current} w slots goal current_is passed count label =
       order = omega arith;
       within = omega arith;
       one_slot_each = count;
-      goal_label = label;
     }

@@ -113,7 +113,6 @@ module _ {r : Residual} {places : List ℕ} {v : Labelling} {w : Way} {limit amo
         order = order;
         within = within;
         one_slot_each = is.under_way.one_slot_each;
-        goal_label = is.under_way.goal_label;
       } in
       let aimed = aimed-with r w is.aimed is.aimed.start_label
       (sound-opens r.links v.labels before after (get_or v.labels w.start 0) links can.opens is.aimed.sound) in

@@ -8,7 +8,7 @@ use Rattle.dmf_path.specs.Held.{Way, places_of, walked_slots, rest_slots, filled
 use Rattle.dmf_path.specs.Searching.{IsUnderWay}
 use Rattle.dmf_links.proofs.LinkPlaces.{lies-within}
 use Rattle.dmf_path.proofs.Walking.{label-trail}
-use Rattle.dmf_path.proofs.Descending.{Descends, descends-raised, descends-append, descends-trail, off-above, off-below, off-append, off-partner}
+use Rattle.dmf_path.proofs.Descending.{Descends, descends-raised, descends-lowered, descends-append, descends-trail, off-above, off-below, off-append, off-partner}
 use Rattle.dmf_path.proofs.Settled.{places-append, room-off}
 
 -- Changing the current link of a node leaves the trail, if the trail does not begin there and the node is not lower.
@@ -53,18 +53,18 @@ module _ {l : Links} {labels rooms current : List ℕ} {w : Way} (way : IsUnderW
   walk_end = end_of l w.start (places_of (walked_slots w))
 
   -- how far the labels fall in each part
-  pub walked-label : w.walked + get_or labels walk_end 0 ≡ length w.slots
+  pub walked-label : w.walked + get_or labels walk_end 0 ≡ length w.slots + get_or labels w.goal 0
   walked-label =
       let long : length (places_of (walked_slots w)) ≡ w.walked =
       length-map (walked_slots w) (λ s. s.place) ∙ length-take-le w.walked w.slots (omega (arith, way.order, way.within)) in
       omega (arith, long, way.one_slot_each, label-trail l labels rooms current w.start (places_of (walked_slots w)) way.walking.trail_is)
 
-  -- The rest has as many links as its beginning has labels to the goal.
-  pub rest-label : w.rest + get_or labels w.joint 0 ≡ length w.slots
+  -- The rest has as many links as its beginning is above the goal.
+  pub rest-label : w.rest + get_or labels w.joint 0 ≡ length w.slots + get_or labels w.goal 0
   rest-label =
       let long : length (places_of (rest_slots w)) ≡ length w.slots - w.rest = length-map (rest_slots w) (λ s. s.place) ∙ length-drop w.rest w.slots in
       let falls = label-trail l labels rooms current w.joint (places_of (rest_slots w)) way.rest_is in
-      omega (arith, long, way.within, way.goal_label, ap (λ u. get_or labels u 0) way.ends, falls)
+      omega (arith, long, way.within, ap (λ u. get_or labels u 0) way.ends, falls)
 
   -- The rest begins no higher than the walk's last node.
   pub joint-low : get_or labels w.joint 0 ≤ get_or labels walk_end 0
@@ -73,7 +73,7 @@ module _ {l : Links} {labels rooms current : List ℕ} {w : Way} (way : IsUnderW
   -- If the walk has come to the goal, it is where the rest begins.
   pub goal-joint : {node : ℕ} → walk_end ≡ node → node ≢ w.joint → node ≢ w.goal
   goal-joint {node} arrives other same =
-      let none : get_or labels node 0 ≡ 0 = ap (λ u. get_or labels u 0) same ∙ way.goal_label in
+      let none : get_or labels node 0 ≡ get_or labels w.goal 0 = ap (λ u. get_or labels u 0) same in
       let high : w.rest ≡ length w.slots = omega (arith, none, walked-label, ap (λ u. get_or labels u 0) arrives, way.order, way.within) in
       let empty : places_of (rest_slots w) ≡ [] = nil_from_length (places_of (rest_slots w))
       (length-map (rest_slots w) (λ s. s.place) ∙ length-drop w.rest w.slots ∙ omega (arith, high)) in
@@ -85,8 +85,8 @@ module _ {l : Links} {labels rooms current : List ℕ} {w : Way} (way : IsUnderW
     descends-walked = descends-trail l labels rooms current w.start (places_of (walked_slots w)) links start way.walking.trail_is
 
     descends-rest : Descends l labels (get_or labels w.joint 0) 0 (places_of (rest_slots w))
-    descends-rest = subst (λ bottom. Descends l labels (get_or labels w.joint 0) bottom (places_of (rest_slots w)))
-        (ap (λ u. get_or labels u 0) way.ends ∙ way.goal_label)
+    descends-rest =
+        descends-lowered l labels (get_or labels w.joint 0) (get_or labels (end_of l w.joint (places_of (rest_slots w))) 0) 0 (places_of (rest_slots w)) (omega arith)
         (descends-trail l labels rooms current w.joint (places_of (rest_slots w)) links way.joint_is way.rest_is)
 
     -- So all links in slots do.

@@ -91,17 +91,17 @@ pub dead-end : (l : Links) (labels rooms current : List ℕ) (goal : ℕ) {v : �
 dead-end l labels rooms current goal passed node other all [] walk = other walk
 dead-end l labels rooms current goal {v} passed node other all (p ∷ ps) walk = passed v p ps node walk.0.lies (omega (arith, walk.0.lies.below, all)) walk
 
--- The current link of the node to which the trail leads moves on over links that are not admissible.
+-- The current link of the node to which the trail leads moves on over links with which no walk begins.
 pub walking-set : {l : Links} {labels rooms : List ℕ} {start goal : ℕ} {current trail : List ℕ} {node : ℕ} (place : ℕ)
     → HasCome l labels rooms start goal current trail node → slice_index current node ≤ place → place ≤ slice_index l.first (node + 1)
-    → ((p : ℕ) → slice_index current node ≤ p → p < place → 0 < slice_index rooms p → slice_index labels (slice_index l.heads p) + 1 ≢ slice_index labels node)
+    → ((p : ℕ) (ps : List ℕ) → slice_index current node ≤ p → p < place → ¬ IsWalk l labels rooms goal node (p ∷ ps))
     → HasCome l labels rooms start goal (set current node place) trail node
 walking-set {l} {labels} {rooms} {start} {goal} {current} {trail} {node} place come from to none = record {
   walking = record {
     current_is = AreCurrent-set l current node place come.walking.current_is come.is_node
         (omega (arith, from, come.walking.current_is.from node come.is_node)) to;
     passed = ArePassed-set l labels rooms current goal node place come.walking.passed (omega (arith, come.walking.current_is.one_each, come.is_node.to_last))
-        (λ p ps after before walk. none p after before walk.0.room walk.0.falls);
+        none;
     trail_is = IsTrail-set l labels rooms current start trail node place come.walking.trail_is (omega (arith, ap (λ u. slice_index labels u) come.arrives));
   };
   arrives = come.arrives;

@@ -1,21 +1,44 @@
 -- One turn of a walk: it takes the first admissible link of its node, or steps back if there is none.
-use Rattle.std.proofs.Common.{ℕ, ◌≡◌, ◌≢◌, ◌+◌, ◌-◌, ◌*◌, ◌<◌, ◌≤◌, List, [], ◌∷◌, ◌++◌, length, set, take, get_or, sum_by, ap, sym, subst, ◌∙◌}
+use Rattle.std.proofs.Common.{ℕ, ◌≡◌, ◌≢◌, ◌+◌, ◌-◌, ◌*◌, ◌<◌, ◌≤◌, ◌⊎◌, List, [], ◌∷◌, ◌++◌, length, set, take, get_or, sum_by, ap, sym, subst, ◌∙◌}
 use Rattle.std.proofs.Common.{arith, inl, inr}
 use Rattle.std.proofs.Math.Nat.{mul-le-mul_right}
 use Rattle.std.proofs.lemmas.Bool.{cases_lt}
-use Rattle.std.proofs.lemmas.List.{get_or-set_same, get_or_default, length-set}
+use Rattle.std.specs.List.{All}
+use Rattle.std.proofs.lemmas.List.{get_or-set_same, get_or_default, length-set, nil_from_length}
+use Rattle.std.proofs.lemmas.List.Elements.{All-push, Contains-append_left, Contains-push}
 use Rattle.std.proofs.lemmas.List.Sums.{sum_by-set}
 use Rattle.dmf_node.specs.Node.{IsNode}
 use Rattle.dmf_links.specs.Links.{Links, LiesAt, AreLinks, AreRooms, tail_of}
-use Rattle.dmf_path.specs.Walk.{AreSkipped, IsTrail, IsWalk, end_of}
+use Rattle.dmf_path.specs.Walk.{IsTrail, IsWalk, end_of}
 use Rattle.dmf_path.specs.Held.{Way, places_of, walked_slots, slot_at, stepped_back}
 use Rattle.dmf_path.specs.Residual.{Residual, put_on}
+use Rattle.dmf_path.specs.Searching.{AreNoted, IsNoted}
 use Rattle.dmf_links.proofs.LinkPlaces.{lies-within}
+use Rattle.dmf_path.proofs.LeastTrail.{walk-path}
 use Rattle.dmf_path.proofs.Spreading.{cases-set}
 use Rattle.dmf_path.proofs.Walking.{label-trail, IsTrail-split, end_of-append, end-node, dead-end, walking-set, come-back}
 use Rattle.dmf_path.proofs.UnderWay.{goal-joint, is-free, free-room}
 use Rattle.dmf_path.proofs.WayStart.{walk-end, last-link_within}
 use Rattle.dmf_path.proofs.WayTurn.{IsOnWay, on-moved, last-places, on-back}
+
+-- What is noted stays so when another link is.
+noted-more : (l : Links) (noted : List ℕ) (q v p : ℕ) → IsNoted l noted v p → IsNoted l (noted ++ q ∷ []) v p
+noted-more l noted q v p is =
+    record { place = is.place; noted_is = Contains-append_left noted (q ∷ []) is.place is.noted_is; tail = is.tail; before = is.before }
+
+-- A node's current link, which is passed and noted
+pub noted-step : {l : Links} {labels rooms current noted : List ℕ} (v q : ℕ) → v < length current → get_or current v 0 ≡ q → tail_of l q ≡ v
+    → q < length l.heads → AreNoted l labels rooms current noted → AreNoted l labels rooms (set current v (q + 1)) (noted ++ q ∷ [])
+noted-step {l = l} {current = current} {noted = noted} v q inside stands tail within are = record {
+  within = All-push (λ p. p < length l.heads) noted q are.within within;
+  each = λ u p node lies early admissible. elim (cases-set current v u (q + 1) inside) [
+    | inr other ↦ noted-more l noted q u p (are.each u p node lies (omega (arith, early, other.1)) admissible)
+    | inl here ↦ elim (cases_lt p q) [
+      | inl less ↦ noted-more l noted q u p (are.each u p node lies (omega (arith, less, stands, ap (λ x. get_or current x 0) here.0)) admissible)
+      | inr same ↦ record { place = q; noted_is = Contains-push noted q; tail = tail ∙ sym here.0; before = omega (arith, same) }
+    ]
+  ];
+}
 
 -- The walk's last node, its first admissible link from the current one on by the rooms, and the place where its links end.
 pub record Turn : Type 0 where
@@ -34,7 +57,10 @@ pub record Turn : Type 0 where
   pub end_read : end ≡ get_or r.links.first (node + 1) end
   pub from : get_or current node 0 ≤ place
   pub to : place ≤ end
-  pub none : (p : ℕ) → get_or current node 0 ≤ p → p < place → 0 < get_or r.rooms p 0 → get_or labels (get_or r.links.heads p 0) 0 + 1 ≢ get_or labels node 0
+  pub first : get_or labels w.goal 0 + 1 < get_or labels node 0 → (p : ℕ) → get_or current node 0 ≤ p → p < place → 0 < get_or r.rooms p 0
+      → get_or labels (get_or r.links.heads p 0) 0 + 1 ≢ get_or labels node 0
+  pub only : get_or labels w.goal 0 + 1 ≡ get_or labels node 0 → (p : ℕ) → get_or current node 0 ≤ p → p < place → 0 < get_or r.rooms p 0
+      → get_or r.links.heads p 0 ≢ w.goal
 
 -- the current links once that of the node has moved on
 abbrev pub moved : Turn → List ℕ
@@ -72,15 +98,31 @@ module _ (t : Turn) where
   told-room {p} lies falls = ap (λ (x : Residual). get_or x.rooms p 0) (sym t.on.same)
       ∙ free-room t.r.takes_back t.r.rooms t.on.holding.rooms_are.0 (is-free t.on.way t.links t.start_is t.on.come.is_node t.on.come.arrives t.other lies falls)
 
-  -- No link before the one found is admissible by the settled rooms.
-  none-told : (p : ℕ) → get_or t.current t.node 0 ≤ p → p < t.place → 0 < get_or t.aim.rooms p 0
-      → get_or t.labels (get_or t.r.links.heads p 0) 0 + 1 ≢ get_or t.labels t.node 0
-  none-told p later before room falls =
-      let lies : LiesAt t.r.links t.node p = record {
-        from = omega (arith, later, t.on.come.walking.current_is.from t.node t.on.come.is_node);
-        below = omega (arith, before, t.to, where-ends);
-      } in
-      t.none p later before (omega (arith, room, told-room lies falls)) falls
+  -- A link before the one found is one of the node,
+  lies-before : (p : ℕ) → get_or t.current t.node 0 ≤ p → p < t.place → LiesAt t.r.links t.node p
+  lies-before p later before = record {
+    from = omega (arith, later, t.on.come.walking.current_is.from t.node t.on.come.is_node);
+    below = omega (arith, before, t.to, where-ends);
+  }
+
+  -- and it is not admissible by the settled rooms, unless the node is at most one level above the goal.
+  first-told : get_or t.labels t.w.goal 0 + 1 < get_or t.labels t.node 0 → (p : ℕ) → get_or t.current t.node 0 ≤ p → p < t.place
+      → 0 < get_or t.aim.rooms p 0 → get_or t.labels (get_or t.r.links.heads p 0) 0 + 1 ≢ get_or t.labels t.node 0
+  first-told high p later before room falls =
+      t.first high p later before (omega (arith, room, told-room (lies-before p later before) falls)) falls
+
+  -- No walk begins with it.
+  none-told : (p : ℕ) (ps : List ℕ) → get_or t.current t.node 0 ≤ p → p < t.place → ¬ IsWalk t.r.links t.labels t.aim.rooms t.w.goal t.node (p ∷ ps)
+  none-told p ps later before walk =
+      let long = (walk-path t.r.links t.aim.rooms t.labels t.w.goal t.node (p ∷ ps) walk).1 in
+      let room : 0 < get_or t.r.rooms p 0 = omega (arith, walk.0.room, told-room (lies-before p later before) walk.0.falls) in
+      elim (cases_lt (get_or t.labels t.w.goal 0 + 1) (get_or t.labels t.node 0)) [
+        | inl high ↦ first-told high p later before walk.0.room walk.0.falls
+        | inr low ↦
+            let last : ps ≡ [] = nil_from_length ps (omega (arith, long, low)) in
+            let leads = subst (λ qs. IsWalk t.r.links t.labels t.aim.rooms t.w.goal (get_or t.r.links.heads p 0) qs) last walk.1 in
+            t.only (omega (arith, long, low)) p later before room leads
+      ]
 
   -- The node has a current link.
   pub node-within : t.node < length t.current
@@ -90,17 +132,45 @@ module _ (t : Turn) where
   pub on-turned : IsOnWay t.r t.labels (moved t) t.aim t.w t.node
   on-turned = on-moved t.on t.place t.other (walking-set t.place t.on.come t.from (omega (arith, where-ends, t.to)) none-told)
 
-  -- No link that is passed in this way is admissible.
-  pub skipped-turned : AreSkipped t.aim.links t.labels t.aim.rooms t.current → AreSkipped t.aim.links t.labels t.aim.rooms (moved t)
-  skipped-turned skipped v p node lies before admissible = elim (cases-set t.current t.node v t.place node-within) [
-    | inr other ↦ skipped v p node lies (omega (arith, before, other.1)) admissible
-    | inl here ↦ elim (cases_lt p (get_or t.current t.node 0)) [
-      | inl passed ↦ skipped v p node lies (omega (arith, passed, ap (λ u. get_or t.current u 0) here.0)) admissible
-      | inr later ↦ none-told p later (omega (arith, before, here.1)) admissible.room
-          (subst (λ (x : Residual). get_or t.labels (get_or x.links.heads p 0) 0 + 1 ≡ get_or t.labels t.node 0) (sym t.on.same)
-          (admissible.falls ∙ ap (λ u. get_or t.labels u 0) here.0))
-    ]
-  ]
+  -- Each admissible link that is passed in this way is noted, if one is that is not after it.
+  noted-turned : {noted more : List ℕ} → AreNoted t.aim.links t.labels t.aim.rooms t.current noted → All (λ q. q < length t.aim.links.heads) more
+      → ((v p : ℕ) → IsNoted t.aim.links noted v p → IsNoted t.aim.links more v p)
+      → ((p : ℕ) → get_or t.labels t.node 0 ≤ get_or t.labels t.w.goal 0 + 1 → get_or t.current t.node 0 ≤ p → p < t.place
+      → IsNoted t.aim.links more t.node p)
+      → AreNoted t.aim.links t.labels t.aim.rooms (moved t) more
+  noted-turned {more = more} are within kept passed = record {
+    within = within;
+    each = λ v p node lies before admissible. elim (cases-set t.current t.node v t.place node-within) [
+      | inr other ↦ kept v p (are.each v p node lies (omega (arith, before, other.1)) admissible)
+      | inl here ↦ elim (cases_lt p (get_or t.current t.node 0)) [
+        | inl early ↦ kept v p (are.each v p node lies (omega (arith, early, ap (λ u. get_or t.current u 0) here.0)) admissible)
+        | inr later ↦ elim (cases_lt (get_or t.labels t.w.goal 0 + 1) (get_or t.labels t.node 0)) [
+          | inl high ↦ absurd (first-told high p later (omega (arith, before, here.1)) admissible.room
+              (subst (λ (x : Residual). get_or t.labels (get_or x.links.heads p 0) 0 + 1 ≡ get_or t.labels t.node 0) (sym t.on.same)
+              (admissible.falls ∙ ap (λ u. get_or t.labels u 0) here.0)))
+          | inr low ↦ subst (λ u. IsNoted t.aim.links more u p) (sym here.0) (passed p (omega (arith, low)) later (omega (arith, before, here.1)))
+        ]
+      ]
+    ];
+  }
+
+  -- So the place from which the walk looked on may be noted,
+  pub noted-from : {noted more : List ℕ} → AreNoted t.aim.links t.labels t.aim.rooms t.current noted → more ≡ noted ++ get_or t.current t.node 0 ∷ []
+      → get_or t.current t.node 0 < t.place → AreNoted t.aim.links t.labels t.aim.rooms (moved t) more
+  noted-from {noted = noted} are is moves =
+      let from : ℕ = get_or t.current t.node 0 in
+      let lies = lies-before from (omega arith) moves in
+      let tail : tail_of t.aim.links from ≡ t.node =
+      subst (λ (x : Residual). tail_of x.links from ≡ t.node) t.on.same (t.links.at_tail t.node from t.on.come.is_node lies) in
+      let within : from < length t.aim.links.heads =
+      subst (λ (x : Residual). from < length x.links.heads) t.on.same (lies-within t.r.links t.node from t.links t.on.come.is_node lies) in
+      rw is (noted-turned are (All-push (λ q. q < length t.aim.links.heads) noted from are.within within) (noted-more t.aim.links noted from)
+      (λ p low later before. record { place = from; noted_is = Contains-push noted from; tail = tail; before = later }))
+
+  -- and none need be, if the node is higher or the walk does not look on.
+  pub noted-same : {noted : List ℕ} → (get_or t.labels t.w.goal 0 + 1 < get_or t.labels t.node 0) ⊎ (t.place ≤ get_or t.current t.node 0)
+      → AreNoted t.aim.links t.labels t.aim.rooms t.current noted → AreNoted t.aim.links t.labels t.aim.rooms (moved t) noted
+  noted-same which are = noted-turned are are.within (λ v p is. is) (λ p low later before. absurd (omega (arith, which, low, later, before)))
 
   -- all links of the node are passed
   all-passed : t.end ≤ t.place → get_or t.r.links.first (t.node + 1) 0 ≤ get_or (moved t) t.node 0
@@ -162,6 +232,17 @@ module _ (t : Turn) where
           let label = label-trail t.r.links t.labels t.aim.rooms (moved t) t.w.start (before_last t) before.0 in
           rw at (omega (arith, ap (λ v. get_or t.labels v 0) (is ∙ tail-is), label, mul-le-mul_right (get_or t.labels t.w.start 0 + 1) fewer))
 
+      -- the link over which the walk steps back is noted,
+      pub noted-back : {noted more : List ℕ} {back : ℕ} → AreNoted t.aim.links t.labels t.aim.rooms (moved t) noted → back ≡ last t
+          → more ≡ noted ++ back ∷ [] → AreNoted t.aim.links t.labels t.aim.rooms (set (moved t) tail (back + 1)) more
+      noted-back {noted = noted} {back = back} are at more =
+          let stands : get_or (moved t) tail 0 ≡ back = ap (λ v. get_or (moved t) v 0) (is ∙ tail-is) ∙ before.1.1 ∙ sym at in
+          let within : back < length t.aim.links.heads =
+          subst (λ (x : Residual). back < length x.links.heads) t.on.same (omega (arith, at, back-within)) in
+          let from : tail_of t.aim.links back ≡ tail =
+          subst (λ (x : Residual). tail_of x.links back ≡ tail) t.on.same (ap (tail_of t.r.links) at ∙ sym is) in
+          rw more (noted-step tail back back-tail_within stands from within are)
+
       -- and the walk steps back.
       pub on-stepped : {next : Residual} {new : Way} {back : ℕ} → t.end ≤ t.place → next ≡ put_on t.r t.w.sent (slot_at t.w.slots (t.w.walked - 1))
           → new ≡ stepped_back t.w → AreRooms next.links next.rooms → back ≡ last t → IsOnWay next t.labels (set (moved t) tail (back + 1)) t.aim new tail
@@ -173,3 +254,62 @@ module _ (t : Turn) where
           rw (at, put, step) (on-back on-turned t.links t.start_is (last t + 1) some
           (omega (arith, before.1.0.falls, ap (λ u. get_or t.labels u 0) head, ap (λ u. get_or t.labels u 0) (is ∙ tail-is))) (rw is come)
           (subst (λ (x : Residual). AreRooms x.links x.rooms) put sums))
+
+-- The link found leads to a node above the goal whose links are all passed.
+pub record IsSpent (t : Turn) : Type 0 where
+  pub found : t.place < t.end
+  pub above : get_or t.labels t.w.goal 0 < get_or t.labels (get_or t.r.links.heads t.place 0) 0
+  pub passed : get_or t.r.links.first (get_or t.r.links.heads t.place 0 + 1) 0 ≤ get_or (moved t) (get_or t.r.links.heads t.place 0) 0
+
+module _ (t : Turn) (found : t.place < t.end) where
+  lies-spent : LiesAt t.r.links t.node t.place
+  lies-spent = record {
+    from = omega (arith, t.from, t.on.come.walking.current_is.from t.node t.on.come.is_node);
+    below = omega (arith, found, where-ends t);
+  }
+
+  pub within-spent : t.place < length t.r.links.heads
+  within-spent = lies-within t.r.links t.node t.place t.links t.on.come.is_node lies-spent
+
+-- The walk passes it.
+module _ {t : Turn} (is : IsSpent t) where
+  stands-spent : get_or (moved t) t.node 0 ≡ t.place
+  stands-spent = get_or-set_same t.current t.node t.place 0 (node-within t)
+
+  inside-spent : t.node < length (moved t)
+  inside-spent = omega (arith, node-within t, length-set t.current t.node t.place)
+
+  -- It is still on its way,
+  pub on-spent : IsOnWay t.r t.labels (set (moved t) t.node (t.place + 1)) t.aim t.w t.node
+  on-spent =
+      let head_is = (t.links.each t.place (within-spent t is.found)).head in
+      let other : get_or t.r.links.heads t.place 0 ≢ t.w.goal = λ same. omega (arith, is.above, ap (λ u. get_or t.labels u 0) same) in
+      let none : (p : ℕ) (ps : List ℕ) → get_or (moved t) t.node 0 ≤ p → p < t.place + 1 → ¬ IsWalk t.r.links t.labels t.aim.rooms t.w.goal t.node (p ∷ ps) =
+      λ p ps later before walk.
+      let at : p ≡ t.place = omega (arith, later, before, stands-spent) in
+      dead-end t.r.links t.labels t.aim.rooms (moved t) t.w.goal (on-turned t).come.walking.passed head_is other is.passed ps
+      (subst (λ u. IsWalk t.r.links t.labels t.aim.rooms t.w.goal u ps) (ap (λ q. get_or t.r.links.heads q 0) at) walk.1) in
+      on-moved (on-turned t) (t.place + 1) t.other
+      (walking-set (t.place + 1) (on-turned t).come (omega (arith, stands-spent)) (omega (arith, where-ends t, is.found)) none)
+
+  -- less work is left,
+  pub less-spent : work_left t.aim.links t.labels t.w.start (set (moved t) t.node (t.place + 1)) t.node
+      < work_left t.aim.links t.labels t.w.start t.current t.node
+  less-spent =
+      let n : ℕ = length t.aim.links.heads in
+      let same : length t.r.links.heads ≡ n = ap (λ (x : Residual). length x.links.heads) t.on.same in
+      let less = passed-set n (moved t) t.node (t.place + 1) inside-spent (omega (arith, stands-spent))
+      (omega (arith, stands-spent, within-spent t is.found, same)) in
+      let most = not_passed-set n t.current t.node t.place (node-within t) t.from in
+      let fewer : sum_by (λ p. n - p) (set (moved t) t.node (t.place + 1)) + 1 ≤ sum_by (λ p. n - p) t.current = omega (arith, less, most) in
+      omega (arith, mul-le-mul_right (get_or t.labels t.w.start 0 + 1) fewer)
+
+  -- and the link is noted.
+  pub noted-spent : {noted more : List ℕ} → AreNoted t.aim.links t.labels t.aim.rooms (moved t) noted → more ≡ noted ++ t.place ∷ []
+      → AreNoted t.aim.links t.labels t.aim.rooms (set (moved t) t.node (t.place + 1)) more
+  noted-spent are more =
+      let tail : tail_of t.aim.links t.place ≡ t.node =
+      subst (λ (x : Residual). tail_of x.links t.place ≡ t.node) t.on.same (t.links.at_tail t.node t.place t.on.come.is_node (lies-spent t is.found)) in
+      let within : t.place < length t.aim.links.heads =
+      subst (λ (x : Residual). t.place < length x.links.heads) t.on.same (within-spent t is.found) in
+      rw more (noted-step t.node t.place inside-spent stands-spent tail within are)

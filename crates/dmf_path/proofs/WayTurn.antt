@@ -58,7 +58,7 @@ module _ {r : Residual} {labels current : List ℕ} {aim : Residual} {w : Way} {
   node-low = omega (arith, joint-low on.way, ap (λ u. get_or labels u 0) on.come.arrives)
 
   -- how many slots there are
-  pub slots-left : w.walked + get_or labels node 0 ≡ length w.slots
+  pub slots-left : w.walked + get_or labels node 0 ≡ length w.slots + get_or labels w.goal 0
   slots-left = omega (arith, walked-label on.way, ap (λ u. get_or labels u 0) on.come.arrives)
 
   -- The node's current link moves on.
@@ -74,7 +74,6 @@ module _ {r : Residual} {labels current : List ℕ} {aim : Residual} {w : Way} {
       order = on.way.order;
       within = on.way.within;
       one_slot_each = on.way.one_slot_each;
-      goal_label = on.way.goal_label;
     };
     holding = on.holding;
     same = on.same;
@@ -110,7 +109,6 @@ module _ {r : Residual} {labels current : List ℕ} {aim : Residual} {w : Way} {
               order = omega (arith, meets);
               within = omega (arith, within);
               one_slot_each = on.way.one_slot_each;
-              goal_label = on.way.goal_label;
             };
             holding = record { rooms_are = sums; small = on.holding.small; have = first.have };
             same = ap (roomed r) (sym first.same ∙ sym (ap (λ (ss : List Slot). settled r.links r.takes_back w.sent (walked_slots w ++ ss) r.rooms) split))
@@ -161,7 +159,6 @@ module _ {r : Residual} {labels current : List ℕ} {aim : Residual} {w : Way} {
             order = omega (arith, on.way.order);
             within = on.way.within;
             one_slot_each = on.way.one_slot_each;
-            goal_label = on.way.goal_label;
           };
           holding = record { rooms_are = sums; small = on.holding.small; have = left.have };
           same = ap (roomed r) (sym left.same ∙ sym (ap (λ (ss : List Slot). settled r.links r.takes_back w.sent ss r.rooms) (filled some))) ∙ on.same;
@@ -196,8 +193,7 @@ on-entered {r} {labels} {current} {aim} {w} {node} {place} links start made is c
         joint_is = on.way.joint_is;
         order = omega (arith, made.next);
         within = omega (arith, on.way.within, length-set w.slots w.walked s);
-        one_slot_each = length-set w.slots w.walked s ∙ on.way.one_slot_each;
-        goal_label = on.way.goal_label;
+        one_slot_each = omega (arith, length-set w.slots w.walked s, on.way.one_slot_each);
       };
       holding = record {
         rooms_are = on.holding.rooms_are;

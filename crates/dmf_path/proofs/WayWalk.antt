@@ -16,6 +16,7 @@ pub record IsFound (t : Turn) : Type 0 where
   pub found : t.place < t.end
   pub room : 0 < get_or t.r.rooms t.place 0
   pub falls : get_or t.labels (get_or t.r.links.heads t.place 0) 0 + 1 ≡ get_or t.labels t.node 0
+  pub above : get_or t.labels t.w.goal 0 < get_or t.labels t.node 0
 
 -- Once the slot is free, the links are the same.
 made-links : {r : Residual} {w : Way} {next : Residual} {new : Way} → MakesWay r w next new → next.links ≡ r.links
@@ -35,7 +36,7 @@ module _ {t : Turn} (f : IsFound t) where
 
   -- There is a slot for it,
   pub slot-found : t.w.walked < length t.w.slots
-  slot-found = omega (arith, slots-left t.on, f.falls)
+  slot-found = omega (arith, slots-left t.on, f.above)
 
   -- and if the first link of the rest has the slot, that link can leave.
   pub slot-first : t.w.walked ≡ t.w.rest → IsSlot t.r.links t.w.sent t.r.rooms (slot_at t.w.slots t.w.rest)

@@ -81,6 +81,11 @@ pub record AreJoined (long : ℕ) (to_goal from_start labels : List ℕ) : Type 
   pub each : (v : ℕ) → v < length labels
       → slice_index labels v ≡ joined_label long (slice_index to_goal v) (slice_index from_start v)
 
+-- The labels are the number of nodes less these distances from the start, or 0 where there is none.
+pub record AreTurned (nodes : ℕ) (from_start labels : List ℕ) : Type 0 where
+  pub one_each : length labels ≡ nodes + 1
+  pub each : (v : ℕ) → IsNode nodes v → slice_index labels v ≡ nodes - slice_index from_start v
+
 -- a label, or `beyond` for a node that has none
 abbrev pub filled_label : ℕ → ℕ → ℕ
 filled_label beyond label = if label == no_label then beyond else label
@@ -117,5 +122,4 @@ pub record AreWhole (l : Links) (labels rooms : List ℕ) : Type 0 where
 pub record IsLabelled (l : Links) (rooms labels : List ℕ) (start goal : ℕ) : Type 0 where
   pub sound : AreSound l labels rooms (slice_index labels start)
   pub start_label : slice_index labels start ≤ l.nodes
-  pub goal_label : slice_index labels goal ≡ 0
   pub walk : (ps : List ℕ) × IsWalk l labels rooms goal start ps

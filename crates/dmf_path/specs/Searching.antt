@@ -1,22 +1,23 @@
 -- What a search keeps.
 -- Private: only contracts inside the crate and proofs use this.
-use Rattle.std.specs.Prelude.{ℕ, ◌≡◌, ◌≢◌, ◌+◌, ◌^◌, ◌<◌, ◌≤◌, ◌⊎◌, Bool, true, false, List, length, replicate, slice_index, slice_set, vec_capacity}
+use Rattle.std.specs.Prelude.{ℕ, ◌≡◌, ◌≢◌, ◌+◌, ◌^◌, ◌<◌, ◌≤◌, ◌⊎◌, Bool, true, false, List, length, replicate, slice_index, slice_set, vec_capacity, Contains}
 use Rattle.std.specs.List.{All}
 use Rattle.dmf_path.specs.declared.aside.Aside.{Aside}
 use Rattle.dmf_path.specs.declared.levels.Levels.{Levels}
 use Rattle.dmf_path.specs.declared.frontier.Frontier.{Frontier}
+use Rattle.dmf_path.specs.declared.noted.Noted.{Noted}
 use Rattle.dmf_path.specs.Labels.{no_label, AreQueued}
 use Rattle.dmf_path.specs.Frontier.{IsClean, IsIdle}
 use Rattle.dmf_path.specs.BothEnds.{AreSound, AreWhole}
 use Rattle.dmf_node.specs.Node.{IsNode}
-use Rattle.dmf_links.specs.Links.{Links, LiesAt, AreLinks, ArePlaces, AreRooms, pairs_at}
-use Rattle.dmf_path.specs.Walk.{AreCurrent, ArePassed, AreSkipped, IsTrail, IsWalking, end_of}
+use Rattle.dmf_links.specs.Links.{Links, LiesAt, AreLinks, ArePlaces, AreRooms, pairs_at, tail_of}
+use Rattle.dmf_path.specs.Walk.{AreCurrent, ArePassed, IsAdmissible, IsTrail, IsWalking, end_of}
 use Rattle.dmf_path.specs.Held.{Way, places_of, walked_slots, rest_slots, filled_slots, HaveLeft}
 use Rattle.dmf_path.specs.Residual.{Residual, told}
 use Rattle.dmf_path.specs.Search.{Searched}
 
 -- How far the search for the next path has come: the walk, and the rest of the last path, which leads on to the goal along admissible
--- current links. There is a slot for each label below the start's.
+-- current links. There is a slot for each label below the start's, down to the goal's.
 pub record IsUnderWay (l : Links) (labels rooms current : List ℕ) (w : Way) : Type 0 where
   pub walking : IsWalking l labels rooms w.start w.goal current (places_of (walked_slots w))
   pub rest_is : IsTrail l labels rooms current w.joint (places_of (rest_slots w))
@@ -24,8 +25,7 @@ pub record IsUnderWay (l : Links) (labels rooms current : List ℕ) (w : Way) : 
   pub joint_is : IsNode l.nodes w.joint
   pub order : w.walked ≤ w.rest
   pub within : w.rest ≤ length w.slots
-  pub one_slot_each : length w.slots ≡ slice_index labels w.start
-  pub goal_label : slice_index labels w.goal ≡ 0
+  pub one_slot_each : length w.slots + slice_index labels w.goal ≡ slice_index labels w.start
 
 -- The held pushes can be applied.
 pub record IsHolding (l : Links) (w : Way) (rooms : List ℕ) : Type 0 where
@@ -69,29 +69,40 @@ pub record IsSearching (r : Residual) (v : Labelling) (w : Way) : Type 0 where
   pub holding : IsHolding r.links w r.rooms
   pub under_way : IsUnderWay r.links v.labels (told r w).rooms v.current w
 
--- No link before a current one is admissible, unless a walk has stepped back.
-abbrev pub MaySkip : Bool → Residual → List ℕ → List ℕ → Type 0
-MaySkip stepped_back r labels current = stepped_back ≡ false → AreSkipped r.links labels r.rooms current
+-- Among these links there is one of the node at place `p`, or before it.
+pub record IsNoted (l : Links) (noted : List ℕ) (v p : ℕ) : Type 0 where
+  pub place : ℕ
+  pub noted_is : Contains noted place
+  pub tail : tail_of l place ≡ v
+  pub before : place ≤ p
 
--- Labels that another search may keep: they are valid whatever its start is, and it knows which links are passed.
-pub record AreLasting (v : Labelling) (stepped_back : Bool) (r : Residual) : Type 0 where
+-- The noted links are links. An admissible link before a current one is noted, or one before it at its node is.
+pub record AreNoted (l : Links) (labels rooms current noted : List ℕ) : Type 0 where
+  pub within : All (λ p. p < length l.heads) noted
+  pub each : (v p : ℕ) → IsNode l.nodes v → LiesAt l v p → p < slice_index current v → IsAdmissible l labels rooms v p → IsNoted l noted v p
+
+-- It is known which admissible links are before current ones, unless some could not be noted.
+abbrev pub MaySkip : Noted → Residual → List ℕ → List ℕ → Type 0
+MaySkip noted r labels current = noted.lost ≡ false → AreNoted r.links labels r.rooms current noted.places.items
+
+-- Labels that another search may keep: they are valid whatever its ends are, and it knows which admissible links are passed.
+pub record AreLasting (v : Labelling) (noted : Noted) (r : Residual) : Type 0 where
   pub whole : AreWhole r.links v.labels r.rooms
-  pub skipped : MaySkip stepped_back r v.labels v.current
+  pub skipped : MaySkip noted r v.labels v.current
 
--- They lead to this goal, so a search from any node with a label may keep them.
-pub record AreKeptFor (v : Labelling) (stepped_back : Bool) (r : Residual) (goal : ℕ) : Type 0 where
-  pub lasting : AreLasting v stepped_back r
-  pub goal_label : slice_index v.labels goal ≡ 0
+-- The current links fit this goal.
+pub record AreKeptFor (v : Labelling) (noted : Noted) (r : Residual) (goal : ℕ) : Type 0 where
+  pub lasting : AreLasting v noted r
   pub current_is : AreCurrent r.links v.current
   pub passed : ArePassed r.links v.labels r.rooms goal v.current
 
 -- If all nodes from which paths lead to the goal have labels, they are lasting.
 abbrev pub MayLast : Levels → Residual → Type 0
-MayLast levels r = levels.all ≡ true → AreLasting (labelling_of levels) levels.stepped_back r
+MayLast levels r = levels.all ≡ true → AreLasting (labelling_of levels) levels.noted r
 
 -- The same, and a fresh search has no such labels.
 abbrev pub AreKept : Levels → Bool → Residual → Type 0
-AreKept levels is_fresh r = levels.all ≡ true → (is_fresh ≡ false) × AreLasting (labelling_of levels) levels.stepped_back r
+AreKept levels is_fresh r = levels.all ≡ true → (is_fresh ≡ false) × AreLasting (labelling_of levels) levels.noted r
 
 -- The walk has come to where the rest of the last path begins: the two are a path from the start to the goal.
 abbrev pub IsFound : Residual → Way → Type 0
@@ -136,7 +147,7 @@ pub record AreUsable (levels : Levels) (r : Residual) (goal : ℕ) : Type 0 wher
   pub ready : IsReady r.links.nodes levels.near levels.far
   pub goal_is : IsNode r.links.nodes goal
   pub current_is : AreCurrent r.links levels.current.items
-  pub kept : levels.all ≡ true → AreKeptFor (labelling_of levels) levels.stepped_back r goal
+  pub kept : levels.all ≡ true → AreKeptFor (labelling_of levels) levels.noted r goal
 
 -- Those that are set aside are so for the goal that they had, and no room rises.
 abbrev pub AreAside : List Aside → Residual → Type 0

@@ -5,6 +5,7 @@ ghost use Rattle.dmf_path.specs.Searching.{IsReady};
 ghost use Rattle.dmf_path.specs.Walk.{AreCurrent};
 
 use crate::frontier::Frontier;
+use crate::noted::Noted;
 use dmf_links::LinkTable;
 use std::alloc::{AllocError, Global};
 
@@ -23,10 +24,12 @@ pub struct Levels {
     pub looked: u64,
     /// Whether all nodes from which paths lead to the goal have labels, so that a search from another start may keep the labels.
     pub all: bool,
-    /// Whether the walk has stepped back since the current links were set: only then is an admissible link before one of them.
-    pub stepped_back: bool,
+    /// The admissible links before current ones.
+    pub noted: Noted,
     /// Whether the search was aimed twice in turn, with these labels, at the same goal or from the same start.
     pub again: bool,
+    /// Whether the start was the same.
+    pub from_start: bool,
     /// How many links labelling from both ends has looked at since all nodes got a label, or since both ends of the search changed.
     pub spent: u64,
 }
@@ -45,8 +48,9 @@ impl Levels {
             both: false,
             looked: 0,
             all: false,
-            stepped_back: false,
+            noted: Noted::none(alloc),
             again: false,
+            from_start: false,
             spent: 0,
         })
     }

@@ -10,6 +10,7 @@ mod frontier;
 mod label;
 mod levels;
 mod meet;
+mod noted;
 mod open;
 mod phase;
 mod push;

@@ -36,7 +36,7 @@ pub fn find(links: &mut Links, levels: &mut Levels, trail: &mut Trail) -> bool
         &levels.near.labels,
         &mut levels.current,
         trail,
-        &mut levels.stepped_back,
+        &mut levels.noted,
     ) {
         return true;
     }
@@ -47,7 +47,7 @@ pub fn find(links: &mut Links, levels: &mut Levels, trail: &mut Trail) -> bool
             &levels.near.labels,
             &mut levels.current,
             trail,
-            &mut levels.stepped_back,
+            &mut levels.noted,
         )
 }
 
@@ -69,9 +69,10 @@ fn relabel(links: &Links, levels: &mut Levels, trail: &mut Trail) -> bool
         return false;
     }
     set_current(&links.table, &levels.near.queue, &mut levels.current);
-    levels.stepped_back = false;
+    levels.noted.clear();
     let start_label = levels.near.labels[trail.start as usize];
-    trail.free(start_label);
+    let goal_label = levels.near.labels[trail.goal as usize];
+    trail.free(start_label - goal_label);
     true
 }
 
@@ -122,10 +123,13 @@ pub fn aim(
     };
     let used = take_up(asides, levels, before, ends);
     levels.again = used.share_one(ends);
+    levels.from_start = used.start == ends.start;
     trail.start = ends.start;
     trail.goal = ends.goal;
     if redirect(links, levels, used.goal, ends.start, ends.goal) {
-        trail.free(levels.near.labels[ends.start as usize]);
+        let start_label = levels.near.labels[ends.start as usize];
+        let goal_label = levels.near.labels[ends.goal as usize];
+        trail.free(start_label - goal_label);
         return false;
     }
     make_fresh(&links.table, levels, trail);

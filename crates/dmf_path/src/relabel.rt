@@ -1,9 +1,9 @@
 //! Labelling the nodes anew: from the goal alone, or from both ends.
-ghost use Rattle.std.specs.Prelude.{◌≡◌, ◌≢◌, ℕ, ◌+◌, ◌≤◌, ◌<◌, true, false, length, slice_index, vec_capacity};
+ghost use Rattle.std.specs.Prelude.{◌≡◌, ◌≢◌, ℕ, [], ◌+◌, ◌≤◌, ◌<◌, true, false, ◌^◌, length, replicate, slice_index, vec_capacity};
 ghost use Rattle.dmf_node.specs.Node.{IsNode};
 ghost use Rattle.dmf_links.specs.LinkTable.{links_of};
 ghost use Rattle.dmf_path.specs.Labels.{AreQueued, no_label, unlabelled_count};
-ghost use Rattle.dmf_path.specs.BothEnds.{AreJoined, AreWhole, IsLabelled};
+ghost use Rattle.dmf_path.specs.BothEnds.{AreJoined, AreTurned, AreWhole, IsLabelled};
 ghost use Rattle.dmf_path.specs.Frontier.{IsClean};
 ghost use Rattle.dmf_path.specs.Searching.{IsReady, IsSeparated, MayBeLabelled};
 
@@ -23,13 +23,16 @@ pub fn label_anew(links: &Links, levels: &mut Levels, start: u32, goal: u32) -> 
     ensures ready { IsReady links.now.table.value.nodes levels.new.near levels.new.far }
     ensures labelled { result ≡ true → IsLabelled (links_of links.now.table.value) links.now.rooms.items levels.new.near.labels.items start goal }
     ensures none { result ≡ false → IsSeparated (links_of links.now.table.value) links.now.rooms.items start goal }
-    ensures lasting { levels.new.all ≡ true → AreWhole (links_of links.now.table.value) levels.new.near.labels.items links.now.rooms.items }
+    ensures lasting { result ≡ true → levels.new.all ≡ true → AreWhole (links_of links.now.table.value) levels.new.near.labels.items links.now.rooms.items }
     ensures current { levels.new.current ≡ levels.old.current }
     ensures capacity { vec_capacity levels.new.near.queue ≡ vec_capacity levels.old.near.queue }
 {
     levels.all = levels.again && levels.spent > links.table.heads.len() as u64;
     if levels.all {
         levels.spent = 0;
+        if levels.from_start {
+            return label_all_from(links, levels, start, goal);
+        }
         label_all(links, &mut levels.near, start, goal);
         return levels.near.labels[start as usize] != NO_LABEL;
     }
@@ -73,6 +76,48 @@ fn label_all(links: &Links, near: &mut Frontier, start: u32, goal: u32)
     ensures capacity { vec_capacity near.new.queue ≡ vec_capacity near.old.queue }
 {
     let _looked = label_nodes(&links.table, &Flagged(&links.flags), goal, 0, near);
+}
+
+/// Labels all nodes by their distances from the start: each label is the number of nodes less that distance. Returns whether a path leads
+/// to the goal. These labels are right for any goal: how far a node is above it is all that a walk asks.
+fn label_all_from(links: &Links, levels: &mut Levels, start: u32, goal: u32) -> bool
+    requires { MayBeLabelled links.now.table.value.nodes levels.old.near levels.old.far start goal }
+    ensures ready { IsReady links.now.table.value.nodes levels.new.near levels.new.far }
+    ensures whole { result ≡ true → AreWhole (links_of links.now.table.value) levels.new.near.labels.items links.now.rooms.items }
+    ensures labelled { result ≡ true → IsLabelled (links_of links.now.table.value) links.now.rooms.items levels.new.near.labels.items start goal }
+    ensures none { result ≡ false → IsSeparated (links_of links.now.table.value) links.now.rooms.items start goal }
+    ensures current { levels.new.current ≡ levels.old.current }
+    ensures capacity { vec_capacity levels.new.near.queue ≡ vec_capacity levels.old.near.queue }
+{
+    let near = &mut levels.near;
+    let far = &mut levels.far;
+    near.queue.clear();
+    make_ready(far, links.table.nodes);
+    let _looked = label_nodes(&links.table, &Roomy(&links.rooms), start, 0, far);
+    if far.labels[goal as usize] == NO_LABEL {
+        unlabel(far);
+        return false;
+    }
+    turn(&far.labels, links.table.nodes, &mut near.labels, &mut near.queue);
+    unlabel(far);
+    true
+}
+
+/// Gives each node the number of nodes less its distance from the start, or 0 if it has none.
+fn turn(from_start: &[u32], nodes: u32, labels: &mut [u32], queue: &mut Vec<u32>)
+    requires nodes { nodes < 2 ^ 31 }
+    requires one_each { length from_start.now ≡ nodes + 1 }
+    requires clean { labels.old ≡ replicate (nodes + 1) no_label }
+    requires empty { queue.old.items ≡ [] }
+    requires capacity { nodes + 1 ≤ vec_capacity queue.old }
+    ensures turned { AreTurned nodes from_start.now labels.new }
+    ensures queued { AreQueued labels.new queue.new.items }
+    ensures capacity { vec_capacity queue.new ≡ vec_capacity queue.old }
+{
+    for node in 1..nodes + 1 {
+        labels[node as usize] = nodes.saturating_sub(from_start[node as usize]);
+        queue.push_reserved(node);
+    }
 }
 
 /// Searches from the start over links with room, and gives up after `few` links. Returns whether the search ended before that without

@@ -9,6 +9,7 @@ ghost use Rattle.dmf_path.specs.Touched.{AreBelow, Touches};
 
 use crate::aside::{Aside, Ends};
 use crate::levels::Levels;
+use crate::noted::Noted;
 use crate::phase::{aim, begin_anew, find};
 use crate::push::Links;
 use crate::reach::{labelled, labels_from_start};
@@ -185,12 +186,16 @@ impl Search {
             return Ok(());
         }
         let links = &self.links;
-        let levels = Levels::new(alloc, &links.table)?;
+        let nodes = links.table.nodes as usize;
+        let mut levels = Levels::new(alloc, &links.table)?;
+        levels.noted = Noted::new(alloc, nodes)?;
+        let noted = Noted::new(alloc, nodes)?;
         let ends = Ends {
             start: self.trail.start,
             goal: self.trail.goal,
         };
         self.asides.push(Aside { levels, ends })?;
+        self.levels.noted = noted;
         Ok(())
     }
 

@@ -1,5 +1,5 @@
 -- All links leave. The labels that fit are taken up, and made to lead to the goal, or taken off.
-use Rattle.std.proofs.Common.{ℕ, ◌≡◌, ◌≤◌, true, get_or, [], refl, ap, sym, ◌∙◌, subst, arith, inl, inr}
+use Rattle.std.proofs.Common.{ℕ, ◌≡◌, ◌+◌, ◌≤◌, true, length, get_or, [], refl, ap, sym, ◌∙◌, subst, arith, inl, inr}
 use Rattle.std.proofs.lemmas.List.{get_or_default}
 use Rattle.dmf_node.specs.Node.{IsNode}
 use Rattle.dmf_path.specs.declared.levels.Levels.{Levels}
@@ -13,7 +13,7 @@ use Rattle.dmf_path.proofs.Labelled.{sound-below, sound-whole}
 use Rattle.dmf_path.proofs.Settling.{can-settle}
 use Rattle.dmf_path.proofs.SearchTurns.{plainly, searching-settled, searching-free, searching-anew, sought-free, told-settled}
 use Rattle.dmf_path.proofs.phase.aim.Goals as goal
-use Rattle.dmf_path.proofs.phase.aim.Goals.{After-settle, After-take_up-used, After-redirect, After-index}
+use Rattle.dmf_path.proofs.phase.aim.Goals.{After-settle, After-take_up-used, After-redirect, After-index-goal_label}
 
 pub settle-requires : goal.settle-requires
 settle-requires c = record { can = can-settle c.requires.searching }
@@ -41,8 +41,7 @@ in_use c =
       goal_is = is.aimed.goal_is;
       current_is = is.under_way.walking.current_is;
       kept = λ all. record {
-        lasting = subst (AreLasting v levels.stepped_back) (sym e.links) (c.requires.lasting all);
-        goal_label = is.under_way.goal_label;
+        lasting = subst (AreLasting v levels.noted) (sym e.links) (c.requires.lasting all);
         current_is = is.under_way.walking.current_is;
         passed = subst (λ (x : Residual). ArePassed next.links v.labels x.rooms mid.goal v.current)
             (told-settled (way_of c.args.trail.now) next e.way) is.under_way.walking.passed;
@@ -62,15 +61,13 @@ redirect-requires c =
     record {
       ready = usable.ready;
       kept = usable.kept;
-      from = usable.goal_is;
       start = node at c.args.ends.start c.requires.start;
       goal = node at c.args.ends.goal c.requires.goal;
-      apart = c.requires.apart;
     }
 
 -- The labels lead to the goal, and the start has a small one.
 kept : (c : After-redirect) → c.redirect.result ≡ true
-    → AreKeptFor (labelling_of c.redirect.new.levels) c.redirect.new.levels.stepped_back (residual_of c.settle.new.links) c.args.ends.goal
+    → AreKeptFor (labelling_of c.redirect.new.levels) c.redirect.new.levels.noted (residual_of c.settle.new.links) c.args.ends.goal
     × (get_or c.redirect.new.levels.near.labels.items c.args.ends.start 0 ≤ c.settle.new.links.table.value.nodes)
 kept c can =
     let k = c.redirect.ensures.kept can in (
@@ -81,19 +78,30 @@ kept c can =
       ],
     )
 
--- the label of the start is read
-read : (c : After-index) → c.redirect.result ≡ true → c.index.result.now ≡ get_or c.redirect.new.levels.near.labels.items c.args.ends.start 0
+-- the labels of the start and of the goal are read
+read : (c : After-index-goal_label) → c.redirect.result ≡ true
+    → (c.index-start_label.result.now ≡ get_or c.redirect.new.levels.near.labels.items c.args.ends.start 0)
+    × (c.index-goal_label.result.now ≡ get_or c.redirect.new.levels.near.labels.items c.args.ends.goal 0)
 read c can =
     let k = c.redirect.ensures.kept can in
-    let start = node (goal.at.After-index c).After-settle c.args.ends.start c.requires.start in
-    c.index.ensures ∙ sym (get_or_default c.redirect.new.levels.near.labels.items c.args.ends.start 0 _
-    (omega (arith, k.lasting.whole.small.0, start.to_last)))
+    let labels = c.redirect.new.levels.near.labels.items in
+    let at = (goal.at.After-index-goal_label c).After-settle in
+    let long = k.lasting.whole.small.0 in (
+      c.index-start_label.ensures ∙ sym (get_or_default labels c.args.ends.start 0 _
+          (omega (arith, long, (node at c.args.ends.start c.requires.start).to_last))),
+      c.index-goal_label.ensures ∙ sym (get_or_default labels c.args.ends.goal 0 _ (omega (arith, long, (node at c.args.ends.goal c.requires.goal).to_last))),
+    )
+
+pub overflow_sub-start_label : goal.overflow_sub-start_label
+overflow_sub-start_label c =
+    omega (arith, read (goal.at.overflow_sub-start_label c).After-index-goal_label c.if-redirect.true, c.redirect.ensures.above c.if-redirect.true)
 
 pub free-requires : goal.free-requires
 free-requires c =
     let at = goal.at.free-requires c in
     let both = kept at.After-redirect c.if-redirect.true in
-    record { capacity = omega (arith, read at.After-index c.if-redirect.true, both.1, (settled at.After-settle).aimed.capacity_is) }
+    let read = (read at.After-index-goal_label c.if-redirect.true).0 in
+    record { capacity = omega (arith, read, both.1, (settled at.After-settle).aimed.capacity_is) }
 
 pub returns-then-redirect : goal.returns-then-redirect
 returns-then-redirect c =
@@ -118,13 +126,15 @@ returns-then-redirect c =
       apart = c.requires.apart;
       capacity_is = is.aimed.capacity_is;
     } in
-    let count = c.free.ensures.count ∙ read (goal.at.returns-then-redirect c).After-index c.if-redirect.true in
-    let searching = searching-free next v w slots aimed c.settle.new.links.rooms_are is.holding.small k.current_is k.passed count k.goal_label in
+    let count : length slots + get_or v.labels c.args.ends.goal 0 ≡ get_or v.labels c.args.ends.start 0 =
+    omega (arith, c.free.ensures.count, read (goal.at.returns-then-redirect c).After-index-goal_label c.if-redirect.true,
+    c.redirect.ensures.above c.if-redirect.true) in
+    let searching = searching-free next v w slots aimed c.settle.new.links.rooms_are is.holding.small k.current_is k.passed count in
     let same = sought-free next w slots c.free.ensures.way in
     record {
       searching = rw c.free.ensures.way searching;
       ready = (c.settle.new.links.table.value.nodes, c.redirect.ensures.ready);
-      kept = λ all. (refl, subst (AreLasting v levels.stepped_back) (sym (ap (λ (s : Sought). s.residual) same)) k.lasting);
+      kept = λ all. (refl, subst (AreLasting v levels.noted) (sym (ap (λ (s : Sought). s.residual) same)) k.lasting);
       asides = subst (AreAside c.take_up-used.new.asides) (sym (ap (λ (x : Sought). x.residual) same))
           (taken (goal.at.returns-then-redirect c).After-take_up-used).1;
       marked = begun refl;

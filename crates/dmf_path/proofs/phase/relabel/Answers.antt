@@ -1,16 +1,17 @@
 -- The labels, the current links and the slots fit together; or the search is fresh.
-use Rattle.std.proofs.Common.{◌≡◌, replicate, get_or, ap, sym, ◌∙◌, subst, arith}
+use Rattle.std.proofs.Common.{◌≡◌, ◌≤◌, true, replicate, get_or, ap, sym, ◌∙◌, subst, arith}
 use Rattle.std.proofs.lemmas.List.{with_items_is, get_or_default}
 use Rattle.dmf_links.specs.LinkTable.{links_of}
 use Rattle.dmf_path.specs.Labels.{no_label}
-use Rattle.dmf_path.specs.Walk.{AreCurrent}
+use Rattle.dmf_path.specs.Walk.{AreCurrent, AreSkipped}
 use Rattle.dmf_path.specs.Held.{Way, way_of, with_slots}
 use Rattle.dmf_path.specs.Residual.{residual_of}
 use Rattle.dmf_path.specs.Searching.{Labelling, labelling_of}
+use Rattle.dmf_path.proofs.LeastTrail.{walk-path}
 use Rattle.dmf_path.proofs.Beginning.{first-queued, skipped-first, ready-at}
 use Rattle.dmf_path.proofs.SearchTurns.{aimed-with, searching-free, searching-anew}
 use Rattle.dmf_path.proofs.phase.relabel.Goals as goal
-use Rattle.dmf_path.proofs.phase.relabel.Goals.{After-index-start_label}
+use Rattle.dmf_path.proofs.phase.relabel.Goals.{After-index-goal_label}
 
 pub unlabel-requires : goal.unlabel-requires
 unlabel-requires c = record { queued = c.requires.ready.1.queued }
@@ -64,17 +65,33 @@ set_current-requires c =
           c.requires.searching.under_way.walking.current_is);
     }
 
--- the label of the start is read
-read : (c : After-index-start_label) → c.index-start_label.result.now ≡ get_or c.label_anew.new.levels.near.labels.items c.args.trail.now.start 0
+-- the labels of the start and of the goal are read
+read : (c : After-index-goal_label) → (c.index-start_label.result.now ≡ get_or c.label_anew.new.levels.near.labels.items c.args.trail.now.start 0)
+    × (c.index-goal_label.result.now ≡ get_or c.label_anew.new.levels.near.labels.items c.args.trail.now.goal 0)
 read c =
-    c.index-start_label.ensures
-    ∙ sym (get_or_default c.label_anew.new.levels.near.labels.items c.args.trail.now.start 0 _
-    (omega (arith, c.label_anew.ensures.ready.one_label_each, c.requires.searching.aimed.start_is.to_last)))
+    let labels = c.label_anew.new.levels.near.labels.items in
+    let long = c.label_anew.ensures.ready.one_label_each in
+    let a = c.requires.searching.aimed in (
+      c.index-start_label.ensures ∙ sym (get_or_default labels c.args.trail.now.start 0 _ (omega (arith, long, a.start_is.to_last))),
+      c.index-goal_label.ensures ∙ sym (get_or_default labels c.args.trail.now.goal 0 _ (omega (arith, long, a.goal_is.to_last))),
+    )
+
+-- The goal is not above the start.
+low : (c : After-index-goal_label) → c.label_anew.result ≡ true → c.index-goal_label.result.now ≤ c.index-start_label.result.now
+low c labelled =
+    let walk = (c.label_anew.ensures.labelled labelled).walk in
+    let long = walk-path (links_of c.args.links.now.table.value) c.args.links.now.rooms.items c.label_anew.new.levels.near.labels.items
+    c.args.trail.now.goal c.args.trail.now.start walk.0 walk.1 in
+    omega (arith, read c, long.1)
+
+pub overflow_sub-start_label : goal.overflow_sub-start_label
+overflow_sub-start_label c = low (goal.at.overflow_sub-start_label c).After-index-goal_label c.if-not-label_anew.false
 
 pub free-requires : goal.free-requires
 free-requires c =
     let labelled = c.label_anew.ensures.labelled c.if-not-label_anew.false in
-    record { capacity = omega (arith, read (goal.at.free-requires c).After-index-start_label, labelled.start_label, c.requires.searching.aimed.capacity_is) }
+    let read = (read (goal.at.free-requires c).After-index-goal_label).0 in
+    record { capacity = omega (arith, read, labelled.start_label, c.requires.searching.aimed.capacity_is) }
 
 pub returns : goal.returns
 returns c =
@@ -89,17 +106,22 @@ returns c =
     let current = with_items_is levels.current c.set_current.new.current (c.set_current.auto.current ∙ c.deref_mut.ensures.len) in
     let first = first-queued l levels.near.labels.items levels.near.queue.items c.set_current.new.current is.one_label_each is.queued
     (rw (c.deref-2.ensures, c.deref-3.ensures.value) at c.set_current.ensures.first) in
-    let skipped = skipped-first l levels.near.labels.items links.rooms.items c.set_current.new.current a.links labelled.sound.small first in
+    let skipped : AreSkipped l levels.near.labels.items links.rooms.items c.set_current.new.current = skipped-first l levels.near.labels.items links.rooms.items c.set_current.new.current a.links labelled.sound.small first in
     let aimed = aimed-with (residual_of links) w a labelled.start_label labelled.sound in
     let v : Labelling = record { labels = levels.near.labels.items; current = c.set_current.new.current } in
     let searching = searching-free (residual_of links) v w slots aimed links.rooms_are c.requires.searching.holding.small
     (rw c.deref-2.ensures at c.set_current.ensures.current)
     (λ v p ps node lies before walk. skipped v p node lies before walk.0)
-    (c.free.ensures.count ∙ read (goal.at.returns c).After-index-start_label) labelled.goal_label in
+    (omega (arith, c.free.ensures.count, read (goal.at.returns c).After-index-goal_label, low (goal.at.returns c).After-index-goal_label
+    c.if-not-label_anew.false)) in
     record {
       searching = rw (current, c.free.ensures.way) searching;
       ready = (links.table.value.nodes, is);
-      lasting = λ all. record { whole = c.label_anew.ensures.lasting all; skipped = λ none. rw current skipped };
+      lasting = λ all. record {
+        whole = c.label_anew.ensures.lasting c.if-not-label_anew.false all;
+        skipped = λ known. rw (current, c.clear.ensures.none)
+            (record { within = λ i x none. absurd (omega (arith, none)); each = λ v p node lies before can. absurd (skipped v p node lies before can) });
+      };
       way = c.free.ensures.way;
       labelled = λ yes. labelled.walk;
       none = λ e. absurd (cc);

@@ -3,4 +3,4 @@ use Rattle.dmf_path.proofs.Redirected.{AreBack}
 use Rattle.dmf_path.proofs.redirect.bring_back.Given as goal
 
 abbrev pub invariant-loop-place : goal.invariant-loop-place
-invariant-loop-place l = AreBack (links_of l.table) l.flags l.fn.current l.fn.node l.place l.current
+invariant-loop-place l = AreBack (links_of l.table) l.fn.current l.places l.place-index l.current

@@ -10,8 +10,8 @@ use Rattle.dmf_path.proofs.walk.walk.Given as goal
 abbrev pub invariant-loop-node : goal.invariant-loop-node
 invariant-loop-node l = record {
   on : IsOnWay (residual_of l.links) l.labels l.current (told (residual_of l.fn.links) (way_of l.fn.trail)) (way_of l.trail) l.node;
-  skipped : MaySkip l.fn.stepped_back (told (residual_of l.fn.links) (way_of l.fn.trail)) l.labels l.fn.current
-      → MaySkip l.stepped_back (told (residual_of l.fn.links) (way_of l.fn.trail)) l.labels l.current;
+  skipped : MaySkip l.fn.noted (told (residual_of l.fn.links) (way_of l.fn.trail)) l.labels l.fn.current
+      → MaySkip l.noted (told (residual_of l.fn.links) (way_of l.fn.trail)) l.labels l.current;
   start : l.trail.start ≡ l.fn.trail.start;
   goal : l.trail.goal ≡ l.fn.trail.goal;
   capacity : vec_capacity l.trail.slots ≡ vec_capacity l.fn.trail.slots;

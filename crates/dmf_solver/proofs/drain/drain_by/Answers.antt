@@ -100,3 +100,6 @@ returns-clause-drained g c =
     tells-moved s (c.args.turn ∷ []) (flows_read Along s.flows c.drain_along.new.search.pairs) c.in_ok-moves.moves.items _ _
     (one_each s s.flows _ c.drain_along.new.search carries ∙ sym (AllZip-long _ s.network.arcs s.flows c.flows-before.ensures.state.flow.within)) listed
     (told g (goal.at.returns-clause-drained g c).After-drain_along)
+
+pub returns-in_err-touched-clause-told : goal.returns-in_err-touched-clause-told
+returns-in_err-touched-clause-told g c = AreTold-none (g.W.Watch.told c.args.watch.now)

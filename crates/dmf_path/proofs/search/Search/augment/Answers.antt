@@ -118,8 +118,8 @@ invariant_of-self-2 c =
         subst (λ l. MayBeNumbered l of.places.value of.numbers) (sym links) i.0.1,
         λ all. (
           refl,
-          subst (λ (s : Sought). AreLasting (labelling_of levels) levels.stepped_back s.residual) (sym on.same)
-              (lasting-opens (labelling_of levels) levels.stepped_back before sent can.opens (e.lasting all)),
+          subst (λ (s : Sought). AreLasting (labelling_of levels) levels.noted s.residual) (sym on.same)
+              (lasting-opens (labelling_of levels) levels.noted before sent can.opens (e.lasting all)),
         ),
         subst (λ (s : Sought). AreAside of.asides.items s.residual) (sym on.same) aside,
       ),

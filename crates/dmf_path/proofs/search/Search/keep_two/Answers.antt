@@ -4,9 +4,10 @@ use Rattle.std.proofs.lemmas.Bool.{false≢true}
 use Rattle.std.proofs.lemmas.Bool.Decides.{eqb_tells}
 use Rattle.std.proofs.lemmas.List.{nil_from_length}
 use Rattle.dmf_path.specs.declared.aside.Aside.{Aside}
+use Rattle.dmf_path.specs.declared.levels.Levels.{Levels}
 use Rattle.dmf_path.specs.Held.{way_of}
 use Rattle.dmf_path.specs.Residual.{residual_of, told}
-use Rattle.dmf_path.specs.Searching.{AreAside, AreUsable}
+use Rattle.dmf_path.specs.Searching.{AreAside, AreKept, AreUsable}
 use Rattle.dmf_path.proofs.Asides.{aside-one}
 use Rattle.dmf_path.proofs.search.Search.keep_two.Goals as goal
 
@@ -14,8 +15,8 @@ pub invariant_of-self-2 : goal.invariant_of-self-2
 invariant_of-self-2 c =
     let of = c.self.inside in
     let r = told (residual_of of.links) (way_of of.trail) in
-    let levels = c.in_ok-levels.levels in
-    let new = rw c.deref.ensures at c.in_ok-levels.ensures in
+    let levels : Levels = record c.in_ok-levels.levels { noted = c.in_ok-levels-2.field-0 } in
+    let new = rw c.deref-2.ensures at c.in_ok-levels.ensures in
     let aside : Aside = record { levels = levels; ends = record { start = of.trail.start; goal = of.trail.goal } } in
     let len : of.asides.len ≡ 0 = elim (eqb_tells of.asides.len 0) [
       | inl none ↦ none.1
@@ -31,4 +32,7 @@ invariant_of-self-2 c =
     } in
     let asides : AreAside c.push.new.self.items r =
     subst (λ sets. AreAside sets r) (sym c.in_ok-push.ensures.items) (aside-one of.asides.items aside r none c.if-self.false usable) in
-    ((c.self.invariant.0.0, c.self.invariant.0.1, c.self.invariant.0.2, asides), c.self.invariant.1)
+    let kept : AreKept (record of.levels { noted = c.in_ok-noted.noted }) of.is_fresh r = λ all.
+    let was = c.self.invariant.0.2 all in
+    (was.0, record { whole = was.1.whole; skipped = λ known. let no = c.in_ok-noted.ensures in absurd (cc) }) in
+    ((c.self.invariant.0.0, c.self.invariant.0.1, kept, asides), c.self.invariant.1)

@@ -81,9 +81,9 @@ invariant_of-self c =
     let kept : AreKept of.levels of.is_fresh (told (residual_of c.lower.new.self) (way_of c.release.new.trail)) = λ all.
     let was = i.0.2 all in (
       was.0,
-      subst (AreLasting v of.levels.stepped_back) (sym low.told_is)
-          (lasting-opens v of.levels.stepped_back before low.rooms (opens-none before.links v.labels before.rooms low.rooms low.none)
-          (subst (λ (s : Sought). AreLasting v of.levels.stepped_back s.residual) (sym e.same) was.1)),
+      subst (AreLasting v of.levels.noted) (sym low.told_is)
+          (lasting-opens v of.levels.noted before low.rooms (opens-none before.links v.labels before.rooms low.rooms low.none)
+          (subst (λ (s : Sought). AreLasting v of.levels.noted s.residual) (sym e.same) was.1)),
     ) in
     let aside = subst (AreAside of.asides.items) (sym low.told_is) (aside-falls of.asides.items before low.rooms e.searching.aimed.links (λ never. low.none)
     (subst (λ (s : Sought). AreAside of.asides.items s.residual) (sym e.same) i.0.3)) in

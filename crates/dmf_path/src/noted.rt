@@ -1,0 +1,67 @@
+//! The admissible links that walks have passed.
+ghost use Rattle.std.specs.Prelude.{◌≡◌, ◌+◌, ◌<◌, ◌≤◌, ◌⊎◌, ◌++◌, ◌∷◌, [], true, false, IfOk};
+
+use std::alloc::{AllocError, Global};
+
+/// The admissible links that walks to the present goal have passed: walks to another one look at them again.
+#[derive(Drop)]
+pub struct Noted {
+    /// The places of some of them: at each node no other one lies before all of these.
+    pub places: Vec<u32>,
+    /// Whether the list was full when one was passed. Then labels are kept for no other goal.
+    pub lost: bool,
+}
+
+impl Noted {
+    /// None is noted, nor will any be. Takes no memory.
+    pub fn none(alloc: Global) -> Noted
+        ensures { result.lost ≡ true }
+    {
+        Noted {
+            places: Vec::new(alloc),
+            lost: true,
+        }
+    }
+
+    /// The same until the next labelling, but takes memory for so many places.
+    pub fn new(alloc: Global, most: usize) -> Result<Noted, AllocError>
+        ensures { IfOk result (λ noted. noted.lost ≡ true) }
+    {
+        Ok(Noted {
+            places: Vec::with_capacity(alloc, most)?,
+            lost: true,
+        })
+    }
+
+    /// Notes a link.
+    pub fn note(&mut self, place: u32)
+        ensures { self.new.lost ≡ false → (self.old.lost ≡ false) × (self.new.places.items ≡ self.old.places.items ++ place ∷ []) }
+    {
+        if self.places.len() < self.places.capacity() {
+            self.places.push_reserved(place);
+        } else {
+            self.lost = true;
+        }
+    }
+
+    /// Notes the link at `from`, if a walk looks on from there and may pass admissible links: at a node at most one level above the goal,
+    /// which has the label `low`.
+    pub fn pass(&mut self, from: u32, place: u32, label: u32, low: u32)
+        ensures { self.new.lost ≡ false → (self.old.lost ≡ false)
+            × ((((low + 1 < label) ⊎ (place ≤ from)) × (self.new.places.items ≡ self.old.places.items))
+            ⊎ ((from < place) × (self.new.places.items ≡ self.old.places.items ++ from ∷ []))) }
+    {
+        if from < place && u64::from(label) <= u64::from(low) + 1 {
+            self.note(from);
+        }
+    }
+
+    /// No link is noted, since none is passed.
+    pub fn clear(&mut self)
+        ensures none { self.new.places.items ≡ [] }
+        ensures known { self.new.lost ≡ false }
+    {
+        self.places.clear();
+        self.lost = false;
+    }
+}
