@@ -238,11 +238,13 @@ class _Guess:
         if found := [self.known[column] for column in self.form.amounts if column in self.known]:
             return found[0]
         usual = self.form.order[self.form.amounts[0]]
-        if usual in self.free and (_has_numbers(self.rows, usual) or not self.numeric):
+        free = [place for place in self.free if self.titles[place].word not in OTHERS]
+        numeric = [place for place in self.numeric if place in free]
+        if usual in free and (_has_numbers(self.rows, usual) or not numeric):
             return usual
-        if len(self.numeric) != 1:
+        if len(numeric) != 1:
             raise self._asked(self.form.amounts[0])
-        return self.numeric[0]
+        return numeric[0]
 
     def layout(self) -> Layout:
         """Where all columns are. Raises a `TableFault` if one cannot be settled."""
@@ -257,7 +259,7 @@ class _Guess:
         if form.label and form.label not in at and usual in self.free and in_order and self.titles[usual].word not in OTHERS:
             at[form.label] = usual
         ordered = {column: at[column] for column in dict.fromkeys((*form.order, *at)) if column in at}
-        is_sure = form.amounts[0] in self.known or len(self.numeric) < 2
+        is_sure = any(column in self.known for column in form.amounts) or len(self.numeric) < 2
         is_usual = in_order and is_sure and len(self.titles) <= len(form.order) and ordered.keys() <= form.order.keys()
         return Layout(ordered, self.titles, self.line, is_usual)
 

@@ -15,6 +15,8 @@ class TableFault(Error, ValueError):
     """Why a table is refused: the reason, the line and the column, counted from 1, and the path of its file, as far as they are known;
     and the `others` that were found with it, of which `untold` more are not kept."""
 
+    __module__ = Error.__module__
+
     def __init__(self, reason: str, line: int = 0, path: str = "", column: int = 0) -> None:
         super().__init__(reason, line, path, column)
         self.reason = reason

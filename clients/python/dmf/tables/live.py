@@ -35,6 +35,7 @@ from .warnings import warnings
 from .workbook import cell_text
 
 # A place, several, or how much each gives or takes at most, which is None if that has no limit.
+Path = Union[str, "os.PathLike[str]"]
 Terminals = Union[str, Iterable[str], Mapping[str, Any], None]
 
 
@@ -370,6 +371,9 @@ class TableNetwork(Network[str]):
         made._begin(started(kept, program[0]), kept)
         return made
 
+    def __enter__(self) -> TableNetwork:
+        return self
+
     def __repr__(self) -> str:
         return f"<Network of {len(self.nodes)} places and {len(self.arcs)} arcs, with a flow of {self.measure.told(self._kept.value)}>"
 
@@ -389,10 +393,10 @@ def read_table(
     source: Terminals = None,
     sink: Terminals = None,
     limits: Mapping[str, Any] = {},
-    sources: Optional[str] = None,
-    sinks: Optional[str] = None,
-    node_limits: Optional[str] = None,
-    places: Optional[str] = None,
+    sources: Optional[Path] = None,
+    sinks: Optional[Path] = None,
+    node_limits: Optional[Path] = None,
+    places: Optional[Path] = None,
     columns: Mapping[str, str] = {},
     decimal: str = "",
     scale: Union[Decimal, int, None] = None,
