@@ -42,7 +42,8 @@ def slow(text: str, sign: str) -> Fraction | None:
         return None
     value, ten = Fraction(int(digits + rest), int(10 ** len(rest))), int(10 ** int(power or 0))
     value = value / ten if exponent[:1] == "-" else value * ten
-    return -value if minus else value
+    result: Fraction = -value if minus else value
+    return result
 
 
 NUMBERS = st.one_of(

@@ -7,7 +7,7 @@ import functools
 import tempfile
 import weakref
 from collections.abc import Callable, Iterator
-from typing import Any, Generic, TypeVar, cast
+from typing import TYPE_CHECKING, Any, Generic, TypeVar, cast
 
 from . import arrays
 from .arcs import Arc, Node, Owner
@@ -16,6 +16,9 @@ from .kept import Kept, whole
 from .lexical import display
 from .process import Child, Program, session_words, start
 from .solution import Flows, Solution
+
+if TYPE_CHECKING:
+    from .quantity import Measure
 
 # A session takes 1,000,000 lines, so another one takes its place before.
 MOST_LINES = 900_000
