@@ -42,14 +42,18 @@ def slow(text: str, sign: str) -> Fraction | None:
         return None
     value, ten = Fraction(int(digits + rest), int(10 ** len(rest))), int(10 ** int(power or 0))
     value = value / ten if exponent[:1] == "-" else value * ten
-    result: Fraction = -value if minus else value
-    return result
+    return -value if minus else value
+
+
+def written(whole: int, mark: str, sign: str, rest: str) -> str:
+    """A number with this mark between its thousands."""
+    return f"{whole:,}".replace(",", mark) + sign + rest
 
 
 NUMBERS = st.one_of(
     st.text("0123456789.,' \u202f+-e", max_size=12),
     st.builds(
-        lambda whole, mark, sign, rest: f"{whole:,}".replace(",", mark) + sign + rest,
+        written,
         st.integers(0, 10**7), st.sampled_from(["", ",", ".", " ", "\u00a0", "'"]), st.sampled_from(["", ",", "."]), st.sampled_from(["", "5", "50", "125"]),
     ),
     st.sampled_from(["\u0661\u0662,\u0665", "\uff11.\uff15", "\u22123", "1e3", "1,5e-2", "0.500", "0,500", "nan", "inf", "1_000", "0x10", "\xb2", "--1", "1..2"]),
