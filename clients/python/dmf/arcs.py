@@ -249,7 +249,7 @@ class OpenArcs(Generic[Node]):
         """The numbers of the tails and of the heads of the open arcs."""
         tails, heads = self.columns.tails[:], self.columns.heads[:]
         for arc in self.added:
-            tails.append(self.columns.numbers[arc.tail])
+            tails.append(self.columns.outlet(arc.tail))
             heads.append(self.columns.numbers[arc.head])
         return self.chosen(tails), self.chosen(heads)
 

@@ -102,6 +102,10 @@ class Columns(Generic[Node]):
 
         raise no_such_node(node, self.numbers)
 
+    def outlet(self, node: Node) -> int:
+        """The number of the node that arcs out of a node leave: another one only if the place of a table has two. Raises `NoSuchNode`."""
+        return self.number(node)
+
     def no_such_arc(self, key: Hashable) -> NoSuchArc:
         """The refusal of a key, or of a pair of ends, that no arc has."""
         from .hints import no_such_arc

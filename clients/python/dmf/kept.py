@@ -302,8 +302,9 @@ class Kept(Changes, Generic[Node]):
         numbers = [number for number in self.columns.leaving(side) if number not in self.closed]
         if not self.added:
             return list(map(self.handles.of, numbers))
-        names = {self.columns.names[node - 1] for node in side}
-        added = (arc for arc in self.added if arc.tail in names and arc.head not in names and arc.number not in self.closed)
+        inside = set(side)
+        leaving = (arc for arc in self.added if self.columns.outlet(arc.tail) in inside and self.number(arc.head) not in inside)
+        added = (arc for arc in leaving if arc.number not in self.closed)
         return [*map(self.handles.of, numbers), *added]
 
     def capacity(self, arc: Arc[Node]) -> int:

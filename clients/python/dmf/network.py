@@ -178,7 +178,7 @@ class Network(Showing[Node]):
 
         Raises `ArcIsClosed`, `CapacitiesPast64Bits`, `NotANumber`, `NumberTooLarge`, and what `arc` raises."""
         found = self._kept.arc(arc)
-        room = whole(capacity, found)
+        room = self._whole(capacity, found)
         command = f"cap {found.number} {room}"
         value = self._changed(command, found)
         self._kept.note_capacities(command, [found], room, value)
@@ -208,7 +208,7 @@ class Network(Showing[Node]):
 
         Raises `NoSuchNode`, `CapacitiesPast64Bits`, `TooManyArcs`, `NotANumber` and `NumberTooLarge`."""
         hash(key)
-        return self._add(tail, head, whole(capacity, (tail, head)), key, None)
+        return self._add(tail, head, self._whole(capacity, (tail, head)), key, None)
 
     @alone
     def add_node(self, node: Node) -> None:
@@ -231,7 +231,7 @@ class Network(Showing[Node]):
         return self._add(found.tail, found.head, self._kept.capacities[found.number - 1], found.given_key, found.number)
 
     def _add(self, tail: Node, head: Node, room: int, key: Hashable, replaced: int | None) -> Arc[Node]:
-        command = f"add {self._kept.number(tail)} {self._kept.number(head)} {room}"
+        command = f"add {self._kept.columns.outlet(tail)} {self._kept.number(head)} {room}"
         value = self._changed(command, (tail, head))
         arc = Arc(self._kept.arc_count + 1, tail, head, key, weakref.ref(self))
         self._kept.note(Change(command, added=(arc, room, replaced)), value)
@@ -275,7 +275,7 @@ class Network(Showing[Node]):
         changes that can be undone, a change past so many in one block is refused by `HistoryOutOfRange`. Blocks may stand in
         blocks."""
         self._ready()
-        kept, value = self._kept, self.value
+        kept, value = self._kept, self._kept.value
         outer, place = kept.floor, kept.place
         try:
             kept.floor = place

@@ -7,15 +7,18 @@ import functools
 import tempfile
 import weakref
 from collections.abc import Callable, Iterator
-from typing import Any, Generic, TypeVar, cast
+from typing import TYPE_CHECKING, Any, Generic, TypeVar, cast
 
 from . import arrays
 from .arcs import Arc, Node, Owner
 from .errors import Error, NoSuchArc, Refused, SessionEnded, UsedByTwoProcesses, UsedByTwoThreads, shown
-from .kept import Kept
+from .kept import Kept, whole
 from .lexical import display
 from .process import Child, Program, session_words, start
 from .solution import Flows, Solution
+
+if TYPE_CHECKING:
+    from .quantity import Measure
 
 # A session takes 1,000,000 lines, so another one takes its place before.
 MOST_LINES = 900_000
@@ -60,6 +63,9 @@ class Running(Generic[Node]):
     off ends the program, and leaves what is kept as it was before the call. From that the next call begins a new session in the same
     state."""
 
+    # How whole numbers stand for those of callers, if they do.
+    _measure: Measure | None = None
+
     def _begin(self, child: Child, kept: Kept[Node]) -> None:
         self._child = child
         self._kept = kept
@@ -82,6 +88,10 @@ class Running(Generic[Node]):
     def value(self) -> int:
         """The value of the present flow, from the source to the sink."""
         return self._kept.value
+
+    def _whole(self, amount: Any, at: object) -> int:
+        """The whole number that stands for what a caller gives. Raises `NotANumber` and `NumberTooLarge`."""
+        return whole(amount, at)
 
     @alone
     def _ready(self) -> None:
@@ -183,7 +193,7 @@ class Running(Generic[Node]):
         with self._child.exchange("print flow"):
             begin = self._child.lines(1)
             count = self._kept.open_count
-            if int(self._begun(begin.split(), "print flow", [b"s"])[1]) != self.value:
+            if int(self._begun(begin.split(), "print flow", [b"s"])[1]) != self._kept.value:
                 raise ValueError
             text = begin + self._child.lines(count)
             if text.count(b"\nf ") != count:
@@ -194,7 +204,7 @@ class Running(Generic[Node]):
         """The present flow. If nobody has looked at it, only its value is known so far."""
         flows = None if self._present is None else self._present()
         if flows is None:
-            flows = Flows(self.value, self._kept.opened(), self._kept.capacities, self._ask_flow)
+            flows = Flows(self._kept.value, self._kept.opened(), self._kept.capacities, self._ask_flow)
             self._present = weakref.ref(flows)
         return flows
 
@@ -253,7 +263,7 @@ def problem_file(kept: Kept[Any]) -> Iterator[str]:
     """The path of a file with the first problem of what is kept, for as long as the block takes."""
     capacities = kept.first_capacities()
     added = kept.added[: kept.first_count - len(kept.columns)]
-    more = [(kept.number(arc.tail), kept.number(arc.head), capacities[arc.number - 1]) for arc in added]
+    more = [(kept.columns.outlet(arc.tail), kept.number(arc.head), capacities[arc.number - 1]) for arc in added]
     with tempfile.NamedTemporaryFile("wb", prefix="dmf-", suffix=".max") as file:
         file.writelines(arrays.problem_pieces(kept.columns, capacities, kept.number(kept.source), kept.number(kept.sink), more))
         file.flush()

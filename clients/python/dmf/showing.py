@@ -62,6 +62,13 @@ class Showing(Running[Node]):
         return self._cut()
 
     def _cut(self) -> Cut[Node]:
+        capacity, side = self._asked_cut()
+        names = self._kept.columns.names
+        look = self._look(set(side)) if self._kept.open_count <= MOST_DRAWN else None
+        return Cut(capacity, frozenset(names[node - 1] for node in side), tuple(self._kept.leaving(side)), names, look)
+
+    def _asked_cut(self) -> tuple[int, list[int]]:
+        """The capacity of the smallest minimum cut, and the numbers of the nodes of its side."""
         # A cut does not say how long it is. The reply to `undo 0`, which changes nothing, marks its end.
         with self._child.exchange("print cut\nundo 0"):
             lines = self._child.lines_before(b"c undo value ").split(b"\n")[:-1]
@@ -69,9 +76,7 @@ class Showing(Running[Node]):
             side = [int(line[7:]) for line in lines[1:] if line.startswith(b"c side ")]
             if len(side) != len(lines) - 1:
                 raise ValueError
-        names = self._kept.columns.names
-        look = self._look(set(side)) if self._kept.open_count <= MOST_DRAWN else None
-        return Cut(capacity, frozenset(names[node - 1] for node in side), tuple(self._kept.leaving(side)), names, look)
+            return capacity, side
 
     @alone
     def problem(self, *, names: bool = True, escapes: bool = False) -> str:
@@ -128,7 +133,7 @@ class Showing(Running[Node]):
     @alone
     def _look_with_cut(self) -> Callable[[], Look]:
         try:
-            side = {self._kept.number(node) for node in self._cut().side}
+            side = set(self._asked_cut()[1])
         except FlowIsNotGreatest:
             side = set()
         return self._look(side)

@@ -16,7 +16,7 @@ from .arcs import Arc, Node
 from .arrays import package
 from .copies import Answer, Command, Plain
 from .errors import Error, JobsOutOfRange, NotAnArc, UnknownCommand, shown
-from .kept import Kept, Whole, is_unordered, whole
+from .kept import Kept, Whole, is_unordered
 from .network import Network
 from .process import MOST_KEPT
 from .trying import Here, Pending, Sent, There, Tries
@@ -81,10 +81,11 @@ def each_capacity_raised(by: Whole, arcs: Iterable[Hashable] | None = None) -> C
     """For each open arc, or for each of these, the case in which its capacity is raised by so much."""
 
     def cases(network: Network[Any]) -> Iterator[Case]:
-        more = whole(by, "each_capacity_raised")
+        more = network._whole(by, "each_capacity_raised")
         # The network as it is now, whatever becomes of it while the cases are taken.
-        kept = network._kept.copy()
-        return _Each(lambda arc: [("cap", arc, kept.capacity(kept.arc(arc)) + more)], network.arcs if arcs is None else arcs)
+        kept, measure = network._kept.copy(), network._measure
+        quantity: Any = int if measure is None else measure.quantity
+        return _Each(lambda arc: [("cap", arc, quantity(kept.capacity(kept.arc(arc)) + more))], network.arcs if arcs is None else arcs)
 
     return cases
 
@@ -133,7 +134,7 @@ def sweep(
     """
     made = cases(network) if callable(cases) else cases
     programs = _programs(jobs)
-    swept = _Swept(network._kept, network.value)
+    swept = _Swept(network)
     program: Any = network._child.process.args
     begin: Callable[[], Tries] = functools.partial(Here, swept.kept, program[0], want_cut, programs)
     if executor is not None:
@@ -159,16 +160,17 @@ class _Swept(Generic[Node]):
     """A network as it is at the start of a sweep, whatever becomes of it meanwhile. In the copies any number of changes can be
     undone."""
 
-    def __init__(self, kept: Kept[Node], value: int) -> None:
-        self.opened = kept.opened()
-        self.value = value
-        self.kept = kept.copy()
+    def __init__(self, network: Network[Node]) -> None:
+        self.opened = network._kept.opened()
+        self.value = network._kept.value
+        self.kept = network._kept.copy()
         self.kept.most = MOST_KEPT
+        self.measure = network._measure
 
     def plain(self, case: Case) -> Plain | Error:
         """A case as a copy takes it, or why it is refused."""
         if callable(case):
-            return case
+            return UnknownCommand("a function in a sweep of a table") if self.measure is not None else case
         try:
             if is_unordered(case):
                 raise TypeError
@@ -185,6 +187,10 @@ class _Swept(Generic[Node]):
         word, *rest = command
         if word in ("cap", "close", "open"):
             rest[0] = self.kept.arc(rest[0]).number
+        if self.measure is not None and word in ("cap", "add"):
+            from .tables.live import whole_of
+
+            rest[-1] = whole_of(self.measure, rest[-1], command)
         return (word, *rest)
 
     def told(self, case: Case, answer: Answer) -> SweepResult[Node]:
@@ -194,7 +200,11 @@ class _Swept(Generic[Node]):
         cut: tuple[Arc[Node], ...] | None = None
         if answer.cut is not None:
             cut = tuple(self.opened.handle(arc) if isinstance(arc, int) else arc for arc in answer.cut)
-        return SweepResult(case, answer.value, answer.value - self.value, cut)
+        value: Any = answer.value
+        difference: Any = answer.value - self.value
+        if self.measure is not None:
+            value, difference = self.measure.quantity(value), self.measure.quantity(difference)
+        return SweepResult(case, value, difference, cut)
 
 
 def _results(

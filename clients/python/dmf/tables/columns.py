@@ -33,6 +33,11 @@ _WORDS = {
     DEMAND: "demand bedarf abnahme nachfrage entnahme demande besoin demanda consumo sink senke sumidero order orders",
 }
 USUAL = {role: words.split() for role, words in _WORDS.items()}
+# Usual titles of columns that are read for nothing, so that they are no names where they stand in the place of names.
+OTHERS = set(
+    "cost costs kosten cout coste price preis length lange laenge longueur longitud distance diameter durchmesser dn diametre diametro x y z lat "
+    "lon latitude longitude remark remarks bemerkung bemerkungen comment comments kommentar note notes notiz remarque observacion year jahr".split()
+)
 # Titles of a column that do not say in what its cells are counted.
 PLAIN_TITLES = {"", "limite", *USUAL[CAPACITY], *USUAL[NAME], *USUAL[LIMIT], "title"}
 # Those of names that say what an arc is all the same.
@@ -182,7 +187,9 @@ def _untitled(sample: Rows, form: Form, titles: tuple[Title, ...]) -> Layout:
         at = _moved(body or [first], form) or at
     place = at[form.amounts[0]]
     if place < len(first) and first[place].strip() and is_heading(first[place]):
-        return Layout(at, titles, sample.lines[0], at == form.order and len(titles) <= len(at))
+        if form.label and len(titles) > at.get(form.label, len(titles)) and titles[at[form.label]].word in OTHERS:
+            at = {column: where for column, where in at.items() if column != form.label}
+        return Layout(at, titles, sample.lines[0], at.items() <= form.order.items() and len(titles) <= len(at))
     return Layout(at, (), 0, at == form.order)
 
 
@@ -231,11 +238,13 @@ class _Guess:
         if found := [self.known[column] for column in self.form.amounts if column in self.known]:
             return found[0]
         usual = self.form.order[self.form.amounts[0]]
-        if usual in self.free and (_has_numbers(self.rows, usual) or not self.numeric):
+        free = [place for place in self.free if self.titles[place].word not in OTHERS]
+        numeric = [place for place in self.numeric if place in free]
+        if usual in free and (_has_numbers(self.rows, usual) or not numeric):
             return usual
-        if len(self.numeric) != 1:
+        if len(numeric) != 1:
             raise self._asked(self.form.amounts[0])
-        return self.numeric[0]
+        return numeric[0]
 
     def layout(self) -> Layout:
         """Where all columns are. Raises a `TableFault` if one cannot be settled."""
@@ -247,10 +256,10 @@ class _Guess:
                 at[column] = self._place(column, at)
         usual = form.order.get(form.label, -1)
         in_order = all(at.get(column, place) == place for column, place in form.order.items() if column != form.label)
-        if form.label and form.label not in at and usual in self.free and in_order:
+        if form.label and form.label not in at and usual in self.free and in_order and self.titles[usual].word not in OTHERS:
             at[form.label] = usual
         ordered = {column: at[column] for column in dict.fromkeys((*form.order, *at)) if column in at}
-        is_sure = form.amounts[0] in self.known or len(self.numeric) < 2
+        is_sure = any(column in self.known for column in form.amounts) or len(self.numeric) < 2
         is_usual = in_order and is_sure and len(self.titles) <= len(form.order) and ordered.keys() <= form.order.keys()
         return Layout(ordered, self.titles, self.line, is_usual)
 

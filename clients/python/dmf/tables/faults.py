@@ -5,13 +5,17 @@ from __future__ import annotations
 import contextlib
 from collections.abc import Iterator
 
+from ..errors import Error
+
 # How many faults are told.
 MOST_FAULTS = 20
 
 
-class TableFault(Exception):
+class TableFault(Error, ValueError):
     """Why a table is refused: the reason, the line and the column, counted from 1, and the path of its file, as far as they are known;
     and the `others` that were found with it, of which `untold` more are not kept."""
+
+    __module__ = Error.__module__
 
     def __init__(self, reason: str, line: int = 0, path: str = "", column: int = 0) -> None:
         super().__init__(reason, line, path, column)
@@ -23,12 +27,16 @@ class TableFault(Exception):
         self.untold = 0
 
     def __str__(self) -> str:
+        return "\n".join(self.lines())
+
+    def told(self) -> str:
+        """This fault alone, in one line."""
         place = f"line {self.line}" + (f", column {self.column}" if self.column else "")
         return ": ".join(part for part in (self.path, place if self.line else "", self.reason) if part)
 
     def lines(self) -> list[str]:
         """All of it, a line for each fault."""
-        told = [str(self), *map(str, self.others)]
+        told = [fault.told() for fault in (self, *self.others)]
         return told + [f"and {self.untold} more"] * (self.untold > 0)
 
     def name_path(self, path: str) -> None:

@@ -61,18 +61,26 @@ class Plan:
 @dataclass
 class Net:
     """A network of a table, by numbers from 1 on: the names of the nodes, of which `place_count` are places; the ends and capacities of
-    the arcs, of which `row_count` are of rows; the names of arcs; and what is said of it."""
+    the arcs, of which `row_count` are of rows, `ways` of each; the names of the rows, if they have any, and of the other arcs; and what is
+    said of it."""
 
     node_names: list[str]
     tails: array[int]
     heads: array[int]
     capacities: array[int]
-    arc_names: dict[int, str]
+    labels: list[str]
+    ways: int
+    inner_names: dict[int, str]
     described: Described
     source: int = 0
     sink: int = 0
     place_count: int = 0
     row_count: int = 0
+
+    def row_names(self) -> dict[int, str]:
+        """The names of the arcs of rows that have one, by number."""
+        ways = range(1, self.ways + 1)
+        return {self.ways * row + way: name for row, name in enumerate(self.labels) if name for way in ways}
 
 
 def too_much(measure: Measure) -> str:
@@ -125,7 +133,7 @@ class _Maker:
         table = plan.arcs
         self.node_names = list(table.places)
         self.tails, self.heads, self.capacities = array(NODES), array(NODES), array(AMOUNTS)
-        self.arc_names: dict[int, str] = {}
+        self.inner_names: dict[int, str] = {}
         self.halves: dict[int, int] = {}
         self.joints: dict[int, str] = {}
         self.roles: dict[int, Role] = {}
@@ -147,7 +155,7 @@ class _Maker:
         self.tails.append(tail)
         self.heads.append(head)
         self.capacities.append(capacity)
-        self.arc_names[len(self.tails)] = name
+        self.inner_names[len(self.tails)] = name
         self.roles[len(self.tails)] = role
         self.total += capacity
 
@@ -182,7 +190,6 @@ class _Maker:
             self.heads = array(NODES, chain.from_iterable(zip(table.heads, table.tails)))
             self.capacities = array(AMOUNTS, chain.from_iterable(zip(wholes, wholes)))
         ways = 1 + self.plan.both_ways
-        self.arc_names = {ways * row + way: name for row, name in enumerate(table.labels) if name for way in range(1, ways + 1)}
         self.total = sum(self.capacities)
         if self.total > LARGEST:
             left = LARGEST
@@ -240,7 +247,8 @@ class _Maker:
         described = Described(self.measure, self.joints, self.halves, self.roles)
         place_count = len(self.plan.arcs.places)
         columns = self.tails, self.heads, self.capacities
-        return Net(self.node_names, *columns, self.arc_names, described, source, sink, place_count, row_count)
+        names = self.plan.arcs.labels, 1 + self.plan.both_ways, self.inner_names
+        return Net(self.node_names, *columns, *names, described, source, sink, place_count, row_count)
 
 
 def _whole(quantity: Decimal, scale: Decimal) -> int:

@@ -3,7 +3,7 @@
 from __future__ import annotations
 
 import os
-from collections.abc import Iterator, Mapping, Sequence
+from collections.abc import Callable, Iterator, Mapping, Sequence
 from dataclasses import dataclass, field
 from decimal import Decimal
 from typing import Optional
@@ -24,7 +24,7 @@ PLACE_TABLES: dict[str, Sequence[str]] = {"sources": [SUPPLY], "sinks": [DEMAND]
 @dataclass(frozen=True)
 class Wanted:
     """What is said of the tables: how they are read and encoded, the scale, whether rows go both ways, words that name sources and
-    sinks, and the files of tables of places, by the option."""
+    sinks, the files of tables of places, by the option, and what reads these."""
 
     reading: Reading = Reading()
     encoding: Optional[str] = None
@@ -33,6 +33,7 @@ class Wanted:
     source: Sequence[str] = ()
     sink: Sequence[str] = ()
     tables: Mapping[str, str] = field(default_factory=dict)
+    read: Callable[[str], bytes] = read_file
 
 
 def split_path(path: str) -> tuple[str, str]:
@@ -51,6 +52,11 @@ def plan_of(wanted: Wanted, path: Optional[str], data: bytes) -> Plan:
     told, name = split_path(path or "")
     with naming(told):
         sheet, others = _arcs_sheet(data, told, name, wanted.encoding)
+    return plan_of_sheet(wanted, sheet, others)
+
+
+def plan_of_sheet(wanted: Wanted, sheet: Sheet, others: Sequence[Sheet]) -> Plan:
+    """The plan of the table of arcs in a sheet, beside which other sheets may be of its places. Raises what `plan_of` raises."""
     with naming(sheet.path):
         table = read_arcs(sheet, wanted.reading)
     plan = Plan(table, [], wanted.both_ways, wanted.scale)
@@ -85,7 +91,7 @@ def _add_file(plan: Plan, wanted: Wanted, option: str) -> None:
     """Adds what a table of places says."""
     path = wanted.tables[option]
     told, name = split_path(path)
-    data = read_file(told)
+    data = wanted.read(told)
     with naming(told):
         if is_workbook(data):
             sheets = workbook_sheets(data, told)

@@ -15,7 +15,7 @@ PIECE = 1 << 11
 def problem_text(net: Net) -> str:
     """The problem, with what it is and its names in comments."""
     names = (f"c node {number} {name}\n" for number, name in enumerate(net.node_names, 1))
-    arc_names = (f"c arc {number} {name}\n" for number, name in net.arc_names.items())
+    arc_names = (f"c arc {number} {name}\n" for named in (net.row_names(), net.inner_names) for number, name in named.items())
     head = f"p max {len(net.node_names)} {len(net.tails)}\nn {net.source} s\nn {net.sink} t\n"
     return "".join(chain([comments(net.described)], names, arc_names, [head], _arc_lines(net)))
 

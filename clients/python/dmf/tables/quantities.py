@@ -5,6 +5,7 @@ column: the decimal sign is the one that every cell admits, and the unit the one
 from __future__ import annotations
 
 import re
+from array import array
 from collections.abc import Iterator, Sequence
 from dataclasses import dataclass, field
 from decimal import Decimal, InvalidOperation
@@ -13,6 +14,7 @@ from math import gcd
 from operator import mul
 from typing import Optional
 
+from ..numbering import AMOUNTS
 from ..quantity import COMMA, EXACT, LARGEST, LONGEST_NUMBER, POINT, SIGNS, Measure, decimals, plain_text, readings
 from .cells import shown
 from .faults import Faults
@@ -81,7 +83,7 @@ class Amounts:
         self.lines: Sequence[int] = []
         # The numbers, over ten to the power of this.
         self.decimals = 0
-        self.numbers: list[int] = []
+        self.numbers: Sequence[int] = []
         self._count = 0
         self._pieces: list[_Piece] = []
         self._read: dict[str, tuple[dict[str, Decimal], str]] = {}
@@ -110,8 +112,17 @@ class Amounts:
             if piece.cells is not None or piece.sign not in ("", self.sign):
                 self._read_slowly(piece, faults)
         most = max((piece.decimals - _zeros(piece) for piece in self._pieces), default=0)
+        numbers = array(AMOUNTS)
+        rest: list[int] = []
         for piece in self._pieces:
-            self.numbers += _over(piece, most)
+            over = _over(piece, most)
+            try:
+                if rest:
+                    raise OverflowError
+                numbers.extend(array(AMOUNTS, over))
+            except OverflowError:
+                rest += over
+        self.numbers = [*numbers, *rest] if rest else numbers
         self._pieces.clear()
         self._read.clear()
         self.decimals = most
@@ -213,7 +224,7 @@ class Amounts:
                     quantity = plain_text(EXACT.scaleb(Decimal(number), -self.decimals))
                     faults.add(f"the {self.what} {shown(quantity)} is below 0", self.lines[place], self.column)
 
-    def wholes(self, measure: Measure, faults: Faults) -> list[int]:
+    def wholes(self, measure: Measure, faults: Faults) -> Sequence[int]:
         """The whole numbers by which these numbers stand in a problem. One past 64 bits, or no whole number, goes to the faults."""
         scale, over = measure.scale.as_integer_ratio()
         over *= 10**self.decimals
@@ -229,7 +240,7 @@ class Amounts:
                     faults.add(f"the {self.what} {self._shown(place)} is past {measure.text(LARGEST)}", self.lines[place], self.column)
         return wholes
 
-    def _judge_whole(self, numbers: list[int], over: int, measure: Measure, faults: Faults) -> None:
+    def _judge_whole(self, numbers: Sequence[int], over: int, measure: Measure, faults: Faults) -> None:
         for place, number in enumerate(numbers):
             if number % over:
                 quantity = self.quantity(place)

@@ -71,6 +71,20 @@ class Table:
     def path(self) -> str:
         return self.sheet.path
 
+    def extra(self) -> dict[str, list[str]]:
+        """The columns with titles that are read for nothing: by their titles the cells of the rows of arcs."""
+        places = {self.layout.titles[place].text: place for place in self.layout.others()}
+        found: dict[str, list[str]] = {title: [] for title in places}
+        wanted = iter(self.lines)
+        next_line = next(wanted, 0)
+        for rows in self.sheet.read() if places else ():
+            for line, row in zip(*rows):
+                if line == next_line:
+                    next_line = next(wanted, 0)
+                    for title, place in places.items():
+                        found[title].append(row[place] if place < len(row) else "")
+        return found
+
     def fault(self, reason: str, line: int = 0) -> TableFault:
         return TableFault(reason, line, self.path)
 

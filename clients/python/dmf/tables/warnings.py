@@ -7,8 +7,8 @@ import unicodedata
 from array import array
 from collections import Counter, defaultdict
 from collections.abc import Iterable, Iterator, Sequence
-from itertools import islice
-from operator import eq
+from itertools import compress, count, islice
+from operator import eq, ne
 from typing import Any
 
 from .cells import MOST_TOLD, cleaned, near, shown
@@ -86,22 +86,34 @@ def _rows(plan: Plan) -> Iterator[str]:
         yield f"tail and head are the same place: {_lines([line for tail, head, line in zip(table.tails, table.heads, table.lines) if tail == head])}"
     if 0 in table.amounts.numbers:
         yield f"the capacity is 0: {_lines([line for line, number in zip(table.lines, table.amounts.numbers) if not number])}"
-    columns: list[Sequence[object]] = [table.tails, table.heads, table.amounts.numbers, *([table.labels] if table.labels else [])]
-    if len(set(map(hash, zip(*columns)))) < len(table.tails):
-        first: dict[tuple[object, ...], int] = {}
-        same = [(first[row], line) for line, row in zip(table.lines, zip(*columns)) if first.setdefault(row, line) != line]
-        if same:
-            yield f"rows are the same, and each counts: {_listed([f'line {line} as {before}' for before, line in same])}"
+    yield from _same_rows(plan)
+
+
+def _same_rows(plan: Plan) -> Iterator[str]:
+    """Rows that have the same ends, capacity and name as one before."""
+    table = plan.arcs
+    seen: set[int] = set()
+    add = seen.add
+    ends = list(map(hash, zip(table.tails, table.heads)))
+    twice = {pair for pair in ends if pair in seen or add(pair)}
+    if not twice:
+        return
+    first: dict[tuple[object, ...], int] = {}
+    same = []
+    for place in compress(count(), map(twice.__contains__, ends)):
+        row = table.tails[place], table.heads[place], table.amounts.numbers[place], table.labels[place] if table.labels else ""
+        line = table.lines[place]
+        if first.setdefault(row, line) != line:
+            same.append(f"line {line} as {first[row]}")
+    if same:
+        yield f"rows are the same, and each counts: {_listed(same)}"
 
 
 def _lonely(plan: Plan) -> Iterator[str]:
     """Places that arcs only leave and that are no source, and the other way round."""
     table = plan.arcs
-    tails, heads = table.tails, table.heads
-    if any(map(eq, tails, heads)):
-        rows = [(tail, head) for tail, head in zip(tails, heads) if tail != head]
-        tails, heads = (array("I", ends) for ends in (zip(*rows) if rows else ((), ())))
-    left, entered = set(tails), set(heads)
+    # Self loops lead nowhere.
+    left, entered = (set(compress(ends, map(ne, table.tails, table.heads))) for ends in (table.tails, table.heads))
     if plan.both_ways:
         left = entered = left | entered
     sources, sinks = ({table.places[term.place] for term in plan.of_kind(kind)} for kind in (SUPPLY, DEMAND))
@@ -130,10 +142,10 @@ class _LonelyPlaces(Sequence[str]):
 
     def told(self, number: int) -> str:
         name = self.names[number - 1]
-        line = f" (line {self.table.lines[self.ends.index(number)]})" if number in self.ends else ""
-        is_once = self.table.tails.count(number) + self.table.heads.count(number) == 1
-        others = [it for it in self.names if _DIGITS.sub("", it) != _DIGITS.sub("", name)]
-        return f"{shown(name)}{line}" + (near(name, others) if is_once and len(self.names) <= MOST_PLACES else "")
+        line = f" (line {self.table.lines[self.ends.index(number)]})"
+        if len(self.names) > MOST_PLACES or self.table.tails.count(number) + self.table.heads.count(number) > 1:
+            return shown(name) + line
+        return shown(name) + line + near(name, [it for it in self.names if _DIGITS.sub("", it) != _DIGITS.sub("", name)])
 
 
 def _reaches(net: Net) -> bool:

@@ -9,7 +9,7 @@ import io
 import zipfile
 from collections.abc import Iterator
 from functools import partial
-from decimal import Context
+from decimal import Context, Decimal
 from typing import Any
 
 from .faults import TableFault
@@ -62,19 +62,21 @@ def _kind(data: bytes) -> str:
     raise TableFault(f"it is {what}; a table is a CSV file, or a workbook (.xlsx or .ods)")
 
 
-def _text(value: Any) -> str:
+def cell_text(value: Any) -> str:
     """What a cell has, as a text."""
     if value is None or isinstance(value, str):
         return value or ""
     if isinstance(value, bool):
         return str(value).upper()
-    if isinstance(value, int):
-        return Exact(value)
+    if isinstance(value, (int, Decimal)):
+        return Exact(format(value, "f" if isinstance(value, Decimal) else "d")) if value - value == 0 else str(value)
     if isinstance(value, float):
+        if value != value:
+            return ""
         return Exact(f"{_SHOWN.create_decimal(repr(value)):f}") if value - value == 0 else str(value)
     if isinstance(value, datetime.datetime) and value.time() == datetime.time():
         return value.date().isoformat()
-    return str(value)
+    return "" if str(value) in ("<NA>", "NaT") else str(value)
 
 
 def _xlsx(data: bytes, path: str) -> list[Sheet]:
@@ -89,7 +91,7 @@ def _xlsx_rows(sheet: Any) -> Iterator[Rows]:
     sheet.reset_dimensions()
     line, cells = 1, []
     for row in sheet.iter_rows(values_only=True):
-        cells.append([value if type(value) is str else _text(value) for value in row])
+        cells.append([value if type(value) is str else cell_text(value) for value in row])
         if len(cells) == PIECE:
             yield Rows(range(line, line + len(cells)), cells)
             line, cells = line + len(cells), []

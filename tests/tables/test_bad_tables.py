@@ -1,0 +1,154 @@
+"""Odd and bad tables, one by one: each is refused at its place, or read rightly."""
+
+from __future__ import annotations
+
+import datetime
+import io
+import zipfile
+from pathlib import Path
+from typing import Any
+
+import pytest
+from client_shared import dmf
+from dmf.tables.opening import Wanted, plan_of
+
+openpyxl: Any = pytest.importorskip("openpyxl")
+NO_NUMBER = "is no number; a number is digits, perhaps with a decimal sign, as 47.3 or 47,3"
+
+
+def faults(data: bytes, path: str = "t") -> list[str]:
+    """What is told of a table, without its file."""
+    with pytest.raises(dmf.TableFault) as caught:
+        plan_of(Wanted(), path, data)
+    return [line.removeprefix(f"{path}: ").removeprefix("t#Arcs: ") for line in caught.value.lines()]
+
+
+def rows(data: bytes) -> list[tuple[str, str, int]]:
+    table = plan_of(Wanted(), "t", data).arcs
+    names = list(table.places)
+    return [(names[tail - 1], names[head - 1], number) for tail, head, number in zip(table.tails, table.heads, table.amounts.numbers)]
+
+
+def workbook(*given: list[Any], **more: list[list[Any]]) -> bytes:
+    book = openpyxl.Workbook()
+    book.active.title = "Arcs"
+    for row in given:
+        book.active.append(row)
+    for name, others in more.items():
+        sheet = book.create_sheet(name)
+        for row in others:
+            sheet.append(row)
+    data = io.BytesIO()
+    book.save(data)
+    return data.getvalue()
+
+
+OLD = b"\xd0\xcf\x11\xe0\xa1\xb1\x1a\xe1" + bytes(600)
+
+
+@pytest.mark.parametrize(
+    ("data", "what"),
+    [
+        (b"\x1f\x8b\x08" + bytes(30), "a gzip file"), (OLD, "an Excel workbook of before 2007, or one with a password"), (b"%PDF-1.4 ..", "a PDF document"),
+        (b"p min 3 2\nn 1 5\nn 3 -5\na 1 2 0 5 1\n", "a min-cost problem"), (b"c of today\np max 2 1\nn 1 s\n", "a max-flow problem"),
+        (b"p sp 3 2\na 1 2 5\n", "a shortest-path problem"), (b"p edge 3 2\ne 1 2\n", "a problem of the DIMACS format"), (b"s 4\nf 1 2 4\n", "a solution"),
+        (b"<!DOCTYPE html><html>", "a page of HTML or XML"), (b'{"arcs": []}', "a JSON file"), (b"\x89PNG\r\n", "a picture"),
+    ],
+)  # fmt: skip
+def test_other_kinds(data: bytes, what: str) -> None:
+    assert faults(data) == [f"it is {what}; a table is a CSV file, or a workbook (.xlsx or .ods)"]
+
+
+def test_zips() -> None:
+    def packed(**files: bytes) -> bytes:
+        data = io.BytesIO()
+        with zipfile.ZipFile(data, "w", zipfile.ZIP_DEFLATED) as archive:
+            for name, content in files.items():
+                archive.writestr(name.replace("_", "/"), content)
+        return data.getvalue()
+
+    assert faults(packed(a=b"A,B,3")) == ["it is a zip file; a table is a CSV file, or a workbook (.xlsx or .ods)"]
+    assert faults(packed(**{"word_document.xml": b""})) == ["it is a text document; a table is a CSV file, or a workbook (.xlsx or .ods)"]
+    assert "damaged" in faults(packed(**{"xl_workbook.xml": b"<x"}))[0]
+    assert "damaged" in faults(workbook(["from", "to", "cap"])[:900])[0]
+
+
+def test_a_bomb(monkeypatch: pytest.MonkeyPatch) -> None:
+    """What a workbook unpacks to is judged before it is unpacked."""
+    data = workbook(["from", "to", "cap"], *(["A", "B", 3] for _ in range(2000)))
+    monkeypatch.setattr("dmf.tables.workbook.LARGEST", 5000)
+    (told,) = faults(data)
+    assert told.startswith("the workbook unpacks to ") and told.endswith(" bytes, and 5000 are the most")
+
+
+def test_all_faults_at_once() -> None:
+    bad = ["A,,3", "A,B,x", "A,B,-1", "A,B", "A\x07,B,3", "A,B,2024-05-03", "A,B,3,4,5"]
+    told = faults("\n".join(["from,to,cap,name", *bad, "A,B,3"]).encode())
+    assert told == [
+        "line 2, column 2: no head",
+        f"line 3, column 3: the capacity 'x' {NO_NUMBER}",
+        "line 4, column 3: the capacity '-1' is below 0",
+        "line 5, column 3: no capacity: the row has 2 columns",
+        "line 6, column 1: the tail 'A\\x07' has the character U+0007, which no name may have",
+        "line 7, column 3: the capacity '2024-05-03' is a date, and no number",
+        "line 8: 5 columns, and 4 have titles",
+    ]
+    many = faults(("from,to,cap\n" + "A,B,x\n" * 57).encode())
+    assert (len(many), many[19], many[20]) == (21, f"line 21, column 3: the capacity 'x' {NO_NUMBER}", "and 37 more")
+
+
+@pytest.mark.parametrize(
+    ("text", "wanted"),
+    [
+        ("from,to,cap\nA,B,1\u00a0200\n", [("A", "B", 1200)]), ("from,to,cap\nA,B,\u0661\u0662\n", [("A", "B", 12)]),
+        ("from,to,cap\nA,B,3\nfrom,to,cap\nB,C,4\n", [("A", "B", 3), ("B", "C", 4)]), ("\ufefffrom,to,cap\nA,B,3\n\ufeffA,C,4\n", [("A", "B", 3), ("A", "C", 4)]),
+        ("cap,to,from\n3,B,A\n", [("A", "B", 3)]), ("3;A;B\n4;B;C\n", [("A", "B", 3), ("B", "C", 4)]),
+        ("Kapazit\xe4t;Ziel;Quelle\n3;B;A\n", [("A", "B", 3)]), ("de,a,d\xe9bit\nA,B,3\n", [("A", "B", 3)]), ("desde\thasta\tcaudal\nA\tB\t3\n", [("A", "B", 3)]),
+        ("from,to,cap," + "x" * 100_000 + "\nA,B,3," + "y" * 100_000 + "\n", [("A", "B", 3)]), ("start,A,5\nA,end,3\n", [("start", "A", 5), ("A", "end", 3)]),
+        ("A,B,cap\nU,V,3\n", [("U", "V", 3)]), ("tail,head,capacity,supply\nA,B,3,\nA,,,9\n", [("A", "B", 3)]),
+    ],
+)  # fmt: skip
+def test_read_rightly(text: str, wanted: list[tuple[str, str, int]]) -> None:
+    assert rows(text.encode()) == wanted
+
+
+@pytest.mark.parametrize(
+    ("text", "told"),
+    [
+        ("from,to,x,y\nA,B,,1\nA,C,,2\n", "line 1: which column is the capacity?"), ("id,weight,length\n1,2,3\n", "line 1: which column is the "),
+        ("from,to,cap\nA,B," + "9" * 1_000_000, "line 2, column 3: the capacity"), ("from,to,cap\nA," + "b" * 1_000_000 + ",3\n", "line 2, column 2: the head has 1000000 characters"),
+        ("from,to,cap\nA,B,=1+2\n", "line 2, column 3: the capacity '=1+2' is no number"), ("from,to,cap\nA,B,inf\n", "line 2, column 3: the capacity 'inf' is no number"),
+    ],
+)  # fmt: skip
+def test_refused(text: str, told: str) -> None:
+    assert faults(text.encode())[0].startswith(told)
+
+
+def test_workbooks() -> None:
+    head = ["from", "to", "cap"]
+    assert rows(workbook(head, ["A", "B", 3.5], ["A", "C", 0.1 + 0.2], ["C", "B", "1e3"])) == [("A", "B", 35), ("A", "C", 3), ("C", "B", 10_000)]
+    assert faults(workbook(head, ["A", "B", datetime.datetime(2024, 5, 3)])) == ["line 2, column 3: the capacity '2024-05-03' is a date, and no number"]
+    assert faults(workbook(head, ["A", "B", True])) == [f"line 2, column 3: the capacity 'TRUE' {NO_NUMBER}"]
+    assert faults(workbook(head, ["A", "B", -3])) == ["line 2, column 3: the capacity '-3' is below 0"]
+    # A formula without what it gave, and the rest of a merged cell, are empty.
+    assert faults(workbook(head, ["A", "B", "=1+2"], [None, "C", 3])) == ["line 2, column 3: no capacity", "line 3, column 1: no tail"]
+    assert faults(workbook()) == ["no sheet of the workbook has a cell"]
+    assert "which sheet is it? Name one after the file, as in t#Arcs; the sheets are 'Arcs', 'More'" in faults(workbook(head, More=[head]))[0]
+    assert faults(workbook(head), "t#Rohre") == ["t: no sheet is called 'Rohre'; the sheets are 'Arcs'"]
+
+
+def test_missing_packages(monkeypatch: pytest.MonkeyPatch) -> None:
+    def missing(name: str) -> Any:
+        raise ImportError(name=name)
+
+    monkeypatch.setattr("dmf.tables.workbook.importlib.import_module", missing)
+    (told,) = faults(workbook(["from", "to", "cap"], ["A", "B", 3]))
+    assert told.startswith("a workbook (.xlsx) needs the package openpyxl, which is not there (pip install openpyxl, or apt install python3-openpyxl)")
+
+
+def test_a_path_that_is_not_there(tmp_path: Path) -> None:
+    with pytest.raises(FileNotFoundError):
+        dmf.read_table(tmp_path / "none.csv")
+    (tmp_path / "t.csv").write_text("A,B,3\n")
+    with pytest.raises(FileNotFoundError):
+        dmf.read_table(tmp_path / "t.csv", places=tmp_path / "none.csv")
