@@ -1,6 +1,6 @@
-"""A table of decimal numbers with two sources, a limit of a source and a limit of a place, in all five tools: value, limit, closures,
-sweeps and exports are those of a second computation in exact fractions, in the table's numbers and unit; and what no row has is told by
-what it means."""
+"""A German table of decimal numbers with a unit, two sources, a limit of a source and a limit of a place, in all five tools: value, limit,
+closures, sweeps and exports are those of a second computation in exact fractions, in the table's numbers and unit; and what no row has is
+told by what it means."""
 
 from __future__ import annotations
 
@@ -28,17 +28,17 @@ from dmf.desk_text import problem
 from dmf.tables.subject import Subject
 from dmf.text import read_problem
 
-TABLE = """from,to,litres,pipe
-Mill,Weir,47.3,Main
-New Mill,Weir,30.5,Side
-Weir,Town,40.25,Long
-Weir,Port,12.4,Short
-Town,Sea,80.25,Out
-Port,Sea,9.15,Exit
-Town,Port,3.1,Link
+TABLE = """Von;Nach;Kapazit\u00e4t (l/s);Leitung;Bemerkung
+Mill;Weir;47,3;Main;
+New Mill;Weir;30,5;Side;alt
+Weir;Town;40,25;Long;
+Weir;Port;12,4;Short;"neu; 1998"
+Town;Sea;80,25;Out;
+Port;Sea;9,15;Exit;
+Town;Port;3,1;Link;
 """
-LIMITS = "place,litres\nWeir,55.5\n"
-WORDS = ["--scale", "100", "--source", "Mill", "--source", "New Mill=20.05", "--sink", "Sea", "--node-limits"]
+LIMITS = "Ort;Grenze\nWeir;55,5\n"
+WORDS = ["--source", "Mill", "--source", "New Mill=20,05", "--sink", "Sea", "--node-limits"]
 GIVEN = {"New Mill": Fraction("20.05")}
 LET_THROUGH = {"Weir": Fraction("55.5")}
 # What is never told: the nodes and arcs that join and halve places.
@@ -52,7 +52,13 @@ class Pipe(NamedTuple):
     name: str
 
 
-PIPES = [Pipe(tail, head, Fraction(amount), name) for tail, head, amount, name in csv.reader(TABLE.splitlines()[1:])]
+def number(cell: str) -> Fraction:
+    """The number in a cell."""
+    return Fraction(cell.replace(",", "."))
+
+
+ROWS = csv.reader(TABLE.splitlines()[1:], delimiter=";")
+PIPES = [Pipe(tail, head, number(amount), name) for tail, head, amount, name, _ in ROWS]
 
 
 def greatest(pipes: list[Pipe], through: dict[str, Fraction] = LET_THROUGH) -> Fraction:
@@ -92,11 +98,6 @@ def folder(tmp_path_factory: pytest.TempPathFactory) -> Path:
     (made / "limits.csv").write_text(LIMITS)
     ran = planned(made, f"save {made}/pipes.max\n")
     assert (ran.returncode, ran.stdout) == (0, f"written: {made}/pipes.max\n")
-    text = (made / "pipes.max").read_text()
-    if "c inner" not in text:
-        # As it is told in docs/FORMATS.md.
-        inner = "c inner node 8 sources\nc inner node 7 half 2\nc inner arc 8 limit 2\nc inner arc 9 supply 1 unlimited\nc inner arc 10 supply 3\n"
-        (made / "pipes.max").write_text(inner + text)
     return made
 
 
@@ -125,7 +126,7 @@ def test_dmf_plan(folder: Path) -> None:
     ran = planned(folder, "solve\ncut\nwhat-if each arc\n", f"{folder}/pipes.max")
     assert (ran.returncode, ran.stderr) == (0, "")
     first, limit, side, *rows = ran.stdout.splitlines()
-    assert (first, limit) == (f"value {told(VALUE)} litres, {told(VALUE)} more, the greatest", f"limit {told(VALUE)} litres")
+    assert (first, limit) == (f"value {told(VALUE)} l/s, {told(VALUE)} more, the greatest", f"limit {told(VALUE)} l/s")
     assert set(side.partition(": ")[2].split(", ")) == {"Mill", "New Mill", "Weir", "Port"}
     assert {re.sub("^ *#[0-9]+ |,.*", "", row) for row in rows[: len(LIMIT)]} == LIMIT
     trials = {}
@@ -147,12 +148,12 @@ def test_steps_with_finer_numbers(folder: Path) -> None:
     wider = [it._replace(capacity=Fraction("10.065")) if it.name == "Exit" else it for it in PIPES]
     values = [told(VALUE), told(VALUE), told(greatest(wider))]
     steps = [re.sub(".*: value ", "", line) for line in ran.stdout.splitlines() if re.match(" +[0-9]+ [ *] ", line)]
-    assert steps[1:4] == [f"{value} litres" for value in values]
-    assert "Exit carries 10.065 litres" in ran.stdout and "Exit carries 9.9995 litres" in ran.stdout
+    assert steps[1:4] == [f"{value} l/s" for value in values]
+    assert "Exit carries 10.065 l/s" in ran.stdout and "Exit carries 9.9995 l/s" in ran.stdout
     assert steps[:5] == steps[5:]
     narrow = [it._replace(capacity=Fraction("9.9995")) if it.name == "Exit" else it for it in PIPES]
-    assert steps[4] == f"{told(greatest(narrow))} litres"
-    why = "with the decimals of 0.00000000000000000001 the capacities would be together past 0.18446744073709551615 litres"
+    assert steps[4] == f"{told(greatest(narrow))} l/s"
+    why = "with the decimals of 0.00000000000000000001 the capacities would be together past 0.18446744073709551615 l/s"
     assert (ran.returncode, ran.stderr) == (1, f"dmf-plan: line 11: {why}\n")
 
 
@@ -199,9 +200,9 @@ def test_an_unlimited_source(folder: Path) -> None:
 def test_dmf_names(folder: Path) -> None:
     ran = run("dmf-names", f"{folder}/pipes.max", typed=solved(folder))
     lines = ran.stdout.splitlines()
-    assert (ran.returncode, ran.stderr, lines[0]) == (0, "", f"value {told(VALUE)} litres")
+    assert (ran.returncode, ran.stderr, lines[0]) == (0, "", f"value {told(VALUE)} l/s")
     assert not any(word in ran.stdout for word in INNER)
-    at = lines.index(f"limit {told(VALUE)} litres")
+    at = lines.index(f"limit {told(VALUE)} l/s")
     judge_flows({found[1]: found[2] for found in map(re.compile(r" +[0-9]+ ([^,]*), .*: ([0-9.]+) of [0-9.]+").fullmatch, lines[:at]) if found})
     assert {re.sub("^ *[0-9]+ |,.*", "", line) for line in lines[at + 2 :]} == LIMIT
     table = run("dmf-names", f"{folder}/pipes.max", "--csv", typed=solved(folder)).stdout
@@ -219,10 +220,10 @@ def judge_flows(flows: dict[str, str]) -> None:
 
 
 def judge_table(text: str) -> None:
-    rows = list(csv.DictReader(io.StringIO(text)))
-    assert text.splitlines()[0] == "number,name,from,to,flow (litres),capacity (litres),full,in cut"
-    judge_flows({row["name"]: row["flow (litres)"] for row in rows})
-    assert [(row["from"], row["to"], Fraction(row["capacity (litres)"]), row["name"]) for row in rows] == PIPES
+    rows = list(csv.DictReader(io.StringIO(text), delimiter=";"))
+    assert text.splitlines()[0] == "number;name;from;to;flow (l/s);capacity (l/s);full;in cut"
+    judge_flows({row["name"]: row["flow (l/s)"].replace(",", ".") for row in rows})
+    assert [(row["from"], row["to"], number(row["capacity (l/s)"]), row["name"]) for row in rows] == PIPES
     assert {row["name"] for row in rows if row["in cut"] == "yes"} == LIMIT
 
 
@@ -232,7 +233,7 @@ def test_dmf_dot(folder: Path) -> None:
 
 
 def judge_picture(text: str) -> None:
-    assert '  label="numbers in litres, from pipes.csv"\n' in text and not any(word in text for word in INNER)
+    assert '  label="numbers in l/s, from pipes.csv"\n' in text and not any(word in text for word in INNER)
     judge_flows({found[1]: found[2] for found in re.finditer(r' -> [0-9]+ \[label="([^"]*)\\n([0-9.]+)/[0-9.]+"', text)})
     nodes = re.findall(r'^  [0-9]+ \[label="([^"]*)"', text, re.MULTILINE)
     assert sorted(re.sub(r" [0-9.]+(/|$)", r" .\1", node) for node in nodes) == [
@@ -244,13 +245,13 @@ def test_dmf_sweep(folder: Path, tmp_path: Path) -> None:
     table = tmp_path / "sweep.csv"
     ran = run("dmf-sweep", f"{folder}/pipes.max", "--close-each", "--table", str(table), "--top", "2")
     assert (ran.returncode, ran.stderr) == (0, "")
-    head, *rows = csv.reader(table.open())
-    assert head == ["case", "commands", "name", "value (litres)", "difference (litres)", "refused", "problem"]
-    swept = {row[2]: (Fraction(row[3]), Fraction(row[4])) for row in rows}
+    head, *rows = csv.reader(table.open(), delimiter=";")
+    assert head == ["case", "commands", "name", "value (l/s)", "difference (l/s)", "refused", "problem"]
+    swept = {row[2]: (number(row[3]), number(row[4])) for row in rows}
     assert all(swept[name] == (value, value - VALUE) for name, value in CLOSED.items())
     assert swept.keys() - CLOSED.keys() == {"what Weir lets through", "what Mill gives at most", "what New Mill gives at most"}
     # The greatest losses first.
-    assert [row[2] for row in csv.reader(ran.stdout.splitlines()[1:])] == ["what Weir lets through", "Long"]
+    assert [row[2] for row in csv.reader(ran.stdout.splitlines()[1:], delimiter=";")] == ["what Weir lets through", "Long"]
     whole = table.read_text()
     table.write_text("".join(whole.splitlines(keepends=True)[:4]))
     assert run("dmf-sweep", f"{folder}/pipes.max", "--close-each", "--table", str(table)).returncode == 0
@@ -258,13 +259,13 @@ def test_dmf_sweep(folder: Path, tmp_path: Path) -> None:
     (tmp_path / "cases").write_text("cap 6 1015\n")
     ran = run("dmf-sweep", f"{folder}/pipes.max", "--cases", str(tmp_path / "cases"))
     wider = [it._replace(capacity=Fraction("10.15")) if it.name == "Exit" else it for it in PIPES]
-    row = next(csv.DictReader(ran.stdout.splitlines()))
-    assert (row["commands"], row["name"], row["value (litres)"]) == ("cap 6 1015 (10.15 litres)", "Exit", told(greatest(wider)))
+    row = next(csv.DictReader(ran.stdout.splitlines(), delimiter=";"))
+    assert (row["commands"], row["name"], number(row["value (l/s)"])) == ("cap 6 1015 (10.15 l/s)", "Exit", greatest(wider))
 
 
 def test_dmf_board(page: Board) -> None:
     state = page.state()
-    assert (state["value"], state["unit"], state["source"], state["sink"]) == (told(VALUE), "litres", "Mill and New Mill", "Sea")
+    assert (state["value"], state["unit"], state["source"], state["sink"]) == (told(VALUE), "l/s", "Mill and New Mill", "Sea")
     assert ({arc["name"] for arc in state["limit"]}, state["arcs"], state["places"]) == (LIMIT, len(PIPES), 6)
     left = page.told("opened")["arcs"]
     trials: list[dict[str, Any]] = []
@@ -286,10 +287,10 @@ def test_a_board_that_changes(folder: Path) -> None:
         assert (role["short"], role["capacity"], role["flow"], place["in"], place["out"]) == (
             "what Weir lets through", "55.5", told(VALUE), told(VALUE), told(VALUE)
         )  # fmt: skip
-        for typed, most in ("30,25", "30.25"), ("+10 %", "33.275"), ("-3.2750 litres", "30"):
+        for typed, most in ("30,25", "30.25"), ("+10 %", "33.275"), ("-3,275 l/s", "30"):
             state = page.do(what="cap", arc=role["number"], capacity=typed)
             wanted = greatest(PIPES, {"Weir": Fraction(most)})
-            assert (state["value"], state["steps"][-1]) == (told(wanted), {"text": f"Weir lets through {most} litres", "value": told(wanted)})
+            assert (state["value"], state["steps"][-1]) == (told(wanted), {"text": f"Weir lets through {most} l/s", "value": told(wanted)})
         assert [arc["short"] for arc in state["limit"]] == ["what Weir lets through"]
         # It is shut and opened whole.
         assert page.do(what="shut", node=node)["value"] == "0"
@@ -298,7 +299,7 @@ def test_a_board_that_changes(folder: Path) -> None:
         state = page.do(what="go", step=0)
         assert (state["value"], [step["value"] for step in state["steps"]][:3]) == (told(VALUE), [told(VALUE), "30.25", "33.275"])
         number = next(arc["number"] for arc in state["limit"] if arc["name"] == "Exit")
-        assert page.do(what="cap", arc=number, capacity="1,200")["error"] == "'1,200' may be 1.2 or 1200"
+        assert page.do(what="cap", arc=number, capacity="x")["error"] == "'x' is no number"
 
 
 def test_exports_of_a_board(page: Board, folder: Path) -> None:
@@ -312,7 +313,7 @@ def test_picture_of_a_board(page: Board) -> None:
     """No numbers but those of the table, each in its place, and the unit."""
     svg = page.ask(page.root + f"picture.svg?near=&turn={page.turn()}")[2].decode()
     texts = [element.text or "" for element in ElementTree.fromstring(svg).iter("{http://www.w3.org/2000/svg}text")]
-    assert "numbers in litres, from pipes.csv" in texts and not any(word in svg for word in INNER)
+    assert "numbers in l/s, from pipes.csv" in texts and not any(word in svg for word in INNER)
     assert {"40.25/40.25", "9.15/9.15", "lets through 49.4/55.5", "Mill", "New Mill"} <= set(texts)
     assert {re.sub(".* ", "", text).partition("/")[2] for text in texts} - {""} == {*map(told, (it.capacity for it in PIPES)), "55.5", "20.05"}
 
@@ -326,7 +327,7 @@ def test_what_is_saved_is_read_back(folder: Path, tmp_path: Path) -> None:
     assert problem == (folder / "pipes.max").read_text()
     judge_table(table)
     judge_picture(drawn)
-    for said in "c capacities are those of the table times 100", "c unit litres", "c table pipes.csv", "c inner node 7 half 2":
+    for said in "c capacities are those of the table times 100", "c unit l/s", "c decimal sign ,", "c table pipes.csv", "c inner node 7 half 2":
         assert f"{said}\n" in problem
     printed = subprocess.run([BUILT, "session", folder / "pipes.max"], input="close 1\nprint problem\n", capture_output=True, check=True, text=True).stdout
     named = run("dmf-names", f"{folder}/pipes.max", typed=printed).stdout.partition("\n")[2]
@@ -342,24 +343,35 @@ def test_a_session_by_names(folder: Path, tmp_path: Path) -> None:
     ran = subprocess.run([BUILT, "session", "--brief", folder / "pipes.max"], input=commands, capture_output=True, check=True, text=True)
     (tmp_path / "commands").write_text(commands)
     lines = run("dmf-names", f"{folder}/pipes.max", "--commands", str(tmp_path / "commands"), typed=ran.stdout).stdout.splitlines()
-    assert lines[:2] == [f"value {told(VALUE)} litres", f"c cap value {VALUE * 100} ({told(VALUE)} litres)"]
+    assert lines[:2] == [f"value {told(VALUE)} l/s", f"c cap value {VALUE * 100} ({told(VALUE)} l/s)"]
     replies = ran.stdout.splitlines()
     transcript = "".join(f"{line}\n" for pair in zip(commands.splitlines(), replies) for line in pair)
     lines = run("dmf-names", f"{folder}/pipes.max", typed=transcript).stdout.splitlines()
-    assert lines[2] == "cap 6 1015 (10.15 litres)"
+    assert lines[2] == "cap 6 1015 (10.15 l/s)"
 
 
-def test_a_comma(folder: Path, tmp_path: Path) -> None:
-    """Where the table's decimal sign is a comma, typed and saved numbers have it too, and semicolons part the cells."""
-    path = tmp_path / "comma.max"
-    path.write_text("c decimal sign ,\n" + (folder / "pipes.max").read_text())
-    ran = planned(folder, f"solve\ncap Exit 1.200\nundo\nsave {tmp_path}/plan.csv\n", str(path))
+def test_a_plan_is_a_table(folder: Path, tmp_path: Path) -> None:
+    """The saved plan is read as a table: the same numbers, unit and names. What it lacks is said, and is given as to the first."""
+    ran = planned(folder, f"solve\nsave {tmp_path}/plan.csv\n", f"{folder}/pipes.max")
+    assert ran.stdout.splitlines()[-1] == "what places give, take or let through at most is not in this table; the problem has it"
+    ran = run("dmf-plan", f"{tmp_path}/plan.csv", *WORDS, f"{folder}/limits.csv", typed=f"solve\nsave {tmp_path}/again.csv\nsave {tmp_path}/again.max\n")
+    assert (tmp_path / "again.csv").read_text() == (tmp_path / "plan.csv").read_text()
+    assert (tmp_path / "again.max").read_text() == (folder / "pipes.max").read_text().replace("table pipes.csv", "table plan.csv")
+    named = run("dmf-names", f"{folder}/pipes.max", "--csv", typed=solved(folder))
+    assert named.stderr == "dmf-names: what places give, take or let through at most is not in this table; the problem has it\n"
+
+
+def test_a_point(folder: Path, tmp_path: Path) -> None:
+    """Where the table's decimal sign is a point, typed and saved numbers have it too, and commas part the cells."""
+    path = tmp_path / "point.max"
+    path.write_text((folder / "pipes.max").read_text().replace("sign ,", "sign ."))
+    ran = planned(folder, f"solve\ncap Exit 1,200\nundo\ncap Exit 47,3\nundo\nsave {tmp_path}/plan.csv\nsteps\n", str(path))
     assert (ran.returncode, ran.stderr) == (0, "")
-    rows = list(csv.reader((tmp_path / "plan.csv").open(), delimiter=";"))
-    assert [row[5].replace(",", ".") for row in rows[1:]] == [told(pipe.capacity) for pipe in PIPES]
-    assert rows[1][5] == "47,3"
+    assert "Exit carries 47.3 l/s" in ran.stdout
+    rows = list(csv.reader((tmp_path / "plan.csv").open()))
+    assert [row[5] for row in rows[1:]] == [told(pipe.capacity) for pipe in PIPES]
     swept = run("dmf-sweep", str(path), "--close-each", "--top", "1").stdout.splitlines()
-    assert swept[1].split(";")[3:5] == ["0", f"-{told(VALUE)}".replace(".", ",")]
+    assert swept[1].split(",")[3:5] == ["0", f"-{told(VALUE)}"]
 
 
 @pytest.mark.parametrize("scale", ["60", "0.3"])
@@ -368,7 +380,7 @@ def test_no_finite_numbers(folder: Path, tmp_path: Path, scale: str) -> None:
     path = tmp_path / "sixty.max"
     path.write_text((folder / "pipes.max").read_text().replace("times 100\n", f"times {scale}\n"))
     ran = planned(folder, f"solve\ncap Exit 1.5\nsave {tmp_path}/plan.csv\n", str(path))
-    assert ran.stdout.startswith(f"value {VALUE * 100} litres times {scale}, ")
-    assert ran.stderr == "dmf-plan: line 2: 1.5 has 1 decimals, and 0 are the most here\n"
+    assert ran.stdout.startswith(f"value {VALUE * 100} l/s times {scale}, ")
+    assert ran.stderr == "dmf-plan: line 2: 1.5 has 1 decimal, and 0 are the most here\n"
     titles = (tmp_path / "plan.csv").read_text().splitlines()[0]
-    assert f"flow (litres times {scale}),capacity (litres times {scale})" in titles
+    assert f"flow (l/s times {scale});capacity (l/s times {scale})" in titles

@@ -8,10 +8,10 @@ import subprocess
 import tempfile
 from collections.abc import Callable
 from pathlib import Path
-from typing import Any
+from typing import Any, cast
 
 import pytest
-from desk_shared import ODD, PIPES, ROOT, SCRIPT, SECONDS, STORY, desk_of, end_session, greatest, run, swept, water, water_problem, without
+from desk_shared import ODD, PIPES, ROOT, Pipe, SCRIPT, SECONDS, STORY, desk_of, end_session, greatest, run, swept, water, water_problem, without
 from built import BUILT
 from dmf import Network
 from dmf.desk_steps import DeskFault, Place
@@ -78,7 +78,7 @@ def test_random() -> None:
     def value() -> int:
         node = desk.names.node
         lines = (desk.lines[number - 1] for number in opened())
-        return greatest([pipes[0]._replace(tail=node(it.tail), head=node(it.head), capacity=it.capacity) for it in lines])
+        return greatest([pipes[0]._replace(tail=node(it.tail), head=node(it.head), capacity=int(it.capacity)) for it in lines])
 
     acts: list[Callable[[], object]] = [
         lambda: desk.close(chance.choice(opened())),
@@ -108,6 +108,37 @@ def test_random() -> None:
     assert (again, desk.at, desk.lines) == (steps, at, lines), f"begun again: {again}, and not {steps}"
     desk.go_to(1)
     assert (desk.value, len(desk.lines), any(it.is_closed for it in desk.lines)) == (165, 14, False)
+    desk.end()
+
+
+@pytest.mark.parametrize("seed", range(3))
+def test_random_decimals(seed: int) -> None:
+    """The same by commands, with amounts of up to five decimals and shares of amounts: whatever scale they take, each step has the value of
+    all sets of places, and what is only tried, or undone, leaves the others as they were."""
+    chance = random.Random(seed)
+    plan = Plan(desk_of(WATER), is_typed=False, write=lambda _: None)
+    desk = plan.desk
+
+    def amount() -> str:
+        return f"{chance.randrange(90)}.{chance.randrange(10 ** chance.choice((1, 2, 4, 5)))}"
+
+    def value() -> int:
+        node = desk.names.node
+        lines = (line for line in desk.lines if not line.is_closed)
+        return greatest([Pipe(node(it.tail), node(it.head), cast(int, it.capacity), "") for it in lines])
+
+    for turn in range(50):
+        number = chance.choice([number for number, line in enumerate(desk.lines, 1) if not line.is_closed])
+        steps, lines = [(it.text, it.value) for it in desk.steps], list(desk.lines)
+        line = chance.choice((
+            f"cap #{number} {amount()}", f"cap #{number} {chance.choice('+-')}{amount()} %", f"what-if cap #{number} +{amount()}",
+            "undo", "undo 2", "redo 2", "shut Mill", "open", "try", "keep", "drop",
+        ))  # fmt: skip
+        plan.onecmd(line)
+        assert desk.value == value(), f"turn {turn}, {line}: {desk.value}, and not {value()}"
+        if line.startswith("what-if"):
+            assert ([(it.text, it.value) for it in desk.steps], list(desk.lines)) == (steps, lines), line
+    assert desk.measure.scale >= 1000
     desk.end()
 
 

@@ -11,7 +11,8 @@ from typing import Any
 import pytest
 from client_shared import PIPES, dmf, interrupted_soon, is_running, needs, script, there
 
-numpy, pandas, networkx, sparse, csgraph = map(there, ("numpy", "pandas", "networkx", "scipy.sparse", "scipy.sparse.csgraph"))
+names = "numpy", "pandas", "networkx", "igraph", "scipy.sparse", "scipy.sparse.csgraph"
+numpy, pandas, networkx, igraph, sparse, csgraph = map(there, names)
 SECONDS = 20
 DICTIONARY = {"lake": {"mill": 3, "town": 2}, "mill": {"town": 5, "sea": 2}, "town": {"sea": 3}}
 FLOWS = {"lake": {"mill": 3, "town": 2}, "mill": {"town": 1, "sea": 2}, "town": {"sea": 3}, "sea": {}}
@@ -170,3 +171,30 @@ def test_nothing_is_left_behind() -> None:
         while is_running(process):
             assert time.monotonic() < until
             time.sleep(0.01)
+
+
+@needs(igraph, "python3-igraph", "graphs of igraph were not solved")
+@pytest.mark.parametrize("seed", range(10))
+def test_coming_from_igraph(seed: int) -> None:
+    """As docs/PYTHON.md says."""
+    random = Random(f"igraph {seed}")
+    count = random.randrange(2, 9)
+    pairs = [(random.randrange(count), random.randrange(count)) for _ in range(random.randrange(20))]
+    graph = igraph.Graph(n=count, edges=pairs, directed=True)
+    graph.es["capacity"] = [random.randrange(1, 9) for _ in pairs]
+    theirs = graph.maxflow(0, count - 1, "capacity")
+    rows = [(edge.source, edge.target, edge["capacity"]) for edge in graph.es]
+    if not pairs or not {0, count - 1} <= {node for pair in pairs for node in pair}:
+        return
+    assert dmf.value(rows, 0, count - 1) == theirs.value
+    with dmf.Network(rows, 0, count - 1, nodes=range(count)) as network:
+        flows = list(network.solve().values())
+        assert len(flows) == len(theirs.flow)
+        judged = [(str(tail), str(head), room, flow) for (tail, head, room), flow in zip(rows, flows)]
+        names = {"0": "n0", str(count - 1): "n1"}
+        judge_flow([(names.get(tail, tail), names.get(head, head), room, flow) for tail, head, room, flow in judged], theirs.value)
+        cut = network.cut()
+        assert (cut.capacity, cut.side | cut.other_side) == (theirs.value, frozenset(range(count)))
+        # Theirs is a minimum cut too, and so has the smallest side.
+        assert cut.side <= set(theirs.partition[0])
+        assert sum(network.capacity(arc) for arc in cut.arcs) == theirs.value

@@ -16,6 +16,9 @@ MISTAKES = {
     'dmf.Network([("a", "b", 3)], "a", "b").cut().side + 1': "operator",
     'dmf.Network([("a", "b", 3)], "a", "b").solve()["a", "b"].tail': "attr-defined",
     "network: dmf.Network[list[int]]": "type-var",
+    'dmf.maximum_flow({"a": {"b": 3}}, "a", "b")[1]["a"]["b"].tail': "attr-defined",
+    'dmf.value([("a", "b", 3)], "a", "b").real.windy': "attr-defined",
+    'dmf.minimum_cut({"a": {"b": 3}}, "a", "b")[1] + 1': "operator",
 }
 
 

@@ -33,6 +33,17 @@ def main() -> None:
     grid = dmf.Network([((0, 0), (0, 1), 3), ((0, 1), (1, 1), 2, "gate")], source=(0, 0), sink=(1, 1), history=10)
     corner: Tuple[int, int] = sorted(grid.nodes)[0]
     print(corner, grid.problem(names=False))
+    graph = {"lake": {"mill": 3}, "mill": {"sea": 2}}
+    amount, flows = dmf.maximum_flow(graph, "lake", "sea")
+    value, (near, far) = dmf.minimum_cut(graph, "lake", "sea")
+    sent: int = amount + flows["lake"]["mill"] + value + dmf.value(rows, "lake", "sea")
+    banks: list[str] = sorted(near | far)
+    with dmf.Network(rows, "lake", "sea") as network, network.copy() as copy:
+        network.add_node("pond")
+        network.write("problem.max")
+        by_ends: dict[str, dict[str, int]] = copy.solve().flow_dict()
+        others: frozenset[str] = copy.cut().other_side
+        print(sent, banks, by_ends, others, network.begin_again() + 1)
     with dmf.read("problem.max") as read:
         sides: list[str] = sorted(map(str, read.cut().side))
         print(sides)

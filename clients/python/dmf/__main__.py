@@ -1,4 +1,5 @@
-"""Runs the program in place of Python: `python -m dmf solve --cut <problem.max`."""
+"""Runs the program in place of Python, as in `python -m dmf solve --cut <problem.max`; or tells what a problem's file comes to, with its
+names: `python -m dmf problem.max`."""
 
 from __future__ import annotations
 
@@ -8,11 +9,11 @@ import sys
 from typing import NoReturn
 
 from . import executable
-from .errors import NoProgram
-from .tool import ToolFault, run
+from .errors import NoProgram, Refused
+from .tool import ToolFault, cannot, run, write
 
-# The status of `./dmf` where there is no program.
-MISSING = 70
+# The status of `./dmf` where there is no program, where a file cannot be read, and where a problem has a fault.
+MISSING, UNREAD, FAULTY = 70, 4, 3
 
 
 def become(path: str) -> NoReturn:
@@ -26,8 +27,33 @@ def become(path: str) -> NoReturn:
         raise
 
 
-def main() -> NoReturn:
+def tell(path: str) -> int:
+    """Writes the value of a problem, and the arcs of its smallest minimum cut with what each carries."""
+    from .lexical import display
+    from .sources import read
+
+    # A program that refuses the problem may have ended before it is asked.
+    by_default = signal.signal(signal.SIGPIPE, signal.SIG_IGN)
     try:
+        with read(path) as network:
+            flow, cut = network.solve(), network.cut()
+            lines = [f"{flow.value} can be sent from {network.source} to {network.sink}"]
+            for arc in cut.arcs:
+                name = "" if arc.given_key is None else f"  {arc.given_key}"
+                lines.append(f"limit: {arc.tail} -> {arc.head}  {flow[arc]}{name}")
+    except OSError as error:
+        raise cannot("read", path, error, UNREAD) from None
+    except Refused as refused:
+        raise ToolFault(f"{path}: {f'line {refused.line}: ' if refused.line else ''}{refused.text}", FAULTY) from None
+    signal.signal(signal.SIGPIPE, by_default)
+    write("".join(f"{display(line)}\n" for line in lines))
+    return 0
+
+
+def main() -> int:
+    try:
+        if len(sys.argv) == 2 and os.path.isfile(sys.argv[1]) and not sys.argv[1].startswith("-"):
+            return tell(sys.argv[1])
         become(executable.program())
     except NoProgram as fault:
         raise ToolFault(str(fault), MISSING) from None

@@ -2,23 +2,18 @@
 
 from __future__ import annotations
 
-import contextlib
 import functools
 import weakref
 from array import array
 from bisect import bisect_left
-from collections import defaultdict
-from collections.abc import Callable, Hashable, Iterable, Iterator, Mapping, Sequence
-from itertools import compress, count
-from operator import gt
-from typing import Any, Generic, Protocol, TypeVar
+from collections.abc import Hashable, Iterable, Iterator
+from itertools import compress
+from typing import Any, Generic, Protocol
 
-from .errors import AmbiguousArc, NoSuchArc, NoSuchNode, SessionEnded, shown
-from .numbering import NODES, WholeNodes
-
-Node = TypeVar("Node", bound=Hashable)
-# How many questions about the arcs at a node look at all arcs, before an index of them is made.
-MOST_MISSED = 20
+from .columns import Columns as Columns
+from .columns import Node as Node
+from .errors import AmbiguousArc, NoSuchArc, SessionEnded, shown
+from .numbering import NODES
 
 
 class Owner(Protocol):
@@ -94,157 +89,6 @@ class Arc(Generic[Node]):
         return f"<Arc {self.number}: {shown(self.tail)} to {shown(self.head)}{key}>"
 
 
-class Index:
-    """Numbers by the names of what they number. `_last` has the last number of each name, and `_several` all numbers of a name with
-    several."""
-
-    def __init__(self, names: Callable[[], Iterable[Any]], numbers: Sequence[int]) -> None:
-        self._last: dict[Any, int] = dict(zip(names(), numbers))
-        self._several: dict[Any, list[int]] = defaultdict(list)
-        if len(numbers) > len(self._last):
-            for name, number in zip(names(), numbers):
-                if name in self._several or self._last[name] != number:
-                    self._several[name].append(number)
-
-    def find(self, name: Any) -> list[int]:
-        """The numbers of a name, in their order."""
-        if name in self._several:
-            return self._several[name]
-        return [self._last[name]] if name in self._last else []
-
-
-class Columns(Generic[Node]):
-    """The arcs of a problem, column by column: the numbers of their tails and heads, from 1 on, and the keys that were given, by the
-    arcs' numbers. `numbers` has the number of each node, in order. Nothing of it changes. A function may make the keys when one is
-    first asked for."""
-
-    def __init__(
-        self,
-        numbers: Mapping[Node, int],
-        tails: array[int],
-        heads: array[int],
-        keys: dict[int, Hashable] | Callable[[], dict[int, Hashable]],
-    ) -> None:
-        self.numbers = numbers
-        self.tails = tails
-        self.heads = heads
-        self._given = keys
-        self._missed = 0
-
-    def __len__(self) -> int:
-        return len(self.tails)
-
-    def __reduce__(self) -> tuple[Any, ...]:
-        return Columns, (self.numbers, self.tails, self.heads, self.keys)
-
-    @property
-    def keys(self) -> dict[int, Hashable]:
-        """The keys that were given, by the arcs' numbers, in order."""
-        if callable(self._given):
-            # Where two threads come at once, both make the same.
-            self._given = self._given()
-        return self._given
-
-    @functools.cached_property
-    def names(self) -> Sequence[Node]:
-        """The nodes in the order of their numbers."""
-        numbers: Any = self.numbers
-        return numbers.names if isinstance(numbers, WholeNodes) else list(numbers)
-
-    @functools.cached_property
-    def _by_ends(self) -> Index:
-        scale = len(self.numbers) + 1
-        return Index(lambda: (tail * scale + head for tail, head in zip(self.tails, self.heads)), range(1, len(self) + 1))
-
-    @functools.cached_property
-    def _by_key(self) -> Index:
-        return Index(self.keys.values, list(self.keys))
-
-    def between(self, tail: int, head: int) -> list[int]:
-        """The numbers of the arcs from one node to another."""
-        return self._by_ends.find(tail * (len(self.numbers) + 1) + head)
-
-    def number(self, node: Node) -> int:
-        """The number of a node. Raises `NoSuchNode`, also for a value that cannot be hashed."""
-        with contextlib.suppress(KeyError, TypeError):
-            return self.numbers[node]
-        raise NoSuchNode(shown(node) + self._near_node(node))
-
-    def _near_node(self, node: Node) -> str:
-        from .hints import near_node
-
-        try:
-            return near_node(node, self.numbers)
-        except TypeError:
-            return ""
-
-    def no_such_arc(self, key: Hashable) -> NoSuchArc:
-        """The refusal of a key, or of a pair of ends, that no arc has."""
-        from .hints import near_arc
-
-        try:
-            return NoSuchArc(shown(key) + near_arc(key, self.numbers, self.keys, self.named))
-        except TypeError:
-            return NoSuchArc(shown(key))
-
-    def named(self, key: Hashable) -> list[int]:
-        """The numbers of the arcs of a key, or of a pair of ends, in their order. Raises `NoSuchArc` for a value that cannot be
-        hashed."""
-        try:
-            found = self._by_key.find(key)
-        except TypeError:
-            raise NoSuchArc(shown(key)) from None
-        if isinstance(key, tuple) and len(key) == 2:
-            tail, head = map(self.numbers.get, key)
-            if tail and head and (pairs := self.between(tail, head)):
-                return sorted({*found, *pairs}) if found else pairs
-        return found
-
-    @functools.cached_property
-    def _at_nodes(self) -> tuple[tuple[array[int], array[int]], tuple[array[int], array[int]]]:
-        """The arcs in the order of their tails, and of their heads; and the places at which the arcs of each node begin."""
-        return _grouped(self.tails, len(self.numbers)), _grouped(self.heads, len(self.numbers))
-
-    def _is_indexed(self) -> bool:
-        """Whether the index of the arcs at each node is made. This happens after it was missed some times."""
-        self._missed += 1
-        return self._missed > MOST_MISSED
-
-    def at(self, node: int) -> list[int]:
-        """The numbers of the arcs at a node, in their order."""
-        if self._is_indexed():
-            return sorted({number for order, begins in self._at_nodes for number in order[begins[node] : begins[node + 1]]})
-        here = node.__eq__
-        return sorted({number for ends in (self.tails, self.heads) for number in compress(count(1), map(here, ends))})
-
-    def leaving(self, side: list[int]) -> list[int]:
-        """The numbers of the arcs that lead out of a set of nodes, in their order."""
-        inside = bytearray(len(self.numbers) + 1)
-        for node in side:
-            inside[node] = 1
-        if self._is_indexed():
-            if 2 * len(side) <= len(self.numbers):
-                order, begins = self._at_nodes[0]
-                arcs = (number for node in side for number in order[begins[node] : begins[node + 1]])
-                return sorted(number for number in arcs if not inside[self.heads[number - 1]])
-            order, begins = self._at_nodes[1]
-            others = compress(range(1, len(self.numbers) + 1), (not one for one in inside[1:]))
-            arcs = (number for node in others for number in order[begins[node] : begins[node + 1]])
-            return sorted(number for number in arcs if inside[self.tails[number - 1]])
-        is_in = inside.__getitem__
-        return list(compress(count(1), map(gt, map(is_in, self.tails), map(is_in, self.heads))))
-
-
-def _grouped(ends: array[int], most: int) -> tuple[array[int], array[int]]:
-    order = array(NODES, sorted(range(1, len(ends) + 1), key=lambda number: ends[number - 1]))
-    begins = array(NODES, [0]) * (most + 2)
-    for node in ends:
-        begins[node + 1] += 1
-    for node in range(1, most + 2):
-        begins[node] += begins[node - 1]
-    return order, begins
-
-
 class Handles(Generic[Node]):
     """The handles of the arcs of a problem. Each is made when it is first asked for."""
 
@@ -252,6 +96,12 @@ class Handles(Generic[Node]):
         self.columns = columns
         self.owner: weakref.ref[Owner] | None = None
         self._made: dict[int, Arc[Node]] = {}
+
+    def with_columns(self, columns: Columns[Node]) -> Handles[Node]:
+        """The handles of the same arcs in other columns."""
+        handles = Handles(columns)
+        handles.owner, handles._made = self.owner, self._made
+        return handles
 
     def of(self, number: int) -> Arc[Node]:
         """The handle of a number."""

@@ -203,12 +203,13 @@ class Desk:
 
     def pictured(self) -> list[int]:
         """The arcs of the table and those that were added. One that was opened again counts once."""
-        return [number for number, line in enumerate(self.lines, 1) if not line.is_replaced and not self.role(number)]
+        found = [number for number, line in enumerate(self.lines, 1) if not line.is_replaced]
+        return [number for number in found if not self.role(number)] if self.folding.has_roles else found
 
     def roles(self) -> dict[int, list[tuple[int, str]]]:
         """By the node of a place: the arcs that stand for what it gives, takes or lets through, each with which of these."""
         found: dict[int, list[tuple[int, str]]] = {}
-        for number, line in enumerate(self.lines, 1):
+        for number, line in enumerate(self.lines, 1) if self.folding.has_roles else ():
             if (role := self.role(number)) and not line.is_replaced:
                 found.setdefault(role.node, []).append((number, role.kind))
         return found

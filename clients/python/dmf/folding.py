@@ -34,6 +34,11 @@ class Folding:
                     self._at_joints[joint].append(role.node)
 
     @property
+    def has_roles(self) -> bool:
+        """Whether an arc can be none of a table."""
+        return bool(self._joints or self._first)
+
+    @property
     def has_unlimited(self) -> bool:
         """Whether a source or a sink is unlimited whose arc is none of the table."""
         return bool(self._unlimited)
@@ -91,6 +96,10 @@ class Folding:
     def roles(self, ends: Iterable[tuple[int, int]]) -> Iterator[tuple[int, Role]]:
         """The roles of arcs with these ends, by their numbers from 1 on."""
         return ((number, role) for number, (tail, head) in enumerate(ends, 1) if (role := self.role(tail, head)))
+
+
+# What is told of a table of arcs from which these are left out.
+LEFT_OUT = "what places give, take or let through at most is not in this table; the problem has it"
 
 
 def role_words(role: Role, label: Callable[[int], str]) -> str:

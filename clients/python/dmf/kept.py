@@ -12,8 +12,8 @@ from typing import TYPE_CHECKING, Any, Generic, NoReturn, SupportsIndex, Union
 
 from .arcs import Added, Arc, Columns, Handles, Node, OpenArcs, one_of
 from .changes import Change, Changes
-from .errors import ArcIsClosed, NoSuchArc, NotAnArc, NotANumber, NumberTooLarge, shown
-from .lexical import LARGEST
+from .errors import ArcIsClosed, CountOutOfRange, NoSuchArc, NotAnArc, NotANumber, NumberTooLarge, shown
+from .lexical import LARGEST, MOST_NODES
 from .numbering import AMOUNTS, NODES, WholeNodes
 
 if TYPE_CHECKING:
@@ -224,6 +224,18 @@ class Kept(Changes, Generic[Node]):
     @property
     def open_count(self) -> int:
         return len(self.capacities) - len(self.closed)
+
+    def add_node(self, node: Node) -> bool:
+        """Adds a node, and returns whether it was not there. Arcs keep their handles."""
+        if node in self.columns.numbers:
+            return False
+        if is_missing(node):
+            raise NotAnArc(f"not an arc: the node {shown(node)} is no name")
+        if len(self.columns.numbers) >= MOST_NODES:
+            raise CountOutOfRange(shown(node))
+        columns = self.columns.with_node(node)
+        self.columns, self.handles, self._opened = columns, self.handles.with_columns(columns), None
+        return True
 
     def first_capacities(self) -> array[int]:
         """The capacities by which the first arcs stand in the problem of a session that begins anew. Those that were closed already stand

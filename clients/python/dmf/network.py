@@ -3,32 +3,26 @@
 from __future__ import annotations
 
 import contextlib
-import functools
 import weakref
 from array import array
 from collections.abc import Callable, Hashable, Iterable, Iterator
-from typing import TYPE_CHECKING, Any, NoReturn, Tuple, Union
+from typing import Any, NoReturn, Tuple, Union
 
 from . import arrays
-from .arcs import Arc, Columns, Node, OpenArcs
+from .arcs import Arc, Columns, Node
 from .changes import Change
 from .errors import ArcIsOpen, Refused, SessionEnded
 from .kept import Kept, Whole, columns_of, whole
 from .process import Program, bound, where
-from .running import Running, alone, started
-from .solution import Cut, Solution
+from .running import alone, started
+from .showing import Showing
+from .solution import Solution
 
-if TYPE_CHECKING:
-    from .notebook import Look
-    from .tables.comments import Described
-
-# A network with more arcs than these is shown as a table, since nobody would find an arc in a picture of it.
-MOST_DRAWN = 300
 # An arc as the caller gives it: its tail, its head, its capacity and, if it has one, its key.
 Row = Union[Tuple[Node, Node, Whole], Tuple[Node, Node, Whole, Hashable]]
 
 
-class Network(Running[Node]):
+class Network(Showing[Node]):
     """A network with a flow on it, and its changes. At the beginning the flow is 0.
 
     The arcs are `(tail, head, capacity)` or `(tail, head, capacity, key)`, any number of them between two nodes. Capacities are whole
@@ -164,28 +158,6 @@ class Network(Running[Node]):
         return made
 
     @property
-    def source(self) -> Node:
-        """The source."""
-        return self._kept.source
-
-    @property
-    def sink(self) -> Node:
-        """The sink."""
-        return self._kept.sink
-
-    @property
-    def scale(self) -> str:
-        """What the numbers of a table were multiplied by, as the problem that was read tells it; empty if it tells none."""
-        from .text import told_scale
-
-        return told_scale(self._kept.described)
-
-    @property
-    def nodes(self) -> list[Node]:
-        """All nodes: those in `nodes`, and then the ends of the arcs, in their order."""
-        return list(self._kept.columns.numbers)
-
-    @property
     def arcs(self) -> list[Arc[Node]]:
         """The open arcs, in their order."""
         return list(self._kept.opened())
@@ -239,6 +211,14 @@ class Network(Running[Node]):
         return self._add(tail, head, whole(capacity, (tail, head)), key, None)
 
     @alone
+    def add_node(self, node: Node) -> None:
+        """Adds a node, without arcs, unless it is there. This is no change: `undo` leaves it. The next call begins the session anew, which
+        takes as long as all commands so far took together; so nodes that are known at the beginning are better given to `Network`. Raises
+        `NotAnArc` for None and NaN, and `CountOutOfRange`."""
+        self._part()
+        self._is_broken = self._kept.add_node(node)
+
+    @alone
     def open(self, arc: Hashable) -> Arc[Node]:
         """Opens a closed arc: adds it again, with its ends, its key and the capacity that it had when it was closed. To the program
         it is a new arc with a new number, after all others, and without flow; `undo` removes it. Returns its handle. The key and the
@@ -261,13 +241,6 @@ class Network(Running[Node]):
     def solve(self) -> Solution[Node]:
         """Makes the flow a maximum flow, going on from the present flow, and returns it. That is a change, which `undo` reverts."""
         self._kept.note(Change("solve"), self._changed("solve"))
-        return Solution(self._flows())
-
-    @alone
-    def flow(self) -> Solution[Node]:
-        """The present flow."""
-        if not self._child.end.alive:
-            raise self._child.ended()
         return Solution(self._flows())
 
     def undo(self, count: int = 1) -> int:
@@ -317,55 +290,6 @@ class Network(Running[Node]):
                     # The session has ended. Another one will be in the state that is kept.
                     self._take_back(place, value)
 
-    @alone
-    def cut(self) -> Cut[Node]:
-        """The smallest minimum cut. Raises `FlowIsNotGreatest` if some flow has a larger value than the present one, as before
-        `solve`."""
-        # A cut does not say how long it is. The reply to `undo 0`, which changes nothing, marks its end.
-        with self._child.exchange("print cut\nundo 0"):
-            lines = self._child.lines_before(b"c undo value ").split(b"\n")[:-1]
-            capacity = int(self._begun(lines[0].split(), "print cut", [b"c", b"cut"])[2])
-            side = [int(line[7:]) for line in lines[1:] if line.startswith(b"c side ")]
-            if len(side) != len(lines) - 1:
-                raise ValueError
-        names = self._kept.columns.names
-        look = self._look(set(side)) if self._kept.open_count <= MOST_DRAWN else None
-        return Cut(capacity, frozenset(names[node - 1] for node in side), tuple(self._kept.leaving(side)), names, look)
-
-    @alone
-    def problem(self, *, names: bool = True, escapes: bool = False) -> str:
-        """The problem of the open arcs as a text in the DIMACS format. With `names`, comments before it name nodes and arcs: each
-        node whose name is not its own number, and each key, as `str` writes it. `dmf.read` reads the same names again, as texts,
-        except blank ones. If the network was read of a problem that tells the scale and the unit of its numbers, so do the first
-        comments.
-
-        Raises `NameNotWritable` if `dmf.read` would read a name as another one: if it has a line feed or blanks around it, or if two
-        nodes have the same name. With `escapes` what cannot be written of a name, such as a line feed, is written as `\\x0a`."""
-        from .names import comments
-        from .tables.comments import Described, comments as table_comments
-
-        opened = self._kept.opened()
-        before = table_comments(Described(self._kept.described.measure))
-        if names:
-            keys = {place: key for place, key in enumerate(opened.keys(), 1) if key is not None}
-            before += comments(dict(enumerate(self._kept.columns.names, 1)), keys, escapes=escapes)
-        with self._child.exchange("print problem"):
-            begin = self._child.lines(1)
-            self._begun(begin.split(), "print problem", [b"p"])
-            return before + (begin + self._child.lines(len(opened) + 2)).decode()
-
-    def to_networkx(self) -> Any:
-        """A MultiDiGraph of networkx with an edge for each open arc. Its key is the arc's number, and its attributes are `capacity`,
-        `flow`, and `name` if the arc has a key. Raises an ImportError if networkx is not installed."""
-        graph = arrays.package("networkx", "a graph")
-        flow = self.flow()
-        made = graph.MultiDiGraph()
-        made.add_nodes_from(self.nodes)
-        for (arc, carried), capacity in zip(flow.items(), flow._flows.capacities()):
-            given = {} if arc.given_key is None else {"name": arc.given_key}
-            made.add_edge(arc.tail, arc.head, key=arc.number, capacity=capacity, flow=carried, **given)
-        return made
-
     def copy(self) -> Network[Node]:
         """Another network, in the same state: with the same arcs, changes and flow. What is done with one of them does not change the
         other. The handles of arcs that this one has now name those of the copy too. The copy is a session of its own, which takes the same
@@ -405,37 +329,3 @@ class Network(Running[Node]):
     def __repr__(self) -> str:
         kept = self._kept
         return f"<Network of {len(kept.columns.numbers)} nodes and {kept.arc_count} arcs, with a flow of value {self.value}>"
-
-    def _repr_svg_(self) -> str | None:
-        if self._kept.open_count > MOST_DRAWN:
-            return None
-        return self._look_now().svg()
-
-    def _repr_html_(self) -> str:
-        from .notebook import table
-
-        flow = self.flow()
-        rows = ((*row, capacity) for row, capacity in zip(flow._rows(), flow._flows.capacities()))
-        return table(repr(self)[1:-1], ("arc", "tail", "head", "flow", "capacity"), len(flow), rows)
-
-    @alone
-    def _look_now(self) -> Look:
-        return self._look(set())()
-
-    def _look(self, side: set[int]) -> Callable[[], Look]:
-        """What makes the picture of the network as it is now."""
-        flows = self._flows()
-        flows.settle(self._asked_flow)
-        kept = self._kept
-        ends = kept.number(kept.source), kept.number(kept.sink)
-        return functools.partial(_look_of, kept._described, flows.arcs, ends, flows.numbers(), flows.capacities()[:], side)
-
-
-def _look_of(
-    described: Described | None, arcs: OpenArcs[Any], ends: tuple[int, int], flows: array[int], capacities: array[int], side: set[int]
-) -> Look:
-    """How a network looks. Whoever looks at it needs more modules."""
-    from .notebook import Look
-    from .tables.comments import Described
-
-    return Look(arcs, ends, flows, capacities, side, described or Described())

@@ -2,7 +2,11 @@
 
 from __future__ import annotations
 
+import cmath
+import errno
 import html
+import io
+import os
 import shutil
 import subprocess
 from collections.abc import Iterable, Sequence
@@ -10,12 +14,15 @@ from itertools import islice
 from typing import Any
 
 from .arcs import OpenArcs
+from .arrays import package
+from .lexical import display
 from .names import picture_names
-from .network import MOST_DRAWN
-from .picture import Drawing, picture
+from .picture import CUT, UNUSED, Drawing, nearest, picture
+from .showing import MOST_DRAWN
 from .tables.comments import Described
 from .text import Problem
 from .timeline import Arc
+from .tool import write_file
 
 # How many rows of a table are shown.
 MOST_ROWS = 20
@@ -35,19 +42,66 @@ class Look:
         problem = Problem(len(arcs.columns.numbers), *ends, drawn, *picture_names(arcs.columns.names, keys), described)
         self.drawing = Drawing(problem, [Arc(*row) for row in drawn], list(flows), side)
 
-    def svg(self) -> str | None:
-        """The picture, if Graphviz is installed."""
+    def text(self) -> bytes:
+        """The text for Graphviz."""
+        return "".join(f"{line}\n" for line in picture(self.drawing, MOST_DRAWN)).encode(errors="replace")
+
+    def drawn(self, form: str) -> bytes:
+        """The picture in a form of Graphviz, such as `svg` or `png`. Raises a FileNotFoundError where Graphviz is not there, and a
+        RuntimeError for what it says."""
         dot = shutil.which("dot")
         if not dot:
-            return None
-        text = "".join(f"{line}\n" for line in picture(self.drawing, MOST_DRAWN))
+            raise FileNotFoundError(errno.ENOENT, "a picture needs Graphviz, whose program is not there", "dot")
         try:
-            drawn = subprocess.run(
-                [dot, "-Tsvg"], input=text.encode(errors="replace"), capture_output=True, timeout=PATIENCE, start_new_session=True
-            )
-        except (OSError, subprocess.TimeoutExpired):
+            ran = subprocess.run([dot, f"-T{form}"], input=self.text(), capture_output=True, timeout=PATIENCE, start_new_session=True)
+        except subprocess.TimeoutExpired:
+            raise RuntimeError(f"Graphviz has drawn nothing in {PATIENCE} seconds") from None
+        if ran.returncode:
+            raise RuntimeError(f"Graphviz draws no {form}: {ran.stderr.decode(errors='replace').strip()}")
+        return ran.stdout
+
+    def svg(self) -> str | None:
+        """The picture, if Graphviz is there and draws it."""
+        try:
+            return self.drawn("svg").decode()
+        except (OSError, RuntimeError):
             return None
-        return drawn.stdout.decode() if drawn.returncode == 0 else None
+
+
+def draw(look: Look, path: str) -> None:
+    """Writes a picture to a file, in the form of its ending."""
+    form = os.path.splitext(path)[1][1:].lower()
+    write_file(path, look.text() if form in ("dot", "gv") else look.drawn(form or "svg"))
+
+
+def plot(look: Look) -> Any:
+    """Axes of matplotlib with the picture of Graphviz, or with the nodes on a circle where Graphviz is not there."""
+    pyplot = package("matplotlib.pyplot", "a plot without a path")
+    axes = pyplot.subplots()[1]
+    axes.set_axis_off()
+    try:
+        axes.imshow(pyplot.imread(io.BytesIO(look.drawn("png"))))
+    except FileNotFoundError:
+        _circle(look.drawing, axes)
+    return axes
+
+
+def _circle(drawing: Drawing, axes: Any) -> None:
+    places = nearest(drawing, MOST_DRAWN)
+    nodes = sorted({*drawing.terminals(), *(node for place in places for node in drawing.arcs[place][:2])})
+    at = {node: cmath.rect(1, cmath.pi * (1 - 2 * turn / len(nodes))) for turn, node in enumerate(nodes)}
+    axes.set_xlim(-1.3, 1.3)
+    axes.set_ylim(-1.3, 1.3)
+    for place in places:
+        arc, flow = drawing.arcs[place], drawing.flows[place]
+        begin, end = at[arc.tail], at[arc.head]
+        color = CUT if drawing.is_cut(arc) else UNUSED if not flow else "black"
+        axes.annotate("", (end.real, end.imag), (begin.real, begin.imag), arrowprops={"arrowstyle": "->", "color": color})
+        middle = begin + 0.4 * (end - begin)
+        axes.text(middle.real, middle.imag, f"{flow}/{arc.capacity}", color=color, ha="center")
+    for node, spot in at.items():
+        name = display(drawing.problem.node_names.get(node, str(node)))
+        axes.text(1.12 * spot.real, 1.12 * spot.imag, name, ha="center", va="center", weight="bold")
 
 
 def table(title: str, head: Iterable[str], count: int, rows: Iterable[Iterable[object]]) -> str:

@@ -42,13 +42,14 @@ class Drawing:
     @cached_property
     def drawn(self) -> list[int]:
         """The places of the arcs that are drawn as arcs."""
-        return [place for place, arc in enumerate(self.arcs) if not self.folding.role(*arc[:2])]
+        every = range(len(self.arcs))
+        return [place for place in every if not self.folding.role(*self.arcs[place][:2])] if self.folding.has_roles else list(every)
 
     @cached_property
     def roles(self) -> dict[int, list[int]]:
         """By the node of a place: the places of the arcs that stand for what it gives, takes or lets through."""
         found: dict[int, list[int]] = defaultdict(list)
-        for place, arc in enumerate(self.arcs):
+        for place, arc in enumerate(self.arcs) if self.folding.has_roles else ():
             if role := self.folding.role(*arc[:2]):
                 found[role.node].append(place)
         return found

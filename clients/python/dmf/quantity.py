@@ -170,7 +170,8 @@ class Measure:
         product = EXACT.multiply(number, self.divisor)
         if product != product.to_integral_value():
             most = decimals(1 / self.divisor) if self.divisor >= 1 else 0
-            raise QuantityFault(f"has {decimals(number)} decimals, and {most} {'is' if most == 1 else 'are'} the most here")
+            told = f"{decimals(number)} decimal{'s' * (decimals(number) != 1)}"
+            raise QuantityFault(f"has {told}, and {most} {'is' if most == 1 else 'are'} the most here")
         if product > LARGEST:
             raise QuantityFault(f"is past {self.text(LARGEST)}")
         return int(product)

@@ -189,6 +189,16 @@ class Solution(Mapping[Arc[Node], int], Generic[Node]):
         Raises an ImportError if pandas or numpy is not installed."""
         return arrays.frame(self._flows.arcs, self.array(), self._flows.capacities())
 
+    def flow_dict(self) -> dict[Node, dict[Node, int]]:
+        """The flows as networkx has them: for each node, those to each node to which an open arc leads, on all these arcs together."""
+        arcs = self._flows.arcs
+        names = arcs.columns.names
+        found: dict[Node, dict[Node, int]] = {node: {} for node in names}
+        for tail, head, flow in zip(*arcs.ends(), self._flows.numbers()):
+            heads, node = found[names[tail - 1]], names[head - 1]
+            heads[node] = heads.get(node, 0) + flow
+        return found
+
     def flow_matrix(self) -> Any:
         """A sparse matrix of scipy: row i and column j have the flow from node i to node j on all arcs together. Nodes are counted
         from 0 in the order of `Network.nodes`. Raises an ImportError if scipy or numpy is not installed."""
