@@ -33,7 +33,6 @@ ON_TERMINAL = "program/test_terminal.py::test_session"
 ASKED = "program/test_progress.py::test_asked_session"
 SINK, COMMANDS = "WatchedSink::new(out, &progress)", "WatchedCommands::new(StdSource::new(rt.stdin()), &progress)"
 HOLD = "hold_session(\n            rt,\n            problem.as_str(),\n            SolveReply { cut, brief },\n            progress,\n            history,\n        )"
-SILENT = "let silent = Progress::new(rt, false);\n    "
 # Each wiring of `main` and of what it calls beside the runs: what is called for which words, and what goes where.
 WIRINGS = [
     *in_file(
@@ -55,13 +54,11 @@ WIRINGS = [
         ("a session does not report", "            progress,\n            history,", "            cut,\n            history,", ASKED),
         ("the bound is the largest", "            history,\n        ),", "            MAX_HISTORY,\n        ),", KEPT),
         ("progress is not as asked", "Progress::new(rt, want_progress)", "Progress::new(rt, wanted.brief)", ASKED),
-        ("names are of another file", "Dialogue::new(rt, path)", 'Dialogue::new(rt, "")', ON_TERMINAL),
+        ("names are of another file", "Dialogue::new(rt, path, ", 'Dialogue::new(rt, "", ', ON_TERMINAL),
         ("no size is known", "::of_file(StdSource::new(file), path, &progress)", "::of_input(StdSource::new(file), &progress)", "program/test_progress.py::test_size"),
-        ("replies are not heard", f"HeardSink::new({SINK}, &dialogue)", SINK, ON_TERMINAL),
-        ("a reply stands behind progress", f"HeardSink::new({SINK}, &dialogue)", "HeardSink::new(out, &dialogue)", "program/test_progress.py::test_asked_on_terminal"),
-        ("lines are not kept", f"let commands = {COMMANDS};\n    let mut commands = KeptCommands::new(commands, &dialogue)", f"let mut commands = {COMMANDS}", ON_TERMINAL),
+        ("a reply stands behind progress", SINK, "out", "program/test_progress.py::test_asked_on_terminal"),
         ("progress stays while it waits", COMMANDS, "StdSource::new(rt.stdin())", "program/test_progress.py::test_asked_while_waiting"),
-        ("a solve has no watch", "let mut watch = WatchedSolve::new(&progress)", f"{SILENT}let mut watch = WatchedSolve::new(&silent)", ASKED),
+        ("a solve has no watch", "WatchedSolve::new(&progress)", "WatchedSolve::new(&Progress::new(rt, false))", ASKED),
         ("the problem and the commands change places", "        &mut problem,\n        &mut commands,", "        &mut commands,\n        &mut problem,", HELD),
         ("replies are as another wants them", "        wanted,\n        bound,", "        SolveReply { cut: wanted.cut, brief: false },\n        bound,", BRIEF),
         ("another bound", "        wanted,\n        bound,", "        wanted,\n        bound / 2,", KEPT),
@@ -95,6 +92,11 @@ MUTANTS = [
     *in_file(
         "dmf_host/src/told.rt",
         ("wrong words have another status", "Fault::Words) => 2", "Fault::Words) => 3", "program/test_program.py::test_refused_words[an unknown word]"),
+    ),
+    *in_file(
+        "dmf_terminal/src/dialogue.rt",
+        ("a refusal is not explained", "self.explain(refusal, line);", "", ON_TERMINAL),
+        ("an added arc is not heard of", "self.has_added = true;", "", ON_TERMINAL),
     ),
     *in_file(
         "dmf_progress/src/progress.rt",

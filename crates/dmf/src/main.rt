@@ -10,7 +10,7 @@ use dmf_host::{
 use dmf_progress::{Progress, WatchedCommands, WatchedSink, WatchedSolve, WatchedSource};
 use dmf_runs::{SolveReply, Status, run_session_watched};
 use dmf_session::MAX_BOUND;
-use dmf_terminal::{Dialogue, HeardSink, KeptCommands};
+use dmf_terminal::Dialogue;
 use dmf_text::StdSource;
 use std::process::ExitCode;
 
@@ -70,12 +70,10 @@ fn hold_session(
     let file = open_problem(rt, path)?;
     let out = output(rt)?;
     let progress = Progress::new(rt, want_progress);
-    let dialogue = Dialogue::new(rt, path);
     let mut problem = WatchedSource::of_file(StdSource::new(file), path, &progress);
-    let mut out = HeardSink::new(WatchedSink::new(out, &progress), &dialogue);
-    let commands = WatchedCommands::new(StdSource::new(rt.stdin()), &progress);
-    let mut commands = KeptCommands::new(commands, &dialogue);
-    let mut watch = WatchedSolve::new(&progress);
+    let mut out = WatchedSink::new(out, &progress);
+    let mut commands = WatchedCommands::new(StdSource::new(rt.stdin()), &progress);
+    let mut watch = Dialogue::new(rt, path, WatchedSolve::new(&progress));
     let outcome = run_session_watched(
         rt.alloc(),
         &mut problem,

@@ -12,7 +12,6 @@ mod part;
 mod place;
 mod problem;
 mod solution;
-mod typed;
 mod usage;
 
 pub use advice::way_on;
@@ -26,4 +25,3 @@ pub use names::{Ends, Named, Thing, behind, find_ends, find_named, without_last_
 pub use page::help_without_page;
 pub use part::{Part, Parts, Said, about, about_with, no_number, numbered, words};
 pub use problem::found;
-pub use typed::TypedLines;

@@ -3,7 +3,7 @@
 
 pub use dmf_arguments::{Arguments, MAX_HISTORY, Mode, WordsFault, read_arguments, read_words};
 pub use dmf_runs::{
-    EngineFault, MAX_BYTES, MAX_LINE, MAX_LINES, SolveReply, Status, read_command, refusal_text,
-    run_check, run_commands, run_commands_watched, run_session, run_session_bounded,
+    EngineFault, MAX_BYTES, MAX_LINE, MAX_LINES, SessionWatch, SolveReply, Status, read_command,
+    refusal_text, run_check, run_commands, run_commands_watched, run_session, run_session_bounded,
     run_session_watched, run_solve, run_solve_watched, status_of,
 };

@@ -1,5 +1,5 @@
 //! What command lines mean, and the words of commands.
-ghost use Rattle.std.specs.Prelude.{◌≡◌, ◌≢◌, ◌≤◌, [], ◌∷◌, length, codes, false, MatchResult};
+ghost use Rattle.std.specs.Prelude.{◌≡◌, ◌≢◌, ◌≤◌, [], ◌∷◌, length, codes, cond, false, MatchResult};
 ghost use Rattle.std.specs.Str.{bytes_eq};
 ghost use Rattle.std.specs.Str.Lines.{strip_carriage_return};
 ghost use Rattle.dmf_session.specs.declared.command.Refusal.TheVariants.{FieldCount};
@@ -16,6 +16,17 @@ use dmf_text::{Fields, NumberFault, number};
 /// What a command line means: nothing, a command, or why it is refused.
 pub type Meaning = Result<Option<Command>, Refusal>;
 
+/// A command line.
+#[derive(Clone, Copy)]
+pub struct CommandLine<'a> {
+    /// Its number, from 1.
+    pub number: u32,
+    /// Its bytes without its end, as far as they are kept.
+    pub text: &'a [u8],
+    /// What it means.
+    pub meaning: Meaning,
+}
+
 /// What a line means. `ended` says whether a line feed ended it, or the end of the input.
 pub fn meaning_of(line: &KeptLine, ended: bool) -> Meaning
     ensures { Means line.now ended result }
@@ -23,12 +34,19 @@ pub fn meaning_of(line: &KeptLine, ended: bool) -> Meaning
     if line.is_long() {
         return Err(Refusal::LineTooLong);
     }
+    read_command(text_of(line, ended))
+}
+
+/// The bytes of a line without its end.
+pub fn text_of(line: &KeptLine, ended: bool) -> &[u8]
+    ensures { result.now ≡ cond ended (strip_carriage_return line.now.bytes) line.now.bytes }
+{
     let text = line.bytes();
-    read_command(if ended {
+    if ended {
         without_carriage_return(text)
     } else {
         text
-    })
+    }
 }
 
 /// The line without the one carriage return at its end, if it has one.

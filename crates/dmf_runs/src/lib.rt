@@ -14,9 +14,11 @@ pub use session::{
     MAX_LINES, run_commands, run_commands_watched, run_session, run_session_bounded,
     run_session_watched,
 };
+pub use watch::SessionWatch;
 
 mod command_text;
 mod laws;
 mod refusal;
 mod reply;
 mod session;
+mod watch;

@@ -5,8 +5,9 @@ ghost use Rattle.dmf_session.specs.Step.{IsReplyTo};
 ghost use Rattle.dmf_runs.specs.Run as run;
 ghost use Rattle.dmf_runs.specs.WrittenLine.{is_refusal};
 
-use crate::command_text::word_of;
+use crate::command_text::{CommandLine, word_of};
 use crate::refusal::refusal_text;
+use crate::watch::SessionWatch;
 use dmf_session::{Command, Refusal, Reply};
 use dmf_solving::{write_side, write_solved};
 use dmf_state::{Side, State};
@@ -44,12 +45,18 @@ impl Answer {
     }
 }
 
-/// Writes that the session refused a line, and flushes.
-pub fn refuse<W: Sink>(number: u32, refusal: &Refusal, out: &mut W) -> Result<Answer, WriteFault>
-    ensures text { Writes (W.written out.old) (W.written out.new) result (run.refused_text number refusal.now) }
+/// Writes that the session refused a line, flushes, and reports it to the watch.
+pub fn refuse<W: Sink, V: SessionWatch>(
+    line: CommandLine<'_>,
+    refusal: Refusal,
+    out: &mut W,
+    watch: &mut V,
+) -> Result<Answer, WriteFault>
+    ensures text { Writes (W.written out.old) (W.written out.new) result (run.refused_text line.entry.number refusal) }
     ensures refused { IfOk result (λ answer. is_refusal answer ≡ true) }
 {
-    put_line(&refused_line(number, refusal), out)?;
+    put_line(&refused_line(line.number, refusal), out)?;
+    watch.refused(line.text, refusal);
     Ok(Answer::Refused)
 }
 
@@ -99,14 +106,14 @@ fn write_brief<W: Sink>(state: &State, side: &Option<Side>, out: &mut W) -> Resu
     write_side(side, out)
 }
 
-fn refused_line(number: u32, refusal: &Refusal) -> LineBuffer
-    ensures { result ≡ run.refused_text number refusal.now }
+fn refused_line(number: u32, refusal: Refusal) -> LineBuffer
+    ensures { result ≡ run.refused_text number refusal }
 {
     line_of(&[
         Text(b"c"),
         Text(b"refused"),
         Number(u64::from(number)),
-        Text(refusal_text(refusal)),
+        Text(refusal_text(&refusal)),
     ])
 }
 

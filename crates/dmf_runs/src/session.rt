@@ -5,8 +5,9 @@ ghost use Rattle.dmf_runs.specs.Outcome.{RunsCommands, RunsCommandsWith, solutio
 ghost use Rattle.dmf_runs.specs.Session.{RunsSession, RunsSessionWith};
 ghost use Rattle.dmf_runs.specs.WrittenLine.{WritesLine};
 
-use crate::command_text::{Meaning, meaning_of};
+use crate::command_text::{CommandLine, meaning_of, text_of};
 use crate::reply::{Answer, SolveReply, refuse, write_reply};
+use crate::watch::SessionWatch;
 use dmf_history::{DeltaHistory, History, MAX_BOUND};
 use dmf_session::{Command, Session};
 use dmf_solver::{Unwatched, Watch};
@@ -48,8 +49,8 @@ pub fn run_commands<H: History + Drop, C: Source, W: Sink>(
 }
 
 /// As [`run_commands`], with the wanted replies to solves. Also reports to the watch each state that it solves, each augmenting path,
-/// and what each path of a drain takes off.
-pub fn run_commands_watched<H: History + Drop, C: Source, W: Sink, V: Watch>(
+/// what each path of a drain takes off, and each answer.
+pub fn run_commands_watched<H: History + Drop, C: Source, W: Sink, V: SessionWatch>(
     alloc: Global,
     session: Session<H>,
     commands: &mut C,
@@ -73,16 +74,9 @@ struct SessionRun {
     wanted: SolveReply,
 }
 
-/// A command line: its number, from 1, and what it means.
-#[derive(Clone, Copy)]
-struct CommandLine {
-    number: u32,
-    meaning: Meaning,
-}
-
 impl SessionRun {
     /// Carries out the command lines on the caller's session.
-    fn run_lines<H: History, C: Source, W: Sink, V: Watch>(
+    fn run_lines<H: History, C: Source, W: Sink, V: SessionWatch>(
         self,
         session: &mut Session<H>,
         commands: &mut C,
@@ -102,7 +96,12 @@ impl SessionRun {
                 return Ok(status(is_refused));
             };
             let meaning = meaning_of(&kept, ended);
-            let answer = self.answer(session, CommandLine { number, meaning }, out, watch)?;
+            let line = CommandLine {
+                number,
+                text: text_of(&kept, ended),
+                meaning,
+            };
+            let answer = self.answer(session, line, out, watch)?;
             is_refused |= answer.is_refusal();
             if !ended {
                 return Ok(status(is_refused));
@@ -113,30 +112,31 @@ impl SessionRun {
     }
 
     /// Carries out a line, writes its reply and flushes. For a line without a reply it does not call the writer.
-    fn answer<H: History, W: Sink, V: Watch>(
+    fn answer<H: History, W: Sink, V: SessionWatch>(
         self,
         session: &mut Session<H>,
-        line: CommandLine,
+        line: CommandLine<'_>,
         out: &mut W,
         watch: &mut V,
     ) -> Result<Answer, WriteFault>
-        ensures line { WritesLine self.wanted (W.written out.old) (W.written out.new) line.number
-            (H.timeline session.old) line.meaning (H.timeline session.new) result }
-        ensures silent { line.meaning ≡ Ok None → (out.new ≡ out.old) × IsOk result }
+        ensures line { WritesLine self.wanted (W.written out.old) (W.written out.new) line.entry.number
+            (H.timeline session.old) line.entry.meaning (H.timeline session.new) result }
+        ensures silent { line.entry.meaning ≡ Ok None → (out.new ≡ out.old) × IsOk result }
     {
         let command = match line.meaning {
             Ok(None) => return Ok(Answer::Accepted),
             Ok(Some(command)) => command,
-            Err(refusal) => return refuse(line.number, &refusal, out),
+            Err(refusal) => return refuse(line, refusal, out, watch),
         };
         tell_solve(session, command, watch);
         match session.step_watched(self.alloc, command, self.wanted.cut, watch) {
             Ok(reply) => {
                 write_reply(command, &reply, session.present(), self.wanted.brief, out)?;
                 flush(out)?;
+                watch.carried_out(&reply);
                 Ok(Answer::Accepted)
             }
-            Err(refusal) => refuse(line.number, &refusal, out),
+            Err(refusal) => refuse(line, refusal, out, watch),
         }
     }
 }
@@ -185,8 +185,8 @@ pub fn run_session_bounded<P: Source, C: Source, W: Sink>(
 }
 
 /// As [`run_session_bounded`], with the wanted replies to solves. Also reports to the watch each state that it solves, each augmenting
-/// path, and what each path of a drain takes off.
-pub fn run_session_watched<P: Source, C: Source, W: Sink, V: Watch>(
+/// path, what each path of a drain takes off, and each answer.
+pub fn run_session_watched<P: Source, C: Source, W: Sink, V: SessionWatch>(
     alloc: Global,
     problem: &mut P,
     commands: &mut C,

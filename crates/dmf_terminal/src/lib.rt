@@ -1,7 +1,7 @@
-//! A session at a terminal: what was typed, and an explanation after each refusal.
+//! A session at a terminal: an explanation after each refusal.
 #![tactic(auto)]
 
 mod dialogue;
 mod refusal;
 
-pub use dialogue::{Dialogue, HeardSink, KeptCommands};
+pub use dialogue::Dialogue;

@@ -5,62 +5,14 @@ use dmf_explain::{
     words,
 };
 use dmf_session::Refusal;
-use dmf_text::{NumberFault, number};
+use dmf_text::NumberFault;
 
-/// A refusal, as the reply to a command line names it.
-#[derive(Clone, Copy)]
-pub struct Refused {
-    pub line: u64,
-    pub reason: Refusal,
-}
-
-impl Refused {
-    /// The refusal that a reply states.
-    pub fn of_reply(reply: &[u8]) -> Option<Refused> {
-        if !reply.starts_with(b"c refused ") {
-            return None;
-        }
-        Some(Refused {
-            line: number(field_at(reply, 3)?).ok()?,
-            reason: refusal_told(behind(reply, 3))?,
-        })
-    }
-
-    /// Whether the problem's text helps to explain it.
-    pub fn is_about_problem(self) -> bool {
-        matches!(
-            self.reason,
-            Refusal::NoSuchArc | Refusal::NoSuchNode | Refusal::NotANumber | Refusal::FieldCount
-        )
-    }
-}
-
-/// Every refusal.
-const REFUSALS: &[Refusal] = &[
-    Refusal::UnknownCommand,
-    Refusal::FieldCount,
-    Refusal::NotANumber,
-    Refusal::TooLarge,
-    Refusal::NoSuchArc,
-    Refusal::Closed,
-    Refusal::NoSuchNode,
-    Refusal::TooManyArcs,
-    Refusal::SumTooLarge,
-    Refusal::NothingToUndo,
-    Refusal::NothingToRedo,
-    Refusal::NotGreatest,
-    Refusal::NoMemory,
-    Refusal::LineTooLong,
-];
-
-/// The refusal with this text.
-fn refusal_told(text: &[u8]) -> Option<Refusal> {
-    for refusal in REFUSALS {
-        if refusal.text().as_bytes() == text {
-            return Some(*refusal);
-        }
-    }
-    None
+/// Whether the problem's text helps to explain this refusal.
+pub fn is_about_problem(refusal: Refusal) -> bool {
+    matches!(
+        refusal,
+        Refusal::NoSuchArc | Refusal::NoSuchNode | Refusal::NotANumber | Refusal::FieldCount
+    )
 }
 
 /// A command, by its first field.
