@@ -59,7 +59,7 @@ LEFT_OUT = {
     *(f"{history}::{field} (count)" for history in ("History", "Session") for field in ("past", "bound")),
     *(f"{stream}::new ({part})" for stream in ("StdSource", "StdSink") for part in ("bytes", "mark")),
     *("Source::read (mark)", "Sink::put (mark)", "Sink::flush (mark)"),
-    *("Side::new", "Side::capacity", "Arc::with_cap", "Arc::closed", "LineBuffer::as_bytes"),
+    *("Side::new", "Side::capacity", "Arc::with_cap", "Arc::closed", "LineBuffer::as_bytes", "Direction::step", "Direction::cap"),
 }
 # A clause which tells that the value that a call reads is one of its type.
 INVARIANT = re.compile(r"ensures (\w+) \{ (?:IsState self\.now|IsTimeline \((?:H\.)?timeline self\.now\)) \}")

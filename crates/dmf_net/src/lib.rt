@@ -3,10 +3,9 @@
 
 pub use dmf_solver::{
     CutFault, PlanFault, ResidualNetwork, Turn, Unwatched, Watch, is_greatest, plan_add, plan_cap,
-    plan_close, plan_shut, plan_solve, plan_solve_watched, plan_solve_with_side, side_after,
-    smallest_side,
+    plan_close, plan_shut, plan_solve, plan_solve_watched, side_after, smallest_side,
 };
 pub use dmf_state::{
-    Arc, Edit, FlowFault, MAX_ARCS, MAX_NODES, Move, NetFault, NoMemory, Shutting, Side, SideIds,
-    State,
+    Arc, Direction, Edit, FlowFault, MAX_ARCS, MAX_NODES, Move, NetFault, NoMemory, Shutting, Side,
+    SideIds, State,
 };

@@ -5,18 +5,24 @@ ghost use Rattle.dmf_state.specs.Edit.{applied, Fits};
 
 use dmf_history::History;
 use dmf_solver::ResidualNetwork;
-use dmf_state::{Edit, State};
+use dmf_state::{Direction, Edit, State};
 use std::alloc::Global;
 
 /// The kept network, one state back. `None` if the history does not tell the edit, or if the network cannot follow it.
 pub(crate) fn kept_before<H: History>(
+    alloc: Global,
     kept: Option<ResidualNetwork>,
     history: &H,
 ) -> Option<ResidualNetwork>
     requires { KeepsPresent (H.timeline history.now) kept }
     ensures { KeepsPresent (back (H.timeline history.now) 1) result }
 {
-    kept?.follow_back_any(history.present(), history.last_edit()?)
+    kept?.follow(
+        alloc,
+        history.present(),
+        history.last_edit()?,
+        Direction::Back,
+    )
 }
 
 /// The kept network, one state forward. `None` if the history does not give the edit, or if the network cannot follow it.
@@ -28,7 +34,12 @@ pub(crate) fn kept_after<H: History>(
     requires { KeepsPresent (H.timeline history.now) kept }
     ensures { KeepsPresent (forward (H.timeline history.now) 1) result }
 {
-    kept?.follow_any(alloc, history.present(), history.next_edit()?)
+    kept?.follow(
+        alloc,
+        history.present(),
+        history.next_edit()?,
+        Direction::Forward,
+    )
 }
 
 /// The kept network after the edit.
@@ -42,5 +53,5 @@ pub(crate) fn kept_with(
     requires fits { Fits edit.now present.now }
     ensures { Keeps (applied edit.now present.now) result }
 {
-    kept?.follow_any(alloc, present, edit)
+    kept?.follow(alloc, present, edit, Direction::Forward)
 }

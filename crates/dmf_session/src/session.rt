@@ -24,8 +24,8 @@ use std::marker::Model;
 ///
 /// From the first solve or drain on, the session also keeps the residual network of the present state, so that the next solve or drain
 /// need not make it anew. The network follows each change, and each step back or forward if the history gives the edit. The first of
-/// these after a solve takes time for each node that has a label; an added arc takes memory and time for each link. The session drops
-/// the network if an added arc is undone, or if memory is refused.
+/// these after a solve takes time for each node that has a label; an added arc takes memory and time for each link, and so takes time
+/// the undo of one. The session drops the network if memory is refused, or if an arc is added that begins and ends at one node.
 #[derive(Drop)]
 pub struct Session<H: History> {
     history: H,
@@ -138,7 +138,7 @@ impl<H: History> Session<H> {
             Command::Close { arc } => self.close(alloc, arc, watch),
             Command::Shut { node } => self.shut(alloc, node, watch),
             Command::Solve => self.solve(alloc, want_cut, watch),
-            Command::Undo(steps) => self.undo(steps),
+            Command::Undo(steps) => self.undo(alloc, steps),
             Command::Redo(steps) => self.redo(alloc, steps),
             Command::PrintProblem => Ok(Reply::Problem),
             Command::PrintFlow => Ok(Reply::Flow),
@@ -216,13 +216,13 @@ impl<H: History> Session<H> {
         Ok(Reply::Cut(side))
     }
 
-    fn undo(&mut self, steps: u64) -> Result<Reply, Refusal>
+    fn undo(&mut self, alloc: Global, steps: u64) -> Result<Reply, Refusal>
         ensures { (want_cut : Bool) → Answers want_cut (H.timeline self.old) (Undo steps) result (H.timeline self.new) }
     {
         if steps > u64::from(self.past()) {
             return Err(Refusal::NothingToUndo);
         }
-        self.go_back(steps as u32);
+        self.go_back(alloc, steps as u32);
         Ok(Reply::Value(self.present().value()))
     }
 
@@ -234,7 +234,7 @@ impl<H: History> Session<H> {
         }
         for taken in 0..steps as u32 {
             if let Err(_) = self.go_on(alloc) {
-                self.go_back(taken);
+                self.go_back(alloc, taken);
                 return Err(Refusal::NoMemory);
             }
         }
@@ -299,12 +299,12 @@ impl<H: History> Session<H> {
     }
 
     /// Steps so many states back. A kept network follows where it can.
-    fn go_back(&mut self, steps: u32)
+    fn go_back(&mut self, alloc: Global, steps: u32)
         requires { steps ≤ (H.timeline self.old).place }
         ensures { H.timeline self.new ≡ back (H.timeline self.old) steps }
     {
         for _ in 0..steps {
-            let kept = kept_before(self.kept.take(), &self.history);
+            let kept = kept_before(alloc, self.kept.take(), &self.history);
             let _ = self.history.undo();
             self.kept = kept;
         }

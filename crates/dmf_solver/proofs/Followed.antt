@@ -281,11 +281,3 @@ flows-along Back (Cap j old new moves) s none = refl
 flows-along Back (Close j old moves) s none = refl
 flows-along Back (Shut arcs moves) s none = refl
 flows-along Back (Solve moves) s none = refl
-
--- Only an edit that adds an arc changes their number.
-pub none-added : (edit : Edit) → ((tail head cap : ℕ) → edit ≡ Add tail head cap → ⊥) → AddsArc edit → ⊥
-none-added (Cap j old new moves) none adds = adds
-none-added (Close j old moves) none adds = adds
-none-added (Add tail head cap) none adds = none tail head cap refl
-none-added (Shut arcs moves) none adds = adds
-none-added (Solve moves) none adds = adds

@@ -8,7 +8,7 @@ pub use laws::{
 };
 pub use plan::{
     NewCap, plan_add, plan_cap, plan_cap_watched, plan_close, plan_close_watched, plan_shut,
-    plan_shut_watched, plan_solve, plan_solve_watched, plan_solve_with_side,
+    plan_shut_watched, plan_solve, plan_solve_watched,
 };
 pub use residual_network::ResidualNetwork;
 pub use side::{side_after, smallest_side};

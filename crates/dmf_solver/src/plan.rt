@@ -1,14 +1,13 @@
-ghost use Rattle.std.specs.Prelude.{◌≡◌, ◌≢◌, ◌+◌, ◌-◌, ◌≤◌, [], Err, IfOk, IfErr, IfSome, IsOkUnless, MatchResult, OnErr, pos};
+ghost use Rattle.std.specs.Prelude.{◌≡◌, ◌≢◌, ◌-◌, ◌≤◌, [], Err, IfOk, IfErr, IfSome, IsOkUnless, MatchResult, OnErr, pos};
 ghost use Rattle.std.specs.Result.{result_err};
 ghost use Rattle.dmf_solver.specs.Change.{Cap, Close, Add, Shut, arc_refusal, change_fault};
 ghost use Rattle.dmf_state.specs.Arc.{open_arcs_at};
-ghost use Rattle.dmf_state.specs.Edit.{applied, moved, moves_of, shut_arcs, Fits, IsOpenWith};
+ghost use Rattle.dmf_state.specs.Edit.{applied, moved, moves_of, shut_arcs, AddsArc, Fits, IsOpenWith};
 ghost use Rattle.dmf_state.specs.Flow.{flow_on, flow_on_all, flow_value};
 ghost use Rattle.dmf_state.specs.NetworkState.{with_flows};
 ghost use Rattle.dmf_solver.specs.CarryingNetwork.{MayCarry};
 ghost use Rattle.dmf_solver.specs.KeptNetwork.{Keeps};
 ghost use Rattle.dmf_solver.specs.Planning.{EditTakesOff, IsRefusedFor, IsSideWanted, Plans, PlansSolve};
-ghost use Rattle.dmf_state.specs.Side.{IsSmallestSide};
 ghost use Rattle.dmf_solver.specs.Told.{AreTold, TellsSolve, MayTellSolve};
 ghost use Rattle.dmf_solver.specs.Turns.{TellsPlan};
 
@@ -22,7 +21,7 @@ use crate::side::wanted_side;
 use crate::solve::solve;
 use crate::watch::{Turn, Unwatched, Watch};
 use dmf_path::{Search, Touched};
-use dmf_state::{Edit, Side, State};
+use dmf_state::{Direction, Edit, Side, State};
 use std::alloc::Global;
 
 /// A new capacity for an arc.
@@ -181,7 +180,7 @@ pub fn plan_shut_watched<W: Watch>(
     Ok(edit)
 }
 
-/// Makes the kept network the network of the state after an edit. The carrying search is the one of the flow after the edit's moves.
+/// Makes the kept network the network of the state after an edit that adds no arc. The carrying search is the one of the flow after the edit's moves.
 fn follow_drained(
     state: &State,
     edit: &Edit,
@@ -189,17 +188,15 @@ fn follow_drained(
     kept: &mut Option<ResidualNetwork>,
 )
     requires fits { Fits edit.now state.now }
+    requires adds_none { ¬ AddsArc edit.now }
     requires carrying { IfSome carrying (MayCarry (with_flows state.now (moved (moves_of edit.now) state.now.flows))) }
     requires kept { Keeps state.now kept.old }
     ensures { Keeps (applied edit.now state.now) kept.new }
 {
-    let Some(network) = kept.take() else {
-        return;
-    };
-    let Some(network) = network.follow(state, edit) else {
-        return;
-    };
-    *kept = Some(network.with_carrying(carrying));
+    if let Some(network) = kept.take() {
+        let network = network.follow_along(state, edit, Direction::Forward);
+        *kept = Some(network.with_carrying(carrying));
+    }
 }
 
 /// Plans a new last arc from `tail` to `head` with capacity `cap`. The state does not change.
@@ -230,19 +227,6 @@ pub fn plan_solve(alloc: Global, state: &State) -> Result<Edit, PlanFault>
 {
     let (edit, _) = plan_solve_watched(alloc, state, false, &mut Unwatched)?;
     Ok(edit)
-}
-
-/// Plans the same maximum flow, and finds the smallest side of the network, which a solve does not change. One search finds both.
-///
-/// Takes memory for the side too. If that is refused, fails with [`PlanFault::NoMemory`].
-pub fn plan_solve_with_side(alloc: Global, state: &State) -> Result<(Edit, Side), PlanFault>
-    ensures refused { IsOkUnless result PlanFault.NoMemory }
-    ensures edit { IfOk result (λ planned. PlansSolve state.now planned.0) }
-    ensures side { IfOk result (λ planned. IsSmallestSide state.now.network planned.1) }
-    ensures value { IfOk result (λ planned. pos planned.1.capacity ≡ flow_value state.now.network (applied planned.0 state.now).flows) }
-{
-    let (edit, side) = plan_solve_watched(alloc, state, true, &mut Unwatched)?;
-    Ok((edit, side.unwrap()))
 }
 
 /// Plans the same maximum flow, with the smallest side if `want_side` asks for it, and reports each path to the watch on the way.

@@ -1,6 +1,6 @@
-ghost use Rattle.std.specs.Prelude.{◌≡◌, ◌↔◌, [], None, pos, IfOk, IfSome, IsOkUnless, MatchResult};
+ghost use Rattle.std.specs.Prelude.{◌≡◌, [], None, pos, IfOk, IfSome, IsOkUnless, MatchResult};
 ghost use Rattle.dmf_state.specs.Direction.{edited_along, FitsAlong, HasIdleLast};
-ghost use Rattle.dmf_state.specs.Edit.{applied, differences, AddsArc, Fits};
+ghost use Rattle.dmf_state.specs.Edit.{applied, differences, AddsArc};
 ghost use Rattle.dmf_state.specs.Flow.{flow_value};
 ghost use Rattle.dmf_state.specs.NetworkState.{IsState, NetworkState, with_idle_arc};
 ghost use Rattle.dmf_solver.specs.Pairs.{reached_flows, IsSolved};
@@ -8,7 +8,7 @@ ghost use Rattle.dmf_solver.specs.Planning.{PlansSolve, IsSideWanted};
 ghost use Rattle.dmf_solver.specs.CarryingNetwork.{IsCarryingOf, MayCarry};
 ghost use Rattle.dmf_solver.specs.KeptNetwork.{IsNetworkOf, Keeps};
 ghost use Rattle.dmf_solver.specs.ResidualNetwork.{IsResidualOf};
-ghost use Rattle.dmf_state.specs.Revert.{reverted, without_last, Stands};
+ghost use Rattle.dmf_state.specs.Revert.{without_last};
 ghost use Rattle.dmf_solver.specs.SmallestSide.{TellsSide};
 ghost use Rattle.dmf_solver.specs.Told.{AreTold, TellsSolve, MayTellSolve};
 
@@ -121,57 +121,30 @@ impl ResidualNetwork {
         side_along(alloc, &self.search, state)
     }
 
-    /// The residual network of the state after an edit, which fits this one. `None` if the edit adds an arc: then the caller has to
-    /// make the links anew. Takes no memory, and time for the arcs that the edit names; the first call after a solve also takes time
-    /// for each node that has a label.
-    pub fn follow(self, state: &State, edit: &Edit) -> Option<ResidualNetwork>
+    /// The residual network of the state to which an edit leads: forward the state after the edit, which fits this one, and back the
+    /// state before the edit, which stands in this one.
+    ///
+    /// Takes no memory, and time for the arcs that the edit names; the first call after a solve also takes time for each node that has a
+    /// label. An edit that adds an arc takes time for each link. Forward it takes memory for the two links of the arc too, where there is
+    /// no room for them. `None` only for such an edit: if memory is refused, or if the arc begins and ends at one node.
+    pub fn follow(
+        self,
+        alloc: Global,
+        state: &State,
+        edit: &Edit,
+        direction: Direction,
+    ) -> Option<ResidualNetwork>
         requires network { IsNetworkOf state.now self }
-        requires fits { Fits edit.now state.now }
-        ensures kept { IfSome result (λ kept. IsNetworkOf (applied edit.now state.now) kept) }
-        ensures dropped { (result ≡ None) ↔ AddsArc edit.now }
-    {
-        self.follow_along(state, edit, Direction::Forward)
-    }
-
-    /// The residual network of the state before an edit that stands in this one. `None` if the edit added an arc: then the caller has
-    /// to make the links anew. Takes as much memory and time as [`follow`](ResidualNetwork::follow).
-    pub fn follow_back(self, state: &State, edit: &Edit) -> Option<ResidualNetwork>
-        requires network { IsNetworkOf state.now self }
-        requires stands { Stands edit.now state.now }
-        ensures kept { IfSome result (λ kept. IsNetworkOf (reverted edit.now state.now) kept) }
-        ensures dropped { (result ≡ None) ↔ AddsArc edit.now }
-    {
-        self.follow_along(state, edit, Direction::Back)
-    }
-
-    /// The residual network of the state after an edit, which fits this one, also if the edit adds an arc: then the links of the arc go
-    /// in among the others. That takes memory for two links more where there is no room for them, and time for each link. `None` if memory
-    /// is refused, or if the new arc is a self loop.
-    pub fn follow_any(self, alloc: Global, state: &State, edit: &Edit) -> Option<ResidualNetwork>
-        requires network { IsNetworkOf state.now self }
-        requires fits { Fits edit.now state.now }
-        ensures { IfSome result (IsNetworkOf (applied edit.now state.now)) }
+        requires fits { FitsAlong direction edit.now state.now }
+        ensures kept { IfSome result (IsNetworkOf (edited_along direction edit.now state.now)) }
+        ensures dropped { result ≡ None → AddsArc edit.now }
     {
         match *edit {
-            Edit::Add { tail, head, cap } => {
-                let arc = Arc::open(tail, head, cap);
-                self.with_arc(alloc, state, arc)
-            }
-            _ => self.follow(state, edit),
-        }
-    }
-
-    /// The residual network of the state before an edit that stands in this one, also where it added an arc: then the links of the arc
-    /// are taken out from among the others, which takes time for each link. Takes no memory. There is no network where the arc begins and
-    /// ends at one node.
-    pub fn follow_back_any(self, state: &State, edit: &Edit) -> Option<ResidualNetwork>
-        requires network { IsNetworkOf state.now self }
-        requires stands { Stands edit.now state.now }
-        ensures { IfSome result (IsNetworkOf (reverted edit.now state.now)) }
-    {
-        match *edit {
-            Edit::Add { .. } => self.without_last_arc(state),
-            _ => self.follow_back(state, edit),
+            Edit::Add { tail, head, cap } => match direction {
+                Direction::Forward => self.with_arc(alloc, state, Arc::open(tail, head, cap)),
+                Direction::Back => self.without_last_arc(state),
+            },
+            _ => Some(self.follow_along(state, edit, direction)),
         }
     }
 
@@ -220,21 +193,18 @@ impl ResidualNetwork {
         })
     }
 
-    /// The residual network of the state to which the direction leads, or none where the edit adds an arc.
-    fn follow_along(
+    /// The same along an edit that adds no arc.
+    pub(crate) fn follow_along(
         self,
         state: &State,
         edit: &Edit,
         direction: Direction,
-    ) -> Option<ResidualNetwork>
+    ) -> ResidualNetwork
         requires network { IsNetworkOf state.now self }
         requires fits { FitsAlong direction edit.now state.now }
-        ensures kept { IfSome result (λ kept. IsNetworkOf (edited_along direction edit.now state.now) kept) }
-        ensures dropped { (result ≡ None) ↔ AddsArc edit.now }
+        requires adds_none { ¬ AddsArc edit.now }
+        ensures { IsNetworkOf (edited_along direction edit.now state.now) result }
     {
-        if let Edit::Add { .. } = *edit {
-            return None;
-        }
         let ResidualNetwork {
             mut search,
             carrying,
@@ -244,11 +214,11 @@ impl ResidualNetwork {
         put_flows(&mut search, state, moves, direction);
         put_capacities(&mut search, state, edit, direction);
         let carrying = carry_flows(carrying, state, moves, direction);
-        Some(ResidualNetwork {
+        ResidualNetwork {
             search,
             carrying,
             looks,
-        })
+        }
     }
 
     /// Takes the carrying search of the state's flow out of the network, which has none afterwards. If it had none, makes the search

@@ -1,5 +1,5 @@
 -- Edits that are applied or reverted, and a last arc that can be dropped.
--- Private: used by proofs, by contracts inside the crate, and by contracts of items that only the crates above it use.
+-- Public: a public contract says no more than this.
 use Rattle.std.specs.Prelude.{ℕ, ◌≡◌, List, map, false}
 use Rattle.dmf_state.specs.declared.arc.Arc.{Arc}
 use Rattle.dmf_state.specs.declared.edit.Edit.{Edit}

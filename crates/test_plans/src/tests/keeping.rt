@@ -4,7 +4,7 @@ ghost use Rattle.dmf_solver.specs.KeptNetwork.{IsNetworkOf};
 
 use crate::tests::networks::example;
 use dmf_solver::{ResidualNetwork, plan_add};
-use dmf_state::State;
+use dmf_state::{Direction, State};
 use std::alloc::Global;
 use std::test::Fail;
 
@@ -21,10 +21,13 @@ fn follows_an_arc(
     // The contract of each reader says that this is a state.
     let _nodes = state.nodes();
     let edit = plan_add(state, tail, head, 7)?;
-    let followed = kept.follow_any(alloc, state, &edit);
+    let followed = kept.follow(alloc, state, &edit, Direction::Forward);
     state.apply(&edit)?;
     match followed {
-        Some(followed) => Ok((true, followed.follow_back_any(state, &edit).is_some())),
+        Some(followed) => {
+            let back = followed.follow(alloc, state, &edit, Direction::Back);
+            Ok((true, back.is_some()))
+        }
         None => Ok((false, false)),
     }
 }

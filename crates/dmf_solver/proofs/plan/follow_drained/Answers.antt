@@ -1,11 +1,11 @@
 use Rattle.dmf_state.specs.declared.moves.Direction.TheVariants.{Forward}
-use Rattle.dmf_state.specs.Edit.{applied, AddsArc}
+use Rattle.dmf_state.specs.Edit.{applied}
 use Rattle.dmf_solver.proofs.CarryingFollowed.{some_carry-along}
 use Rattle.dmf_solver.proofs.plan.follow_drained.Goals as goal
 
-pub returns : goal.returns
-returns c =
+pub returns-in-Some : goal.returns-in-Some
+returns-in-Some c =
     let s = c.args.state.now in
     let edit = c.args.edit.now in
-    let none : AddsArc edit → ⊥ = λ adds. let dropped = c.follow.ensures.dropped.1 adds in let there = c.in-Some-follow.is in absurd (cc) in
-    c.with_carrying.ensures (applied edit s) c.in-Some-follow.ensures.kept (some_carry-along Forward edit s c.args.carrying none c.requires.carrying)
+    c.with_carrying.ensures (applied edit s) c.follow_along-network.ensures
+    (some_carry-along Forward edit s c.args.carrying c.requires.adds_none c.requires.carrying)
