@@ -1,5 +1,5 @@
-"""Compares the table of commands with what else lists commands: the second implementation, docs/FORMATS.md, the help, what a terminal
-is told, the client and its tools, and the tests in crates; and tries each row."""
+"""Compares the table of commands with what else lists commands: the second implementation, docs/FORMATS.md, the manual page, the help, what
+a terminal is told, the client and its tools, and the tests in crates; and tries each row."""
 
 from __future__ import annotations
 
@@ -69,6 +69,16 @@ def test_help() -> None:
     assert lines == [*LISTED, *LISTED_PRINTS]
     replies_told = [reply.replace(" ARC", " I") for _, _, reply in found]
     assert all(told.startswith(it.reply) for told, it in zip(replies_told, COMMANDS.values()))
+
+
+def test_manual() -> None:
+    """The section on commands of the manual page has these lines, and then each refusal."""
+    section = (ROOT / "docs" / "dmf.1").read_text().partition("\n.SH COMMANDS\n")[2].partition("\n.SH ")[0]
+    entries = re.findall(r"^\.T[PQ]\n\.[BIR]+ (.*)$", section, re.MULTILINE)
+    found = [" ".join(re.sub(r'"|\\f.', "", entry).split()) for entry in entries]
+    lines = [*LISTED, *LISTED_PRINTS]
+    assert found[: len(lines)] == lines
+    assert {*OF_FORM, *(text for it in COMMANDS.values() for text in it.refusals)} <= {*found[len(lines) :]}
 
 
 def test_errors() -> None:

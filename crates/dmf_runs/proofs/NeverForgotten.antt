@@ -7,8 +7,7 @@ use Rattle.dmf_history.specs.Timeline.{Timeline, start, extended}
 use Rattle.dmf_session.specs.Step.{Steps, Answers}
 use Rattle.dmf_history.proofs.Appending.{within_bound-all}
 use Rattle.dmf_runs.specs.Laws.{ForgetsNothing, AnswersForgettingNothing, MillionIsNeverForgotten}
-use Rattle.dmf_session.proofs.Growing.{Grows, same}
-use Rattle.dmf_session.proofs.EachCommand.{steps-grow}
+use Rattle.dmf_session.proofs.Growing.{Grows, same, steps-grow}
 use Rattle.dmf_runs.proofs.LineLemmas.{answers-cases}
 use Rattle.dmf_runs.proofs.Running.{RunsAll-lead}
 

@@ -1,7 +1,8 @@
--- Each step has an answer.
+-- Each command has an answer.
 use Rattle.std.proofs.Common.{◌≡◌, ◌≢◌, ◌+◌, ◌<◌, List, take, Bool, true, false, cond, Option, Some, None, is_none, option_map, Result, Ok, Err}
-use Rattle.std.proofs.Common.{refl, ap, ◌∙◌, arith, ⊎_elim}
+use Rattle.std.proofs.Common.{nat_le, refl, ap, ◌∙◌, arith, ⊎_elim}
 use Rattle.std.specs.Bool.{MatchBool}
+use Rattle.std.proofs.lemmas.Bool.{leb-true}
 use Rattle.std.proofs.lemmas.List.{length_push, length-take-le, length-drop}
 use Rattle.std.proofs.lemmas.List.Elements.{All-take, All-push, All-drop}
 use Rattle.dmf_solver.specs.Planning.{IsSideWanted}
@@ -15,15 +16,14 @@ use Rattle.dmf_solver.specs.Change as change
 use Rattle.dmf_solver.specs.Greatest.{IsGreatest, IsSurpassed}
 use Rattle.dmf_state.specs.Side.{CutSide}
 use Rattle.dmf_solver.specs.Laws.{HasSmallestSide, IsGreatestOrSurpassed, HasOutcome}
-use Rattle.dmf_session.specs.declared.command.Command.{Command}
-use Rattle.dmf_session.specs.declared.command.Command.TheVariants.{Solve, PrintCut}
 use Rattle.dmf_session.specs.declared.command.Reply.{Reply}
 use Rattle.dmf_session.specs.declared.command.Reply.TheVariants.{Value, Solution, Cut}
 use Rattle.dmf_session.specs.declared.command.Refusal.{Refusal}
-use Rattle.dmf_session.specs.declared.command.Refusal.TheVariants.{NotGreatest, NoMemory}
-use Rattle.dmf_history.specs.Timeline.{Timeline, IsPresent, extended, forgotten, appended}
-use Rattle.dmf_session.specs.Step.{Steps, Changes, IsChanged, IsRefused, IsMoved, refusal_of, value_of}
-use Rattle.dmf_session.specs.Laws.{HasStates, Answered}
+use Rattle.dmf_session.specs.declared.command.Refusal.TheVariants.{NothingToUndo, NothingToRedo, NotGreatest, NoMemory}
+use Rattle.dmf_history.specs.Timeline.{Timeline, IsPresent, future_of, extended, forgotten, appended, back, forward}
+use Rattle.dmf_session.specs.Step.{Kind, Changing, Solving, GoingBack, GoingOn, Telling, TellingCut, kind_of, StepsAs, IsChanged, IsRefused, IsMoved, refusal_of}
+use Rattle.dmf_session.specs.Step.{value_of}
+use Rattle.dmf_session.specs.Laws.{HasStates, HasAnswer}
 use Rattle.dmf_history.proofs.Appending.{within_bound-keeps}
 use Rattle.dmf_session.proofs.Changed.{some-present}
 
@@ -90,47 +90,60 @@ refusal-not-memory : (f : PlanFault) → f ≢ plan.NoMemory → refusal_of f �
 refusal-not-memory plan.NoMemory differs e = differs refl
 refusal-not-memory f differs e = cc
 
+-- An answer to a command of this kind.
+record AnsweredAs (want_cut : Bool) (t : Timeline) (kind : Kind) : Type 0 where
+  result : Result Reply Refusal
+  after : Timeline
+  steps : StepsAs want_cut t kind result after
+  memory : result ≢ Err NoMemory
+  has_states : HasStates after
+
 module _ (laws : NetworkLaws) (want_cut : Bool) (t : Timeline) (has : HasStates t) where
-  changed-by : (command : Command) (asked : Change) (reply : NetworkState → Reply) (s : NetworkState) → IsState s
-      → ((result : Result Reply Refusal) (u : Timeline) → Changes t s asked reply result u → Steps want_cut t command result u)
-      → (fault : Option PlanFault) → change_fault s asked ≡ fault → Answered want_cut t command
-  changed-by command asked reply s state steps None none =
+  changed : (asked : Change) (reply : NetworkState → Reply) (s : NetworkState) → IsPresent t s → IsState s
+      → (fault : Option PlanFault) → change_fault s asked ≡ fault → AnsweredAs want_cut t (Changing asked reply)
+  changed asked reply s present state None none =
       let made = laws.outcome s asked state none in
       let is : IsChanged t s asked reply (Ok (reply made.after)) (appended t made.after) =
       record { new = made.after; becomes = made.becomes; told = refl; appends = refl } in
       record {
         result = Ok (reply made.after);
         after = appended t made.after;
-        steps = steps (Ok (reply made.after)) (appended t made.after) (rw none is);
+        steps = (s, present, rw none is);
         memory = λ e. cc;
         has_states = HasStates-appended t made.after has made.state;
       }
-  changed-by command asked reply s state steps (Some f) some =
+  changed asked reply s present state (Some f) some =
       let is : IsRefused t (refusal_of f) (Err (refusal_of f)) t = record { told = refl; unchanged = refl } in
       record {
         result = Err (refusal_of f);
         after = t;
-        steps = steps (Err (refusal_of f)) t (rw some is);
+        steps = (s, present, rw some is);
         memory = λ e. refusal-not-memory f (λ same. no-memory-fault s asked (some ∙ ap (λ x. Some x) same)) (cc);
         has_states = has;
       }
-
-  -- The answer to a change.
-  pub changed-answered : (command : Command) (asked : Change) (reply : NetworkState → Reply)
-      → ((result : Result Reply Refusal) (u : Timeline) → (s : NetworkState) × IsPresent t s × Changes t s asked reply result u
-      → Steps want_cut t command result u) → Answered want_cut t command
-  changed-answered command asked reply steps =
-      let s = some-present t has in
-      changed-by command asked reply s.state s.is (λ result u is. steps result u (s.state, s.present, is)) (change_fault s.state asked) refl
 
   -- a side, if one is wanted
   wanted : (s : NetworkState) → IsState s → (b : Bool) → (side : Option CutSide) × IsSideWanted b s.network side
   wanted s state true = let some = laws.side s.network state.network in (Some some.0, some.1)
   wanted s state false = (None, tt)
 
-  -- A solve has an answer.
-  pub solve-answered : Answered want_cut t Solve
-  solve-answered =
+  -- A step back or forward has as its reply the value of the state there, whether or not there is one.
+  moved : (kind : Kind) (there : Timeline) (refusal : Refusal) → refusal ≢ NoMemory → (may : Bool) → (may ≡ true → HasStates there)
+      → ((result : Result Reply Refusal) (u : Timeline) → MatchBool may (IsMoved there result u) (IsRefused t refusal result u)
+      → StepsAs want_cut t kind result u) → AnsweredAs want_cut t kind
+  moved kind there refusal memory true has_there steps =
+      let s = some-present there (has_there refl) in
+      let is : IsMoved there (Ok (Value (value_of s.state))) there = record { state = s.state; present = s.present; told = refl; moves = refl } in
+      record { result = Ok (Value (value_of s.state)); after = there; steps = steps _ _ is; memory = λ e. cc; has_states = has_there refl }
+  moved kind there refusal memory false has_there steps =
+      let is : IsRefused t refusal (Err refusal) t = record { told = refl; unchanged = refl } in
+      record { result = Err refusal; after = t; steps = steps _ _ is; memory = λ e. memory (cc); has_states = has }
+
+  -- Each kind of command has an answer.
+  answered : (kind : Kind) → AnsweredAs want_cut t kind
+  answered (Changing asked reply) =
+      let s = some-present t has in changed asked reply s.state s.present s.is (change_fault s.state asked) refl
+  answered Solving =
       let s = some-present t has in
       let made = laws.outcome s.state change.Solve s.is refl in
       let some = wanted made.after made.state want_cut in
@@ -141,22 +154,14 @@ module _ (laws : NetworkLaws) (want_cut : Bool) (t : Timeline) (has : HasStates 
         memory = λ e. cc;
         has_states = HasStates-appended t made.after has made.state;
       }
-
-  -- A step back or forward has as its reply the value of the state there, whether or not there is one.
-  pub move-answered : (command : Command) (moved : Timeline) (refusal : Refusal) → refusal ≢ NoMemory → (may : Bool) → (may ≡ true → HasStates moved)
-      → ((result : Result Reply Refusal) (u : Timeline) → MatchBool may (IsMoved moved result u) (IsRefused t refusal result u)
-      → Steps want_cut t command result u) → Answered want_cut t command
-  move-answered command moved refusal memory true there steps =
-      let s = some-present moved (there refl) in
-      let is : IsMoved moved (Ok (Value (value_of s.state))) moved = record { state = s.state; present = s.present; told = refl; moves = refl } in
-      record { result = Ok (Value (value_of s.state)); after = moved; steps = steps _ _ is; memory = λ e. cc; has_states = there refl }
-  move-answered command moved refusal memory false there steps =
-      let is : IsRefused t refusal (Err refusal) t = record { told = refl; unchanged = refl } in
-      record { result = Err refusal; after = t; steps = steps _ _ is; memory = λ e. memory (cc); has_states = has }
-
-  -- The command for a cut has an answer.
-  pub cut-answered : Answered want_cut t PrintCut
-  cut-answered =
+  answered (GoingBack steps) =
+      moved (GoingBack steps) (back t steps) NothingToUndo (λ e. cc) (nat_le steps t.place)
+      (λ may. record { place = omega (arith, has.place); states = has.states }) (λ result u is. is)
+  answered (GoingOn steps) =
+      moved (GoingOn steps) (forward t steps) NothingToRedo (λ e. cc) (nat_le steps (future_of t))
+      (λ may. record { place = omega (arith, has.place, leb-true steps (future_of t) may); states = has.states }) (λ result u is. is)
+  answered (Telling reply) = record { result = Ok reply; after = t; steps = (refl, refl); memory = λ e. cc; has_states = has }
+  answered TellingCut =
       let s = some-present t has in
       ⊎_elim
       (λ (greatest : IsGreatest s.state.network s.state.flows).
@@ -165,3 +170,9 @@ module _ (laws : NetworkLaws) (want_cut : Bool) (t : Timeline) (has : HasStates 
       (λ (larger : IsSurpassed s.state.network s.state.flows).
       record { result = Err NotGreatest; after = t; steps = ((s.state, s.present, larger), refl); memory = λ e. cc; has_states = has })
       (laws.greatest s.state.network s.state.flows s.is.network s.is.flow)
+
+-- Each command has an answer.
+pub has-answer : NetworkLaws → HasAnswer
+has-answer laws want_cut t command has =
+    let a = answered laws want_cut t has (kind_of command) in
+    record { result = a.result; after = a.after; steps = a.steps; memory = a.memory; has_states = a.has_states }

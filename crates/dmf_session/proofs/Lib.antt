@@ -5,6 +5,5 @@ pub mod Answering
 pub mod OneAnswer
 pub mod Growing
 pub mod Replying
-pub mod EachCommand
 pub mod Undoing
 pub mod Keeping

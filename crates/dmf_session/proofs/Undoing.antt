@@ -11,7 +11,7 @@ use Rattle.dmf_session.specs.declared.command.Refusal.TheVariants.{NothingToUndo
 use Rattle.dmf_history.specs.Timeline.{Timeline, IsTimeline, IsPresent, extended, appended, back}
 use Rattle.dmf_session.specs.Step.{IsRefused, IsMoved, value_of}
 use Rattle.dmf_session.specs.Laws.{UndoesChange, ChangeIsUndone}
-use Rattle.dmf_session.proofs.EachCommand.{change-appends}
+use Rattle.dmf_session.proofs.Growing.{change-appends}
 use Rattle.dmf_history.proofs.Appending.{one-present, before-extended, within_bound-keeps, within_bound-past, forgotten-present}
 
 -- The state before it is present again.

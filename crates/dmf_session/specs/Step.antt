@@ -82,73 +82,94 @@ TellsCut s (Ok (Cut side)) = IsGreatest s.network s.flows × IsSmallestSide s.ne
 TellsCut s (Err NotGreatest) = IsSurpassed s.network s.flows
 TellsCut s result = ⊥
 
--- The command, given to the timeline `t`, has this result and leaves the timeline `u`, if no memory is refused. `want_cut` says whether
--- a cut is wanted beside a solution.
-abbrev pub Steps : Bool → Timeline → Command → Result Reply Refusal → Timeline → Type 0
-Steps want_cut t (Cap arc cap) result u =
-    (s : NetworkState) × IsPresent t s × Changes t s (change.Cap arc cap) (λ new. Value (value_of new)) result u
-Steps want_cut t (Add tail head cap) result u =
-    (s : NetworkState) × IsPresent t s
-    × Changes t s (change.Add tail head cap) (λ new. Added (length new.network.arcs) (value_of new)) result u
-Steps want_cut t (Close arc) result u =
-    (s : NetworkState) × IsPresent t s × Changes t s (change.Close arc) (λ new. Value (value_of new)) result u
-Steps want_cut t (Shut node) result u =
-    (s : NetworkState) × IsPresent t s × Changes t s (change.Shut node) (λ new. Value (value_of new)) result u
-Steps want_cut t Solve result u =
-    (s : NetworkState) × IsPresent t s × IsSolved want_cut t s result u
-Steps want_cut t (Undo steps) result u =
+-- the replies to an accepted change: the value of the state that it makes, and for an added arc its number too
+abbrev pub valued : NetworkState → Reply
+valued s = Value (value_of s)
+
+abbrev pub added : NetworkState → Reply
+added s = Added (length s.network.arcs) (value_of s)
+
+-- What a command does. A change has a reply to the state that it makes; so many steps lead back or forward; and what only tells
+-- something has a fixed reply, or tells a cut.
+pub data Kind : Type 0 where
+  Changing : Change → (NetworkState → Reply) → Kind
+  Solving : Kind
+  GoingBack : ℕ → Kind
+  GoingOn : ℕ → Kind
+  Telling : Reply → Kind
+  TellingCut : Kind
+
+-- what each command does
+abbrev pub kind_of : Command → Kind
+kind_of (Cap arc cap) = Changing (change.Cap arc cap) valued
+kind_of (Add tail head cap) = Changing (change.Add tail head cap) added
+kind_of (Close arc) = Changing (change.Close arc) valued
+kind_of (Shut node) = Changing (change.Shut node) valued
+kind_of Solve = Solving
+kind_of (Undo steps) = GoingBack steps
+kind_of (Redo steps) = GoingOn steps
+kind_of PrintProblem = Telling Problem
+kind_of PrintFlow = Telling Flow
+kind_of PrintCut = TellingCut
+
+-- A command of this kind, given to the timeline `t`, has this result and leaves the timeline `u`, if no memory is refused. `want_cut`
+-- says whether a cut is wanted beside a solution.
+abbrev pub StepsAs : Bool → Timeline → Kind → Result Reply Refusal → Timeline → Type 0
+StepsAs want_cut t (Changing change reply) result u = (s : NetworkState) × IsPresent t s × Changes t s change reply result u
+StepsAs want_cut t Solving result u = (s : NetworkState) × IsPresent t s × IsSolved want_cut t s result u
+StepsAs want_cut t (GoingBack steps) result u =
     MatchBool (nat_le steps t.place) (IsMoved (back t steps) result u) (IsRefused t NothingToUndo result u)
-Steps want_cut t (Redo steps) result u =
+StepsAs want_cut t (GoingOn steps) result u =
     MatchBool (nat_le steps (future_of t)) (IsMoved (forward t steps) result u) (IsRefused t NothingToRedo result u)
-Steps want_cut t PrintProblem result u = (result ≡ Ok Problem) × (u ≡ t)
-Steps want_cut t PrintFlow result u = (result ≡ Ok Flow) × (u ≡ t)
-Steps want_cut t PrintCut result u = ((s : NetworkState) × IsPresent t s × TellsCut s result) × (u ≡ t)
+StepsAs want_cut t (Telling reply) result u = (result ≡ Ok reply) × (u ≡ t)
+StepsAs want_cut t TellingCut result u = ((s : NetworkState) × IsPresent t s × TellsCut s result) × (u ≡ t)
+
+-- The same of a command.
+abbrev pub Steps : Bool → Timeline → Command → Result Reply Refusal → Timeline → Type 0
+Steps want_cut t command result u = StepsAs want_cut t (kind_of command) result u
 
 -- The present state does not refuse the change.
 abbrev pub IsAccepted : Timeline → Change → Type 0
 IsAccepted t change = (s : NetworkState) × IsPresent t s × (change_fault s change ≡ None)
 
--- The command may be refused memory: a change that is accepted, printing a cut, and steps forward of which one adds arcs.
-abbrev pub MayWantMemory : Timeline → Command → Type 0
-MayWantMemory t (Cap arc cap) = IsAccepted t (change.Cap arc cap)
-MayWantMemory t (Add tail head cap) = IsAccepted t (change.Add tail head cap)
-MayWantMemory t (Close arc) = IsAccepted t (change.Close arc)
-MayWantMemory t (Shut node) = IsAccepted t (change.Shut node)
-MayWantMemory t Solve = Unit {0}
-MayWantMemory t (Undo steps) = ⊥
-MayWantMemory t (Redo steps) = (steps ≤ future_of t) × (i : ℕ) × (i < steps) × AddsArcs t (t.place + i)
-MayWantMemory t PrintProblem = ⊥
-MayWantMemory t PrintFlow = ⊥
-MayWantMemory t PrintCut = Unit {0}
+-- A command of this kind may be refused memory: a change that is accepted, a solve, steps forward of which one adds arcs, and one
+-- that tells a cut.
+abbrev pub MayWant : Timeline → Kind → Type 0
+MayWant t (Changing change reply) = IsAccepted t change
+MayWant t Solving = Unit {0}
+MayWant t (GoingBack steps) = ⊥
+MayWant t (GoingOn steps) = (steps ≤ future_of t) × (i : ℕ) × (i < steps) × AddsArcs t (t.place + i)
+MayWant t (Telling reply) = ⊥
+MayWant t TellingCut = Unit {0}
 
--- The same if memory may be refused: then a command that needs some may be refused it, and nothing has changed.
+-- The same of a command.
+abbrev pub MayWantMemory : Timeline → Command → Type 0
+MayWantMemory t command = MayWant t (kind_of command)
+
+-- As `Steps` where memory may be refused: then a command that needs some may be refused it, and nothing has changed.
 abbrev pub Answers : Bool → Timeline → Command → Result Reply Refusal → Timeline → Type 0
 Answers want_cut t command (Err NoMemory) u = MayWantMemory t command × (u ≡ t)
 Answers want_cut t command result u = Steps want_cut t command result u
 
+-- A command of this kind adds a state if it is accepted.
+abbrev pub Adds : Kind → Type 0
+Adds (Changing change reply) = Unit {0}
+Adds Solving = Unit {0}
+Adds kind = ⊥
+
 -- the command is a change, so it adds a state if it is accepted
 abbrev pub IsChange : Command → Type 0
-IsChange (Cap arc cap) = Unit {0}
-IsChange (Add tail head cap) = Unit {0}
-IsChange (Close arc) = Unit {0}
-IsChange (Shut node) = Unit {0}
-IsChange Solve = Unit {0}
-IsChange (Undo steps) = ⊥
-IsChange (Redo steps) = ⊥
-IsChange PrintProblem = ⊥
-IsChange PrintFlow = ⊥
-IsChange PrintCut = ⊥
+IsChange command = Adds (kind_of command)
 
--- The reply is of the kind that an accepted command of this kind has.
+-- The reply is one that an accepted command of this kind may have.
+abbrev pub IsReplyOf : Kind → Reply → Type 0
+IsReplyOf (Changing change reply_to) reply = (s : NetworkState) × (reply ≡ reply_to s)
+IsReplyOf Solving reply = (side : Option CutSide) × (reply ≡ Solution side)
+IsReplyOf (GoingBack steps) reply = (s : NetworkState) × (reply ≡ valued s)
+IsReplyOf (GoingOn steps) reply = (s : NetworkState) × (reply ≡ valued s)
+IsReplyOf (Telling told) reply = reply ≡ told
+IsReplyOf TellingCut reply = (side : CutSide) × (reply ≡ Cut side)
+
+-- The same of a command.
 abbrev pub IsReplyTo : Command → Reply → Type 0
-IsReplyTo (Cap arc cap) (Value value) = Unit {0}
-IsReplyTo (Add tail head cap) (Added arc value) = Unit {0}
-IsReplyTo (Close arc) (Value value) = Unit {0}
-IsReplyTo (Shut node) (Value value) = Unit {0}
-IsReplyTo Solve (Solution side) = Unit {0}
-IsReplyTo (Undo steps) (Value value) = Unit {0}
-IsReplyTo (Redo steps) (Value value) = Unit {0}
-IsReplyTo PrintProblem Problem = Unit {0}
-IsReplyTo PrintFlow Flow = Unit {0}
-IsReplyTo PrintCut (Cut side) = Unit {0}
-IsReplyTo command reply = ⊥
+IsReplyTo command reply = IsReplyOf (kind_of command) reply

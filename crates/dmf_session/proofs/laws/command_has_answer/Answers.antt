@@ -1,4 +1,4 @@
-use Rattle.dmf_session.proofs.EachCommand.{has-answer}
+use Rattle.dmf_session.proofs.Answering.{has-answer}
 use Rattle.dmf_session.proofs.laws.command_has_answer.Goals as goal
 
 pub returns : goal.returns

@@ -1,4 +1,4 @@
-use Rattle.dmf_session.proofs.EachCommand.{has-one-answer}
+use Rattle.dmf_session.proofs.OneAnswer.{has-one-answer}
 use Rattle.dmf_session.proofs.laws.command_has_one_answer.Goals as goal
 
 pub returns : goal.returns

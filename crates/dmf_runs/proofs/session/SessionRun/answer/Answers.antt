@@ -1,7 +1,7 @@
 use Rattle.std.proofs.Common.{[], Ok, Err, refl, true, false}
 use Rattle.std.proofs.KnownBytes.{Appends-nil}
 use Rattle.std.proofs.lemmas.Result.{err_from_is_err_and}
-use Rattle.dmf_session.proofs.EachCommand.{answers-reply}
+use Rattle.dmf_session.proofs.Replying.{answers-reply}
 use Rattle.dmf_streams.proofs.ReplyLemmas.{Writes-flushed}
 use Rattle.dmf_text.specs.declared.writer.WriteFault.{WriteFault}
 use Rattle.dmf_runs.specs.declared.reply.Answer.{Answer}
