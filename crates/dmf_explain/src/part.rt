@@ -12,7 +12,7 @@ pub enum Part<'a> {
     Words(&'a str),
     /// Text of somebody else, between quotes.
     Quoted(&'a [u8]),
-    /// The same without quotes.
+    /// Text of somebody else, without quotes.
     Shown(&'a [u8]),
     Number(u64),
 }

@@ -145,6 +145,6 @@ pub record RunsCommandsWith (wanted : SolveReply) (t : Timeline) (old new : Stre
 abbrev pub solutions : Bool → SolveReply
 solutions want_cut = record { cut = want_cut; brief = false }
 
--- The same with solutions in the replies to solves. `want_cut` says whether a cut is wanted after each.
+-- A run of command lines whose replies to solves have solutions. `want_cut` says whether a cut is wanted after each.
 abbrev pub RunsCommands : Bool → Timeline → Streams → Streams → Result Status EngineFault → Type 0
 RunsCommands want_cut = RunsCommandsWith (solutions want_cut)

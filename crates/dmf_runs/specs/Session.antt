@@ -37,6 +37,6 @@ abbrev pub RunsSessionWith : SolveReply → ℕ → Reader → Reader → Stream
 RunsSessionWith wanted bound from to old new result =
     HasGiven from to (λ text. SessionAnswered wanted bound from to old new text result)
 
--- The same with solutions in the replies to solves. `want_cut` says whether a cut is wanted after each.
+-- A session whose replies to solves have solutions. `want_cut` says whether a cut is wanted after each.
 abbrev pub RunsSession : Bool → ℕ → Reader → Reader → Streams → Streams → Result Status EngineFault → Type 0
 RunsSession want_cut = RunsSessionWith (solutions want_cut)

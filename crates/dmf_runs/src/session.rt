@@ -48,8 +48,8 @@ pub fn run_commands<H: History + Drop, C: Source, W: Sink>(
     )
 }
 
-/// As [`run_commands`], with the wanted replies to solves. Also reports to the watch each state that it solves, each augmenting path,
-/// what each path of a drain takes off, and each answer.
+/// Carries out command lines as [`run_commands`] does, with these replies to solves, and reports to the watch each state that it solves,
+/// each augmenting path, what each path of a drain takes off, and each answer.
 pub fn run_commands_watched<H: History + Drop, C: Source, W: Sink, V: SessionWatch>(
     alloc: Global,
     session: Session<H>,
@@ -141,8 +141,8 @@ impl SessionRun {
     }
 }
 
-/// As [`run_session_bounded`], with the largest bound, [`MAX_BOUND`]. A session has no more lines than that, so it never forgets a
-/// state.
+/// Holds a session as [`run_session_bounded`] does, with the largest bound, [`MAX_BOUND`]. A session has no more lines than that, so it
+/// never forgets a state.
 pub fn run_session<P: Source, C: Source, W: Sink>(
     alloc: Global,
     problem: &mut P,
@@ -184,8 +184,8 @@ pub fn run_session_bounded<P: Source, C: Source, W: Sink>(
     )
 }
 
-/// As [`run_session_bounded`], with the wanted replies to solves. Also reports to the watch each state that it solves, each augmenting
-/// path, what each path of a drain takes off, and each answer.
+/// Holds a session as [`run_session_bounded`] does, with these replies to solves, and reports to the watch each state that it solves, each
+/// augmenting path, what each path of a drain takes off, and each answer.
 pub fn run_session_watched<P: Source, C: Source, W: Sink, V: SessionWatch>(
     alloc: Global,
     problem: &mut P,

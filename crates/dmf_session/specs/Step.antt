@@ -124,7 +124,7 @@ StepsAs want_cut t (GoingOn steps) result u =
 StepsAs want_cut t (Telling reply) result u = (result ≡ Ok reply) × (u ≡ t)
 StepsAs want_cut t TellingCut result u = ((s : NetworkState) × IsPresent t s × TellsCut s result) × (u ≡ t)
 
--- The same of a command.
+-- The command, given to the timeline `t`, has this result and leaves the timeline `u`, if no memory is refused.
 abbrev pub Steps : Bool → Timeline → Command → Result Reply Refusal → Timeline → Type 0
 Steps want_cut t command result u = StepsAs want_cut t (kind_of command) result u
 
@@ -142,7 +142,7 @@ MayWant t (GoingOn steps) = (steps ≤ future_of t) × (i : ℕ) × (i < steps) 
 MayWant t (Telling reply) = ⊥
 MayWant t TellingCut = Unit {0}
 
--- The same of a command.
+-- The command may be refused memory.
 abbrev pub MayWantMemory : Timeline → Command → Type 0
 MayWantMemory t command = MayWant t (kind_of command)
 
@@ -170,6 +170,6 @@ IsReplyOf (GoingOn steps) reply = (s : NetworkState) × (reply ≡ valued s)
 IsReplyOf (Telling told) reply = reply ≡ told
 IsReplyOf TellingCut reply = (side : CutSide) × (reply ≡ Cut side)
 
--- The same of a command.
+-- The reply is one that the command may have if it is accepted.
 abbrev pub IsReplyTo : Command → Reply → Type 0
 IsReplyTo command reply = IsReplyOf (kind_of command) reply

@@ -102,7 +102,8 @@ impl<H: History> Session<H> {
         self.step_watched(alloc, command, want_cut, &mut Unwatched)
     }
 
-    /// As [`Session::step`]. Also reports to the watch each augmenting path of a solve, and what each path of a drain takes off.
+    /// Carries out a command as [`Session::step`] does, and reports to the watch each augmenting path of a solve, and what each path of a
+    /// drain takes off.
     pub fn step_watched<W: Watch>(
         &mut self,
         alloc: Global,

@@ -139,7 +139,7 @@ may_carry-along d edit s search none is =
     subst (λ flows. MayCarry (record { network = t.network; flows = flows }) search) (flows-along d edit s none)
     (may_carry-ends s.network t.network (moved (along d (moves_of edit)) s.flows) search (ends-along d edit s none) is)
 
--- The same, where there may be no search.
+-- If there is no search before, there is none after.
 pub some_carry-along : (d : Direction) (edit : Edit) (s : NetworkState) (carrying : Option Searched) → (AddsArc edit → ⊥)
     → IfSome carrying (MayCarry (with_flows s (moved (along d (moves_of edit)) s.flows))) → IfSome carrying (MayCarry (edited_along d edit s))
 some_carry-along d edit s None none is = tt

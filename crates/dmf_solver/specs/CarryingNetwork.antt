@@ -45,6 +45,6 @@ pub record CarriesWith (s : NetworkState) (room : ℕ) (search : Searched) : Typ
 abbrev pub IsCarryingOf : NetworkState → Searched → Type 0
 IsCarryingOf s search = CarriesWith s (value_or_zero s.network s.flows) search
 
--- The same, with any room of the return link.
+-- The search is over the steps of the arcs that carry the state's flow; its return link has any room.
 abbrev pub MayCarry : NetworkState → Searched → Type 0
 MayCarry s search = (room : ℕ) × CarriesWith s room search

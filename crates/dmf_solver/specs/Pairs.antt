@@ -55,7 +55,7 @@ pub record Carries (s : NetworkState) (unpaired flows : List ℕ) (search : Sear
   pub loops : KeepLoops s.network unpaired flows
   pub search_is : IsCarryingOf (with_flows s flows) search
 
--- The same for the flows that are read from the search and the list.
+-- The search is over the carrying steps of the flows that are read from it and from the list.
 abbrev pub IsCarryingSearch : NetworkState → List ℕ → Searched → Type 0
 IsCarryingSearch s unpaired search = Carries s unpaired (flows_read Along unpaired search.pairs) search
 

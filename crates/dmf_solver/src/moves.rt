@@ -33,7 +33,7 @@ pub fn list_all_moves<F: Flows>(
     list_moves(alloc, state, after, Indices::Within(0..state.flows().len()))
 }
 
-/// The same if only the flows on the arcs at these indices may differ: the call looks at no other arc.
+/// The moves of the arcs at these indices whose flow differs. No other arc's flow may differ, and the call looks at none.
 pub fn list_moves<F: Flows>(
     alloc: Global,
     state: &State,

@@ -28,7 +28,7 @@ pub fn smallest_side(alloc: Global, state: &State) -> Result<Side, CutFault>
     side_along(alloc, &search, state)
 }
 
-/// The same with a search that already exists.
+/// The smallest side that [`smallest_side`] finds, by a search that is over the residual network already.
 pub fn side_along(alloc: Global, search: &Search, state: &State) -> Result<Side, CutFault>
     requires { IsResidualOf state.now search.now }
     ensures { TellsSide state.now result }

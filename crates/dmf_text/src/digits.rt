@@ -39,7 +39,7 @@ pub fn number(field: &[u8]) -> Result<u64, NumberFault>
     Ok(value)
 }
 
-// The same for a field that is not empty. Tests at each digit that the number still fits.
+// The number that a field spells that is not empty. Tests at each digit that the number still fits.
 #[cold]
 fn long_number(field: &[u8]) -> Result<u64, NumberFault>
     requires { 0 < length field.now }
