@@ -1,38 +1,25 @@
-"""The C library, which prebuilt/ keeps or the toolchain makes, and its calls by ctypes."""
+"""The C library, which the toolchain makes, and its calls by ctypes."""
 
 from __future__ import annotations
 
 import ctypes
-import shutil
+import fcntl
 import subprocess
 from ctypes import byref, c_char, c_size_t, c_uint32, c_uint64, c_void_p, create_string_buffer
 from pathlib import Path
-
-import pytest
 
 ROOT = Path(__file__).resolve().parent.parent
 BUILT = ROOT / "out/library"
 HEADER = ROOT / "include/dmf.h"
 
 
-def is_current(library: Path) -> bool:
-    """Whether the library was made after the last change of what it is made of."""
-    sources = [ROOT / "crates.txt", ROOT / "tools/library", ROOT / "tools/dmf.map"]
-    for part in ("src", "specs", "proofs"):
-        sources += (ROOT / "crates/dmf_c" / part).rglob("*")
-    return library.exists() and all(source.stat().st_mtime <= library.stat().st_mtime for source in sources)
-
-
-def library_folder(scratch: Path) -> Path:
-    """A folder with libdmf.so.0. Skips where it can neither be taken from prebuilt/ nor be made."""
-    if subprocess.run([ROOT / "tools/prebuilt", "library", scratch], stdout=subprocess.DEVNULL, stderr=subprocess.DEVNULL).returncode == 0:
-        return scratch
-    if is_current(BUILT / "libdmf.so.0"):
-        return BUILT
-    if shutil.which("rt") is None:
-        pytest.skip("prebuilt/ has no libdmf.so.0 of these sources, and the toolchain that makes it is not here")
-    made = subprocess.run([ROOT / "tools/library", BUILT], capture_output=True, text=True)
-    assert made.returncode == 0, made.stderr
+def library_folder() -> Path:
+    """The folder of libdmf.so.0, which is made of the present sources. One call at a time makes it."""
+    BUILT.mkdir(parents=True, exist_ok=True)
+    with open(BUILT / "lock", "w") as lock:
+        fcntl.flock(lock, fcntl.LOCK_EX)
+        made = subprocess.run([ROOT / "tools/library", BUILT], capture_output=True, text=True)
+        assert made.returncode == 0, made.stderr
     return BUILT
 
 

@@ -29,8 +29,8 @@ class Step(NamedTuple):
 
 
 @pytest.fixture(scope="module")
-def library(tmp_path_factory: pytest.TempPathFactory) -> Library:
-    return Library(library_folder(tmp_path_factory.mktemp("library")))
+def library() -> Library:
+    return Library(library_folder())
 
 
 def random_step(session: Session, random: Random) -> Step:

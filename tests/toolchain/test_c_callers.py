@@ -17,8 +17,8 @@ SOLVED = "1 -> 2: 3 of 3\n1 -> 3: 2 of 2\n2 -> 3: 1 of 5\n2 -> 4: 2 of 2\n3 -> 4
 
 
 @pytest.fixture(scope="module")
-def folder(tmp_path_factory: pytest.TempPathFactory) -> Path:
-    return library_folder(tmp_path_factory.mktemp("library"))
+def folder() -> Path:
+    return library_folder()
 
 
 def compiled(compiler: list[str], source: Path, folder: Path, scratch: Path, *more: str) -> Path:
