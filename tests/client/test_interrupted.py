@@ -10,6 +10,7 @@ import re
 import signal
 import subprocess
 import sys
+import threading
 from collections.abc import Callable, Iterator
 from pathlib import Path
 from random import Random
@@ -29,7 +30,7 @@ SECONDS = 20
 # A second path, and what leads back, so that a flow depends on the steps that led to it.
 ROWS: list[Any] = [*PIPES, ("lake", "sea", 1, "canal"), ("sea", "lake", 4), ("town", "mill", 2, "back")]
 # Lines before which Python heeds no signal: those that take the program and give it back are made so.
-UNHEEDED = re.compile(r"^ *try:$|self\._free")
+UNHEEDED = re.compile(r"^ *try:$|self\._taken")
 Step = Callable[["dmf.Network[str]"], object]
 # Each call that asks the program, on a network that has something to undo, to redo and to open.
 CALLS: dict[str, Step] = {
@@ -365,3 +366,18 @@ def test_ctrl_c() -> None:
             assert (said, user.returncode, is_running(session)) == (b"broken off 2 2\n1 2 0 1\n3\n", 0, False)
         finally:
             user.kill()
+
+
+def test_a_call_that_gave_nothing_back() -> None:
+    """Ctrl-C came just when a call ended, and the next one of this thread goes on; a call of another thread, or within a call, does not."""
+    with prepared() as network, prepared() as other:
+        network._taken[0] = [threading.get_ident()]
+        assert all_told(network) == all_told(other)
+        network._taken[0] = [threading.get_ident() + 1]
+        with pytest.raises(dmf.UsedByTwoThreads):
+            network.solve()
+        del network._taken[0]
+        with pytest.raises(dmf.UsedByTwoThreads):
+            network._ask("undo 0", lambda child: network.solve())
+        network.begin_again()
+        assert all_told(network) == all_told(other)

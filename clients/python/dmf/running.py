@@ -4,9 +4,12 @@ from __future__ import annotations
 
 import contextlib
 import functools
+import sys
 import tempfile
+import threading
 import weakref
 from collections.abc import Callable, Iterator
+from types import CodeType, FrameType
 from typing import TYPE_CHECKING, Any, Generic, TypeVar, cast
 
 from . import arrays
@@ -38,10 +41,9 @@ def alone(method: Method) -> Method:
     def called(self: Running[Any], *words: Any, **named: Any) -> Any:
         if not self._child.is_owned:
             raise UsedByTwoProcesses("used by two processes at once: a process that was forked off needs a network of its own")
-        try:
-            del self._free[0]
-        except IndexError:
-            raise UsedByTwoThreads("used by two threads at once: each needs a network of its own, or a lock around its calls") from None
+        user = [threading.get_ident()]
+        if self._taken.setdefault(0, user) is not user:
+            self._judge_use(called.__code__)
         try:
             self._begin_call()
             sent, present = self._child.line_count, self._present
@@ -53,7 +55,7 @@ def alone(method: Method) -> Method:
                     self._break_off(present)
                 raise
         finally:
-            self._free.append(None)
+            self._taken.pop(0, None)
 
     return cast(Method, called)
 
@@ -69,8 +71,8 @@ class Running(Generic[Node]):
     def _begin(self, child: Child, kept: Kept[Node]) -> None:
         self._child = child
         self._kept = kept
-        # It is empty while a call is made.
-        self._free = [None]
+        # The thread that makes a call, while it makes it.
+        self._taken: dict[int, list[int]] = {}
         # Whether a call was broken off, so that the next one begins anew; and why none can be asked any more.
         self._is_broken = False
         self._why_over = ""
@@ -92,6 +94,18 @@ class Running(Generic[Node]):
     def _whole(self, amount: Any, at: object) -> int:
         """The whole number that stands for what a caller gives. Raises `NotANumber` and `NumberTooLarge`."""
         return whole(amount, at)
+
+    def _judge_use(self, call: CodeType) -> None:
+        """Raises `UsedByTwoThreads`, unless this thread has the program and is in no call: before Python 3.11 an error may come just when a
+        call begins or ends, and it does not give the program back."""
+        frame: FrameType | None = sys._getframe(2)
+        is_in_call = self._taken.get(0) != [threading.get_ident()]
+        while frame and not is_in_call:
+            is_in_call = frame.f_code is call and frame.f_locals.get("self") is self
+            frame = frame.f_back
+        if is_in_call:
+            raise UsedByTwoThreads("used by two threads at once: each needs a network of its own, or a lock around its calls") from None
+        self._is_broken = self._is_broken or not self._child.end.alive
 
     @alone
     def _ready(self) -> None:
@@ -155,7 +169,7 @@ class Running(Generic[Node]):
     @property
     def _is_free(self) -> bool:
         """Whether nobody else has the program."""
-        return bool(self._free) and self._child.is_owned
+        return not self._taken and self._child.is_owned
 
     @property
     def _is_running(self) -> bool:
