@@ -98,7 +98,12 @@ fn label_all_from(links: &Links, levels: &mut Levels, start: u32, goal: u32) -> 
         unlabel(far);
         return false;
     }
-    turn(&far.labels, links.table.nodes, &mut near.labels, &mut near.queue);
+    turn(
+        &far.labels,
+        links.table.nodes,
+        &mut near.labels,
+        &mut near.queue,
+    );
     unlabel(far);
     true
 }

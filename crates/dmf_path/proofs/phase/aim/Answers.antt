@@ -127,8 +127,12 @@ returns-then-redirect c =
       capacity_is = is.aimed.capacity_is;
     } in
     let count : length slots + get_or v.labels c.args.ends.goal 0 ≡ get_or v.labels c.args.ends.start 0 =
-    omega (arith, c.free.ensures.count, read (goal.at.returns-then-redirect c).After-index-goal_label c.if-redirect.true,
-    c.redirect.ensures.above c.if-redirect.true) in
+    omega (
+      arith,
+      c.free.ensures.count,
+      read (goal.at.returns-then-redirect c).After-index-goal_label c.if-redirect.true,
+      c.redirect.ensures.above c.if-redirect.true,
+    ) in
     let searching = searching-free next v w slots aimed c.settle.new.links.rooms_are is.holding.small k.current_is k.passed count in
     let same = sought-free next w slots c.free.ensures.way in
     record {

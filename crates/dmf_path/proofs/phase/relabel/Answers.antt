@@ -112,8 +112,13 @@ returns c =
     let searching = searching-free (residual_of links) v w slots aimed links.rooms_are c.requires.searching.holding.small
     (rw c.deref-2.ensures at c.set_current.ensures.current)
     (λ v p ps node lies before walk. skipped v p node lies before walk.0)
-    (omega (arith, c.free.ensures.count, read (goal.at.returns c).After-index-goal_label, low (goal.at.returns c).After-index-goal_label
-    c.if-not-label_anew.false)) in
+    (omega (
+      arith,
+      c.free.ensures.count,
+      read (goal.at.returns c).After-index-goal_label,
+      low (goal.at.returns c).After-index-goal_label
+          c.if-not-label_anew.false,
+    )) in
     record {
       searching = rw (current, c.free.ensures.way) searching;
       ready = (links.table.value.nodes, is);
