@@ -16,7 +16,7 @@ from .arcs import Arc, Node
 from .arrays import package
 from .copies import Answer, Command, Plain
 from .errors import Error, JobsOutOfRange, NotAnArc, UnknownCommand, shown
-from .kept import Kept, Whole, is_unordered
+from .kept import Whole, is_unordered
 from .network import Network
 from .process import MOST_KEPT
 from .trying import Here, Pending, Sent, There, Tries
