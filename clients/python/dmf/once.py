@@ -20,8 +20,8 @@ from .sources import rows_of_graph
 if TYPE_CHECKING:
     Flows = Dict[Node, Dict[Node, int]]
 
-# How the program is asked: for the value alone, for the cut too, and for the flows.
-VALUE, CUT, FLOW = ["solve"], ["solve", "--cut"], ["solve"]
+# How the program is asked: for the value alone, for the cut too, and for the flows, of which any greatest one will do.
+VALUE, CUT, FLOW = ["solve", "--brief"], ["solve", "--brief", "--cut"], ["solve", "--any"]
 WANTED = "a graph of networkx, a sparse matrix of scipy, or a dictionary of dictionaries"
 
 
