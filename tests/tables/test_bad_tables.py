@@ -152,3 +152,9 @@ def test_a_path_that_is_not_there(tmp_path: Path) -> None:
     (tmp_path / "t.csv").write_text("A,B,3\n")
     with pytest.raises(FileNotFoundError):
         dmf.read_table(tmp_path / "t.csv", places=tmp_path / "none.csv")
+
+
+@pytest.mark.parametrize("option, instead", [("sources", "source"), ("sinks", "sink"), ("node_limits", "limits"), ("places", "limits")])
+def test_places_in_place_of_a_path(option: str, instead: str) -> None:
+    with pytest.raises(TypeError, match=f"the path of a table of places is wanted, and not .*`{instead}`"):
+        dmf.read_table("pipes.csv", **{option: ["Mill"]})

@@ -418,7 +418,7 @@ def read_table(
     Raises a `TableFault` that names all rows that cannot be read; an OSError if a file cannot be; and what `Network` raises.
     """
     given = {"sources": sources, "sinks": sinks, "node_limits": node_limits, "place_table": places}
-    paths = {option: os.fspath(path) for option, path in given.items() if path is not None}
+    paths = {option: _path(option, path) for option, path in given.items() if path is not None}
     reading = Reading(dict(columns), decimal, raw_names)
     wanted = Wanted(reading, encoding, None if scale is None else Decimal(scale), both_ways, (), (), paths, _read)
     if isinstance(table, (str, os.PathLike)):
@@ -431,6 +431,13 @@ def read_table(
     plan.terms += _terms_of(LIMIT, limits, plan)
     with naming(plan.arcs.path):
         return TableNetwork._open(plan, program, history)
+
+
+def _path(option: str, given: Any) -> str:
+    if not isinstance(given, (str, os.PathLike)):
+        instead = {"sources": "source", "sinks": "sink", "node_limits": "limits"}.get(option, "limits")
+        raise TypeError(f"the path of a table of places is wanted, and not {given!r}: `{instead}` takes the places themselves")
+    return os.fspath(given)
 
 
 def _read(path: str) -> bytes:
