@@ -1,7 +1,7 @@
 ghost use Rattle.std.specs.Prelude.{◌<◌, ◌≡◌, length, IfOk, IfSome};
 
 use dmf_engine::likely_greatest;
-use dmf_solver::{Turn, Watch, plan_solve_with_side};
+use dmf_solver::{Turn, Unwatched, Watch, plan_solve_watched};
 use dmf_solving::{Solved, solve_from};
 use dmf_state::{Arc, Side, State};
 use std::alloc::Global;
@@ -73,10 +73,14 @@ fn found_from(alloc: Global, state: &State, flows: Option<Vec<u64>>) -> Result<F
 
 /// Whether the value and the side are those of an ordinary solve.
 fn is_right(alloc: Global, state: &State, found: &Found) -> Result<bool, Fail> {
-    let (edit, side) = plan_solve_with_side(alloc, state)?;
+    let (edit, side) = plan_solve_watched(alloc, state, true, &mut Unwatched)?;
     let mut solved = state.copy(alloc)?;
     solved.apply(&edit)?;
-    Ok(found.value == solved.value() && found.side == side)
+    let is_same_side = match &side {
+        Some(side) => found.side == *side,
+        None => false,
+    };
+    Ok(found.value == solved.value() && is_same_side)
 }
 
 /// Value and side are right, and the ordinary search finds no path after the engine.
