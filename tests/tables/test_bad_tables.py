@@ -156,5 +156,6 @@ def test_a_path_that_is_not_there(tmp_path: Path) -> None:
 
 @pytest.mark.parametrize("option, instead", [("sources", "source"), ("sinks", "sink"), ("node_limits", "limits"), ("places", "limits")])
 def test_places_in_place_of_a_path(option: str, instead: str) -> None:
+    given: dict[str, Any] = {option: ["Mill"]}
     with pytest.raises(TypeError, match=f"the path of a table of places is wanted, and not .*`{instead}`"):
-        dmf.read_table("pipes.csv", **{option: ["Mill"]})
+        dmf.read_table("pipes.csv", **given)
