@@ -19,6 +19,7 @@ from dmf.desk_network import Held
 from dmf.desk_steps import DeskFault, Place
 from dmf.errors import SessionEnded
 from dmf.plan import Plan
+from dmf.plan_meaning import capped
 
 WATER = water_problem()
 
@@ -258,6 +259,9 @@ def test_names() -> None:
     }.items():
         told = refused(lambda: desk.the_arc(text))  # noqa: B023
         assert told == wanted, f"the arc {text}: {told}"
+    for words in ["A-D", "12"], ["A-D", "+10", "%"]:
+        told = refused(lambda: capped(desk, words))  # noqa: B023
+        assert told.startswith("'A-D' may be #3"), f"cap {words}: {told}"
     assert desk.the_arc("A -> B-C") == 1
     assert desk.the_arc("#2") == 2
     told = refused(lambda: desk.names.place("b-c"))

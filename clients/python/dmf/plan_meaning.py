@@ -37,20 +37,19 @@ def last_closed(desk: Desk) -> Callable[[], object]:
 
 def capped(desk: Desk, words: list[str]) -> tuple[int, str]:
     """The arc and the amount that the words of `cap` mean, if they can mean one thing only."""
-    found = []
-    # An amount may be several words: 1 200, +10 %, 12 l/s.
-    for at in range(1, len(words)):
-        text = " ".join(words[at:])
-        plain = text.removesuffix(desk.measure.unit)
-        with contextlib.suppress(DeskFault):
-            if is_amount(plain.strip()):
-                found.append((desk.the_arc(" ".join(words[:at])), text))
-    if len(found) > 1:
-        raise DeskFault("this can mean several things; put the name in quotes")
     if len(words) < 2:
         raise DeskFault(f"wanted is: {COMMANDS['cap'].form}")
-    # The fault of the likeliest meaning, in which the amount is one word.
-    return found[0] if found else (desk.the_arc(" ".join(words[:-1])), words[-1])
+    # An amount may be several words: 1 200, +10 %, 12 l/s.
+    splits = [at for at in range(1, len(words)) if is_amount(" ".join(words[at:]).removesuffix(desk.measure.unit).strip())]
+    found = []
+    for at in splits:
+        with contextlib.suppress(DeskFault):
+            found.append((desk.the_arc(" ".join(words[:at])), " ".join(words[at:])))
+    if len(found) > 1:
+        raise DeskFault("this can mean several things; put the name in quotes")
+    # Else the fault of the likeliest meaning, in which the amount is as long as can be, or one word.
+    likeliest = next(iter(splits), len(words) - 1)
+    return found[0] if found else (desk.the_arc(" ".join(words[:likeliest])), " ".join(words[likeliest:]))
 
 
 def new_arc(desk: Desk, words: list[str]) -> tuple[Place, Place, Quantity, str]:
