@@ -57,7 +57,7 @@ def mutated(file: str, whole: str) -> str:
     """The text of a file with all its mutants. Each changes one function."""
     mine = [mutant for mutant in WIRINGS if mutant.file == file]
     assert all(sum(mutant.old in it[0] for it in FUNCTION.finditer(whole)) == 1 for mutant in mine)
-    words = "" if re.search(r"^use .*[ {]words[,}]|^    .* words,$", whole, re.MULTILINE) else "\nuse crate::arguments::words;\n"
+    words = "" if re.search(r"^use .*[ {]words[,}]|^    (?:.* )?words,$", whole, re.MULTILINE) else "\nuse crate::arguments::words;\n"
     return FUNCTION.sub(lambda it: with_copies(file, it), whole) + words + NAME_LENGTH
 
 
