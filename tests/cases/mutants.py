@@ -34,6 +34,7 @@ ASKED = "program/test_progress.py::test_asked_session"
 QUICK = "program/test_quick_solves.py"
 SOLVE = "rt.alloc(), &mut problem, &mut out, "
 SINK, COMMANDS = "WatchedSink::new(out, &progress)", "WatchedCommands::new(StdSource::new(rt.stdin()), &progress)"
+UNWATCHED = "let silent = Progress::new(rt, false);\n    let mut watch = Dialogue::new(rt, path, WatchedSolve::new(&silent));"
 HOLD = "hold_session(\n            rt,\n            problem.as_str(),\n            SolveReply { cut, brief },\n            progress,\n            history,\n        )"
 # Each wiring of `main` and of what it calls beside the runs: what is called for which words, and what goes where.
 WIRINGS = [
@@ -63,7 +64,7 @@ WIRINGS = [
         ("no size is known", "::of_file(StdSource::new(file), path, &progress)", "::of_input(StdSource::new(file), &progress)", "program/test_progress.py::test_size"),
         ("a reply stands behind progress", SINK, "out", "program/test_progress.py::test_asked_on_terminal"),
         ("progress stays while it waits", COMMANDS, "StdSource::new(rt.stdin())", "program/test_progress.py::test_asked_while_waiting"),
-        ("a solve has no watch", "WatchedSolve::new(&progress)", "WatchedSolve::new(&Progress::new(rt, false))", ASKED),
+        ("a solve has no watch", "let mut watch = Dialogue::new(rt, path, WatchedSolve::new(&progress));", UNWATCHED, ASKED),
         ("the problem and the commands change places", "        &mut problem,\n        &mut commands,", "        &mut commands,\n        &mut problem,", HELD),
         ("replies are as another wants them", "        wanted,\n        bound,", "        SolveReply { cut: wanted.cut, brief: false },\n        bound,", BRIEF),
         ("another bound", "        wanted,\n        bound,", "        wanted,\n        bound / 2,", KEPT),
