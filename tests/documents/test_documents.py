@@ -27,7 +27,7 @@ WORD = re.compile(r"[^\s(){}\[\],;.`\"]+")
 MOST_WORDS = 1_800
 MORE_WORDS = {"docs/DEFINITIONS.md": 3_800, "docs/FORMATS.md": 3_200, "docs/SEARCH.md": 2_600}
 GROWING = {"CHANGELOG.md", "docs/DECISIONS.md"}
-# Lemmas that no file names, since the prover looks for them by itself.
+# Lemmas that no file names. It was not tried whether `dmf_path` checks without them; where it does, they go, and this with them.
 WAITING = {"turning-next", "first-none"}
 
 
