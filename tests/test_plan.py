@@ -425,13 +425,13 @@ def test_no_other_file(tmp_path: Path, monkeypatch: pytest.MonkeyPatch) -> None:
     plan = Plan(desk_of(WATER), is_typed=False, write=lambda _: None)
     victim, path = tmp_path / "victim.max", tmp_path / "new.max"
     victim.write_text("as it was")
-    save = plan._put
+    put = plan._files.put
 
-    def late(path: str, data: bytes) -> None:
+    def late(path: str, data: bytes) -> str:
         Path(path).symlink_to(victim)
-        save(path, data)
+        return put(path, data)
 
-    monkeypatch.setattr(plan, "_put", late)
+    monkeypatch.setattr(plan._files, "put", late)
     plan.onecmd(f"save {path}")
     assert (victim.read_text(), plan.refused) == ("as it was", 1)
     monkeypatch.undo()

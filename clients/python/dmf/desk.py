@@ -10,52 +10,31 @@ from __future__ import annotations
 
 import contextlib
 from collections.abc import Generator, Iterable, Iterator, Mapping
-from dataclasses import dataclass, field
 
 from .desk_amounts import finer, past_64_bits
-from .desk_names import Names
 from .desk_network import Held
 from .desk_steps import Add, Cap, Change, Close, DeskFault, Line, Place, Reopen, Shut, Solve, Step, Trial
 from .desk_sweep import trials
+from .desk_view import DeskView
 from .errors import CapacitiesPast64Bits, Error, SessionEnded
-from .folding import Folding
 from .process import Program
-from .quantity import Measure, Quantity, plain_text
+from .quantity import Quantity, plain_text
 from .tables.cells import shown
-from .tables.comments import Role
 from .tables.subject import Subject
 
 
-@dataclass
-class _Timeline:
-    """The steps that were made, those that were undone, the last undone at the end, and how many steps each trial that is open began
-    with. `turn` counts the steps that were made and undone."""
-
-    done: list[Step] = field(default_factory=list)
-    undone: list[Step] = field(default_factory=list)
-    floors: list[int] = field(default_factory=list)
-    turn: int = 0
-
-
-class Desk:
+class Desk(DeskView):
     """A network, and what was done to it. `with_solve` says that each step solves after its change, so that its value is always
     the greatest. What a call raises beside a `DeskFault` is what the client raises. Any error in the midst of a step ends the session,
     since that might be left between two steps; `has_ended` says so, and `begin_again` makes the steps once more on a new one."""
 
     def __init__(self, subject: Subject, *, with_solve: bool = False, program: Program = None) -> None:
-        self.with_solve = with_solve
+        super().__init__(Held(subject, program), with_solve)
         self._program = program
-        self._time = _Timeline()
-        self._held = Held(subject, program)
         self._coming: Held | None = None
         if with_solve:
-            self.solve()
+            self._do("solve", [Solve()])
             self._time.floors.append(1)
-
-    @property
-    def has_ended(self) -> bool:
-        """Whether the session is known to have ended."""
-        return self._held.has_ended
 
     def break_off(self, why: str) -> None:
         """Ends the session at once, also for a thread that waits for it, and one on which the steps are made again."""
@@ -98,125 +77,6 @@ class Desk:
     def end(self) -> None:
         """Ends the session."""
         self._held.network.end()
-
-    # The answers about the present state so far.
-
-    def told(self, amount: Quantity) -> str:
-        """An amount with its unit."""
-        return f"{plain_text(amount)} {self.measure.told_unit}".rstrip()
-
-    @property
-    def subject(self) -> Subject:
-        return self._held.subject
-
-    @property
-    def names(self) -> Names:
-        return self._held.names
-
-    @property
-    def folding(self) -> Folding:
-        return self._held.folding
-
-    @property
-    def lines(self) -> list[Line]:
-        """The arcs as they are, by their numbers from 1 on."""
-        return self._held.lines
-
-    @property
-    def shut_nodes(self) -> frozenset[int]:
-        return self._held.shut_nodes
-
-    @property
-    def measure(self) -> Measure:
-        """How the session's numbers stand for quantities."""
-        return self._held.measure
-
-    @property
-    def value(self) -> Quantity:
-        """The value of the present flow."""
-        return self._time.done[-1].value if self._time.done else 0
-
-    @property
-    def source(self) -> int:
-        """The node of the problem's source, which may join several places."""
-        return self.names.nodes[self._held.network.source]
-
-    @property
-    def sink(self) -> int:
-        """The node of the problem's sink, which may join several places."""
-        return self.names.nodes[self._held.network.sink]
-
-    @property
-    def sources(self) -> list[int]:
-        """The places that flow comes from, by their nodes."""
-        return self.folding.ends(self.source)
-
-    @property
-    def sinks(self) -> list[int]:
-        """The places that flow goes to, by their nodes."""
-        return self.folding.ends(self.sink)
-
-    @property
-    def steps(self) -> list[Step]:
-        """The steps that were made, and after them those that were undone."""
-        return [*self._time.done, *reversed(self._time.undone)]
-
-    @property
-    def at(self) -> int:
-        """How many of the steps are made."""
-        return len(self._time.done)
-
-    @property
-    def turn(self) -> int:
-        """A number that is larger after each change."""
-        return self._time.turn
-
-    @property
-    def trials(self) -> int:
-        """How many trials are open."""
-        return len(self._time.floors) - self.with_solve
-
-    @property
-    def is_greatest(self) -> bool:
-        """Whether no flow has a larger value than the present one."""
-        return bool(self._time.done) and self._time.done[-1].is_solved or self._held.is_greatest
-
-    def cut_arcs(self) -> dict[int, None]:
-        """The arcs of the smallest minimum cut, in their order. Raises `FlowIsNotGreatest`."""
-        return self._held.cut_arcs()
-
-    def side(self) -> set[int]:
-        """The nodes on the source's side of the cut. Raises `FlowIsNotGreatest`."""
-        return self._held.side()
-
-    def flow(self, number: int) -> Quantity:
-        """The flow on an arc, which is 0 if it is closed."""
-        return self._held.flow(number)
-
-    def line(self, number: int) -> Line:
-        """An arc as it is. Raises a `DeskFault` if there is none of this number."""
-        return self._held.line(number)
-
-    def role(self, number: int) -> Role | None:
-        """What an arc stands for, if it is none of the table."""
-        return self._held.role(number)
-
-    def limited(self) -> set[int]:
-        """The places of sources and sinks to which a limit was given that had none."""
-        return self._held.limited()
-
-    def pictured(self) -> list[int]:
-        """The arcs of the table and those that were added. One that was opened again counts once."""
-        found = [number for number, line in enumerate(self.lines, 1) if not line.is_replaced]
-        return [number for number in found if not self.role(number)] if self.folding.has_roles else found
-
-    def roles(self) -> dict[int, list[tuple[int, str]]]:
-        """By the node of a place: the arcs that stand for what it gives, takes or lets through, each with which of these."""
-        found: dict[int, list[tuple[int, str]]] = {}
-        for number, line in enumerate(self.lines, 1) if self.folding.has_roles else ():
-            if (role := self.role(number)) and not line.is_replaced:
-                found.setdefault(role.node, []).append((number, role.kind))
-        return found
 
     # What can be done.
 

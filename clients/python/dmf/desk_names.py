@@ -2,10 +2,10 @@
 
 from __future__ import annotations
 
-from collections.abc import Iterable, Iterator, Sequence
+from collections.abc import Hashable, Iterable, Iterator, Mapping, Sequence
+from functools import cached_property
 
-from . import Arc as Handle
-from .desk_steps import DeskFault, Node, Place
+from .desk_steps import DeskFault, Line, Node, Place
 from .folding import Folding, listed, role_phrase, role_words
 from .tables.cells import cleaned, near, shown
 from .text import display
@@ -19,8 +19,12 @@ class Names:
     """The names of places and arcs, and which of them a text means. What is not of the table goes by what it means there: a place with
     a limit is one, and the arc that has its limit is `what Mill lets through`."""
 
-    def __init__(self, node_names: dict[int, str], handles: dict[int, Handle[Node]], nodes: Sequence[Node], folding: Folding) -> None:
-        self._handles = handles
+    def __init__(
+        self, node_names: dict[int, str], lines: Sequence[Line], keys: Mapping[int, Hashable], nodes: Sequence[Node], folding: Folding
+    ) -> None:
+        """`lines` are the arcs by their numbers, and `keys` the names that were given to some; both may grow."""
+        self._lines = lines
+        self._keys = keys
         self._folding = folding
         self._node_names = [node_names.get(number, str(number)) for number in range(1, len(nodes) + 1)]
         self._labels = [*map(display, self._node_names)]
@@ -30,35 +34,45 @@ class Names:
         called: dict[str, list[int]] = {}
         for number in folding.places(range(1, len(self._labels) + 1)):
             called.setdefault(cleaned(self._labels[number - 1]), []).append(number)
-        self._arcs: dict[str, list[int]] = {}
         self._between: dict[tuple[int, int], list[int]] = {}
-        for number in handles:
-            self.put(number)
+        for number, line in enumerate(lines, 1):
+            self._between.setdefault(line[:2], []).append(number)
         for label, numbers in called.items():
             if len(numbers) == 1:
                 self.places[label] = Place(numbers[0], folding.second(numbers[0]))
             else:
                 self._several[label] = numbers
 
+    @cached_property
+    def _arcs(self) -> dict[str, list[int]]:
+        """The arcs by the names by which they can be typed."""
+        found: dict[str, list[int]] = {}
+        for numbers in self._between.values():
+            for number in numbers:
+                for name in self._typed(number):
+                    found.setdefault(name, []).append(number)
+        return found
+
     def put(self, number: int) -> None:
         """Takes in an arc."""
+        if "_arcs" in vars(self):
+            for name in self._typed(number):
+                self._arcs.setdefault(name, []).append(number)
         self._between.setdefault(self._ends(number), []).append(number)
-        for name in self._typed(number):
-            self._arcs.setdefault(name, []).append(number)
 
     def drop(self, number: int) -> None:
         """Takes out an arc that was taken in."""
+        if "_arcs" in vars(self):
+            for name in self._typed(number):
+                self._arcs[name].remove(number)
         self._between[self._ends(number)].remove(number)
-        for name in self._typed(number):
-            self._arcs[name].remove(number)
 
     def _typed(self, number: int) -> set[str]:
         """The names by which an arc can be typed: how it is called, and its name in the problem."""
         return {cleaned(name) for name in (self.arc_name(number), display(self.given_arc(number))) if name}
 
     def _ends(self, number: int) -> tuple[int, int]:
-        handle = self._handles[number]
-        return self.nodes[handle.tail], self.nodes[handle.head]
+        return self._lines[number - 1][:2]
 
     def node(self, number: int) -> str:
         """How a node's place is called."""
@@ -92,7 +106,7 @@ class Names:
 
     def given_arc(self, number: int) -> str:
         """The name of an arc as it was given, or nothing."""
-        key = self._handles[number].given_key
+        key = self._keys.get(number)
         return key if isinstance(key, str) else ""
 
     def ends(self, number: int) -> str:
@@ -128,6 +142,18 @@ class Names:
         first = self._folding.place(node)
         return Place(first, self._folding.second(first))
 
+    def spoken_place(self, node: int) -> str:
+        """How the place of a node is typed."""
+        return cleaned(self.node(node))
+
+    def alike(self, number: int) -> list[int]:
+        """The arcs with the ends and the name of one, in their order; none that was opened again as another one."""
+        return self.alike_between(*self._ends(number), self.arc_name(number))
+
+    def alike_between(self, tail: int, head: int, name: str) -> list[int]:
+        """The arcs of a name, which may be empty, between two nodes, in their order."""
+        return sorted(number for number in self._between.get((tail, head), ()) if self.arc_name(number) == name)
+
     def is_place(self, text: str) -> bool:
         return cleaned(text) in self.places
 
@@ -142,7 +168,7 @@ class Names:
         number, as in `#7`. Raises a `DeskFault` if there are none."""
         name = cleaned(text)
         number = self._numbered(name)
-        found = {number: None} if number in self._handles else {}
+        found = {number: None} if 1 <= number <= len(self._lines) else {}
         found.update(dict.fromkeys(self._arcs.get(name, ())))
         for tail, head in self._splits(name):
             found.update(dict.fromkeys(self._between.get((self.places[tail].exit, self.places[head].entry), ())))
@@ -163,13 +189,13 @@ class Names:
     def _unknown_arc(self, name: str) -> str:
         for tail, head in self._splits(name):
             return f"no arc leads from {shown(tail)} to {shown(head)}"
-        if name.isascii() and name.isdigit() and int(name) in self._handles:
+        if name.isascii() and name.isdigit() and 1 <= int(name) <= len(self._lines):
             return f"no arc is called {shown(name)}; is it #{name}, {self.arc(int(name))}?"
         return f"no arc is called {shown(name)}{near(name, self.spoken())}"
 
     def spoken(self) -> Iterator[str]:
         """For each arc a text that means it."""
-        return map(self.called, self._handles)
+        return map(self.called, range(1, len(self._lines) + 1))
 
     def called(self, number: int) -> str:
         """A text that means an arc: its name, or else its ends."""

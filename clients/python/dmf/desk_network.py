@@ -9,8 +9,9 @@ import contextlib
 import tempfile
 from collections.abc import Hashable, Iterable, Iterator
 from dataclasses import dataclass
+from itertools import chain
 
-from . import Cut, Solution, read
+from . import Arc, Cut, Solution, read
 from .desk_names import Names
 from .desk_steps import Add, Cap, Change, Close, DeskFault, Follow, Line, Node, Reopen, Shut, Solve, Step, Was
 from .errors import Error, FlowIsNotGreatest, Refused
@@ -43,16 +44,18 @@ class Held:
             file.write(subject.text)
             file.flush()
             self.network = read(file.name, program=program)
-        self.handles = {arc.number: arc for arc in self.network.arcs}
+        kept = self.network._kept
+        columns, quantity = kept.columns, self.measure.quantity
         self._nodes = self.network.nodes
         self.folding = Folding(subject.described)
-        self.names = Names(read_names(subject.text)[0], self.handles, self._nodes, self.folding)
-        nodes, quantity = self.names.nodes, self.measure.quantity
-        self.lines = [
-            Line(nodes[arc.tail], nodes[arc.head], quantity(self.network.capacity(arc))) for arc in self.handles.values()
-        ]
+        self.lines = [Line(tail, head, quantity(most)) for tail, head, most in zip(columns.tails, columns.heads, kept.capacities)]
+        # The names of arcs, those of added ones too.
+        self._keys = dict(columns.keys)
+        self.names = Names(read_names(subject.text)[0], self.lines, self._keys, self._nodes, self.folding)
         for number, role in subject.described.roles.items() if self.folding.has_unlimited else ():
             self.lines[number - 1] = self.lines[number - 1]._replace(is_unlimited=role.is_unlimited)
+        # How many arcs the problem has; those after them were added.
+        self.first_count = len(self.lines)
         self.shut_nodes: frozenset[int] = frozenset()
         self._seen = _Seen()
         self._is_broken = False
@@ -128,18 +131,27 @@ class Held:
     def _opened(self) -> Iterator[tuple[int, Line]]:
         return ((number, line) for number, line in enumerate(self.lines, 1) if not line.is_closed)
 
+    def flows(self) -> dict[int, int]:
+        """The flow on each open arc, as the session has it."""
+        self._seen.flow = self._seen.flow or self.network.flow()
+        return dict(zip((number for number, _ in self._opened()), self._seen.flow.values()))
+
     def flow(self, number: int) -> Quantity:
         """The flow on an arc, which is 0 if it is closed."""
         if self.line(number).is_closed:
             return 0
         self._seen.flow = self._seen.flow or self.network.flow()
-        return self.measure.quantity(self._seen.flow[self.handles[number]])
+        return self.measure.quantity(self._seen.flow[self.handle(number)])
 
     def line(self, number: int) -> Line:
         """An arc as it is. Raises a `DeskFault` if there is none of this number."""
         if not 1 <= number <= len(self.lines):
             raise DeskFault(f"there is no arc #{number}")
         return self.lines[number - 1]
+
+    def handle(self, number: int) -> Arc[Node]:
+        """The handle of an arc in the session's network."""
+        return self.network._kept.handle(number)
 
     def role(self, number: int) -> Role | None:
         """What an arc stands for, if it is none of the table."""
@@ -198,9 +210,10 @@ class Held:
     def _unlimited(self, ends: Iterable[tuple[int, int]]) -> Iterator[tuple[int, Role]]:
         """The open arcs of the unlimited sources and sinks at which arcs with such ends are."""
         wanted = list(ends)
-        for number, line in self._opened() if self.folding.has_unlimited else ():
-            role = self.role(number)
-            if role and line.is_unlimited and any(self.folding.at_role(role, *those) for those in wanted):
+        added = range(self.first_count + 1, len(self.lines) + 1)
+        for number in chain(self.subject.described.roles, added) if self.folding.has_unlimited else ():
+            line, role = self.lines[number - 1], self.role(number)
+            if role and line.is_unlimited and not line.is_closed and any(self.folding.at_role(role, *those) for those in wanted):
                 yield number, role
 
     def _sum(self, amounts: Iterable[Quantity]) -> Quantity:
@@ -213,7 +226,8 @@ class Held:
         """Makes the changes of a step, all of them or none. Any error but a refusal ends the session, which might be left between."""
         before: list[Was] = []
         shut_before, made = self.shut_nodes, 0
-        seen = _Seen()
+        # A flow that somebody has is read before it changes.
+        self._seen = seen = _Seen()
         with self._unbroken():
             try:
                 for change in changes:
@@ -255,16 +269,16 @@ class Held:
             return [self._added(Line(change.tail, change.head, change.capacity), change.name)]
         if isinstance(change, Reopen):
             line = self.lines[change.arc - 1]
-            added = self._added(line._replace(is_closed=False, is_shut=False), self.handles[change.arc].given_key)
+            added = self._added(line._replace(is_closed=False, is_shut=False), self._keys.get(change.arc))
             self.names.drop(change.arc)
             return [added, self._put(change.arc, line._replace(is_shut=False, is_replaced=True))]
         if isinstance(change, Shut):
             return self._shut(change.node)
         line = self.lines[change.arc - 1]
         if isinstance(change, Close):
-            self.network.close(self.handles[change.arc])
+            self.network.close(self.handle(change.arc))
             return [self._put(change.arc, line._replace(is_closed=True))]
-        self.network.cap(self.handles[change.arc], self.measure.whole(change.capacity))
+        self.network.cap(self.handle(change.arc), self.measure.whole(change.capacity))
         is_unlimited = line.is_unlimited and isinstance(change, Follow)
         return [self._put(change.arc, line._replace(capacity=change.capacity, is_unlimited=is_unlimited))]
 
@@ -276,7 +290,8 @@ class Held:
     def _added(self, line: Line, name: Hashable) -> Was:
         nodes = self._nodes
         handle = self.network.add(nodes[line.tail - 1], nodes[line.head - 1], self.measure.whole(line.capacity), name)
-        self.handles[handle.number] = handle
+        if name is not None:
+            self._keys[handle.number] = name
         self.lines.append(line)
         self.names.put(handle.number)
         return Was(handle.number, None)
@@ -296,7 +311,7 @@ class Held:
         for number, line in reversed(list(before)):
             if line is None:
                 self.names.drop(number)
-                del self.handles[number]
+                self._keys.pop(number, None)
                 self.lines.pop()
                 continue
             if self.lines[number - 1].is_replaced:

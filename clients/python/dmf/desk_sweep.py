@@ -24,11 +24,11 @@ def trials(held: Held, value: Quantity, wanted: Iterable[int]) -> Generator[Tria
     carrying = {number for number in numbers if held.flow(number)}
     cases: list[list[tuple[object, ...]]] = []
     for number in numbers:
-        arc = held.handles[number]
+        arc = held.handle(number)
         if number in carrying:
             cases.append([("close", arc)])
         if number in cut:
-            others = [("cap", held.handles[cap.arc], held.measure.whole(cap.capacity)) for cap in doubling[number]]
+            others = [("cap", held.handle(cap.arc), held.measure.whole(cap.capacity)) for cap in doubling[number]]
             cases.append([("add", arc.tail, arc.head, held.whole(number)), *others])
     wholes = {number: held.whole(number) + sum(held.measure.whole(it.capacity) - held.whole(it.arc) for it in doubling[number]) for number in numbers}
     jobs = max(1, min(len(cases), len(os.sched_getaffinity(0))))

@@ -6,48 +6,52 @@ import cmd
 import contextlib
 import difflib
 import os
-import subprocess
 import sys
 from collections.abc import Callable, Iterable
-from pathlib import Path
 
 from .desk import Desk
 from .desk_amounts import amount
-from .desk_steps import DeskFault, Trial, unforeseen
-from .desk_text import picture_text, problem, table
+from .desk_steps import DeskFault, unforeseen
+from .desk_text import problem, table
 from .errors import Error
 from .folding import LEFT_OUT
 from .plan_completion import history, matches, typed_line
+from .plan_files import DRAWN, Files, drawn
 from .plan_meaning import WHERE, arcs_told, arcs_where, capped, capped_where, last_closed, new_arc
-from .plan_words import ALWAYS, CHANGES, COMMANDS, Word, count_of, no_words, one_name, split
-from .quantity import EXACT, Quantity, plain_text
+from .plan_scenarios import compared, project_of, scenario
+from .plan_sweep import swept
+from .plan_words import ALWAYS, CHANGES, COMMANDS, Word, count_of, no_words, one_name, quoted, split
+from .project.desk import ProjectDesk
+from .quantity import Quantity, moved, plain_text
 from .tables.cells import shown
 from .text import display
-from .tool import ToolFault, write_file
+from .tool import ToolFault
 
 MOST_SIDE = 30
-# How long Graphviz may take, in seconds.
-PATIENCE = 60
-DRAWN = {".svg": "svg", ".png": "png", ".pdf": "pdf"}
+# Keeps the steps of a desk in a new project at a path, whose desk goes on in its place.
+Keep = Callable[[str, Desk], ProjectDesk]
 
 
 class Plan(cmd.Cmd):
-    """The session. `is_typed` says that a person types, who sees a prompt and may complete names; else the lines are a script's."""
+    """The session. `is_typed` says that a person types, who sees a prompt and may complete names; else the lines are a script's. `keep` makes
+    a project, and `offer` is a name for it."""
 
-    def __init__(self, desk: Desk, *, is_typed: bool, write: Callable[[str], None]) -> None:
+    def __init__(self, desk: Desk, *, is_typed: bool, write: Callable[[str], None], keep: Keep | None = None, offer: str = "") -> None:
         super().__init__()
         self.desk = desk
         self.is_typed = is_typed
         self.write = write
         self.refused = 0
         self.line_number = 0
-        self._written: set[str] = set()
+        self._keep_in = keep
+        self._offer = offer
+        self._files = Files()
         self._matches: list[str] = []
         self._do = {
             "solve": self._solve, "cut": self._cut, "flow": self._flow, "close": self._close, "open": self._open, "cap": self._cap,
             "add": self._add, "shut": self._shut, "undo": self._undo, "redo": self._redo, "steps": self._steps, "try": self._try,
             "keep": self._keep, "drop": self._drop, "what-if": self._what_if, "draw": self._draw, "save": self._save,
-            "help": self._help, "quit": self._quit,
+            "scenario": self._scenario, "compare": self._compare, "help": self._help, "quit": self._quit,
         }  # fmt: skip
 
     # How lines come and how they are answered.
@@ -70,7 +74,15 @@ class Plan(cmd.Cmd):
             self.begin_again()
             if self.desk.has_ended:
                 return None
-        return carry_out([word.text for word in words[1:]])
+        made = carry_out([word.text for word in words[1:]])
+        if news := self._news():
+            self.tell(*news)
+        return made
+
+    def _news(self) -> list[str]:
+        """What is to be said beside an answer, once."""
+        news, self.desk.news = self.desk.news, []
+        return news
 
     def _guarded(self, do: Callable[[], object]) -> object:
         """What a call returns, or None if it raises. What goes wrong in it is told, and the steps before it are kept, on a new session
@@ -125,7 +137,8 @@ class Plan(cmd.Cmd):
 
     def run_typed(self) -> None:
         """Takes lines from a person, to the end."""
-        self.tell(self.greeting(), "`help` lists the commands, `quit` ends.")
+        offer = f"`keep {quoted(display(self._offer))}` keeps what you do in a project, to go on another day."
+        self.tell(self.greeting(), "`help` lists the commands, `quit` ends.", *[offer] * bool(self._offer))
         with history():
             while True:
                 try:
@@ -157,13 +170,14 @@ class Plan(cmd.Cmd):
     def _prompt(self) -> str:
         desk = self.desk
         state = "ended" if desk.has_ended else "greatest" if desk.is_greatest else "not greatest"
-        return f"{'try, ' * desk.trials}{plain_text(desk.value)}, {state}> "
+        name = f"{display(desk.scenario.name)}: " if isinstance(desk, ProjectDesk) else ""
+        return f"{name}{'try, ' * desk.trials}{plain_text(desk.value)}, {state}> "
 
     def _value(self, before: Quantity | None = None) -> str:
         """The present value, and its difference to the one before."""
         value = self.desk.value
-        moved = "" if before is None or value == before else f", {_moved(before, value)}"
-        return f"value {self.desk.told(value)}{moved}" + (", the greatest" if self.desk.is_greatest else "; more can be sent: solve")
+        by = "" if before is None or value == before else f", {moved(before, value)}"
+        return f"value {self.desk.told(value)}{by}" + (", the greatest" if self.desk.is_greatest else "; more can be sent: solve")
 
     # What the commands do.
 
@@ -235,8 +249,16 @@ class Plan(cmd.Cmd):
         self.tell("a trial begins: `drop` takes back what comes now, `keep` keeps it")
 
     def _keep(self, words: list[str]) -> None:
-        no_words(words, "keep")
-        self._change(self.desk.keep)
+        if not words:
+            self._change(self.desk.keep)
+            return
+        if self.desk.trials:
+            raise DeskFault("a trial is open; `keep` alone or `drop` ends it")
+        if not self._keep_in:
+            raise DeskFault("no project can be kept here")
+        desk, self.desk = self.desk, self._keep_in(os.path.expanduser(one_name(words, "keep")), self.desk)
+        desk.end()
+        self.tell(f"kept from here on: {display(self.desk.subject.path)}. Each step solves after its change", self._value())
 
     def _drop(self, words: list[str]) -> None:
         no_words(words, "drop")
@@ -296,7 +318,7 @@ class Plan(cmd.Cmd):
             finally:
                 self.write = write
             value = desk.value
-        self.tell(f"it would be {desk.told(value)}: {_moved(base, value)}")
+        self.tell(f"it would be {desk.told(value)}: {moved(base, value)}")
 
     def _sweep(self, words: list[str]) -> None:
         desk = self.desk
@@ -310,60 +332,24 @@ class Plan(cmd.Cmd):
             wanted = list(range(1, len(desk.lines) + 1))
         else:
             raise DeskFault(f"wanted is: {COMMANDS['what-if'].form}")
-        base = desk.value
-        trials: list[Trial] = []
-        for trial in desk.sweep(number for number in wanted if not desk.line(number).is_closed):
-            trials.append(trial)
-            if self.is_typed and len(wanted) > 20:
-                sys.stderr.write(f"\r{len(trials)} of {len(wanted)} ")
-        if self.is_typed and len(wanted) > 20:
-            sys.stderr.write("\r\033[K")
-        for trial in sorted(trials, key=lambda trial: trial.closed):
-            doubled = "past 64 bits" if trial.doubled is None else f"{plain_text(trial.doubled)} ({_moved(base, trial.doubled)})"
-            second = "twice as much" if desk.role(trial.arc) else "a second one"
-            closed = f"closed {plain_text(trial.closed)} ({_moved(base, trial.closed)})"
-            self.tell(f"  #{trial.arc} {desk.names.arc(trial.arc)}: {closed}, {second} {doubled}")
+        self.tell(*swept(desk, [number for number in wanted if not desk.line(number).is_closed], is_shown=self.is_typed))
 
     def _draw(self, words: list[str]) -> None:
-        path = self._new_file(words, "draw", [*DRAWN, ".dot"])
-        text = picture_text(self.desk)
-        kind = DRAWN.get(Path(path).suffix)
-        if kind is None:
-            self._put(path, text.encode())
-            return
-        try:
-            ran = subprocess.run(["dot", f"-T{kind}"], input=text.encode(), capture_output=True, timeout=PATIENCE, check=True)
-        except FileNotFoundError:
-            raise DeskFault("Graphviz is not there, which draws; its program is called dot. A FILE.dot can be had") from None
-        except subprocess.SubprocessError as error:
-            raise DeskFault(f"Graphviz did not draw it: {error}") from None
-        self._put(path, ran.stdout)
+        path = self._files.new(one_name(words, "draw"), [*DRAWN, ".dot"])
+        self.tell(self._files.put(path, drawn(self.desk, path)))
 
     def _save(self, words: list[str]) -> None:
-        path = self._new_file(words, "save", [".csv", ".max"])
+        path = self._files.new(one_name(words, "save"), [".csv", ".max"])
         is_table = path.endswith(".csv")
-        self._put(path, (table(self.desk) if is_table else problem(self.desk)).encode())
+        self.tell(self._files.put(path, (table(self.desk) if is_table else problem(self.desk)).encode()))
         if is_table and self.desk.roles():
             self.tell(LEFT_OUT)
 
-    def _new_file(self, words: list[str], command: str, endings: list[str]) -> str:
-        """The path of a file that may be written: if this session did not write it, it must be new."""
-        path = os.path.expanduser(one_name(words, command))
-        if Path(path).suffix not in endings:
-            raise DeskFault(f"the name of the file ends with one of {', '.join(endings)}")
-        if os.path.realpath(path) not in self._written and os.path.lexists(path):
-            raise DeskFault(f"{shown(path)} is there already; name another file")
-        return path
+    def _scenario(self, words: list[str]) -> None:
+        self.tell(*scenario(project_of(self.desk), words))
 
-    def _put(self, path: str, data: bytes) -> None:
-        try:
-            # A new file is none that somebody else put there meanwhile, nor a link to one.
-            write_file(path, data, is_new=os.path.realpath(path) not in self._written)
-        except (OSError, ValueError) as error:
-            why = error.strerror if isinstance(error, OSError) else error
-            raise DeskFault(f"cannot write {shown(path)}: {why}") from None
-        self._written.add(os.path.realpath(path))
-        self.tell(f"written: {display(path)}")
+    def _compare(self, words: list[str]) -> None:
+        self.tell(*compared(project_of(self.desk), words))
 
     def _help(self, words: list[str]) -> None:
         if words:
@@ -391,9 +377,3 @@ class Plan(cmd.Cmd):
 
 def _nothing(_: str) -> None:
     pass
-
-
-def _moved(before: Quantity, after: Quantity) -> str:
-    """What is gained or lost."""
-    by = EXACT.subtract(after, before)
-    return f"{plain_text(abs(by))} {'more' if by > 0 else 'less'}" if by else "no change"

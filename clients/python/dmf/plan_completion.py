@@ -8,7 +8,8 @@ from collections.abc import Iterator
 from pathlib import Path
 
 from .desk import Desk
-from .plan_words import ARC, CHANGES, CLOSED, COMMAND, COMMANDS, FLOW, PLACE, Word, split, typed_form
+from .plan_words import ARC, CHANGES, CLOSED, COMMAND, COMMANDS, FLOW, PLACE, SCENARIO, Word, split, typed_form
+from .project.desk import BASE, ProjectDesk
 
 try:
     import readline
@@ -48,6 +49,9 @@ def _candidates(desk: Desk, before: list[str]) -> Iterator[str]:
             return
         before = before[1:]
     takes = COMMANDS[before[0]].takes if before and before[0] in COMMANDS else ""
+    if takes == SCENARIO:
+        yield from _scenario_words(desk, before)
+        return
     if not before or takes == COMMAND and len(before) == 1:
         yield from COMMANDS
     elif takes == PLACE and len(before) <= (2 if before[0] == "add" else 1):
@@ -59,6 +63,17 @@ def _candidates(desk: Desk, before: list[str]) -> Iterator[str]:
     elif takes == CLOSED and len(before) == 1:
         yield from (names.called(n) for n, line in enumerate(desk.lines, 1) if line.is_closed and not line.is_replaced)
         yield from (names.node(node) for node in sorted(desk.shut_nodes))
+
+
+def _scenario_words(desk: Desk, before: list[str]) -> Iterator[str]:
+    """The words that may stand after these, which begin a command about scenarios."""
+    if before == ["scenario"]:
+        yield from ("new", "go", "copy", "name", "delete", "note")
+    elif isinstance(desk, ProjectDesk) and (before[0] == "compare" or before[1] in ("go", "delete") or before[-1] == "from"):
+        yield from (it.name for it in desk.project.scenarios)
+        yield from [BASE] * (before[1:2] not in (["go"], ["delete"]))
+    elif before[1:2] == ["new"] and len(before) == 3:
+        yield "from"
 
 
 @contextlib.contextmanager

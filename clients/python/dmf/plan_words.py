@@ -9,7 +9,7 @@ from .quantity import readings
 from .tables.cells import cleaned, shown
 
 LONGEST_COUNT = 12
-FLOW, PLACE, ARC, CLOSED, COMMAND, EACH = "flow", "place", "arc", "closed", "command", "each"
+FLOW, PLACE, ARC, CLOSED, COMMAND, EACH, SCENARIO = "flow", "place", "arc", "closed", "command", "each", "scenario"
 
 
 class Help(NamedTuple):
@@ -41,7 +41,7 @@ COMMANDS = {
     "redo": Help("redo [NUMBER]", "Makes again the step that `undo` took back last, or so many."),
     "steps": Help("steps", "Lists the steps with the value after each."),
     "try": Help("try", "Begins a trial: `drop` takes back all that is done from here on, and `keep` keeps it."),
-    "keep": Help("keep", "Ends the trial, and keeps its steps."),
+    "keep": Help("keep [FILE]", "Ends the trial, and keeps its steps; or keeps what is done in a new project, whose name ends with .dmf.json."),
     "drop": Help("drop", "Ends the trial, and takes its steps back."),
     "what-if": Help(
         "what-if each arc [of the cut | at PLACE]  or  what-if COMMAND",
@@ -51,6 +51,13 @@ COMMANDS = {
     ),
     "draw": Help("draw FILE", "Draws the network: FILE ends with .svg, .png or .pdf, or with .dot for the text alone."),
     "save": Help("save FILE", "Writes the plan as a table where FILE ends with .csv, or the problem where it ends with .max."),
+    "scenario": Help(
+        "scenario [new NAME [from OTHER] | go NAME | copy NAME | name NAME | delete NAME | note TEXT]",
+        "Lists the scenarios of a project; begins one from the network of the table, or with the steps of another; goes to one; copies, names or "
+        "notes the present one.",
+        SCENARIO,
+    ),
+    "compare": Help("compare [SCENARIO] SCENARIO", "Shows in what two scenarios differ: value, limit and arcs; base is the table's network.", SCENARIO),
     "help": Help("help [COMMAND]", "Lists the commands, or says what one does.", COMMAND),
     "quit": Help("quit", "Ends, and saves nothing."),
 }

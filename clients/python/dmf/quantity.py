@@ -89,6 +89,12 @@ def plain_text(number: Quantity) -> str:
     return text.rstrip("0").rstrip(POINT) if POINT in text else text
 
 
+def moved(before: Quantity, after: Quantity) -> str:
+    """What is gained or lost, in words."""
+    by = EXACT.subtract(after, before)
+    return f"{plain_text(abs(by))} {'more' if by > 0 else 'less'}" if by else "no change"
+
+
 def decimals(number: Quantity) -> int:
     """How many decimals a number has: 1 for 30.5 and for 30.50, 0 for 30."""
     return len(plain_text(number).partition(POINT)[2])

@@ -3,18 +3,20 @@
 from __future__ import annotations
 
 import argparse
-from dataclasses import dataclass
+from collections.abc import Mapping
+from dataclasses import dataclass, field
 from functools import cached_property
+from typing import Any
 
 from ..quantity import Measure
 from ..text import display, fields, lines
 from ..tool import ToolFault
 from .cells import MOST_TOLD, shown
-from .columns import DEMAND, NAME, SUPPLY, spoken
+from .columns import DEMAND, NAME, PLACE_COLUMNS, SUPPLY, spoken
 from .comments import Described, described
 from .faults import TableFault
 from .network import KINDS, Plan, net_of
-from .opening import data_of, plan_of
+from .opening import Wanted, data_of, plan_of
 from .options import add_options, parsed, says_table, wanted_of
 from .problem import problem_text
 from .rows import Term
@@ -28,13 +30,15 @@ FAULT, UNREADABLE = 3, 4
 @dataclass(frozen=True)
 class Subject:
     """A problem with comments, as `dmf-problem` writes it. `noun` is the table's word for an arc, if its titles have one. `notes` say
-    what looks like a mistake, and what was assumed. `raw_names` says that names stand in a table as they are."""
+    what looks like a mistake, and what was assumed. `raw_names` says that names stand in a table as they are. `found` are the options that
+    say what was found in a table: the titles of its columns, its source and its sink."""
 
     path: str
     text: bytes
     noun: str = ""
     notes: tuple[str, ...] = ()
     raw_names: bool = False
+    found: Mapping[str, Any] = field(default_factory=dict)
 
     @cached_property
     def described(self) -> Described:
@@ -70,7 +74,7 @@ def read_subject(words: argparse.Namespace) -> Subject:
             if says_table(words):
                 raise ToolFault(f"{words.path} has a problem, which names its own source and sink: the options are for tables", 2)
             return Subject(words.path, data, raw_names=words.raw_names)
-        return _of_table(words, data)
+        return subject_of(wanted_of(words), words.path, data)
     except TableFault as fault:
         fault.name_path(words.path)
         first, *more = fault.lines()
@@ -84,13 +88,21 @@ def is_problem(path: str, data: bytes) -> bool:
     return first is not None and first[:2] == [b"p", b"max"] or path.endswith(".max")
 
 
-def _of_table(words: argparse.Namespace, data: bytes) -> Subject:
-    plan = plan_of(wanted_of(words), words.path, data)
+def subject_of(wanted: Wanted, path: str, data: bytes) -> Subject:
+    """The problem of a table in these bytes. Raises a `TableFault`, and a `ToolFault` if a table of places cannot be read."""
+    plan = plan_of(wanted, path, data)
+    said = [term.kind for term in plan.terms]
     notes = complete(plan)
     net = net_of(plan)
     noun = spoken(plan.arcs.layout.title(NAME).text)
     told = (*plan.notes, *notes, *warnings(plan, net))
-    return Subject(words.path, problem_text(net).encode(), noun, told, words.raw_names)
+    found: dict[str, Any] = {KINDS[term.kind]: [term.place] for term in plan.terms if term.kind in KINDS and term.kind not in said}
+    layout = plan.arcs.layout
+    titles = {column: layout.title(column).text for column in layout.at}
+    texts = [title.text for title in layout.titles]
+    if layout.line and not titles.keys() & PLACE_COLUMNS and all(texts.count(title) == 1 for title in titles.values()):
+        found.update(titles)
+    return Subject(path, problem_text(net).encode(), noun, told, wanted.reading.raw_names, found)
 
 
 def complete(plan: Plan) -> list[str]:

@@ -1,0 +1,30 @@
+"""What dmf-plan tells of a sweep."""
+
+from __future__ import annotations
+
+import sys
+
+from .desk import Desk
+from .desk_steps import Trial
+from .quantity import moved, plain_text
+
+# From how many arcs on it is shown how far a sweep is.
+MANY = 20
+
+
+def swept(desk: Desk, numbers: list[int], *, is_shown: bool) -> list[str]:
+    """What each of these open arcs means for the value, those whose loss is largest first. How far it is can be shown on a terminal."""
+    base, trials, is_shown = desk.value, list[Trial](), is_shown and len(numbers) > MANY
+    for trial in desk.sweep(numbers):
+        trials.append(trial)
+        if is_shown:
+            sys.stderr.write(f"\r{len(trials)} of {len(numbers)} ")
+    if is_shown:
+        sys.stderr.write("\r\033[K")
+    lines = []
+    for trial in sorted(trials, key=lambda trial: trial.closed):
+        doubled = "past 64 bits" if trial.doubled is None else f"{plain_text(trial.doubled)} ({moved(base, trial.doubled)})"
+        second = "twice as much" if desk.role(trial.arc) else "a second one"
+        closed = f"closed {plain_text(trial.closed)} ({moved(base, trial.closed)})"
+        lines.append(f"  #{trial.arc} {desk.names.arc(trial.arc)}: {closed}, {second} {doubled}")
+    return lines

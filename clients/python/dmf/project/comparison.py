@@ -1,0 +1,151 @@
+"""In what two scenarios differ: the value, the limit, and each arc whose flow, capacity or state is another one."""
+
+from __future__ import annotations
+
+from collections import Counter
+from collections.abc import Iterator
+from dataclasses import dataclass
+from typing import NamedTuple, Union
+
+from ..desk_steps import Line
+from ..quantity import Measure, Quantity, moved, plain_text
+from ..text import display
+from .desk import ProjectDesk
+
+# By what an arc is known in every scenario: its number, if it is one of the table; else its ends, its name and its place among those
+# alike that were added.
+Known = Union[int, tuple[int, int, str, int]]
+OPEN, CLOSED, ABSENT = "open", "closed", "not there"
+
+
+class ArcState(NamedTuple):
+    """An arc in a scenario: `open`, `closed` or `not there`; its capacity, which one that is closed had before, and its flow; whether it is
+    one of the limit; and whether it carries as much as the arcs at its place, so that its capacity says nothing."""
+
+    state: str
+    capacity: Quantity
+    flow: Quantity
+    is_limit: bool
+    is_unlimited: bool = False
+
+    def told(self) -> str:
+        """It in words: `45 of 45, limit`."""
+        if self.state != OPEN:
+            return self.state
+        amounts = f"{plain_text(self.flow)}, no limit" if self.is_unlimited else f"{plain_text(self.flow)} of {plain_text(self.capacity)}"
+        return amounts + ", limit" * self.is_limit
+
+
+_ABSENT = ArcState(ABSENT, 0, 0, False)
+
+
+@dataclass(frozen=True)
+class Standing:
+    """A scenario as it stands: its value, the places on the source's side of its limit, and the arcs of the limit, by their names."""
+
+    name: str
+    value: Quantity
+    side: tuple[str, ...]
+    limit: tuple[str, ...]
+
+
+@dataclass(frozen=True)
+class ArcDifference:
+    """An arc that differs: its name with its ends, and what it is in each scenario. `known` tells it from others alike."""
+
+    arc: str
+    first: ArcState
+    second: ArcState
+    known: Known
+
+
+@dataclass(frozen=True)
+class Comparison:
+    """Two scenarios beside each other, and the arcs that differ, in the order of the table. Numbers are the table's."""
+
+    first: Standing
+    second: Standing
+    arcs: tuple[ArcDifference, ...]
+    measure: Measure
+
+    def lines(self) -> Iterator[str]:
+        """It in words, a line for each thing that differs."""
+        names = [display(it.name) for it in (self.first, self.second)]
+        for name, standing in zip(names, (self.first, self.second)):
+            yield f"{name}: value {plain_text(standing.value)} {self.measure.told_unit}".rstrip()
+        yield f"  {moved(self.first.value, self.second.value)}"
+        if self.first.limit == self.second.limit:
+            yield f"  the limit is the same: {'; '.join(self.first.limit) or 'nothing'}"
+        else:
+            for name, standing in zip(names, (self.first, self.second)):
+                yield f"  limit of {name}: {'; '.join(standing.limit) or 'nothing'}"
+        yield f"  arcs that differ, {' | '.join(names)}:" if self.arcs else "  no arc differs"
+        yield from (f"  {it.arc}: {it.first.told()} | {it.second.told()}" for it in self.arcs)
+
+
+class _Seen:
+    """What is seen of a scenario that a desk shows: itself and its arcs, all before the desk shows another one."""
+
+    def __init__(self, desk: ProjectDesk, name: str) -> None:
+        cut, names = desk.cut_arcs(), desk.names
+        limit = tuple(names.arc(number) for number in cut)
+        self.standing = Standing(name, desk.value, tuple(names.side(desk.side())), limit)
+        flows = desk.flows()
+        self._cut = frozenset(cut)
+        self._flows = flows
+        self._lines: list[Line] = list(desk.lines)
+        self._measure = desk.measure
+        self.numbers = dict(_known(desk))
+        # An arc that was added is not there in another scenario, and goes by other numbers in it.
+        self._label = names.arc
+        self._added = {known: names.arc(number) for known, number in self.numbers.items() if isinstance(known, tuple)}
+
+    def bare(self, known: Known) -> tuple[object, ...]:
+        """What can differ, as it can be compared at once."""
+        number = self.numbers.get(known)
+        if number is None:
+            return ()
+        line = self._lines[number - 1]
+        return line.is_closed, line.capacity, self._flows.get(number, 0), number in self._cut, line.is_unlimited
+
+    def state(self, known: Known) -> ArcState:
+        number = self.numbers.get(known)
+        if number is None:
+            return _ABSENT
+        line = self._lines[number - 1]
+        flow = self._measure.quantity(self._flows.get(number, 0))
+        return ArcState(CLOSED if line.is_closed else OPEN, line.capacity, flow, number in self._cut, line.is_unlimited)
+
+    def label(self, known: Known) -> str:
+        """How an arc is called; nothing if it was added in another scenario."""
+        return self._added.get(known, "") if isinstance(known, tuple) else self._label(known)
+
+
+def _known(desk: ProjectDesk) -> Iterator[tuple[Known, int]]:
+    """The arcs of a desk by what they are known by. One that was closed and opened again is the one that it was."""
+    again, count = desk.opened_again(), Counter[tuple[int, int, str]]()
+    known: dict[int, Known] = {}
+    for number, line in enumerate(desk.lines, 1):
+        if number in again:
+            known[number] = known[again[number]]
+        elif number <= desk.first_count:
+            known[number] = number
+        else:
+            alike = line.tail, line.head, desk.names.arc_name(number)
+            count[alike] += 1
+            known[number] = (*alike, count[alike])
+        if not line.is_replaced:
+            yield known[number], number
+
+
+def compare(desk: ProjectDesk, first: str, second: str) -> Comparison:
+    """Two scenarios of a desk's project, of which one may be `base`, beside each other. The desk shows the present one again then.
+    Raises a `DeskFault` if there is no such scenario. Takes as long as the steps of both take together."""
+    with desk.visiting(first):
+        one = _Seen(desk, first)
+    with desk.visiting(second):
+        two = _Seen(desk, second)
+    every = dict.fromkeys([*one.numbers, *two.numbers])
+    found = [known for known in every if one.bare(known) != two.bare(known)]
+    rows = tuple(ArcDifference(one.label(it) or two.label(it), one.state(it), two.state(it), it) for it in found)
+    return Comparison(one.standing, two.standing, rows, desk.measure)
