@@ -12,6 +12,7 @@ help(dmf.maximum_flow)    of a graph of networkx or a matrix of scipy in one cal
                           minimum_cut, and value alone
 help(dmf.read)            a network of a file; also from_networkx, from_scipy, and
                           Network.from_arrays, Network.from_frame
+help(dmf.open_project)    a project of dmf-plan: its scenarios, compared; its steps
 help(dmf.sweep)           thousands of changes, each alone; each_arc_closed,
                           each_node_shut, each_capacity_raised, each_pair_added
 help(dmf.Error)           the base of all exceptions; each refusal is one, as
@@ -74,6 +75,9 @@ if TYPE_CHECKING:
     from .executable import program as program
     from .network import Network as Network, Row as Row
     from .once import MatrixFlow as MatrixFlow, maximum_flow as maximum_flow, minimum_cut as minimum_cut, value as value
+    from .project.comparison import Comparison as Comparison
+    from .project.form import ProjectFault as ProjectFault
+    from .project.live import OpenProject as OpenProject, open_project as open_project
     from .solution import Cut as Cut, Solution as Solution
     from .sources import from_networkx as from_networkx, from_scipy as from_scipy, read as read
     from .sweeping import (
@@ -93,6 +97,9 @@ _NAMES = {
     "executable": ["program"],
     "network": ["Network", "Row"],
     "once": ["MatrixFlow", "maximum_flow", "minimum_cut", "value"],
+    "project.comparison": ["Comparison"],
+    "project.form": ["ProjectFault"],
+    "project.live": ["OpenProject", "open_project"],
     "solution": ["Cut", "Solution"],
     "sources": ["from_networkx", "from_scipy", "read"],
     "tables.faults": ["TableFault"],

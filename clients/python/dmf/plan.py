@@ -160,7 +160,8 @@ class Plan(cmd.Cmd):
         desk = self.desk
         ends = f"from {desk.names.terminal(desk.source)} to {desk.names.terminal(desk.sink)}"
         places = len(desk.folding.places(range(1, len(desk.names.nodes) + 1)))
-        return f"{display(desk.subject.path)}: {ends}, {len(desk.pictured())} arcs between {places} places."
+        scenario = f" What is done is kept in it; the scenario is {shown(desk.scenario.name)}." if isinstance(desk, ProjectDesk) else ""
+        return f"{display(desk.subject.path)}: {ends}, {len(desk.pictured())} arcs between {places} places.{scenario}"
 
     def postcmd(self, stop: bool, line: str) -> bool:
         if not stop:

@@ -26,7 +26,7 @@ from .table import differences, kept_table, read_again, told_shortly, with_sums
 def add_project_words(parser: argparse.ArgumentParser) -> None:
     """Adds the options of the tools that open projects."""
     parser.add_argument("--keep", action="store_true", help=f"keep what is done in a new project beside the table, FILE{ENDING}")
-    parser.add_argument("--table", metavar="TABLE", help="where the table of a project is now, if it has moved")
+    parser.add_argument("--table", metavar="FILE", help="where the table of a project is now, if it has moved")
 
 
 def desk_of(words: argparse.Namespace, *, with_solve: bool) -> Desk:
@@ -48,7 +48,7 @@ def desk_of(words: argparse.Namespace, *, with_solve: bool) -> Desk:
             kept = keep_project(beside(words.path), words, desk)
         finally:
             desk.end()
-        kept.news += [*subject.notes, f"what is done is kept in {kept.file.path}"]
+        kept.news += subject.notes
         return kept
     except (Refused, ProjectFault) as fault:
         raise ToolFault(f"{words.path}: {fault}" if isinstance(fault, Refused) else str(fault), FAULT) from None

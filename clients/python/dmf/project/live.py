@@ -1,0 +1,206 @@
+"""Projects in Python: `dmf.open_project`. Places and arcs go by the names by which dmf-plan takes them, and numbers are the table's."""
+
+from __future__ import annotations
+
+import contextlib
+import os
+from collections.abc import Iterator
+from decimal import Decimal
+from typing import NamedTuple, Union
+
+from ..desk_amounts import amount
+from ..desk_steps import DeskFault
+from ..process import Program
+from ..quantity import Quantity
+from .comparison import Comparison, compare
+from .desk import BASE
+from .form import ProjectFault
+from .opening import project_desk
+
+# A quantity of the table, or a text as dmf-plan takes it: `47,3`, `12 l/s`, `+10 %`.
+Amount = Union[str, int, float, Decimal]
+
+
+class Made(NamedTuple):
+    """A step that was made: what was done, in words, and the greatest value after it."""
+
+    text: str
+    value: Quantity
+
+
+class OpenProject:
+    """A project of a table, its scenarios and their steps, as `dmf-plan` keeps them. Each step is in the project's file, or in the journal
+    beside it, before its call returns, and its value is the greatest that can be sent then.
+
+    An arc goes by its name, its ends as in `Mill-Town`, or its number as in `#7`; a place by its name. `news` are lines that say what was
+    found when the project was opened, or a scenario was gone to: what has changed in the table since, steps that mean nothing any more, that
+    another desk has the project open, so that this one may only look.
+
+    Calls raise `ProjectFault` where a name means nothing or several things, where what is asked cannot be done, and where it cannot be kept;
+    nothing has changed then. A project ends with `end`, or with the `with` block that it is made for; until then no other desk can write it.
+    """
+
+    __module__ = __package__.rpartition(".")[0]
+
+    def __init__(self, path: Union[str, os.PathLike[str]], table: str | None = None, program: Program = None) -> None:
+        self.path = os.fspath(path)
+        with _refusing():
+            self._desk = project_desk(self.path, table or "", program)
+
+    def __enter__(self) -> OpenProject:
+        return self
+
+    def __exit__(self, *_: object) -> None:
+        self.end()
+
+    def __repr__(self) -> str:
+        return f"<Project {self.path!r}: scenario {self.scenario!r}, value {self._desk.value}>"
+
+    def end(self) -> None:
+        """Ends the session, and writes the file. Raises an OSError if that fails; the journal has all of it then."""
+        self._desk.end()
+
+    # What is so now.
+
+    @property
+    def news(self) -> list[str]:
+        return list(self._desk.news)
+
+    @property
+    def scenarios(self) -> list[str]:
+        """The names of the scenarios."""
+        return [it.name for it in self._desk.project.scenarios]
+
+    @property
+    def scenario(self) -> str:
+        """The name of the present scenario."""
+        return self._desk.scenario.name
+
+    @property
+    def value(self) -> Quantity:
+        """The greatest value that can be sent, in the unit of the table."""
+        return self._desk.value
+
+    @property
+    def unit(self) -> str:
+        """What numbers are counted in; empty if that is not known."""
+        return self._desk.measure.told_unit
+
+    @property
+    def limit(self) -> list[str]:
+        """The arcs of the smallest minimum cut, by their names."""
+        return [self._desk.names.arc(number) for number in self._desk.cut_arcs()]
+
+    @property
+    def steps(self) -> list[Made]:
+        """The steps of the present scenario that are made."""
+        return [Made(step.text, step.value) for step in self._desk.steps[1 : self._desk.at]]
+
+    def flow(self, arc: str) -> Quantity:
+        """The flow on an open arc."""
+        with _refusing():
+            return self._desk.flow(self._desk.the_arc(arc))
+
+    # Steps, each of which returns the value after it.
+
+    def close(self, arc: str) -> Quantity:
+        """Closes an arc."""
+        with _refusing():
+            return self._desk.close(self._desk.the_arc(arc)).value
+
+    def open(self, arc: str) -> Quantity:
+        """Opens a closed arc."""
+        with _refusing():
+            return self._desk.open(self._desk.the_arc(arc, is_closed=True)).value
+
+    def cap(self, arc: str, capacity: Amount) -> Quantity:
+        """Gives an arc another capacity."""
+        with _refusing():
+            number = self._desk.the_arc(arc)
+            return self._desk.cap(number, self._amount(capacity, self._desk.line(number).capacity)).value
+
+    def add(self, tail: str, head: str, capacity: Amount, name: str = "") -> Quantity:
+        """Adds an arc from one place to another."""
+        with _refusing():
+            places = self._desk.names
+            return self._desk.add(places.place(tail), places.place(head), self._amount(capacity), name).value
+
+    def shut(self, place: str) -> Quantity:
+        """Closes each arc at a place."""
+        with _refusing():
+            return self._desk.shut(self._desk.names.place(place)).value
+
+    def open_place(self, place: str) -> Quantity:
+        """Opens the arcs that were closed when a place was shut."""
+        with _refusing():
+            return self._desk.open_place(self._desk.names.place(place)).value
+
+    def undo(self, count: int = 1) -> Quantity:
+        """Undoes the last steps of the present scenario, all of them or none."""
+        with _refusing():
+            self._desk.undo(count)
+            return self.value
+
+    def redo(self, count: int = 1) -> Quantity:
+        """Makes the steps again that were undone last, all of them or none."""
+        with _refusing():
+            self._desk.redo(count)
+            return self.value
+
+    def _amount(self, given: Amount, present: Quantity | None = None) -> Quantity:
+        return amount(given if isinstance(given, str) else format(Decimal(str(given)), "f"), self._desk.measure, present)
+
+    # Scenarios.
+
+    def go(self, scenario: str) -> Quantity:
+        """Goes to a scenario, and returns its value. Takes as long as its steps take."""
+        with _refusing():
+            self._desk.go(scenario)
+            return self.value
+
+    def new(self, scenario: str, begun_from: str = BASE) -> Quantity:
+        """Begins a scenario from the network of the table, or with the steps that another one has now, and goes to it."""
+        with _refusing():
+            self._desk.new(scenario, begun_from)
+            return self.value
+
+    def copy(self, scenario: str) -> None:
+        """Makes a copy of the present scenario, and goes to it."""
+        with _refusing():
+            self._desk.copy(scenario)
+
+    def rename(self, scenario: str) -> None:
+        """Gives the present scenario another name."""
+        with _refusing():
+            self._desk.rename(scenario)
+
+    def delete(self, scenario: str) -> None:
+        """Deletes a scenario that is not the present one. The older versions of the file have it still."""
+        with _refusing():
+            self._desk.delete(scenario)
+
+    def note(self, text: str) -> None:
+        """Gives the present scenario a note."""
+        with _refusing():
+            self._desk.note(text)
+
+    def compare(self, first: str, second: str) -> Comparison:
+        """Two scenarios beside each other, of which one may be `base`, the network of the table. Takes as long as their steps take."""
+        with _refusing():
+            return compare(self._desk, first, second)
+
+
+@contextlib.contextmanager
+def _refusing() -> Iterator[None]:
+    """Raises what the desk refuses as a `ProjectFault`."""
+    try:
+        yield
+    except DeskFault as fault:
+        raise ProjectFault(str(fault)) from None
+
+
+def open_project(path: Union[str, os.PathLike[str]], *, table: str | None = None, program: Program = None) -> OpenProject:
+    """Opens a project that `dmf-plan TABLE --keep` or `dmf-board TABLE --keep` has made, in its file `NAME.dmf.json`. `table` is where its table
+    is now, if that has moved. Its steps are made again on a new session, and each value is compared with the one that was kept: `news` tells
+    what differs. Raises `ProjectFault`, with the place in the file, an OSError if it cannot be read, and what `Network` raises."""
+    return OpenProject(path, table, program)

@@ -1,0 +1,182 @@
+"""Two scenarios of the stories compared at the terminal and in Python: the same differences, which the second implementation gives too."""
+
+from __future__ import annotations
+
+import subprocess
+import sys
+from collections.abc import Callable
+from decimal import Decimal
+from pathlib import Path
+from typing import NamedTuple
+
+import dmf
+import pytest
+from desk_shared import ROOT, SECONDS, run
+from dmf.desk_text import problem
+from dmf.project.comparison import CLOSED, OPEN, ArcState, compare
+from dmf.project.desk import ProjectDesk
+from dmf.project.opening import project_desk
+from dmf.text import read_problem
+from project_shared import named, supply_project, water_project
+
+
+class Played(NamedTuple):
+    """What the second implementation has after commands: the value, the arcs of the smallest minimum cut, and what each open arc carries."""
+
+    value: int
+    cut: set[int]
+    flows: dict[int, tuple[int, int]]
+
+
+def played(folder: Path, text: str, commands: str) -> Played:
+    """A session of the second implementation on a problem. No arc is closed in it but by `close` and `shut`."""
+    (folder / "base.max").write_text(text)
+    said = f"solve\n{commands}solve\nprint problem\nprint cut\nprint flow\n"
+    words = [sys.executable, f"{ROOT}/tests/oracle", "session", f"{folder}/base.max"]
+    lines = subprocess.run(words, input=said, capture_output=True, text=True, timeout=SECONDS, check=True).stdout.splitlines()
+    begin = len(lines) - lines[::-1].index(next(it for it in reversed(lines) if it.startswith("p max")))
+    arcs = [[*map(int, it.split()[1:])] for it in lines[begin:] if it.startswith("a ")]
+    side = {int(it.split()[2]) for it in lines[begin:] if it.startswith("c side")}
+    flows = [int(it.split()[3]) for it in lines if it.startswith("f ")][-len(arcs) :]
+    value = next(int(it.split()[1]) for it in reversed(lines) if it.startswith("s "))
+    closed = closed_by(text, commands)
+    numbers = [it for it in range(1, len(arcs) + len(closed) + 1) if it not in closed]
+    cut = {number for number, (tail, head, _) in zip(numbers, arcs) if tail in side and head not in side}
+    return Played(value, cut, {number: (most, flow) for number, (_, _, most), flow in zip(numbers, arcs, flows)})
+
+
+def closed_by(text: str, commands: str) -> set[int]:
+    """The arcs that commands close."""
+    arcs = [it[:2] for it in read_problem(text.encode()).arcs]
+    closed: set[int] = set()
+    for line in commands.splitlines():
+        word, *numbers = line.split()[0], *map(int, line.split()[1:])
+        if word == "close":
+            closed.add(numbers[0])
+        elif word == "shut":
+            closed |= {number for number, ends in enumerate(arcs, 1) if numbers[0] in ends}
+    return closed
+
+
+def state(seen: Played, number: int) -> ArcState | None:
+    if number in seen.flows:
+        most, flow = seen.flows[number]
+        return ArcState(OPEN, most, flow, number in seen.cut)
+    return None
+
+
+def judge(desk: ProjectDesk, folder: Path, first: tuple[str, str], second: tuple[str, str]) -> None:
+    """Compares scenarios, each with the commands that make it, with what the second implementation has of both. No arc was added."""
+    text = desk.project.network
+    one, two = (played(folder, text, commands) for _, commands in (first, second))
+    found = compare(desk, first[0], second[0])
+    assert (found.first.value, found.second.value) == (one.value, two.value)
+    every = range(1, len(read_problem(text.encode()).arcs) + 1)
+    wanted = {number: (state(one, number), state(two, number)) for number in every if state(one, number) != state(two, number)}
+    told = {
+        it.known: tuple(None if seen.state == CLOSED else seen._replace(is_unlimited=False) for seen in (it.first, it.second)) for it in found.arcs
+    }  # fmt: skip
+    assert told == wanted
+    assert len(found.first.limit) == len(one.cut) and len(found.second.limit) == len(two.cut)
+
+
+def test_supply(tmp_path: Path) -> None:
+    """The flooded depot of the story, and the plan of the day."""
+    desk = supply_project(tmp_path)
+    depot = desk.names.place("East Depot")
+    desk.shut(depot)
+    desk.new("dry")
+    judge(desk, tmp_path, ("base", ""), ("first", f"shut {depot.entry}\n"))
+    judge(desk, tmp_path, ("first", f"shut {depot.entry}\n"), ("dry", ""))
+    assert desk.scenario.name == "dry" and compare(desk, "dry", "base").arcs == ()
+    desk.end()
+
+
+def test_water(tmp_path: Path) -> None:
+    desk = water_project(tmp_path)
+    desk.close(named(desk, "Bridge pipe"))
+    desk.cap(named(desk, "Mill Lane"), 70)
+    desk.new("Market")
+    desk.cap(named(desk, "Market Street"), 20)
+    judge(desk, tmp_path, ("first", "close 10\nsolve\ncap 9 70\n"), ("Market", "cap 11 20\n"))
+    desk.end()
+
+
+def test_at_the_terminal_and_in_python(tmp_path: Path) -> None:
+    desk = supply_project(tmp_path)
+    desk.shut(desk.names.place("East Depot"))
+    desk.new("lorry", "first")
+    desk.add(desk.names.place("South Depot"), desk.names.place("Dock"), 12)
+    lines = [*compare(desk, "base", "lorry").lines()]
+    desk.end()
+    ran = run("dmf-plan", desk.file.path, typed="compare base lorry\n")
+    assert (ran.stdout.splitlines(), ran.stderr, ran.returncode) == (lines, "", 0)
+    with dmf.open_project(desk.file.path) as project:
+        assert [*project.compare("base", "lorry").lines()] == lines
+    # As its page reckons them.
+    assert lines[:3] == ["base: value 150 pallets", "lorry: value 136 pallets", "  14 less"]
+    assert "  South Depot -> Dock: not there | 10 of 12" in lines
+
+
+def test_opened_again(tmp_path: Path) -> None:
+    """An arc that was closed and opened again is the one of the table, and an added one that of the same name; a copy differs in nothing."""
+    desk = water_project(tmp_path)
+    desk.close(named(desk, "Bridge pipe"))
+    desk.open(named(desk, "Bridge pipe"))
+    desk.cap(named(desk, "Bridge pipe"), 5)
+    desk.add(desk.names.place("Mill"), desk.names.place("Station"), 25, "New")
+    desk.close(named(desk, "New"))
+    desk.open(named(desk, "New"))
+    desk.copy("same")
+    assert compare(desk, "first", "same").arcs == ()
+    desk.new("short")
+    desk.add(desk.names.place("Mill"), desk.names.place("Station"), 24, "New")
+    found = {it.arc: (it.first.capacity, it.second.capacity) for it in compare(desk, "first", "short").arcs}
+    assert found["Bridge pipe, Mill -> South Tower"] == (5, 20) and found["New, Mill -> Station"] == (25, 24)
+    desk.end()
+
+
+def test_python(tmp_path: Path) -> None:
+    """Steps by names in Python, kept, and refused."""
+    desk = water_project(tmp_path)
+    desk.end()
+    with dmf.open_project(desk.file.path) as project:
+        assert (project.value, project.unit, project.scenario, project.steps) == (165, "litres per second", "first", [])
+        assert project.close("Bridge pipe") == 155 and project.cap("Mill Lane", "+10 %") == Decimal("159.5")
+        assert project.undo(2) == 165 and project.redo() == 155
+        assert project.new("Pipe") == 165 and project.add("Mill", "Station", 25, "New pipe") == 180
+        project.note("for May")
+        calls: list[Callable[[], object]] = [
+            lambda: project.close("Nothing"), lambda: project.go("nobody"), lambda: project.cap("Mill Lane", "many"), lambda: project.undo(9),
+            lambda: project.delete("Pipe"), lambda: project.compare("a", "b"),
+        ]  # fmt: skip
+        for call in calls:
+            with pytest.raises(dmf.ProjectFault):
+                call()
+        with dmf.open_project(desk.file.path) as other:
+            assert other.news == ["it is open to be read alone, since another desk has it open"]
+            with pytest.raises(dmf.ProjectFault, match="read alone"):
+                other.close("Mill Lane")
+    with dmf.open_project(desk.file.path) as project:
+        assert (project.scenarios, project.value, project.flow("New pipe"), project.news) == (["first", "Pipe"], 180, 15, [])
+        assert project.steps == [("add New pipe, Mill -> Station, 25 litres per second", 180)]
+        assert [name.partition(",")[0] for name in project.limit] == ["North rise", "Mill pipe", "Canal pipe", "South rise"]
+    with pytest.raises(FileNotFoundError):
+        dmf.open_project(tmp_path / "none.dmf.json")
+
+
+def test_what_is_saved_is_read_back(tmp_path: Path) -> None:
+    """The problem of a scenario is the network that it stands for."""
+    desk = project_desk(supply_story(tmp_path))
+    text = problem(desk)
+    (tmp_path / "scenario.max").write_text(text)
+    ran = run("dmf-plan", f"{tmp_path}/scenario.max", typed="solve\n")
+    assert ran.stdout == "value 126 pallets, 126 more, the greatest\n" and desk.value == 126
+    desk.end()
+
+
+def supply_story(folder: Path) -> str:
+    desk = supply_project(folder)
+    desk.shut(desk.names.place("East Depot"))
+    desk.end()
+    return desk.file.path
