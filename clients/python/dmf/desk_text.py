@@ -2,11 +2,13 @@
 
 from __future__ import annotations
 
+import subprocess
+from pathlib import Path
 from typing import cast
 
 from . import timeline
 from .desk import Desk
-from .desk_steps import Line
+from .desk_steps import DeskFault, Line
 from .folding import renumbered
 from .names import written
 from .picture import Drawing, nearest, picture
@@ -15,6 +17,9 @@ from .tables.comments import comments
 from .text import ARC, NODE, Problem
 
 MOST_DRAWN = 300
+# How long Graphviz may take, in seconds.
+PATIENCE = 60
+DRAWN = {".svg": "svg", ".png": "png", ".pdf": "pdf"}
 
 
 def table(desk: Desk) -> str:
@@ -68,6 +73,20 @@ def arcs_of(lines: list[Line]) -> list[timeline.Arc]:
 def picture_text(desk: Desk) -> str:
     """The text of the picture that `dmf-dot` draws."""
     return "".join(f"{line}\n" for line in picture(drawing(desk), MOST_DRAWN))
+
+
+def drawn(desk: Desk, path: str) -> bytes:
+    """The picture of a desk, as the end of a file's name says. Raises a `DeskFault`."""
+    text = picture_text(desk)
+    kind = DRAWN.get(Path(path).suffix)
+    if kind is None:
+        return text.encode()
+    try:
+        return subprocess.run(["dot", f"-T{kind}"], input=text.encode(), capture_output=True, timeout=PATIENCE, check=True).stdout
+    except FileNotFoundError:
+        raise DeskFault("Graphviz is not there, which draws; its program is called dot. A FILE.dot can be had") from None
+    except subprocess.SubprocessError as error:
+        raise DeskFault(f"Graphviz did not draw it: {error}") from None
 
 
 def near(desk: Desk, nodes: tuple[int, ...], most: int = MOST_DRAWN) -> list[int]:

@@ -12,16 +12,17 @@ from collections.abc import Callable, Iterable
 from .desk import Desk
 from .desk_amounts import amount
 from .desk_steps import DeskFault, unforeseen
-from .desk_text import problem, table
+from .desk_text import DRAWN, drawn, problem, table
 from .errors import Error
 from .folding import LEFT_OUT
 from .plan_completion import history, matches, typed_line
-from .plan_files import DRAWN, Files, drawn
+from .plan_files import Files
 from .plan_meaning import WHERE, arcs_told, arcs_where, capped, capped_where, last_closed, new_arc
 from .plan_scenarios import compared, project_of, scenario
 from .plan_sweep import swept
 from .plan_words import ALWAYS, CHANGES, COMMANDS, Word, count_of, no_words, one_name, quoted, split
 from .project.desk import ProjectDesk
+from .project.report import report
 from .quantity import Quantity, moved, plain_text
 from .tables.cells import shown
 from .text import display
@@ -51,7 +52,7 @@ class Plan(cmd.Cmd):
             "solve": self._solve, "cut": self._cut, "flow": self._flow, "close": self._close, "open": self._open, "cap": self._cap,
             "add": self._add, "shut": self._shut, "undo": self._undo, "redo": self._redo, "steps": self._steps, "try": self._try,
             "keep": self._keep, "drop": self._drop, "what-if": self._what_if, "draw": self._draw, "save": self._save,
-            "scenario": self._scenario, "compare": self._compare, "help": self._help, "quit": self._quit,
+            "scenario": self._scenario, "compare": self._compare, "report": self._report, "help": self._help, "quit": self._quit,
         }  # fmt: skip
 
     # How lines come and how they are answered.
@@ -351,6 +352,10 @@ class Plan(cmd.Cmd):
 
     def _compare(self, words: list[str]) -> None:
         self.tell(*compared(project_of(self.desk), words))
+
+    def _report(self, words: list[str]) -> None:
+        path = self._files.new(one_name(words, "report"), [".html"])
+        self.tell(self._files.put(path, report(self.desk).encode()))
 
     def _help(self, words: list[str]) -> None:
         if words:

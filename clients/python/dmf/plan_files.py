@@ -3,20 +3,13 @@
 from __future__ import annotations
 
 import os
-import subprocess
 from collections.abc import Sequence
 from pathlib import Path
 
-from .desk import Desk
 from .desk_steps import DeskFault
-from .desk_text import picture_text
 from .tables.cells import shown
 from .text import display
 from .tool import write_file
-
-# How long Graphviz may take, in seconds.
-PATIENCE = 60
-DRAWN = {".svg": "svg", ".png": "png", ".pdf": "pdf"}
 
 
 class Files:
@@ -44,17 +37,3 @@ class Files:
             raise DeskFault(f"cannot write {shown(path)}: {why}") from None
         self._written.add(os.path.realpath(path))
         return f"written: {display(path)}"
-
-
-def drawn(desk: Desk, path: str) -> bytes:
-    """The picture of a desk, as the end of a file's name says. Raises a `DeskFault`."""
-    text = picture_text(desk)
-    kind = DRAWN.get(Path(path).suffix)
-    if kind is None:
-        return text.encode()
-    try:
-        return subprocess.run(["dot", f"-T{kind}"], input=text.encode(), capture_output=True, timeout=PATIENCE, check=True).stdout
-    except FileNotFoundError:
-        raise DeskFault("Graphviz is not there, which draws; its program is called dot. A FILE.dot can be had") from None
-    except subprocess.SubprocessError as error:
-        raise DeskFault(f"Graphviz did not draw it: {error}") from None

@@ -7,6 +7,6 @@ in which one reads them:
 - `naming`: the arcs and places of a step by their names, and back.
 - `table`: the table of a project, and what has changed in it since.
 - `desk`: a desk whose steps are kept in the scenarios of a project.
-- `comparison`: in what two scenarios differ; `report`: a page to hand on.
-- `opening`: opens a project, and keeps a new one.
+- `comparison`: in what two scenarios differ; `findings`, `report`: what a page to hand on says, and the page, in the frame `report.html`.
+- `opening`: opens a project, and keeps a new one; `live`: `dmf.open_project`.
 """

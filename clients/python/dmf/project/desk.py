@@ -257,6 +257,11 @@ class ProjectDesk(Desk):
         self._judge_writable()
         self._keep("note", text)
 
+    def take_notes(self, text: str) -> None:
+        """Gives the project notes."""
+        self._judge_writable()
+        self._keep("notes", text)
+
     @contextlib.contextmanager
     def visiting(self, name: str) -> Iterator[None]:
         """Shows another scenario, or the network of the table, for the block, and then the present one as it was."""

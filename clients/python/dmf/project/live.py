@@ -12,10 +12,12 @@ from ..desk_amounts import amount
 from ..desk_steps import DeskFault
 from ..process import Program
 from ..quantity import Quantity
+from ..tool import write_file
 from .comparison import Comparison, compare
 from .desk import BASE
 from .form import ProjectFault
 from .opening import project_desk
+from .report import report
 
 # A quantity of the table, or a text as dmf-plan takes it: `47,3`, `12 l/s`, `+10 %`.
 Amount = Union[str, int, float, Decimal]
@@ -188,6 +190,23 @@ class OpenProject:
         """Two scenarios beside each other, of which one may be `base`, the network of the table. Takes as long as their steps take."""
         with _refusing():
             return compare(self._desk, first, second)
+
+    @property
+    def notes(self) -> str:
+        """The notes of the project, with which its report begins. To set them keeps them."""
+        return self._desk.project.notes
+
+    @notes.setter
+    def notes(self, text: str) -> None:
+        with _refusing():
+            self._desk.take_notes(text)
+
+    def report(self, path: Union[str, os.PathLike[str]]) -> None:
+        """Writes a page in HTML to hand on, with all scenarios, their limits and pictures, and what is worst to lose in the present one.
+        Takes as long as all steps, a comparison of each scenario and a sweep take. Raises an OSError if the file cannot be written."""
+        with _refusing():
+            text = report(self._desk)
+        write_file(os.fspath(path), text.encode())
 
 
 @contextlib.contextmanager

@@ -1,0 +1,227 @@
+"""Reports: the numbers of the stories, as a second computation gives them; one file that needs no other, in which names are text; and that it
+fits a screen, a phone and a sheet of A4."""
+
+from __future__ import annotations
+
+import base64
+import re
+import shutil
+from collections.abc import Iterator
+from html.parser import HTMLParser
+from pathlib import Path
+from typing import Any
+from xml.etree import ElementTree
+
+import dmf
+import pytest
+from client_shared import needs
+from desk_shared import ODD, PIPES, ROOT, STORY, desk_of, run, swept, water_problem, without
+from dmf.desk import Desk
+from dmf.desk_steps import DeskFault
+from dmf.project import findings as project_findings
+from dmf.project.findings import checked, findings
+from dmf.project.report import report
+from project_shared import named, new_project, supply_project, water_project
+
+DRAWS = needs(shutil.which("dot"), "graphviz", "no picture of a report was looked at")
+
+
+class Page(HTMLParser):
+    """What a page has: the cells of each row of its tables, its headings, what it takes from elsewhere, and its pictures."""
+
+    def __init__(self, text: str) -> None:
+        super().__init__()
+        self.rows: list[list[str]] = []
+        self.headings: list[str] = []
+        self.taken: list[str] = []
+        self.text, self.tags = "", set[str]()
+        self._into: list[str] | None = None
+        self.feed(text)
+        self.pictures = [base64.b64decode(it.partition(",")[2]).decode() for it in self.taken if it.startswith("data:image/svg+xml;base64,")]
+
+    def handle_starttag(self, tag: str, attrs: list[tuple[str, str | None]]) -> None:
+        self.tags.add(tag)
+        self.taken += [value or "" for name, value in attrs if name in ("src", "href", "srcset", "action", "data")]
+        if tag == "tr":
+            self.rows.append([])
+        if tag in ("td", "th", "h2"):
+            self._into = self.headings if tag == "h2" else self.rows[-1]
+            self._into.append("")
+
+    def handle_endtag(self, tag: str) -> None:
+        if tag in ("td", "th", "h2"):
+            self._into = None
+
+    def handle_data(self, data: str) -> None:
+        self.text += data
+        if self._into is not None:
+            self._into[-1] += data
+
+
+@DRAWS
+def test_water(tmp_path: Path) -> None:
+    """The values of the story, the limits that its page names, and the losses and gains of trying all sets of places."""
+    desk = water_project(tmp_path)
+    desk.rename("no bridge")
+    desk.close(named(desk, "Bridge pipe"))
+    desk.new("new pipe")
+    desk.add(desk.names.place("Mill"), desk.names.place("Station"), 25, "New")
+    desk.new("today")
+    page = Page(report(desk))
+    assert [row for row in page.rows if row[0] in ("base", "no bridge", "new pipe", "today")] == [
+        ["base", "165", "", "0"], ["no bridge", "155", "10 less", "1"], ["new pipe", "180", "15 more", "1"], ["today", "165", "no change", "0"],
+    ]  # fmt: skip
+    assert {165, 155, 180} <= set(STORY)
+    for arcs in (
+        {"North rise": "60", "Mill Lane": "45", "South main": "60"}, {"North rise": "60", "South rise": "50", "Mill Lane": "45"},
+        {"North rise": "60", "Mill pipe": "40", "Canal pipe": "30", "South rise": "50"},
+    ):  # fmt: skip
+        assert any({row[0].partition(",")[0]: row[1] for row in rows if len(row) == 2} == arcs for rows in limits(page)), arcs
+    wanted = swept()
+    tried = {(row[0].partition(",")[0], row[1], row[2]) for row in page.rows if len(row) == 3 and row[0] not in ("closed", "", "with a second one beside it")}
+    losses = {(name, str(165 - closed), str(closed)) for name, (closed, _) in wanted.items() if closed < 165}
+    gains = {(name, str(doubled - 165), str(doubled)) for name, (_, doubled) in wanted.items() if doubled > 165}
+    assert losses | gains == {it for it in tried if it[1].isdigit()}
+    assert [*map(str, re.findall("c greatest ([0-9]+)", page.text))] == ["165", "155", "180", "165"]
+    assert len(page.pictures) == 4 and all(ElementTree.fromstring(it).tag.endswith("svg") for it in page.pictures)
+    assert "Bridge pipe" in page.pictures[1] and "closed" in page.pictures[1] and "New" in page.pictures[2]
+    assert (desk.scenario.name, desk.value) == ("today", 165)
+    desk.end()
+
+
+def limits(page: Page) -> list[list[list[str]]]:
+    """The rows of each table of a limit."""
+    found: list[list[list[str]]] = []
+    for row in page.rows:
+        if row[:1] == ["limit"]:
+            found.append([])
+        elif found and len(row) == 2:
+            found[-1].append(row)
+    return found
+
+
+def test_alone(tmp_path: Path) -> None:
+    """It takes nothing from elsewhere, and has no script; names and notes are text, whatever they have."""
+    quoted = ODD.replace('"', '""')
+    (tmp_path / "odd.csv").write_text(f'from,to,capacity,name\n"{quoted}",b,5,"{quoted}"\nb,c,4,x\n')
+    desk = new_project(tmp_path, "odd.csv")
+    desk.rename("</h2><script>" + ODD)
+    desk.note(ODD + "\nline two")
+    desk.close(1)
+    desk.undo()
+    desk.cap(2, 3)
+    page = Page(report(desk))
+    assert str(tmp_path) not in page.text
+    assert all(it.startswith("data:") for it in page.taken) and not page.tags & {"script", "link", "iframe", "b"}
+    assert "</h2><script>" + ODD in page.headings and ODD + "\nline two" in page.text
+    desk.end()
+
+
+def test_without_graphviz(tmp_path: Path, monkeypatch: pytest.MonkeyPatch) -> None:
+    desk = water_project(tmp_path)
+    monkeypatch.setenv("PATH", str(tmp_path))
+    page = Page(report(desk))
+    assert not page.pictures and page.text.count("There is no picture: Graphviz is not there") == 2
+    desk.end()
+
+
+def test_nothing_can_be_sent(tmp_path: Path) -> None:
+    desk = water_project(tmp_path)
+    desk.shut(desk.names.place("Harbour"))
+    assert "so nothing can be sent" in Page(report(desk)).text and desk.value == 0
+    desk.end()
+
+
+def test_what_is_not_tried_is_said(tmp_path: Path, monkeypatch: pytest.MonkeyPatch) -> None:
+    monkeypatch.setattr(project_findings, "MOST_TRIED", 5)
+    desk = water_project(tmp_path)
+    found = findings(desk).tried
+    assert found.said == "of 14 arcs only the 3 of the limit were tried, each alone; others may be worse to lose"
+    assert [name.partition(",")[0] for name, _ in found.losses] == ["North rise", "South main", "Mill Lane"]
+    desk.end()
+
+
+def test_the_check_is_one(monkeypatch: pytest.MonkeyPatch) -> None:
+    """What `dmf check` does not find greatest is no report."""
+    desk = desk_of(water_problem())
+    assert checked(desk) == "c greatest 165"
+    true = desk.flows()
+    monkeypatch.setattr(Desk, "flows", lambda self: {**true, 1: true[1] - 1})
+    with pytest.raises(DeskFault, match="dmf check does not find the flow greatest"):
+        checked(desk)
+    monkeypatch.undo()
+    desk.end()
+
+
+def test_from_the_terminal_and_from_python(tmp_path: Path) -> None:
+    """The same page but for its date; of a table without a project too, once it is solved; a file that is there is left."""
+    desk = supply_project(tmp_path)
+    desk.shut(desk.names.place("East Depot"))
+    desk.take_notes("What if the East Depot is flooded?")
+    desk.end()
+    ran = run("dmf-plan", desk.file.path, typed=f"report {tmp_path}/one.html\n")
+    assert (ran.stdout, ran.returncode) == (f"written: {tmp_path}/one.html\n", 0)
+    with dmf.open_project(desk.file.path) as project:
+        project.report(tmp_path / "two.html")
+    one, two = ((tmp_path / name).read_text() for name in ("one.html", "two.html"))
+    assert one == two and "What if the East Depot is flooded?" in one
+    ran = run("dmf-plan", PIPES, typed=f"report {tmp_path}/three.html\nsolve\nclose Bridge pipe\nsolve\nreport {tmp_path}/three.html\nreport x.txt\n")
+    assert "line 1: the flow is not greatest" in ran.stderr and "line 6: the name of the file ends with one of .html" in ran.stderr
+    assert f"c greatest {without('Bridge pipe')}" in (tmp_path / "three.html").read_text()
+    assert "is there already" in run("dmf-plan", desk.file.path, typed=f"report {tmp_path}/one.html\n").stderr
+
+
+@pytest.fixture(scope="module")
+def driver() -> Iterator[Any]:
+    if not shutil.which("chromium") or not shutil.which("chromedriver"):
+        pytest.skip("chromium is not there, so no report was shown by a browser")
+    webdriver = pytest.importorskip("selenium.webdriver", reason="python3-selenium is not there, so no report was shown by a browser")
+    service = pytest.importorskip("selenium.webdriver.chrome.service")
+    options: Any = webdriver.ChromeOptions()
+    for word in ("--headless=new", "--no-sandbox", "--disable-gpu", "--disable-dev-shm-usage", "--hide-scrollbars"):
+        options.add_argument(word)
+    made = webdriver.Chrome(service=service.Service("/usr/bin/chromedriver"), options=options)
+    yield made
+    made.quit()
+
+
+def shown(driver: Any, path: Path, width: int, scheme: str = "light", height: int = 900) -> None:
+    """Shows a page in a window of this size."""
+    driver.execute_cdp_cmd("Emulation.setEmulatedMedia", {"features": [{"name": "prefers-color-scheme", "value": scheme}]})
+    size = {"width": width, "height": height, "deviceScaleFactor": 1, "mobile": width < 500}
+    driver.execute_cdp_cmd("Emulation.setDeviceMetricsOverride", size)
+    driver.get(path.as_uri())
+
+
+@DRAWS
+def test_it_fits(tmp_path: Path, driver: Any) -> None:
+    """On a wide screen, on a phone, in light and dark, with long names: nothing is wider than the page; and printed, it has pages of A4."""
+    desk = water_project(tmp_path)
+    desk.rename("W" * 200)
+    desk.add(desk.names.place("Mill"), desk.names.place("Station"), 25, "N" * 300)
+    (tmp_path / "report.html").write_text(report(desk))
+    desk.end()
+    page = tmp_path / "report.html"
+    for width in 1280, 768, 400:
+        for scheme in "light", "dark":
+            shown(driver, page, width, scheme)
+            seen, wide = driver.execute_script("return [document.documentElement.clientWidth, document.documentElement.scrollWidth]")
+            assert seen == wide == width
+            back = driver.execute_script("return getComputedStyle(document.body).backgroundColor")
+            assert (sum(map(int, re.findall("[0-9]+", back))) < 200) == (scheme == "dark")
+    pdf = base64.b64decode(driver.execute_cdp_cmd("Page.printToPDF", {"preferCSSPageSize": True})["data"])
+    boxes = re.findall(rb"/MediaBox \[0 0 ([0-9.]+) ([0-9.]+)\]", pdf)
+    assert boxes and all((round(float(width)), round(float(height))) == (595, 842) for width, height in boxes)
+
+
+@DRAWS
+def test_the_picture_of_the_story(tmp_path: Path, driver: Any, writes: bool) -> None:
+    """The picture of the water story, which is made at least, and with --write put."""
+    shutil.copy(ROOT / "examples/water/pipes.csv", tmp_path)
+    story = (ROOT / "examples/water/today.txt").read_text() + f"report {tmp_path}/report.html\n"
+    assert run("dmf-plan", f"{tmp_path}/pipes.csv", "--keep", typed=story).returncode == 0
+    shown(driver, tmp_path / "report.html", 1280, height=1000)
+    picture = driver.get_screenshot_as_png()
+    assert int.from_bytes(picture[16:20], "big") == 1280
+    if writes:
+        (ROOT / "docs/pictures/report.png").write_bytes(picture)
