@@ -17,9 +17,9 @@ from .errors import Error
 from .folding import LEFT_OUT
 from .plan_completion import history, matches, typed_line
 from .plan_files import Files
-from .plan_meaning import WHERE, arcs_told, arcs_where, capped, capped_where, last_closed, new_arc
+from .plan_meaning import WHERE, arcs_named, arcs_to_try, arcs_told, arcs_where, capped, capped_where, last_closed, new_arc
 from .plan_scenarios import compared, project_of, scenario
-from .plan_sweep import swept
+from .plan_sweep import swept, tried
 from .plan_words import ALWAYS, CHANGES, COMMANDS, Word, count_of, no_words, one_name, quoted, split
 from .project.desk import ProjectDesk
 from .project.report import report
@@ -48,7 +48,7 @@ class Plan(cmd.Cmd):
         self._offer = offer
         self._files = Files()
         self._matches: list[str] = []
-        self._do = {
+        self._do: dict[str, Callable[[list[str]], object]] = {
             "solve": self._solve, "cut": self._cut, "flow": self._flow, "close": self._close, "open": self._open, "cap": self._cap,
             "add": self._add, "shut": self._shut, "undo": self._undo, "redo": self._redo, "steps": self._steps, "try": self._try,
             "keep": self._keep, "drop": self._drop, "what-if": self._what_if, "draw": self._draw, "save": self._save,
@@ -273,7 +273,7 @@ class Plan(cmd.Cmd):
         for number, step in enumerate(steps, 1):
             mark = "*" if number == self.desk.at else " "
             undone = " (undone)" if number > self.desk.at else ""
-            self.tell(f"  {number:>3} {mark} {step.text}: value {self.desk.told(step.value)}{undone}")
+            self.tell(f"  {number:>3} {mark} {display(step.text)}: value {self.desk.told(step.value)}{undone}")
 
     def _cut(self, words: list[str]) -> None:
         no_words(words, "cut")
@@ -286,15 +286,7 @@ class Plan(cmd.Cmd):
         self.tell(*(f"  #{number} {desk.names.arc(number)}: {plain_text(desk.line(number).capacity)}" for number in desk.cut_arcs()))
 
     def _flow(self, words: list[str]) -> None:
-        desk = self.desk
-        name = " ".join(words)
-        numbers: Iterable[int] = range(1, len(desk.lines) + 1)
-        if words and desk.names.is_place(name):
-            place = desk.names.place(name)
-            numbers = [number for number in numbers if {desk.line(number).tail, desk.line(number).head} & set(place)]
-        elif words:
-            numbers = desk.names.arcs(name)
-        self.tell(*(self._arc_line(number) for number in numbers if not desk.line(number).is_replaced))
+        self.tell(*map(self._arc_line, arcs_named(self.desk, words)))
 
     def _arc_line(self, number: int) -> str:
         line, flow = self.desk.line(number), self.desk.flow(number)
@@ -309,7 +301,12 @@ class Plan(cmd.Cmd):
             return
         if not words or words[0] not in CHANGES:
             raise DeskFault(f"wanted is: {COMMANDS['what-if'].form}; a command there is one of {', '.join(CHANGES)}")
-        desk, write, base = self.desk, self.write, self.desk.value
+        before, value = self.desk.value, self._value_after(words)
+        self.tell(f"it would be {self.desk.told(value)}: {moved(before, value)}")
+
+    def _value_after(self, words: list[str]) -> Quantity:
+        """The greatest value after a change, which is taken back."""
+        desk, write = self.desk, self.write
         if not desk.is_greatest:
             raise DeskFault("the flow is not greatest, so nothing can be compared with it; `solve` first")
         with desk.aside():
@@ -319,22 +316,10 @@ class Plan(cmd.Cmd):
                 desk.solve()
             finally:
                 self.write = write
-            value = desk.value
-        self.tell(f"it would be {desk.told(value)}: {moved(base, value)}")
+            return desk.value
 
     def _sweep(self, words: list[str]) -> None:
-        desk = self.desk
-        rest = [word for word in words[1:] if word not in ("of", "the")]
-        if len(words) >= 3 and words[1] == "at":
-            place = desk.names.place(" ".join(words[2:]))
-            wanted = [n for n, line in enumerate(desk.lines, 1) if {line.tail, line.head} & set(place)]
-        elif words and words[1:] and rest in (["cut"], ["limit"]):
-            wanted = list(desk.cut_arcs()) if desk.is_greatest else []
-        elif len(words) == 1 or rest == ["all"]:
-            wanted = list(range(1, len(desk.lines) + 1))
-        else:
-            raise DeskFault(f"wanted is: {COMMANDS['what-if'].form}")
-        self.tell(*swept(desk, [number for number in wanted if not desk.line(number).is_closed], is_shown=self.is_typed))
+        self.tell(*swept(self.desk, tried(self.desk, arcs_to_try(self.desk, words), is_shown=self.is_typed)))
 
     def _draw(self, words: list[str]) -> None:
         path = self._files.new(one_name(words, "draw"), [*DRAWN, ".dot"])
@@ -351,7 +336,7 @@ class Plan(cmd.Cmd):
         self.tell(*scenario(project_of(self.desk), words))
 
     def _compare(self, words: list[str]) -> None:
-        self.tell(*compared(project_of(self.desk), words))
+        self.tell(*compared(project_of(self.desk), words).lines())
 
     def _report(self, words: list[str]) -> None:
         path = self._files.new(one_name(words, "report"), [".html"])

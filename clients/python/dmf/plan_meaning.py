@@ -87,6 +87,37 @@ def _ends_of_amount(desk: Desk, words: list[str], at: int) -> list[int]:
     return [end + len(unit) if unit and words[end : end + len(unit)] == unit else end for end in ends]
 
 
+def arcs_named(desk: Desk, words: list[str]) -> list[int]:
+    """The arcs that the words of `flow` mean: those of a name, those at a place, or all; none that was opened again as another one."""
+    name = " ".join(words)
+    numbers = list(range(1, len(desk.lines) + 1))
+    if words and desk.names.is_place(name):
+        numbers = _at(desk, name)
+    elif words:
+        numbers = desk.names.arcs(name)
+    return [number for number in numbers if not desk.line(number).is_replaced]
+
+
+def arcs_to_try(desk: Desk, words: list[str]) -> list[int]:
+    """The open arcs that the words of `what-if each` mean: those of the limit, those at a place, or all."""
+    rest = [word for word in words[1:] if word not in ("of", "the")]
+    if len(words) >= 3 and words[1] == "at":
+        wanted = _at(desk, " ".join(words[2:]))
+    elif words and words[1:] and rest in (["cut"], ["limit"]):
+        wanted = list(desk.cut_arcs()) if desk.is_greatest else []
+    elif len(words) == 1 or rest == ["all"]:
+        wanted = list(range(1, len(desk.lines) + 1))
+    else:
+        raise DeskFault(f"wanted is: {COMMANDS['what-if'].form}")
+    return [number for number in wanted if not desk.line(number).is_closed]
+
+
+def _at(desk: Desk, name: str) -> list[int]:
+    """The arcs at a place."""
+    place = desk.names.place(name)
+    return [number for number, line in enumerate(desk.lines, 1) if {line.tail, line.head} & set(place)]
+
+
 def arcs_where(desk: Desk, words: list[str], *, are_closed: bool = False) -> list[int]:
     """The open arcs, or the closed ones, of which conditions are so. Raises a `DeskFault` if there are none."""
     conditions = [_condition(desk, list(part)) for is_and, part in groupby(words, AND.__eq__) if not is_and]

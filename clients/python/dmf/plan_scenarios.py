@@ -7,7 +7,7 @@ from collections.abc import Callable
 from .desk import Desk
 from .desk_steps import DeskFault
 from .plan_words import COMMANDS, quoted
-from .project.comparison import compare
+from .project.comparison import Comparison, compare
 from .project.desk import BASE, ProjectDesk
 from .quantity import plain_text
 from .tables.cells import cleaned, shown
@@ -68,7 +68,7 @@ def _listed(desk: ProjectDesk) -> list[str]:
     return lines
 
 
-def compared(desk: ProjectDesk, words: list[str]) -> list[str]:
+def compared(desk: ProjectDesk, words: list[str]) -> Comparison:
     """Two scenarios beside each other: those that the words name, or the present one and the one that they name."""
     names = {BASE, *(it.name for it in desk.project.scenarios)}
 
@@ -84,4 +84,4 @@ def compared(desk: ProjectDesk, words: list[str]) -> list[str]:
     if not found:
         told = ", ".join(map(quoted, sorted(names)))
         raise DeskFault(f"wanted is: {COMMANDS['compare'].form}; there are {told}" if words else f"wanted is: {COMMANDS['compare'].form}")
-    return list(compare(desk, *found[0]).lines())
+    return compare(desk, *found[0])

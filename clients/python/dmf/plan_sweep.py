@@ -12,17 +12,22 @@ from .quantity import moved, plain_text
 MANY = 20
 
 
-def swept(desk: Desk, numbers: list[int], *, is_shown: bool) -> list[str]:
+def tried(desk: Desk, numbers: list[int], *, is_shown: bool = False) -> list[Trial]:
     """What each of these open arcs means for the value, those whose loss is largest first. How far it is can be shown on a terminal."""
-    base, trials, is_shown = desk.value, list[Trial](), is_shown and len(numbers) > MANY
+    trials, is_shown = list[Trial](), is_shown and len(numbers) > MANY
     for trial in desk.sweep(numbers):
         trials.append(trial)
         if is_shown:
             sys.stderr.write(f"\r{len(trials)} of {len(numbers)} ")
     if is_shown:
         sys.stderr.write("\r\033[K")
-    lines = []
-    for trial in sorted(trials, key=lambda trial: trial.closed):
+    return sorted(trials, key=lambda trial: trial.closed)
+
+
+def swept(desk: Desk, trials: list[Trial]) -> list[str]:
+    """Trials in words, a line for each."""
+    base, lines = desk.value, []
+    for trial in trials:
         doubled = "past 64 bits" if trial.doubled is None else f"{plain_text(trial.doubled)} ({moved(base, trial.doubled)})"
         second = "twice as much" if desk.role(trial.arc) else "a second one"
         closed = f"closed {plain_text(trial.closed)} ({moved(base, trial.closed)})"
