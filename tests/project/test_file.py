@@ -146,7 +146,7 @@ def test_a_kill_at_each_byte(path: str) -> None:
         acts = max(text[:end].count(b"\n") - 1, 0)
         again = opened(path)
         assert again.project.serial == acts, end
-        assert bool(again.lost) == (not text[:end].endswith(b"\n") and end > 0), end
+        assert bool(again.news) == (not text[:end].endswith(b"\n") and end > 0), end
         assert project_of(Path(path).read_bytes()) == again.project
         again.end()
         assert not Path(journal_of(path)).exists()
@@ -305,6 +305,32 @@ def test_no_folder_to_write(path: str, monkeypatch: pytest.MonkeyPatch) -> None:
     file = opened(path)
     assert file.project == a_project() and file.why_not.startswith("it cannot be written: ")
     file.end()
+
+
+def test_written_by_somebody_else(path: str) -> None:
+    """A file that somebody else has written while a desk had it open is kept as a version, and that is said."""
+    file = begun(path)
+    other = a_project()
+    other.notes = "theirs"
+    os.remove(path)
+    Path(path).write_bytes(text_of(other))
+    file.end()
+    assert file.news == [f"somebody else has written {path} meanwhile: that is {path}.~1~ now"]
+    assert project_of(Path(f"{path}.~1~").read_bytes()).notes == "theirs" and project_of(Path(path).read_bytes()) == file.project
+    again = opened(path)
+    again.keep("notes", "ours")
+    again.end()
+    assert not again.news
+
+
+def test_another_journal(path: str) -> None:
+    """A journal that lies there is not taken for that of a new project, and stays."""
+    left(begun(path))
+    text = Path(journal_of(path)).read_bytes()
+    os.remove(path)
+    with pytest.raises(FileExistsError, match="the journal of another one"):
+        created(path, a_project())
+    assert Path(journal_of(path)).read_bytes() == text and not Path(path).exists()
 
 
 def test_what_cannot_be_done(path: str) -> None:

@@ -229,6 +229,17 @@ def visit(desk: ProjectDesk) -> None:
         raise AssertionError("it was not visited")
 
 
+def test_positions(tmp_path: Path) -> None:
+    """Where places stand in a picture is kept by their names, and forgotten; no other name has a place."""
+    desk = water_project(tmp_path)
+    desk.take_positions({"Mill": (1.5, -2), "Market": (0, 3)})
+    desk.take_positions({"Market": None, "Harbour": (4, 4)})
+    assert "no place is called 'Nowhere'" in refused(desk.take_positions, {"Mill": (0, 0), "Nowhere": (1, 1)})
+    desk = again(desk)
+    assert desk.project.positions == {"Mill": (1.5, -2), "Harbour": (4, 4)}
+    desk.end()
+
+
 def test_values_that_differ_are_told(tmp_path: Path) -> None:
     desk = water_project(tmp_path)
     desk.close(named(desk, "Bridge pipe"))

@@ -4,13 +4,18 @@ from __future__ import annotations
 
 import os
 import shutil
+import subprocess
 from pathlib import Path
 
-from desk_shared import greatest, run, water
+import pytest
+from desk_shared import ROOT, SECONDS, greatest, run, water, water_problem
+from dmf.desk import Desk
+from dmf.desk_steps import DeskFault
 from dmf.project.desk import ProjectDesk
 from dmf.project.file import versions_of
-from dmf.project.opening import project_desk
-from project_shared import named, new_project, supply_project, water_project
+from dmf.project.opening import keep_project, project_desk
+from dmf.tables.subject import read_subject
+from project_shared import named, new_project, supply_project, water_project, words
 
 GERMAN = """Von;Nach;Kapazit\u00e4t (l/s);Leitung
 Mill;Weir;47,3;Main
@@ -150,4 +155,48 @@ def test_stock_that_changed(tmp_path: Path) -> None:
     stock.write_text(stock.read_text().replace("North Depot,60", "North Depot,10"))
     desk = project_desk(desk.file.path)
     assert "  what North Depot gives: 10, and was 60" in desk.news and desk.value < 126
+    desk.end()
+
+
+def test_a_table_that_changes_while_it_is_kept(tmp_path: Path) -> None:
+    """Between its reading and the project: nothing is kept of a table that is not the one that was read, nor of one that is no file."""
+    shutil.copy(ROOT / "examples/water/pipes.csv", tmp_path)
+    said = words(tmp_path, "pipes.csv")
+    desk = Desk(read_subject(said))
+    table = tmp_path / "pipes.csv"
+    table.write_text(table.read_text().replace(",110,", ",111,"))
+    with pytest.raises(DeskFault, match="the table is another one now: Upper main, Reservoir -> Upper Works: 111, and was 110"):
+        keep_project(f"{tmp_path}/kept.dmf.json", said, desk)
+    assert os.listdir(tmp_path) == ["pipes.csv"]
+    desk.end()
+    text = table.read_text()
+    ran = subprocess.run([ROOT / "tools/dmf-plan", "/dev/stdin", "--keep"], input=text, capture_output=True, text=True, timeout=SECONDS, cwd=tmp_path)
+    assert ran.returncode == 4 and "/dev/stdin is no file that could be read again" in ran.stderr
+    assert os.listdir(tmp_path) == ["pipes.csv"]
+
+
+def test_problems_and_sheets(tmp_path: Path) -> None:
+    """A problem's file, and a sheet of a workbook, are kept and opened again; a change in them is told."""
+    openpyxl = pytest.importorskip("openpyxl", reason="python3-openpyxl is not there, so no project of a workbook was tried")
+    (tmp_path / "w.max").write_bytes(water_problem())
+    desk = new_project(tmp_path, f"{tmp_path}/w.max", name="problem.dmf.json")
+    desk.close(10)
+    desk.end()
+    desk = project_desk(desk.file.path)
+    assert (desk.news, desk.value) == ([], 155)
+    desk.end()
+    (tmp_path / "w.max").write_bytes(water_problem().replace(b"a 5 7 45", b"a 5 7 46"))
+    desk = project_desk(desk.file.path)
+    assert "  Mill Lane, Mill -> Market: 46, and was 45" in desk.news and desk.value == 156
+    desk.end()
+    book = openpyxl.Workbook()
+    for name, capacity in ("one", 5), ("two", 7):
+        sheet = book.create_sheet(name)
+        for row in ["from", "to", "capacity"], ["a", "b", capacity]:
+            sheet.append(row)
+    book.save(tmp_path / "book.xlsx")
+    desk = new_project(tmp_path, f"{tmp_path}/book.xlsx#two", name="book.dmf.json")
+    desk.end()
+    desk = project_desk(desk.file.path)
+    assert (desk.news, desk.value, desk.project.table.sheet) == ([], 7, "two")
     desk.end()

@@ -348,10 +348,8 @@ class Plan(cmd.Cmd):
             word = "quit" if words[0] in ("exit", "q") else words[0]
             self.tell(COMMANDS[word].form, f"  {COMMANDS[word].says}")
             return
-        width = max(len(command.form) for name, command in COMMANDS.items() if name != "what-if")
-        for name, command in COMMANDS.items():
-            form = "what-if each arc .." if name == "what-if" else command.form
-            self.tell(f"  {form:<{width}}  {command.says.split('. ')[0].rstrip('.')}.")
+        width = max(len(command.short or command.form) for command in COMMANDS.values())
+        self.tell(*(f"  {command.short or command.form:<{width}}  {command.says.split('. ')[0].rstrip('.')}." for command in COMMANDS.values()))
 
     def _quit(self, words: list[str]) -> bool:
         no_words(words, "quit")

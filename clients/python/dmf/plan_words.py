@@ -13,11 +13,12 @@ FLOW, PLACE, ARC, CLOSED, COMMAND, EACH, SCENARIO = "flow", "place", "arc", "clo
 
 
 class Help(NamedTuple):
-    """How a command is written, what it does, and which names may stand after it."""
+    """How a command is written, what it does, which names may stand after it, and how it is written in a list where that is shorter."""
 
     form: str
     says: str
     takes: str = ""
+    short: str = ""
 
 
 ARCS_SAID = (
@@ -48,14 +49,17 @@ COMMANDS = {
         "Lists for each arc the greatest value if it alone is closed, and if a second one lies beside it; or shows what a command and a "
         "solve would bring. Nothing changes.",
         EACH,
+        "what-if each arc ..",
     ),
     "draw": Help("draw FILE", "Draws the network: FILE ends with .svg, .png or .pdf, or with .dot for the text alone."),
     "save": Help("save FILE", "Writes the plan as a table where FILE ends with .csv, or the problem where it ends with .max."),
     "scenario": Help(
         "scenario [new NAME [from OTHER] | go NAME | copy NAME | name NAME | delete NAME | note TEXT]",
-        "Lists the scenarios of a project; begins one from the network of the table, or with the steps of another; goes to one; copies, names or "
-        "notes the present one.",
+        "Lists the scenarios of a project, or begins one, goes to one, copies, names, deletes or notes one. A new one begins from the network of "
+        "the table, or with the steps that another one has now; copies, names and notes are of the present one. NAME in the midst of a line "
+        "stands in quotes if it has spaces.",
         SCENARIO,
+        "scenario ..",
     ),
     "compare": Help("compare [SCENARIO] SCENARIO", "Shows in what two scenarios differ: value, limit and arcs; base is the table's network.", SCENARIO),
     "report": Help("report FILE", "Writes a page to hand on, whose name ends with .html: values, limits, steps, pictures, and what is worst to lose."),

@@ -6,7 +6,7 @@ the session of the others, which has undone theirs."""
 from __future__ import annotations
 
 import contextlib
-from collections.abc import Callable, Collection, Iterator
+from collections.abc import Callable, Collection, Iterator, Mapping
 from dataclasses import dataclass, field, replace
 from decimal import Decimal
 from typing import Any
@@ -23,7 +23,7 @@ from ..tables.subject import Subject
 from ..text import display
 from .file import ProjectFile
 from .form import ArcName, KeptStep, KeptTable, Project, Scenario, said_scenario, said_step, said_table
-from .naming import changes_of, requests_of
+from .naming import changes_of, place_meant, requests_of
 from .table import Differences
 
 # The network of the table, without a step.
@@ -71,7 +71,8 @@ class ProjectDesk(Desk):
         # Whether what is done is kept; if not, it is only tried, or is kept already.
         self._keeps = False
         super().__init__(finest(base.subject, file.project), with_solve=True, program=program)
-        self.news = [*filter(None, [file.lost]), *base.told]
+        self.news = [*file.news, *base.told]
+        file.news.clear()
         if base.table:
             self._take_table(base, base.table)
         else:
@@ -261,6 +262,13 @@ class ProjectDesk(Desk):
         """Gives the project notes."""
         self._judge_writable()
         self._keep("notes", text)
+
+    def take_positions(self, positions: Mapping[str, tuple[float, float] | None]) -> None:
+        """Keeps where places stand in a picture, by their names; None forgets it."""
+        self._judge_writable()
+        for name in positions:
+            place_meant(self, name)
+        self._keep("positions", {name: None if it is None else list(it) for name, it in positions.items()})
 
     @contextlib.contextmanager
     def visiting(self, name: str) -> Iterator[None]:

@@ -39,14 +39,15 @@ def versions_of(path: str) -> list[str]:
 
 
 class ProjectFile:
-    """A project that is open. `why_not` says why this desk may only read it, and is empty if it writes it; `lost` says what of the last
-    act a kill left."""
+    """A project that is open. `why_not` says why this desk may only read it, and is empty if it writes it; `news` are what is
+    to be said: what a kill has cost, and what somebody else has written meanwhile."""
 
     def __init__(self, path: str, project: Project, journal: Journal | None, why_not: str = "", filed: int = 0) -> None:
         self.path = path
         self.project = project
         self.why_not = why_not
-        self.lost = ""
+        self.news: list[str] = []
+        self._seen = _stamp(path)
         self._journal = journal
         # How many acts the file has; the journal has those after them.
         self._filed = filed
@@ -79,7 +80,10 @@ class ProjectFile:
             except OSError:
                 shutil.copy2(self.path, version)
             versions.append(version)
+            if _stamp(self.path) != self._seen:
+                self.news.append(f"somebody else has written {self.path} meanwhile: that is {version} now")
         write_file(self.path, text)
+        self._seen = _stamp(self.path)
         self._filed = self.project.serial
         for old in versions[:-MOST_VERSIONS]:
             with contextlib.suppress(OSError):
@@ -106,6 +110,14 @@ class ProjectFile:
             os.remove(self.path)
 
 
+def _stamp(path: str) -> tuple[int, ...]:
+    """What tells the file at a path from another one there, or from itself with other content."""
+    with contextlib.suppress(FileNotFoundError):
+        found = os.stat(path)
+        return found.st_ino, found.st_size, found.st_mtime_ns
+    return ()
+
+
 @contextlib.contextmanager
 def _uninterrupted() -> Iterator[None]:
     """Lets Ctrl-C wait for the end of the block."""
@@ -120,6 +132,8 @@ def created(path: str, project: Project) -> ProjectFile:
     """A new project, in a file that is not there yet. Raises an OSError."""
     if os.path.lexists(path):
         raise FileExistsError(errno.EEXIST, "it is there already")
+    if os.path.exists(journal_of(path)) and os.path.getsize(journal_of(path)):
+        raise FileExistsError(errno.EEXIST, f"the journal of another one is there, {journal_of(path)}")
     try:
         journal = Journal(journal_of(path))
     except Taken:
@@ -130,6 +144,7 @@ def created(path: str, project: Project) -> ProjectFile:
     except BaseException:
         journal.end(is_folded=True)
         raise
+    made._seen = _stamp(path)
     return made
 
 
@@ -153,7 +168,7 @@ def opened(path: str) -> ProjectFile:
         raise
     made = ProjectFile(path, project, journal, why_not, filed)
     if journal and (project.serial > filed or has_rest):
-        made.lost = f"the last line of {journal_of(path)} has no end: what was in hand then is lost" if has_rest else ""
+        made.news += [f"the last line of {journal_of(path)} has no end: what was in hand then is lost"] * has_rest
         try:
             made.write()
         except OSError as error:

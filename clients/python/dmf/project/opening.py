@@ -16,7 +16,7 @@ from ..tables.faults import TableFault
 from ..tables.opening import split_path
 from ..tables.options import says_table
 from ..tables.subject import FAULT, UNREADABLE, Subject, read_subject
-from ..tool import ToolFault, cannot
+from ..tool import ToolFault, cannot, warn
 from .desk import FIRST, Base, ProjectDesk
 from .file import ProjectFile, created, journal_of, opened
 from .form import ENDING, File, KeptTable, Project, ProjectFault, Scenario
@@ -60,10 +60,12 @@ def desk_of(words: argparse.Namespace, *, with_solve: bool) -> Desk:
         raise ToolFault(str(error), UNREADABLE) from None
 
 
-def ended(desk: Desk) -> None:
-    """Ends a desk. Raises a `ToolFault` if its project cannot be written."""
+def ended(name: str, desk: Desk) -> None:
+    """Ends the desk of a tool of this name. Raises a `ToolFault` if its project cannot be written."""
     try:
         desk.end()
+        for line in desk.file.news if isinstance(desk, ProjectDesk) else ():
+            warn(name, line)
     except OSError as error:
         where = journal_of(desk.file.path) if isinstance(desk, ProjectDesk) else ""
         raise ToolFault(f"the project could not be written ({error.strerror}); {where} has what was done, and the next call takes it", UNREADABLE) from None
@@ -138,9 +140,12 @@ def keep_project(path: str, words: argparse.Namespace, desk: Desk, program: Prog
     path = os.path.realpath(path)
     try:
         table = kept_table(words, subject, os.path.dirname(path))
+        # The table may have changed since it was read.
+        if found := differences(subject.text, read_again(table, os.path.dirname(path)).text).told:
+            raise DeskFault(f"no project can be kept: the table is another one now: {found[0]}")
         project = Project(secrets.token_hex(8), table, base.network, scenarios=[Scenario(FIRST)], present=FIRST)
         file = created(path, project)
-    except ToolFault as fault:
+    except (ToolFault, TableFault) as fault:
         raise DeskFault(f"no project can be kept: {fault}") from None
     except OSError as error:
         raise DeskFault(f"{shown(base.subject.path)} cannot be made: {error.strerror}") from None

@@ -17,7 +17,7 @@ from ..tables.options import COLUMNS
 from ..tables.rows import Reading
 from ..tables.subject import Subject, is_problem, subject_of
 from ..text import display, read_problem
-from ..tool import read_file
+from ..tool import ToolFault, read_file
 from .form import OPTIONS, PLACE_OPTIONS, ArcName, File, KeptTable
 from .naming import arc_told
 
@@ -52,6 +52,8 @@ def kept_table(words: argparse.Namespace, subject: Subject, folder: str) -> Kept
 
 
 def _file(path: str, folder: str) -> File:
+    if not os.path.isfile(path):
+        raise ToolFault(f"{path} is no file that could be read again", 4)
     return File(os.path.relpath(os.path.realpath(path), os.path.realpath(folder)), sum_of(path))
 
 

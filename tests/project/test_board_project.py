@@ -1,0 +1,34 @@
+"""dmf-board on a project: its steps are kept, also where it is killed, and dmf-plan goes on from them."""
+
+from __future__ import annotations
+
+import shutil
+import signal
+from pathlib import Path
+
+from board_running import board
+from desk_shared import PIPES, ROOT, run, without
+
+
+def test_kept(tmp_path: Path) -> None:
+    shutil.copy(ROOT / PIPES, tmp_path)
+    with board(f"{tmp_path}/pipes.csv", "--keep") as it:
+        assert it.do(what="close", arc=10)["value"] == str(without("Bridge pipe"))
+        assert it.do(what="close", arc=9)["value"] == str(without("Bridge pipe", "Mill Lane"))
+        assert it.do(what="go", step=1)["value"] == str(without("Bridge pipe"))
+        it.process.send_signal(signal.SIGKILL)
+    path = f"{tmp_path}/pipes.dmf.json"
+    ran = run("dmf-plan", path, typed="redo\nscenario new Later from first\nundo\n")
+    assert ran.stdout.splitlines() == [
+        f"value {without('Bridge pipe', 'Mill Lane')} litres per second, 45 less, the greatest", "scenario 'Later', 2 steps: value 110 litres per second",
+    ]  # fmt: skip
+    assert ran.stderr == "dmf-plan: line 3: this scenario has 0 steps of its own to undo\n"
+    with board(path) as it:
+        state = it.state()
+        assert (state["value"], state["at"], [step["text"] for step in state["steps"]]) == ("110", 2, ["solve", "close Bridge pipe", "close Mill Lane"])
+        status, told = it.post("do", what="go", step=0)
+        assert status == 409 and b"of its own to undo" in told
+        assert it.do(what="open", arc=9)["value"] == str(without("Bridge pipe"))
+        assert "read alone" in run("dmf-plan", path, typed="close Mill Lane\n").stderr
+        assert it.end() == 130
+    assert run("dmf-plan", path, typed="scenario\n").stdout.splitlines()[-1] == "  * Later, from 'first': 3 of 3 steps, value 155"
