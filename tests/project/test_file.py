@@ -286,6 +286,7 @@ def test_the_file_cannot_be_written(path: str, monkeypatch: pytest.MonkeyPatch) 
     assert Path(path).read_bytes() == before
     second = opened(path)
     assert second.why_not == "it cannot be written: No space left on device" and second.project == file.project
+    assert not versions_of(path)
     monkeypatch.undo()
     again = opened(path)
     assert again.project == file.project and not again.why_not

@@ -70,24 +70,34 @@ class ProjectFile:
         """Writes the file anew, and keeps the one before it as a version. Raises an OSError if that fails; nothing is lost then."""
         if self._journal is None:
             raise OSError(errno.EROFS, self.why_not)
-        text = text_of(self.project)
-        versions = versions_of(self.path)
-        if os.path.exists(self.path):
-            number = int(versions[-1].rpartition(".~")[2][:-1]) + 1 if versions else 1
-            version = f"{self.path}.~{number}~"
-            try:
-                os.link(self.path, version)
-            except OSError:
-                shutil.copy2(self.path, version)
-            versions.append(version)
-            if _stamp(self.path) != self._seen:
-                self.news.append(f"somebody else has written {self.path} meanwhile: that is {version} now")
-        write_file(self.path, text)
+        text, is_theirs = text_of(self.project), _stamp(self.path) != self._seen
+        version = self._version()
+        try:
+            write_file(self.path, text)
+        except BaseException:
+            if version:
+                os.remove(version)
+            raise
+        if is_theirs and version:
+            self.news.append(f"somebody else has written {self.path} meanwhile: that is {version} now")
         self._seen = _stamp(self.path)
         self._filed = self.project.serial
-        for old in versions[:-MOST_VERSIONS]:
+        for old in versions_of(self.path)[:-MOST_VERSIONS]:
             with contextlib.suppress(OSError):
                 os.remove(old)
+
+    def _version(self) -> str:
+        """The path of a version with the file as it is, if there is one."""
+        if not os.path.exists(self.path):
+            return ""
+        before = versions_of(self.path)
+        number = int(before[-1].rpartition(".~")[2][:-1]) + 1 if before else 1
+        version = f"{self.path}.~{number}~"
+        try:
+            os.link(self.path, version)
+        except OSError:
+            shutil.copy2(self.path, version)
+        return version
 
     def end(self) -> None:
         """Writes the file if something was done, and lets others write it. If it cannot be written, raises an OSError; the journal has
