@@ -13,9 +13,13 @@ from pathlib import Path
 from typing import Any
 
 import pytest
+from desk_shared import ROOT
+from dmf.project import acts
 from dmf.project import file as project_file
 from dmf.project.file import MOST_VERSIONS, ProjectFile, created, journal_of, opened, versions_of
-from dmf.project.form import File, KeptStep, KeptTable, Project, ProjectFault, Scenario, project_of, said_scenario, said_step, text_of
+from dmf.project.form import (
+    REQUESTS, File, KeptStep, KeptTable, Project, ProjectFault, Scenario, project_of, said_scenario, said_step, text_of,
+)  # fmt: skip
 
 ARC = ("Mill", "Town", 'Main "pipe"\n2')
 STEP = KeptStep('close "it"\nnow', "47.3", (("close", ARC), ("cap", (*ARC, 2), "0.25"), ("shut", "Mill"), ("add", ("Mill", 7, ""), "12")))
@@ -371,3 +375,13 @@ def test_ten_thousand_steps_and_two_hundred_scenarios(path: str) -> None:
     again = opened(path)
     assert again.project == file.project and len(again.project.scenarios) == 202
     again.end()
+
+
+def test_documented() -> None:
+    """docs/FORMATS.md names each key of a project, each request and each act."""
+    page = (ROOT / "docs/FORMATS.md").read_text()
+    section = page[page.index("## Projects") : page.index("## Session commands")]
+    content = json.loads(text_of(a_project()))
+    keys = {*content, *content["table"], *content["scenarios"][0], *content["scenarios"][0]["steps"][0], *acts._ACTS}
+    assert not [key for key in keys if f"`{key}`" not in section]
+    assert not [word for word in REQUESTS if f'["{word}"' not in section]
