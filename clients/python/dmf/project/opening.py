@@ -141,7 +141,9 @@ def keep_project(path: str, words: argparse.Namespace, desk: Desk, program: Prog
     try:
         table = kept_table(words, subject, os.path.dirname(path))
         # The table may have changed since it was read.
-        if found := differences(subject.text, read_again(table, os.path.dirname(path)).text).told:
+        again = read_again(table, os.path.dirname(path))
+        found = [] if again.text == subject.text else differences(subject.text, again.text).told
+        if found:
             raise DeskFault(f"no project can be kept: the table is another one now: {found[0]}")
         project = Project(secrets.token_hex(8), table, base.network, scenarios=[Scenario(FIRST)], present=FIRST)
         file = created(path, project)
