@@ -157,10 +157,10 @@ def test_from_the_terminal_and_from_python(tmp_path: Path) -> None:
     """The same page but for its date; of a table without a project too, once it is solved; a file that is there is left."""
     desk = supply_project(tmp_path)
     desk.shut(desk.names.place("East Depot"))
-    desk.take_notes("What if the East Depot is flooded?")
     desk.end()
-    ran = run("dmf-plan", desk.file.path, typed=f"report {tmp_path}/one.html\n")
-    assert (ran.stdout, ran.returncode) == (f"written: {tmp_path}/one.html\n", 0)
+    ran = run("dmf-plan", desk.file.path, typed=f"notes\nnotes What if the East Depot is flooded?\nreport {tmp_path}/one.html\n")
+    told = ["there are no notes", "notes: What if the East Depot is flooded?", f"written: {tmp_path}/one.html"]
+    assert (ran.stdout.splitlines(), ran.returncode) == (told, 0)
     with dmf.open_project(desk.file.path) as project:
         project.report(tmp_path / "two.html")
     one, two = ((tmp_path / name).read_text() for name in ("one.html", "two.html"))

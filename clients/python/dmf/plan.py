@@ -52,7 +52,8 @@ class Plan(cmd.Cmd):
             "solve": self._solve, "cut": self._cut, "flow": self._flow, "close": self._close, "open": self._open, "cap": self._cap,
             "add": self._add, "shut": self._shut, "undo": self._undo, "redo": self._redo, "steps": self._steps, "try": self._try,
             "keep": self._keep, "drop": self._drop, "what-if": self._what_if, "draw": self._draw, "save": self._save,
-            "scenario": self._scenario, "compare": self._compare, "report": self._report, "help": self._help, "quit": self._quit,
+            "scenario": self._scenario, "compare": self._compare, "report": self._report, "notes": self._notes,
+            "help": self._help, "quit": self._quit,
         }  # fmt: skip
 
     # How lines come and how they are answered.
@@ -337,6 +338,12 @@ class Plan(cmd.Cmd):
 
     def _compare(self, words: list[str]) -> None:
         self.tell(*compared(project_of(self.desk), words).lines())
+
+    def _notes(self, words: list[str]) -> None:
+        desk = project_of(self.desk)
+        if words:
+            desk.take_notes(" ".join(words))
+        self.tell(f"notes: {display(desk.project.notes)}" if desk.project.notes else "there are no notes")
 
     def _report(self, words: list[str]) -> None:
         path = self._files.new(one_name(words, "report"), [".html"])

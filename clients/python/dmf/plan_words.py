@@ -63,6 +63,7 @@ COMMANDS = {
     ),
     "compare": Help("compare [SCENARIO] SCENARIO", "Shows in what two scenarios differ: value, limit and arcs; base is the table's network.", SCENARIO),
     "report": Help("report FILE", "Writes a page to hand on, whose name ends with .html: values, limits, steps, pictures, and what is worst to lose."),
+    "notes": Help("notes [TEXT]", "Shows the notes of a project, or puts others in their place. Its report begins with them: with the question."),
     "help": Help("help [COMMAND]", "Lists the commands, or says what one does.", COMMAND),
     "quit": Help("quit", "Ends, and saves nothing."),
 }

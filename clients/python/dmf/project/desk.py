@@ -6,14 +6,14 @@ the session of the others, which has undone theirs."""
 from __future__ import annotations
 
 import contextlib
-from collections.abc import Callable, Collection, Iterator, Mapping
+from collections.abc import Callable, Collection, Iterable, Iterator, Mapping
 from dataclasses import dataclass, field, replace
 from decimal import Decimal
 from typing import Any
 
 from ..desk import Desk
 from ..desk_amounts import finer
-from ..desk_steps import Change, DeskFault, Solve, Step
+from ..desk_steps import Change, DeskFault, Follow, Solve, Step
 from ..desk_view import Timeline
 from ..errors import Refused
 from ..process import Program
@@ -113,6 +113,13 @@ class ProjectDesk(Desk):
 
         self._keep("step", said_step(KeptStep(text, plain_text(step.value), requests)), take_back)
         return step
+
+    def take_steps(self, steps: Iterable[Step]) -> None:
+        """Makes the steps of another desk on the same network; one that only solves is none here."""
+        for step in steps:
+            asked: list[Change] = [change for change in step.changes if not isinstance(change, (Solve, Follow))]
+            if asked:
+                self._do(step.text, asked)
 
     def undo(self, count: int = 1) -> None:
         left = self.at - 1 - self.scenario.inherited

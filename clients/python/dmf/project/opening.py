@@ -8,7 +8,7 @@ import secrets
 from dataclasses import replace
 
 from ..desk import Desk
-from ..desk_steps import Change, DeskFault, Follow, Solve
+from ..desk_steps import DeskFault
 from ..errors import Error, Refused, SessionEnded
 from ..process import Program
 from ..tables.cells import shown
@@ -153,10 +153,7 @@ def keep_project(path: str, words: argparse.Namespace, desk: Desk, program: Prog
         raise DeskFault(f"{shown(base.subject.path)} cannot be made: {error.strerror}") from None
     try:
         made = ProjectDesk(file, base, program)
-        for step in desk.steps[: desk.at]:
-            asked: list[Change] = [change for change in step.changes if not isinstance(change, (Solve, Follow))]
-            if asked:
-                made._do(step.text, asked)
+        made.take_steps(desk.steps[: desk.at])
     except BaseException as error:
         file.discard()
         if isinstance(error, Error):
