@@ -1,4 +1,4 @@
-"""The input of `dmf-plan` and `dmf-board`: a problem's file, or a table of arcs as `dmf-problem` takes it."""
+"""The input of the tools but `dmf-problem`: a problem's file, or a table of arcs as `dmf-problem` takes it."""
 
 from __future__ import annotations
 
@@ -14,15 +14,19 @@ from .columns import DEMAND, NAME, SUPPLY, spoken
 from .comments import Described, described
 from .faults import TableFault
 from .network import KINDS, Plan, net_of
-from .opening import data_of, plan_of
+from .opening import data_of, plan_of, split_path
 from .options import add_options, parsed, says_table, wanted_of
 from .problem import problem_text
 from .rows import Term
 from .warnings import warnings
+from .workbook import is_workbook
 
 # In how many of its first lines the problem line of a file is looked for.
 HEAD = 100_000
 FAULT, UNREADABLE = 3, 4
+# How the name of a table's file ends, and what its first line has.
+ENDINGS = (".csv", ".tsv", ".xlsx", ".ods")
+MARKS = b",;|"
 
 
 @dataclass(frozen=True)
@@ -47,26 +51,27 @@ class Subject:
         return self.described.measure
 
 
-def add_words(parser: argparse.ArgumentParser) -> None:
+def add_words(parser: argparse.ArgumentParser, form: str = "FILE [SOURCE SINK]", what: str = "a table of arcs, or a problem's file") -> None:
     """Adds the words that name the file, and what a table in it is."""
-    parser.add_argument("places", metavar="FILE [SOURCE SINK]", nargs="*", help="a table of arcs, or a problem's file")
+    parser.add_argument("places", metavar=form, nargs="*", help=what)
     add_options(parser)
 
 
-def words_of(parser: argparse.ArgumentParser, given: list[str]) -> argparse.Namespace:
-    """The words that were given, with the path of the file."""
-    words = parsed(parser, given, 1)
+def words_of(parser: argparse.ArgumentParser, given: list[str], *, ends_are_words: bool = True) -> argparse.Namespace:
+    """The words that were given, with the path of the file. After it stand the source and the sink, or else other words: `others`."""
+    words = parsed(parser, given, 1 if ends_are_words else None)
     if not words.fixed:
         parser.error("the file of a table or a problem is wanted")
-    (words.path,) = words.fixed
+    words.path, *words.others = words.fixed
     return words
 
 
-def read_subject(words: argparse.Namespace) -> Subject:
-    """The problem that the words name. Raises a `ToolFault`."""
+def read_subject(words: argparse.Namespace, *, unreadable: int = UNREADABLE, in_doubt: bool = False) -> Subject:
+    """The problem that the words name. Where nothing tells whether a file has a problem, it has one if `in_doubt`. Raises a `ToolFault`,
+    with the status `unreadable` for a file that cannot be read."""
     try:
-        data = data_of(words.path, UNREADABLE)
-        if is_problem(words.path, data):
+        data = data_of(words.path, unreadable)
+        if is_problem(words.path, data, in_doubt=in_doubt and not says_table(words)):
             if says_table(words):
                 raise ToolFault(f"{words.path} has a problem, which names its own source and sink: the options are for tables", 2)
             return Subject(words.path, data, raw_names=words.raw_names)
@@ -77,11 +82,15 @@ def read_subject(words: argparse.Namespace) -> Subject:
         raise ToolFault(first, FAULT, more) from None
 
 
-def is_problem(path: str, data: bytes) -> bool:
-    """Whether a file has a problem, by its first line that is no comment, or by its name."""
+def is_problem(path: str, data: bytes, *, in_doubt: bool = False) -> bool:
+    """Whether a file has a problem, by its first line that is no comment, or by its name. If neither says so, a workbook has none, nor has
+    a file with the name of a table or with a comma, a semicolon or a bar in that line; any other has one if `in_doubt`."""
     head = lines(b"\n".join(data.split(b"\n", HEAD)[:HEAD]))
-    first = next((found for found in map(fields, head) if found and found[0] != b"c"), None)
-    return first is not None and first[:2] == [b"p", b"max"] or path.endswith(".max")
+    first = next((line for line in head if (found := fields(line)) and found[0] != b"c"), b"")
+    if fields(first)[:2] == [b"p", b"max"] or path.endswith(".max"):
+        return True
+    is_table = is_workbook(data) or split_path(path)[0].endswith(ENDINGS) or any(mark in first for mark in MARKS)
+    return in_doubt and not is_table
 
 
 def _of_table(words: argparse.Namespace, data: bytes) -> Subject:
