@@ -14,22 +14,19 @@ import town_table as town
 from built import BUILT
 from desk_shared import run
 
-ENDS = ["--source", "Quelle Nord", "--source", "Quelle S\u00fcd=61,7", "--sink", "Hafen Gr\u00f6\u00dfe=96,35"]
 TOOLS: dict[str, list[str]] = {"dmf-plan": [], "dmf-board": ["--no-browser"], "dmf-names": [], "dmf-dot": [], "dmf-sweep": ["--close-each"]}
 
 
 @pytest.fixture(scope="module")
 def words(tmp_path_factory: pytest.TempPathFactory) -> list[str]:
-    """The table, with what names its ends and limits. Beside it is the problem of it, and the solution of that."""
+    """What names the table. Beside it is the problem of it, and the solution of that."""
     path = tmp_path_factory.mktemp("ways")
-    (path / "netz.csv").write_text(town.csv_text())
-    (path / "grenzen.csv").write_text(f"Ort;Grenze\n{town.LIMITED};22,4\n")
-    given = [*ENDS, "--node-limits", f"{path}/grenzen.csv"]
-    made = run("dmf-problem", "--table", f"{path}/netz.csv", *given).stdout
+    given = town.put(path)
+    made = run("dmf-problem", "--table", *given).stdout
     (path / "netz.max").write_text(made)
     ran = subprocess.run([BUILT, "solve", "--cut"], input=made, capture_output=True, check=True, text=True)
     (path / "answer").write_text(ran.stdout)
-    return [f"{path}/netz.csv", *given]
+    return given
 
 
 def beside(words: list[str], name: str) -> Path:

@@ -255,7 +255,7 @@ class Held:
             return [self._added(Line(change.tail, change.head, change.capacity), change.name)]
         if isinstance(change, Reopen):
             line = self.lines[change.arc - 1]
-            added = self._added(line._replace(is_closed=False, is_shut=False), self.handles[change.arc].given_key)
+            added = self._added(line._replace(is_closed=False, is_shut=False, first=line.first or change.arc), self.handles[change.arc].given_key)
             self.names.drop(change.arc)
             return [added, self._put(change.arc, line._replace(is_shut=False, is_replaced=True))]
         if isinstance(change, Shut):

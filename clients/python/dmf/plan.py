@@ -16,7 +16,6 @@ from .desk_amounts import amount
 from .desk_steps import DeskFault, Trial, unforeseen
 from .desk_text import picture_text, problem, table
 from .errors import Error
-from .folding import LEFT_OUT
 from .plan_completion import history, matches, typed_line
 from .plan_meaning import WHERE, arcs_told, arcs_where, capped, capped_where, last_closed, new_arc
 from .plan_words import ALWAYS, CHANGES, COMMANDS, Word, count_of, no_words, one_name, split
@@ -341,10 +340,7 @@ class Plan(cmd.Cmd):
 
     def _save(self, words: list[str]) -> None:
         path = self._new_file(words, "save", [".csv", ".max"])
-        is_table = path.endswith(".csv")
-        self._put(path, (table(self.desk) if is_table else problem(self.desk)).encode())
-        if is_table and self.desk.roles():
-            self.tell(LEFT_OUT)
+        self._put(path, (table(self.desk) if path.endswith(".csv") else problem(self.desk)).encode())
 
     def _new_file(self, words: list[str], command: str, endings: list[str]) -> str:
         """The path of a file that may be written: if this session did not write it, it must be new."""

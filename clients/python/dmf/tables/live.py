@@ -25,11 +25,13 @@ from ..solution import Cut, Solution
 from ..text import ARC, NODE
 from .columns import DEMAND, LIMIT, SUPPLY
 from .comments import Described, comments
+from .extra import extra_of
 from .faults import TableFault, naming
 from .file import Rows, Sheet
 from .network import Net, Plan, net_of
 from .opening import Wanted, plan_of, plan_of_sheet, split_path
-from .rows import Reading, Term
+from .places import Term
+from .rows import Reading
 from .subject import complete
 from .warnings import warnings
 from .workbook import cell_text
@@ -271,7 +273,7 @@ class TableNetwork(Network[str]):
     @cached_property
     def extra(self) -> dict[str, list[str]]:
         """The columns of the table that were read for nothing: by their titles a cell for each row of an arc."""
-        return self._plan.arcs.extra()
+        return extra_of(self._plan.arcs).by_title()
 
     def capacity(self, arc: Any) -> Any:
         """The capacity of an open arc."""

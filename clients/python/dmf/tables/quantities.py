@@ -71,14 +71,16 @@ class _Piece:
 
 
 class Amounts:
-    """A column of numbers. `what` is what messages call one, and `column` its number, from 1 on."""
+    """A column of numbers. `what` is what messages call one, and `column` its number, from 1 on. `unit` is that of the title, and `named` says
+    that the title names it as one, and is not just a word for what is counted."""
 
-    def __init__(self, what: str, column: int = 0, path: str = "", unit: str = "") -> None:
+    def __init__(self, what: str, column: int = 0, path: str = "", unit: str = "", *, named: bool = True) -> None:
         self.what = what
         self.column = column
         self.path = path
         # The unit of the title, and then of all cells.
         self.unit = unit
+        self._word = "" if named else unit
         self.sign = ""
         self.lines: Sequence[int] = []
         # The numbers, over ten to the power of this.
@@ -93,6 +95,17 @@ class Amounts:
         piece = _plain(self._count, cells) or _Piece(self._count, "", cells)
         self._count += len(cells)
         self._pieces.append(piece)
+
+    @property
+    def named_unit(self) -> str:
+        """The unit, if the title or the cells name one."""
+        return self.unit if self.unit != self._word else ""
+
+    def judge_beside(self, other: Amounts, faults: Faults) -> None:
+        """Sees to it that this column has no other unit than another one."""
+        mine, theirs = self.named_unit, other.named_unit
+        if self.lines and mine and theirs and _folded(mine) != _folded(theirs):
+            faults.add(f"the {self.what} has the unit {shown(mine)}, and the {other.what} has {shown(theirs)}", self.lines[0], self.column)
 
     def reading(self, cell: str) -> tuple[dict[str, Decimal], str]:
         found = self._read.get(cell)

@@ -1,5 +1,5 @@
-"""From rows to columns: the places of a table of arcs, each with its number, and the amounts; or the places of a table of places, each
-with what it gives, takes or lets through. White space of any kind inside a name becomes one space, and around it none."""
+"""From rows to columns: the places of a table of arcs, each with its number, and the amounts. White space of any kind inside a name becomes
+one space, and around it none."""
 
 from __future__ import annotations
 
@@ -7,15 +7,14 @@ import unicodedata
 from array import array
 from collections.abc import Mapping, Sequence
 from dataclasses import dataclass, field
-from decimal import Decimal
 from itertools import chain, islice
 from operator import itemgetter
-from typing import NamedTuple, Optional
+from typing import NamedTuple
 
 from ..numbering import NODES
 from ..spreadsheet import name_in
 from .cells import cleaned, shown
-from .columns import ARCS, CAPACITY, HEAD, LIMIT, NAME, PLACE, PLACE_COLUMNS, TAIL, Form, Layout, layout_of, unit_of
+from .columns import ARCS, CAPACITY, HEAD, NAME, PLACE_COLUMNS, TAIL, Form, Layout, layout_of, unit_of
 from .faults import Faults, TableFault
 from .file import Exact, Rows, Sheet, is_blank
 from .quantities import Amounts
@@ -24,8 +23,6 @@ from .quantities import Amounts
 LONGEST_CELL = 131_072
 # With what a cell begins that may be no name as it stands; one that is empty has nothing there.
 _ODD_FIRST = ("", " ", "'")
-# What stands in the cell of a source or a sink that has no limit.
-MARKS = {"x", "yes", "ja", "oui", "si", "s\xed", "true", "wahr", "vrai", "unlimited", "unbegrenzt", "\u2713"}
 
 
 @dataclass(frozen=True)
@@ -51,7 +48,7 @@ class Table:
     """The rows of a table of arcs: `places` has the number of each place, from 1 on, `tails` and `heads` those of each row, `labels`
     the names of the rows, if there are any, and `lines` the lines in which they begin. `said` has the rows of places. `heading` is the
     first row if it was read as titles although nobody named any, and `begins_bare` says that it was not. `respelled` has for each name
-    that the table also writes with other spaces one of these other ways."""
+    that the table also writes with other spaces one of these other ways. `is_raw` says that no apostrophe protects a name."""
 
     sheet: Sheet
     layout: Layout
@@ -65,25 +62,12 @@ class Table:
     heading: list[str] = field(default_factory=list)
     begins_bare: bool = False
     respelled: dict[str, str] = field(default_factory=dict)
+    is_raw: bool = False
     notes: list[str] = field(default_factory=list)
 
     @property
     def path(self) -> str:
         return self.sheet.path
-
-    def extra(self) -> dict[str, list[str]]:
-        """The columns with titles that are read for nothing: by their titles the cells of the rows of arcs."""
-        places = {self.layout.titles[place].text: place for place in self.layout.others()}
-        found: dict[str, list[str]] = {title: [] for title in places}
-        wanted = iter(self.lines)
-        next_line = next(wanted, 0)
-        for rows in self.sheet.read() if places else ():
-            for line, row in zip(*rows):
-                if line == next_line:
-                    next_line = next(wanted, 0)
-                    for title, place in places.items():
-                        found[title].append(row[place] if place < len(row) else "")
-        return found
 
     def fault(self, reason: str, line: int = 0) -> TableFault:
         return TableFault(reason, line, self.path)
@@ -152,7 +136,7 @@ class _Numbers(dict[str, int]):
             self.respelled[name] = cell if cell != name else first
 
 
-class _Reader:
+class Reader:
     """Takes the rows of a table, and their faults."""
 
     def __init__(self, sheet: Sheet, form: Form, layout: Layout, reading: Reading) -> None:
@@ -162,6 +146,10 @@ class _Reader:
         self.faults = Faults(sheet.path)
         self.width = len(layout.titles) if layout.line else None
         self.heading = [title.text for title in layout.titles]
+
+    def take(self, rows: Rows) -> None:
+        """Takes rows."""
+        raise NotImplementedError
 
     def column(self, place: int) -> str:
         return next((f"the {column}" for column, at in self.layout.at.items() if at == place), "a cell")
@@ -203,13 +191,13 @@ class _Reader:
         return row[place] if place < len(row) else ""
 
 
-class _ArcReader(_Reader):
+class _ArcReader(Reader):
     """Takes rows of arcs, and of places among them."""
 
     def __init__(self, sheet: Sheet, layout: Layout, reading: Reading) -> None:
         super().__init__(sheet, ARCS, layout, reading)
         at = layout.at[CAPACITY]
-        self.table = Table(sheet, layout, Amounts(CAPACITY, at + 1, sheet.path, unit_of(layout.title(CAPACITY))))
+        self.table = Table(sheet, layout, amounts_of(CAPACITY, layout, sheet.path))
         self.numbers = _Numbers(reading.raw_names)
         self.ends = itemgetter(layout.at[TAIL], layout.at[HEAD])
         self.amount = itemgetter(at)
@@ -295,7 +283,7 @@ class _ArcReader(_Reader):
         """The table. Raises a `TableFault` if a row has a fault."""
         table = self.table
         table.labels += [""] * (len(table.tails) - len(table.labels)) if table.labels else []
-        table.places, table.respelled = self.numbers.places, self.numbers.respelled
+        table.places, table.respelled, table.is_raw = self.numbers.places, self.numbers.respelled, self.reading.raw_names
         if self.titles_again:
             told = ", ".join(map(str, self.titles_again[:9])) + ", .." * (len(self.titles_again) > 9)
             table.notes.append(f"the titles stand once more, and are passed over: line {told}")
@@ -304,7 +292,13 @@ class _ArcReader(_Reader):
         return table
 
 
-def _first_rows(sheet: Sheet) -> Rows:
+def amounts_of(column: str, layout: Layout, path: str) -> Amounts:
+    """An empty column of amounts, as a layout has it."""
+    title = layout.title(column)
+    return Amounts(column, layout.at.get(column, -1) + 1, path, unit_of(title), named=bool(title.unit))
+
+
+def first_rows(sheet: Sheet) -> Rows:
     """The first rows of a sheet. Raises a `TableFault` if there is none."""
     sample = sheet.sample()
     if not sample.cells:
@@ -317,11 +311,11 @@ def _first_rows(sheet: Sheet) -> Rows:
 
 def read_arcs(sheet: Sheet, reading: Reading) -> Table:
     """The table of arcs of a sheet. Raises a `TableFault` with all rows that cannot be read, and if there is none."""
-    sample = _first_rows(sheet)
+    sample = first_rows(sheet)
     layout = layout_of(sample, ARCS, reading.titles)
     reader = _ArcReader(sheet, layout, reading)
     try:
-        _take_all(sheet, reader)
+        take_all(sheet, reader)
         table = reader.end()
     except TableFault as fault:
         for told in (fault, *fault.others):
@@ -334,87 +328,10 @@ def read_arcs(sheet: Sheet, reading: Reading) -> Table:
     return table
 
 
-def _take_all(sheet: Sheet, reader: _ArcReader | _PlaceReader) -> None:
+def take_all(sheet: Sheet, reader: Reader) -> None:
     """Takes all rows. A quote or a byte that is wrong ends them."""
     try:
         for rows in sheet.read():
             reader.take(rows)
     except TableFault as fault:
         reader.faults.add(fault.reason, fault.line)
-
-
-class Term(NamedTuple):
-    """What a place gives, takes or lets through (`supply`, `demand` or `limit`): so much, or without a quantity what its arcs carry; and
-    where a table says so, if one does."""
-
-    kind: str
-    place: str
-    quantity: Optional[Decimal]
-    line: int = 0
-    path: str = ""
-
-
-class _PlaceReader(_Reader):
-    """Takes rows of places."""
-
-    def __init__(self, sheet: Sheet, form: Form, layout: Layout, reading: Reading) -> None:
-        super().__init__(sheet, form, layout, reading)
-        self.said: list[Said] = []
-
-    def take(self, rows: Rows) -> None:
-        for line, row in zip(*rows):
-            if self.is_passed_over(line, row) or not self.are_cells_right(line, row):
-                continue
-            place = self.name(line, row, PLACE)
-            cells = {column: cell for column in self.form.amounts if cleaned(cell := self.cell(row, column))}
-            if len(self.form.amounts) == 1 and not cells:
-                (column,) = self.form.amounts
-                at = self.layout.at[column]
-                count = f": the row has {len(row)} column{'s' * (len(row) != 1)}" if at >= len(row) else ""
-                self.faults.add(f"no {column}{count}", line, at + 1)
-            elif place:
-                self.said.append(Said(line, place, cells))
-
-
-class Heading(NamedTuple):
-    """A first row that was read as titles: what would be a place in it, and its amount of this kind."""
-
-    kind: str
-    place: str
-    amount: str
-    line: int
-    path: str
-
-
-def read_places(sheet: Sheet, kinds: Sequence[str], reading: Reading, usual: str = "") -> tuple[list[Term], list[Heading]]:
-    """What a table of places says of these kinds, and the row of its titles. `usual` is the decimal sign of the table of arcs. Raises a
-    `TableFault` with all rows that cannot be read, and if there is none."""
-    form = Form((PLACE,), tuple(kinds))
-    layout = layout_of(_first_rows(sheet), form, {})
-    reader = _PlaceReader(sheet, form, layout, reading)
-    _take_all(sheet, reader)
-    terms = terms_of(reader.said, layout, reader.faults, reading.sign, usual)
-    reader.faults.judge()
-    if not reader.said:
-        raise TableFault("the table has titles, and no row below them")
-    heading = Heading(kinds[0], layout.title(PLACE).text, layout.title(kinds[0]).text, layout.line, sheet.path)
-    return terms, [heading] if layout.line else []
-
-
-def terms_of(said: list[Said], layout: Layout, faults: Faults, sign: str, usual: str) -> list[Term]:
-    """What rows of places say. Where a place may say several things, a supply or a demand of 0 says nothing."""
-    terms: list[Term] = []
-    for kind in PLACE_COLUMNS:
-        rows = [row for row in said if kind in row.cells]
-        marked = [row for row in rows if kind != LIMIT and cleaned(row.cells[kind]).casefold() in MARKS]
-        terms += (Term(kind, row.place, None, row.line, faults.path) for row in marked)
-        numbered = [row for row in rows if row not in marked]
-        amounts = Amounts(kind, layout.at.get(kind, 0) + 1, faults.path, unit_of(layout.title(kind)))
-        if numbered:
-            amounts.add([row.cells[kind] for row in numbered])
-        amounts.settle([row.line for row in numbered], faults, sign, usual)
-        for place, row in enumerate(numbered):
-            quantity = amounts.quantity(place)
-            if quantity or kind == LIMIT or len(layout.at) == 2:
-                terms.append(Term(kind, row.place, quantity, row.line, faults.path))
-    return terms

@@ -3,8 +3,9 @@
 from __future__ import annotations
 
 import argparse
-from dataclasses import dataclass
+from dataclasses import dataclass, field
 from functools import cached_property
+from typing import Optional
 
 from ..quantity import Measure
 from ..text import display, fields, lines
@@ -12,12 +13,14 @@ from ..tool import ToolFault
 from .cells import MOST_TOLD, shown
 from .columns import DEMAND, NAME, SUPPLY, spoken
 from .comments import Described, described
+from .ends import ends_alone
+from .extra import Extra, extra_of
 from .faults import TableFault
 from .network import KINDS, Plan, net_of
 from .opening import data_of, plan_of, split_path
 from .options import add_options, parsed, says_table, wanted_of
 from .problem import problem_text
-from .rows import Term
+from .places import Term
 from .warnings import warnings
 from .workbook import is_workbook
 
@@ -32,13 +35,15 @@ MARKS = b",;|"
 @dataclass(frozen=True)
 class Subject:
     """A problem with comments, as `dmf-problem` writes it. `noun` is the table's word for an arc, if its titles have one. `notes` say
-    what looks like a mistake, and what was assumed. `raw_names` says that names stand in a table as they are."""
+    what looks like a mistake, and what was assumed. `raw_names` says that names stand in a table as they are. `plan` is what the problem
+    was made of, if it was made here."""
 
     path: str
     text: bytes
     noun: str = ""
     notes: tuple[str, ...] = ()
     raw_names: bool = False
+    plan: Optional[Plan] = field(default=None, repr=False, compare=False)
 
     @cached_property
     def described(self) -> Described:
@@ -49,6 +54,11 @@ class Subject:
     def measure(self) -> Measure:
         """How the problem's numbers stand for quantities."""
         return self.described.measure
+
+    @cached_property
+    def extra(self) -> Extra:
+        """The columns of the table that were read for nothing."""
+        return extra_of(self.plan.arcs, 1 + self.plan.both_ways) if self.plan else Extra()
 
 
 def add_words(parser: argparse.ArgumentParser, form: str = "FILE [SOURCE SINK]", what: str = "a table of arcs, or a problem's file") -> None:
@@ -99,7 +109,7 @@ def _of_table(words: argparse.Namespace, data: bytes) -> Subject:
     net = net_of(plan)
     noun = spoken(plan.arcs.layout.title(NAME).text)
     told = (*plan.notes, *notes, *warnings(plan, net))
-    return Subject(words.path, problem_text(net).encode(), noun, told, words.raw_names)
+    return Subject(words.path, problem_text(net).encode(), noun, told, words.raw_names, plan)
 
 
 def complete(plan: Plan) -> list[str]:
@@ -116,13 +126,11 @@ def complete(plan: Plan) -> list[str]:
 def _only(plan: Plan, kind: str, way: str) -> str:
     """The only place that arcs leave and none enters, or the other way round. Raises a `TableFault` if there is not exactly one."""
     table = plan.arcs
-    ends = [(tail, head) for tail, head in zip(table.tails, table.heads) if tail != head]
+    ends = [*zip(table.tails, table.heads)]
     ends += [(head, tail) for tail, head in ends] if plan.both_ways else []
-    ours, theirs = (0, 1) if kind == SUPPLY else (1, 0)
-    others = {pair[theirs] for pair in ends}
     names = list(table.places)
-    found = [names[number - 1] for number in dict.fromkeys(pair[ours] for pair in ends) if number not in others]
-    taken = {term.place for term in plan.terms if term.kind in KINDS}
+    found = [names[number - 1] for number in ends_alone(ends)[0 if kind == SUPPLY else 1]]
+    taken = {term.place for kind in KINDS for term in plan.of_kind(kind)}
     if len(found) == 1 and found[0] not in taken:
         return found[0]
     where = "does it flow from" if kind == SUPPLY else "does it flow to"
