@@ -10,13 +10,14 @@ import tempfile
 from collections.abc import Hashable, Iterable, Iterator
 from dataclasses import dataclass
 
-from . import Cut, Solution, read
+from . import Cut, Solution
 from .desk_names import Names
 from .desk_steps import Add, Cap, Change, Close, DeskFault, Follow, Line, Node, Reopen, Shut, Solve, Step, Was
 from .errors import Error, FlowIsNotGreatest, Refused
 from .folding import Folding
 from .process import Program
 from .quantity import EXACT, Measure, Quantity
+from .sources import read_whole
 from .tables.cells import cleaned, shown
 from .tables.comments import Role
 from .tables.subject import Subject
@@ -42,7 +43,7 @@ class Held:
         with tempfile.NamedTemporaryFile(prefix="dmf-", suffix=".max") as file:
             file.write(subject.text)
             file.flush()
-            self.network = read(file.name, program=program)
+            self.network = read_whole(file.name, program=program)
         self.handles = {arc.number: arc for arc in self.network.arcs}
         self._nodes = self.network.nodes
         self.folding = Folding(subject.described)

@@ -8,5 +8,6 @@
 - `network`: these to nodes and arcs, with joined sources and sinks and the limits of places; `warnings`: what looks like a mistake;
   `ends`: which places can be source and sink.
 - `comments`, `problem`: the text of a problem, and what it says of its table.
+- `folded`, `answers`, `live`: networks of tables in Python; `opened`: `dmf.read_table`.
 - `opening`, `options`: the files of a plan, and the options that name them; `subject`: what the planner's tools open.
 """
