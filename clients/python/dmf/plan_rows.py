@@ -60,23 +60,24 @@ def _arc_rows(arcs: Sequence[Carried], told: Told) -> Iterator[ArcRow]:
 def _place_rows(arcs: Sequence[Carried], told: Told) -> list[PlaceRow]:
     folding = told.folding
     of_roles: dict[tuple[str, int], list[Carried]] = {known: [] for known in folding.known_roles()}
-    ends: list[tuple[int, int]] = []
+    tails: list[int] = []
+    heads: list[int] = []
     carried: dict[tuple[str, int], Quantity] = defaultdict(int)
     for arc in arcs:
         if role := folding.role(arc.tail, arc.head):
             of_roles.setdefault((role.kind, role.node), []).append(arc)
             continue
-        tail, head = folding.place(arc.tail), folding.place(arc.head)
-        ends.append((tail, head))
+        tails.append(folding.place(arc.tail))
+        heads.append(folding.place(arc.head))
         if folding.has_unlimited:
-            carried[SUPPLY, tail] += arc.capacity
-            carried[DEMAND, head] += arc.capacity
+            carried[SUPPLY, tails[-1]] += arc.capacity
+            carried[DEMAND, heads[-1]] += arc.capacity
     plain = {kind: folding.place(end) for kind, end in zip((SUPPLY, DEMAND), told.ends) if not folding.is_joint(end)}
-    if not of_roles and ends_alone(ends) == ([plain[SUPPLY]], [plain[DEMAND]]):
+    if not of_roles and ends_alone(tails, heads) == ([plain[SUPPLY]], [plain[DEMAND]]):
         return []
     rows = [(node, PlaceRow(told.node(node), kind, None)) for kind, node in plain.items()]
     rows += ((node, _row_of(kind, node, found, carried, told)) for (kind, node), found in of_roles.items())
-    there = {place for pair in ends for place in pair}
+    there = {*tails, *heads}
     # A place without an arc gives, takes and lets through nothing; but one that is all that gives, or takes, is told.
     kinds = [row.kind for node, row in rows if node in there]
     kept = [row for node, row in rows if node in there or row.kind != LIMIT and row.kind not in kinds]

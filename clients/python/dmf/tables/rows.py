@@ -5,11 +5,11 @@ from __future__ import annotations
 
 import unicodedata
 from array import array
-from collections.abc import Mapping, Sequence
+from collections import defaultdict
+from collections.abc import Mapping
 from dataclasses import dataclass, field
-from itertools import chain, islice
-from operator import itemgetter
-from typing import NamedTuple
+from itertools import count, islice
+from typing import NamedTuple, Union
 
 from ..numbering import NODES
 from ..spreadsheet import name_in
@@ -21,8 +21,6 @@ from .quantities import Amounts
 
 # The most characters of a cell. A longer one mostly has a quote that is not closed.
 LONGEST_CELL = 131_072
-# With what a cell begins that may be no name as it stands; one that is empty has nothing there.
-_ODD_FIRST = ("", " ", "'")
 
 
 @dataclass(frozen=True)
@@ -56,7 +54,7 @@ class Table:
     places: dict[str, int] = field(default_factory=dict)
     tails: array[int] = field(default_factory=lambda: array(NODES))
     heads: array[int] = field(default_factory=lambda: array(NODES))
-    lines: array[int] = field(default_factory=lambda: array("Q"))
+    lines: Union[range, array[int]] = range(0)
     labels: list[str] = field(default_factory=list)
     said: list[Said] = field(default_factory=list)
     heading: list[str] = field(default_factory=list)
@@ -68,6 +66,15 @@ class Table:
     @property
     def path(self) -> str:
         return self.sheet.path
+
+    def add_lines(self, lines: range) -> None:
+        """Takes in the lines of more rows. As long as no line is left out, a range has all of them."""
+        if isinstance(self.lines, range) and (not self.lines or self.lines.stop == lines.start):
+            self.lines = range(self.lines.start if self.lines else lines.start, lines.stop)
+            return
+        if isinstance(self.lines, range):
+            self.lines = array("Q", self.lines)
+        self.lines.extend(lines)
 
     def fault(self, reason: str, line: int = 0) -> TableFault:
         return TableFault(reason, line, self.path)
@@ -89,33 +96,44 @@ def are_plain(cells: list[str]) -> bool:
     return is_cleaned and text.replace("\n", "").isprintable() and text.count("\n") == len(cells) + 1 and len(text) <= LONGEST_CELL
 
 
-class _Numbers(dict[str, int]):
+class _Numbers:
     """The number of the place that each cell names; 0 if it names none. A new place gets the next number."""
 
     def __init__(self, is_raw: bool) -> None:
-        super().__init__()
         self.is_raw = is_raw
-        self.places: dict[str, int] = {}
-        # For each name the first cell that writes it; and see `Table`.
+        # What is looked up here and is not there gets the next number.
+        self._places: defaultdict[str, int] = defaultdict(count(1).__next__)
+        # The numbers of cells that are not the name of a place as it stands.
+        self._odd: dict[str, int] = {}
+        # For each name the first cell that writes it, where cells differ; and see `Table`.
         self.spellings: dict[str, str] = {}
         self.respelled: dict[str, str] = {}
 
+    @property
+    def places(self) -> dict[str, int]:
+        """The places, each with its number."""
+        return dict(self._places)
+
     def of(self, cells: list[str]) -> list[int] | None:
         """The numbers of these cells; None, and no new number, if one names no place."""
-        known = len(self.places)
-        numbers = list(map(self.__getitem__, cells))
+        if are_plain(cells) and self.spellings.keys().isdisjoint(cells):
+            return list(map(self._places.__getitem__, cells))
+        known = len(self._places)
+        numbers = list(map(self.number, cells))
         if 0 not in numbers:
             return numbers
-        self.places = dict(islice(self.places.items(), known))
-        for cell in [cell for cell, number in self.items() if not 0 < number <= known]:
-            del self[cell]
+        for name in [*islice(self._places, known, None)]:
+            del self._places[name]
+        self._places.default_factory = count(known + 1).__next__
+        self._odd = {cell: number for cell, number in self._odd.items() if 0 < number <= known}
         return None
 
-    def __missing__(self, cell: str) -> int:
-        if cell.isprintable() and "  " not in cell and cell[:1] not in _ODD_FIRST and cell[-1] != " " and cell not in self.spellings and len(cell) <= LONGEST_CELL:
-            # A name as it stands.
-            self[cell] = number = self.places.setdefault(cell, len(self.places) + 1)
-            return number
+    def number(self, cell: str) -> int:
+        """The number of a cell."""
+        if cell in self._odd:
+            return self._odd[cell]
+        if cell in self._places and cell[0] != "'" and cell not in self.spellings:
+            return self._places[cell]
         number = 0
         if cell.strip() and len(cell) <= LONGEST_CELL:
             try:
@@ -123,15 +141,18 @@ class _Numbers(dict[str, int]):
             except ValueError:
                 name = ""
             if name:
-                number = self.places.setdefault(name, len(self.places) + 1)
+                is_new = name not in self._places
+                number = self._places[name]
                 if name != cell or name in self.spellings:
-                    self._respell(name, cell)
-        self[cell] = number
+                    self._respell(name, cell, is_new)
+                if name == cell:
+                    return number
+        self._odd[cell] = number
         return number
 
-    def _respell(self, name: str, cell: str) -> None:
+    def _respell(self, name: str, cell: str, is_new: bool) -> None:
         # A name that is first written as it is needs no entry.
-        first = self.spellings.setdefault(name, name if name in self else cell)
+        first = self.spellings.setdefault(name, cell if is_new else name)
         if first != cell:
             self.respelled[name] = cell if cell != name else first
 
@@ -196,11 +217,8 @@ class _ArcReader(Reader):
 
     def __init__(self, sheet: Sheet, layout: Layout, reading: Reading) -> None:
         super().__init__(sheet, ARCS, layout, reading)
-        at = layout.at[CAPACITY]
         self.table = Table(sheet, layout, amounts_of(CAPACITY, layout, sheet.path))
         self.numbers = _Numbers(reading.raw_names)
-        self.ends = itemgetter(layout.at[TAIL], layout.at[HEAD])
-        self.amount = itemgetter(at)
         self.label = layout.at.get(NAME)
         self.needed = max(layout.at[column] for column in (TAIL, HEAD, CAPACITY))
         # Once a row was not taken together with others, there may be more.
@@ -208,36 +226,36 @@ class _ArcReader(Reader):
 
     def take(self, rows: Rows) -> None:
         """Takes rows: all together if they are plain, which is several times as fast."""
-        lines, cells = rows
-        if lines and lines[0] == self.layout.line:
-            lines, cells = lines[1:], cells[1:]
-        if cells and not self._take_together(lines, cells):
-            for line, row in zip(lines, cells):
+        if rows.lines and rows.lines[0] == self.layout.line:
+            rows = rows.after_first()
+        if rows.lines and not self._take_together(rows):
+            for line, row in zip(*rows):
                 self._take_row(line, row)
 
-    def _take_together(self, lines: Sequence[int], cells: list[list[str]]) -> bool:
-        widths = set(map(len, cells))
+    def _take_together(self, rows: Rows) -> bool:
+        widths, lines = rows.widths(), rows.lines
         if min(widths) <= self.needed or self.width is not None and max(widths) > self.width or not isinstance(lines, range):
             return False
-        amounts = list(map(self.amount, cells))
-        named = list(chain.from_iterable(map(self.ends, cells)))
+        columns = rows.columns()
+        amounts = columns[self.layout.at[CAPACITY]]
+        named = [""] * (2 * len(rows))
+        named[0::2], named[1::2] = columns[self.layout.at[TAIL]], columns[self.layout.at[HEAD]]
         if "" in named or self.heading and self.heading[self.layout.at[CAPACITY]] in amounts:
             return False
         ends = self.numbers.of(named)
         if ends is None:
             return False
         if self.label is not None:
-            label = self.label
-            labels = [row[label] for row in cells] if min(widths) > label else [row[label] if len(row) > label else "" for row in cells]
+            labels = list(columns[self.label]) if self.label < len(columns) else [""] * len(rows)
             if not are_plain(labels):
                 if max(map(len, labels)) > LONGEST_CELL or not "".join(labels).isprintable():
                     return False
                 labels = [cleaned(name_in(it.strip(), is_raw=self.reading.raw_names)) for it in labels]
             self._put_labels(labels)
-        self.table.tails.extend(ends[0::2])
-        self.table.heads.extend(ends[1::2])
-        self.table.lines.extend(lines)
-        self.table.amounts.add(amounts if Exact in map(type, amounts) else list(map(str.strip, amounts)))
+        self.table.tails.extend(array(NODES, ends[0::2]))
+        self.table.heads.extend(array(NODES, ends[1::2]))
+        self.table.add_lines(lines)
+        self.table.amounts.add(list(amounts))
         return True
 
     def _put_labels(self, labels: list[str]) -> None:
@@ -252,7 +270,8 @@ class _ArcReader(Reader):
         if not self.are_cells_right(line, row) or self._is_of_place(line, row):
             return
         before = self.faults.count
-        names = [self.name(line, row, column) for column in (TAIL, HEAD)]
+        for column in TAIL, HEAD:
+            self.name(line, row, column)
         amount = self.cell(row, CAPACITY)
         if not amount.strip():
             count = f": the row has {len(row)} column{'s' * (len(row) != 1)}" if self.layout.at[CAPACITY] >= len(row) else ""
@@ -261,10 +280,10 @@ class _ArcReader(Reader):
         if self.faults.count > before and not amount.strip():
             return
         self._put_labels([label])
-        numbers = [self.numbers[self.cell(row, column)] for column, name in zip((TAIL, HEAD), names)]
+        numbers = [self.numbers.number(self.cell(row, column)) for column in (TAIL, HEAD)]
         self.table.tails.append(numbers[0])
         self.table.heads.append(numbers[1])
-        self.table.lines.append(line)
+        self.table.add_lines(range(line, line + 1))
         self.table.amounts.add([amount if isinstance(amount, Exact) else amount.strip()])
 
     def _is_of_place(self, line: int, row: list[str]) -> bool:

@@ -126,10 +126,10 @@ def complete(plan: Plan) -> list[str]:
 def _only(plan: Plan, kind: str, way: str) -> str:
     """The only place that arcs leave and none enters, or the other way round. Raises a `TableFault` if there is not exactly one."""
     table = plan.arcs
-    ends = [*zip(table.tails, table.heads)]
-    ends += [(head, tail) for tail, head in ends] if plan.both_ways else []
+    # Of two ways, each place is left and entered.
+    alone = ([], []) if plan.both_ways else ends_alone(table.tails, table.heads)
     names = list(table.places)
-    found = [names[number - 1] for number in ends_alone(ends)[0 if kind == SUPPLY else 1]]
+    found = [names[number - 1] for number in alone[0 if kind == SUPPLY else 1]]
     taken = {term.place for kind in KINDS for term in plan.of_kind(kind)}
     if len(found) == 1 and found[0] not in taken:
         return found[0]
