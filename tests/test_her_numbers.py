@@ -220,9 +220,21 @@ def judge_flows(flows: dict[str, str]) -> None:
 
 
 def judge_table(text: str) -> None:
-    rows = list(csv.DictReader(io.StringIO(text), delimiter=";"))
-    assert text.splitlines()[0] == "number;name;from;to;flow (l/s);capacity (l/s);full;in cut"
-    judge_flows({row["name"]: row["flow (l/s)"].replace(",", ".") for row in rows})
+    found = list(csv.DictReader(io.StringIO(text), delimiter=";"))
+    assert text.splitlines()[0] == "number;name;from;to;flow (l/s);capacity (l/s);full;in cut;supply (l/s);demand (l/s);limit (l/s)"
+    rows, places = [row for row in found if row["to"]], [row for row in found if not row["to"]]
+    flows = {row["name"]: row["flow (l/s)"].replace(",", ".") for row in rows}
+    judge_flows(flows)
+    # Below the pipes stand the places, and what they give, take and let through. The sink is no arc, so it has no number and no flow.
+    assert [[row["from"], *[*row.values()][5:]] for row in places] == [
+        ["Mill", "", "no", "no", "x", "", ""],
+        ["New Mill", "", "yes" if Fraction(flows["Side"]) == GIVEN["New Mill"] else "no", "no", "20,05", "", ""],
+        ["Sea", "", "", "", "", "x", ""],
+        ["Weir", "", "no", "no", "", "", "55,5"],
+    ]
+    given = {row["from"]: row["flow (l/s)"].replace(",", ".") for row in places}
+    assert given == {"Mill": flows["Main"], "New Mill": flows["Side"], "Weir": told(VALUE), "Sea": ""}
+    assert {row["name"] for row in places} == {""}
     assert [(row["from"], row["to"], number(row["capacity (l/s)"]), row["name"]) for row in rows] == PIPES
     assert {row["name"] for row in rows if row["in cut"] == "yes"} == LIMIT
 
@@ -351,14 +363,15 @@ def test_a_session_by_names(folder: Path, tmp_path: Path) -> None:
 
 
 def test_a_plan_is_a_table(folder: Path, tmp_path: Path) -> None:
-    """The saved plan is read as a table: the same numbers, unit and names. What it lacks is said, and is given as to the first."""
+    """The saved plan is read as a table: the same numbers, unit, names, sources and limits."""
     ran = planned(folder, f"solve\nsave {tmp_path}/plan.csv\n", f"{folder}/pipes.max")
-    assert ran.stdout.splitlines()[-1] == "what places give, take or let through at most is not in this table; the problem has it"
-    ran = run("dmf-plan", f"{tmp_path}/plan.csv", *WORDS, f"{folder}/limits.csv", typed=f"solve\nsave {tmp_path}/again.csv\nsave {tmp_path}/again.max\n")
+    assert ran.stdout.splitlines()[-1] == f"written: {tmp_path}/plan.csv"
+    ran = run("dmf-plan", f"{tmp_path}/plan.csv", typed=f"solve\nsave {tmp_path}/again.csv\nsave {tmp_path}/again.max\n")
+    assert ran.stdout.splitlines()[0].startswith(f"value {told(VALUE)} l/s, ")
     assert (tmp_path / "again.csv").read_text() == (tmp_path / "plan.csv").read_text()
     assert (tmp_path / "again.max").read_text() == (folder / "pipes.max").read_text().replace("table pipes.csv", "table plan.csv")
     named = run("dmf-names", f"{folder}/pipes.max", "--csv", typed=solved(folder))
-    assert named.stderr == "dmf-names: what places give, take or let through at most is not in this table; the problem has it\n"
+    assert (named.stdout, named.stderr) == ((tmp_path / "plan.csv").read_text(), "")
 
 
 def test_a_point(folder: Path, tmp_path: Path) -> None:
@@ -369,7 +382,7 @@ def test_a_point(folder: Path, tmp_path: Path) -> None:
     assert (ran.returncode, ran.stderr) == (0, "")
     assert "Exit carries 47.3 l/s" in ran.stdout
     rows = list(csv.reader((tmp_path / "plan.csv").open()))
-    assert [row[5] for row in rows[1:]] == [told(pipe.capacity) for pipe in PIPES]
+    assert [row[5] for row in rows[1:] if row[3]] == [told(pipe.capacity) for pipe in PIPES]
     swept = run("dmf-sweep", str(path), "--close-each", "--top", "1").stdout.splitlines()
     assert swept[1].split(",")[3:5] == ["0", f"-{told(VALUE)}"]
 

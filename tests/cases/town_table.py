@@ -61,6 +61,15 @@ def csv_text() -> str:
     return "".join(f"{line}\r\n" for line in lines)
 
 
+def put(folder: Path) -> list[str]:
+    """Puts the table into a file, and the limits of places into another. Gives the words that name them, the sources and the sink."""
+    (folder / "netz.csv").write_text(csv_text())
+    (folder / "grenzen.csv").write_text(f"Ort;Grenze\n{LIMITED};{german(LIMIT)}\n")
+    first, second = SOURCES
+    ends = ["--source", first, "--source", f"{second}={german(Decimal('61.7'))}", "--sink", f"{SINK}={german(DEMAND)}"]
+    return [f"{folder}/netz.csv", *ends, "--node-limits", f"{folder}/grenzen.csv"]
+
+
 def places_rows() -> list[list[Any]]:
     """The table of places."""
     rows: list[list[Any]] = [["Ort", "Angebot", "Bedarf", "Grenze"]]

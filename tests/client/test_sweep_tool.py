@@ -218,8 +218,6 @@ def test_faults() -> None:
     Path("net.max").write_text("p max 2 1\n")
     ran = run_tool("--close-each")
     assert (ran.returncode, ran.stderr) == (3, "dmf-sweep: net.max: source or sink missing: line 2 of the problem\n")
-    ran = subprocess.run([sys.executable, f"{ROOT}/tools/dmf-sweep", f"{ROOT}/examples/water/pipes.csv", "--close-each"], capture_output=True, text=True)
-    assert (ran.returncode, ran.stderr.endswith("; dmf-problem makes a problem of a table\n")) == (3, True)
     os.remove("net.max")
     ran = run_tool("--close-each")
     assert (ran.returncode, ran.stderr) == (4, "dmf-sweep: cannot read net.max: No such file or directory\n")

@@ -89,7 +89,8 @@ if TYPE_CHECKING:
         sweep as sweep,
     )
     from .tables.faults import TableFault as TableFault
-    from .tables.live import TableNetwork as TableNetwork, read_table as read_table
+    from .tables.live import TableNetwork as TableNetwork
+    from .tables.opened import read_table as read_table
 
 # The public names of each module, but for those of the exceptions, which the module `errors` knows itself.
 _NAMES = {
@@ -103,7 +104,8 @@ _NAMES = {
     "solution": ["Cut", "Solution"],
     "sources": ["from_networkx", "from_scipy", "read"],
     "tables.faults": ["TableFault"],
-    "tables.live": ["TableNetwork", "read_table"],
+    "tables.live": ["TableNetwork"],
+    "tables.opened": ["read_table"],
     "sweeping": ["SweepResult", "each_arc_closed", "each_capacity_raised", "each_node_shut", "each_pair_added", "sweep"],
 }
 _HOMES = {name: module for module, names in _NAMES.items() for name in names}

@@ -6,7 +6,7 @@ from __future__ import annotations
 import os
 import signal
 import sys
-from typing import NoReturn
+from typing import Any, NoReturn
 
 from . import executable
 from .errors import NoProgram, Refused
@@ -27,8 +27,23 @@ def become(path: str) -> NoReturn:
         raise
 
 
+def told(network: Any) -> list[str]:
+    """The value of a network, and what its smallest minimum cut has, with what each carries: in the numbers of its table, if it has one."""
+    from .folding import DOES, listed
+    from .quantity import plain_text
+
+    flow, cut, measure = network.solve(), network.cut(), network._measure
+    source, sink = (listed(map(str, ends)) if isinstance(ends, tuple) else ends for ends in (network.source, network.sink))
+    unit = f" {measure.told_unit}" if measure and measure.told_unit else ""
+    lines = [f"{plain_text(flow.value)}{unit} can be sent from {source} to {sink}"]
+    for arc in cut.arcs:
+        name = "" if arc.given_key is None else f"  {arc.given_key}"
+        lines.append(f"limit: {arc.tail} -> {arc.head}  {plain_text(flow[arc])}{name}")
+    return lines + [f"limit: what {term.place} {DOES[term.kind]}  {plain_text(term.quantity)}" for term in getattr(cut, "terms", ())]
+
+
 def tell(path: str) -> int:
-    """Writes the value of a problem, and the arcs of its smallest minimum cut with what each carries."""
+    """Writes what a problem comes to."""
     from .lexical import display
     from .sources import read
 
@@ -36,11 +51,7 @@ def tell(path: str) -> int:
     by_default = signal.signal(signal.SIGPIPE, signal.SIG_IGN)
     try:
         with read(path) as network:
-            flow, cut = network.solve(), network.cut()
-            lines = [f"{flow.value} can be sent from {network.source} to {network.sink}"]
-            for arc in cut.arcs:
-                name = "" if arc.given_key is None else f"  {arc.given_key}"
-                lines.append(f"limit: {arc.tail} -> {arc.head}  {flow[arc]}{name}")
+            lines = told(network)
     except OSError as error:
         raise cannot("read", path, error, UNREAD) from None
     except Refused as refused:

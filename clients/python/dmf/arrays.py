@@ -323,7 +323,17 @@ def flow_matrix(arcs: OpenArcs[Any], flow: Any) -> Any:
     np = package("numpy", "a matrix of flows")
     tails, heads = (np.frombuffer(ends, np.uint32).astype(np.int64) - 1 for ends in arcs.ends())
     count = len(arcs.columns.numbers)
-    matrix = sparse.csr_matrix((flow, (tails, heads)), shape=(count, count))
+    return _without_zeros(sparse.csr_matrix((flow, (tails, heads)), shape=(count, count)))
+
+
+def matrix_of(flow: Any, ends: Sequence[tuple[int, int]], count: int) -> Any:
+    """The same for flows between these ends, counted from 0, among so many nodes."""
+    sparse = package("scipy.sparse", "a matrix of flows")
+    tails, heads = zip(*ends) if ends else ((), ())
+    return _without_zeros(sparse.csr_matrix((flow, (tails, heads)), shape=(count, count)))
+
+
+def _without_zeros(matrix: Any) -> Any:
     matrix.eliminate_zeros()
     return matrix
 

@@ -151,7 +151,6 @@ function showState() {
   const more = state.side_count > state.side.length ? ` and ${state.side_count - state.side.length} more` : "";
   at("limit-note").textContent = `Whatever way is taken, it leads over one of these, and together they carry ${state.value}${units()}. `
     + `Before the limit: ${state.side.join(", ")}${more}.` + (rest ? ` The first ${state.limit.length} of ${state.limit_count}:` : "");
-  at("left-out").textContent = state.left_out && `${upper(state.left_out)}.`;
   for (const kind of ["csv", "max"]) at(`take-${kind}`).href = `${kind === "csv" ? "plan.csv" : "problem.max"}?turn=${state.turn}`;
   fill("limit-table", [upper(noun()), "carries"], state.limit.map((arc) => [pick(arc), number(arc.capacity)]));
   at("try-limit").textContent = `Try each ${noun()} of the limit`;

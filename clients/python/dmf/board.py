@@ -24,7 +24,6 @@ from .desk_amounts import amount
 from .desk_steps import DeskFault, Trial, unforeseen
 from .desk_text import near as near_arcs
 from .desk_text import problem, table
-from .folding import LEFT_OUT
 from .quantity import plain_text
 
 # How long a request may sweep before it answers with the results so far, in seconds.
@@ -250,7 +249,6 @@ class Board:
             "value": plain_text(desk.value),
             "arcs": len(desk.pictured()),
             "places": len(names.places),
-            "left_out": LEFT_OUT if desk.roles() else "",
             "at": desk.at - 1,
             "steps": [{"text": step.text, "value": plain_text(step.value)} for step in steps],
             "limit": [self._arc(number) for number in cut[:MOST_LISTED]],

@@ -9,10 +9,13 @@ from collections import defaultdict
 from collections.abc import Callable, Hashable, Iterable, Mapping, Sequence
 from itertools import compress, count
 from operator import gt
-from typing import Any, Generic, TypeVar
+from typing import TYPE_CHECKING, Any, Generic, TypeVar
 
 from .errors import NoSuchArc, shown
 from .numbering import NODES, WholeNodes
+
+if TYPE_CHECKING:
+    from .tables.comments import Described
 
 Node = TypeVar("Node", bound=Hashable)
 # How many questions about the arcs at a node look at all arcs, before an index of them is made.
@@ -41,7 +44,9 @@ class Index:
 class Columns(Generic[Node]):
     """The arcs of a problem, column by column: the numbers of their tails and heads, from 1 on, and the keys that were given, by the
     arcs' numbers. `numbers` has the number of each node, in order. Nothing of it changes. A function may make the keys when one is
-    first asked for."""
+    first asked for. `described` is what the problem tells of its table, where it is of one."""
+
+    described: Described | None = None
 
     def __init__(
         self,
@@ -66,6 +71,12 @@ class Columns(Generic[Node]):
         """The same arcs with one more node."""
         numbers = {**self.numbers, node: len(self.numbers) + 1}
         return Columns(numbers, self.tails, self.heads, lambda: self.keys)
+
+    def network_class(self) -> Any:
+        """The class of the networks of such columns."""
+        from .network import Network
+
+        return Network
 
     @property
     def keys(self) -> dict[int, Hashable]:

@@ -52,8 +52,11 @@ def _try(network: Network[Any], case: Plain, want_cut: bool) -> Answer:
             for word, *rest in case:
                 if word in ("cap", "close", "open"):
                     rest[0] = network._kept.handle(rest[0])
+                if word in ("cap", "add"):
+                    rest[-1] = network._quantity(rest[-1])
                 getattr(network, word)(*rest)
-        value = network.solve().value
+        network.solve()
+        value = network._kept.value
         if not want_cut:
             return Answer(value)
         return Answer(value, tuple(arc.number if arc.number <= known else arc for arc in network.cut().arcs))
@@ -68,7 +71,7 @@ def _try_together(network: Network[Any], cases: list[_Lines], answers: list[Answ
             *changed, solved, undone = (line.split() for line in child.lines(case.line_count).splitlines())
             if any(fields[1] == b"refused" for fields in changed) or solved[:3] != [b"c", b"solve", b"value"]:
                 raise ValueError
-            if undone != [b"c", b"undo", b"value", b"%d" % network.value]:
+            if undone != [b"c", b"undo", b"value", b"%d" % network._kept.value]:
                 raise ValueError
             answers.append(Answer(int(solved[3])))
 
@@ -159,7 +162,7 @@ class Copy:
         """A command with its nodes by number, too. Raises a `Refused` if something in it is no node or no capacity."""
         if word == "add":
             tail, head, capacity = rest
-            return word, self._kept.number(tail), self._kept.number(head), whole(capacity, rest)
+            return word, self._kept.columns.outlet(tail), self._kept.number(head), whole(capacity, rest)
         if word == "cap":
             return word, rest[0], whole(rest[1], rest)
         return word, self._kept.number(rest[0]) if word == "shut" else rest[0]
@@ -169,7 +172,7 @@ class Copy:
             raise SessionEnded("the sweep was ended")
         if self.network is None:
             began = time.monotonic()
-            network = Network._of(self._kept.copy(), self._program, self._path)
+            network: Network[Any] = self._kept.columns.network_class()._of(self._kept.copy(), self._program, self._path)
             with self._lock:
                 self.network = network
                 if self._is_over:

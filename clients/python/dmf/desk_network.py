@@ -11,13 +11,14 @@ from collections.abc import Hashable, Iterable, Iterator
 from dataclasses import dataclass
 from itertools import chain
 
-from . import Arc, Cut, Solution, read
+from . import Arc, Cut, Solution
 from .desk_names import Names
 from .desk_steps import Add, Cap, Change, Close, DeskFault, Follow, Line, Node, Reopen, Shut, Solve, Step, Was
 from .errors import Error, FlowIsNotGreatest, Refused
 from .folding import Folding
 from .process import Program
 from .quantity import EXACT, Measure, Quantity
+from .sources import read_whole
 from .tables.cells import cleaned, shown
 from .tables.comments import Role
 from .tables.subject import Subject
@@ -43,7 +44,7 @@ class Held:
         with tempfile.NamedTemporaryFile(prefix="dmf-", suffix=".max") as file:
             file.write(subject.text)
             file.flush()
-            self.network = read(file.name, program=program)
+            self.network = read_whole(file.name, program=program)
         kept = self.network._kept
         columns, quantity = kept.columns, self.measure.quantity
         self._nodes = self.network.nodes
@@ -269,7 +270,8 @@ class Held:
             return [self._added(Line(change.tail, change.head, change.capacity), change.name)]
         if isinstance(change, Reopen):
             line = self.lines[change.arc - 1]
-            added = self._added(line._replace(is_closed=False, is_shut=False), self._keys.get(change.arc))
+            again = line._replace(is_closed=False, is_shut=False, first=line.first or change.arc)
+            added = self._added(again, self._keys.get(change.arc))
             self.names.drop(change.arc)
             return [added, self._put(change.arc, line._replace(is_shut=False, is_replaced=True))]
         if isinstance(change, Shut):

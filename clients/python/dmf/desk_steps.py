@@ -27,7 +27,8 @@ class Place(NamedTuple):
 class Line(NamedTuple):
     """An arc as it is: its ends by their numbers, and its capacity, which one that is closed had before. `is_shut` says that it was
     closed when a place was shut, and `is_replaced` that it was closed and then opened again, as another arc. `is_unlimited` says that it
-    is what a source gives, or a sink takes, as much as the arcs there carry."""
+    is what a source gives, or a sink takes, as much as the arcs there carry. `first` is the number of the arc that one was before it was
+    opened again, if it was."""
 
     tail: int
     head: int
@@ -36,6 +37,7 @@ class Line(NamedTuple):
     is_shut: bool = False
     is_replaced: bool = False
     is_unlimited: bool = False
+    first: int = 0
 
 
 class Was(NamedTuple):

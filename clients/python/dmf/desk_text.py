@@ -12,7 +12,7 @@ from .desk_steps import DeskFault, Line
 from .folding import renumbered
 from .names import written
 from .picture import Drawing, nearest, picture
-from .spreadsheet import ArcRow, plan_table
+from .plan_rows import Carried, Told, plan_text
 from .tables.comments import comments
 from .text import ARC, NODE, Problem
 
@@ -25,15 +25,15 @@ DRAWN = {".svg": "svg", ".png": "png", ".pdf": "pdf"}
 def table(desk: Desk) -> str:
     """The open arcs as the table that `dmf-names --csv` writes. If the flow is not greatest, the column of the cut is empty."""
     crossing = desk.cut_arcs() if desk.is_greatest else None
+    arcs = [
+        Carried(number, line.tail, line.head, line.capacity, desk.flow(number), None if crossing is None else number in crossing)
+        for number, line in enumerate(desk.lines, 1) if not line.is_closed
+    ]  # fmt: skip
+    ends = desk.source, desk.sink
+    rows = {number: line.first for number, line in enumerate(desk.lines, 1) if line.first}
     names = desk.names
-    rows = (
-        ArcRow(
-            number, names.arc_name(number), names.node(line.tail), names.node(line.head), desk.flow(number), line.capacity,
-            None if crossing is None else number in crossing,
-        )
-        for number, line in enumerate(desk.lines, 1) if not line.is_closed and not names.is_role(number)
-    )  # fmt: skip
-    return plan_table(rows, desk.measure, raw_names=desk.subject.raw_names)
+    told = Told(desk.folding, names.node, names.arc_name, ends, desk.subject.extra, lambda number: rows.get(number, number), desk.limited())
+    return plan_text(arcs, told, desk.measure, raw_names=desk.subject.raw_names)
 
 
 def problem(desk: Desk) -> str:

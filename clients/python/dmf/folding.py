@@ -43,6 +43,16 @@ class Folding:
         """Whether a source or a sink is unlimited whose arc is none of the table."""
         return bool(self._unlimited)
 
+    def is_unlimited(self, kind: str, node: int) -> bool:
+        """Whether the source or the sink of a place is unlimited whose arc is none of the table."""
+        return (kind, node) in self._unlimited
+
+    def known_roles(self) -> Iterator[tuple[str, int]]:
+        """What places give, take and let through: the kinds, with the nodes of the places."""
+        for joint, nodes in self._at_joints.items():
+            yield from ((SUPPLY if self._joints[joint] == SOURCES else DEMAND, node) for node in nodes)
+        yield from ((LIMIT, node) for node in self._second)
+
     def is_joint(self, node: int) -> bool:
         return node in self._joints
 
@@ -96,10 +106,6 @@ class Folding:
     def roles(self, ends: Iterable[tuple[int, int]]) -> Iterator[tuple[int, Role]]:
         """The roles of arcs with these ends, by their numbers from 1 on."""
         return ((number, role) for number, (tail, head) in enumerate(ends, 1) if (role := self.role(tail, head)))
-
-
-# What is told of a table of arcs from which these are left out.
-LEFT_OUT = "what places give, take or let through at most is not in this table; the problem has it"
 
 
 def role_words(role: Role, label: Callable[[int], str]) -> str:

@@ -183,7 +183,7 @@ class Kept(Changes, Generic[Node]):
         # The arcs of the network from which this one was copied. Their handles name the arcs here too.
         self.origin: OpenArcs[Node] | None = None
         # What the problem tells of its table.
-        self._described: Described | None = None
+        self._described: Described | None = columns.described
         self._added_index: Added[Node] | None = None
         self._opened: OpenArcs[Node] | None = None
         self.begin_here()

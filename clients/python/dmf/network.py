@@ -296,7 +296,7 @@ class Network(Showing[Node]):
         problem and the same commands, so it takes as long as those took together. Raises what making a network raises."""
         self._ready()
         program: Any = self._child.process.args
-        return Network._of(self._kept.twin(), program[0])
+        return type(self)._of(self._kept.twin(), program[0])
 
     def end(self) -> None:
         """Ends the session. The network answers nothing after that."""

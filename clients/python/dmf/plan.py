@@ -14,7 +14,6 @@ from .desk_amounts import amount
 from .desk_steps import DeskFault, unforeseen
 from .desk_text import DRAWN, drawn, problem, table
 from .errors import Error
-from .folding import LEFT_OUT
 from .plan_completion import history, matches, typed_line
 from .plan_files import Files
 from .plan_meaning import WHERE, arcs_named, arcs_to_try, arcs_told, arcs_where, capped, capped_where, last_closed, new_arc
@@ -328,10 +327,7 @@ class Plan(cmd.Cmd):
 
     def _save(self, words: list[str]) -> None:
         path = self._files.new(one_name(words, "save"), [".csv", ".max"])
-        is_table = path.endswith(".csv")
-        self.tell(self._files.put(path, (table(self.desk) if is_table else problem(self.desk)).encode()))
-        if is_table and self.desk.roles():
-            self.tell(LEFT_OUT)
+        self.tell(self._files.put(path, (table(self.desk) if path.endswith(".csv") else problem(self.desk)).encode()))
 
     def _scenario(self, words: list[str]) -> None:
         self.tell(*scenario(project_of(self.desk), words))

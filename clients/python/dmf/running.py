@@ -95,6 +95,10 @@ class Running(Generic[Node]):
         """The whole number that stands for what a caller gives. Raises `NotANumber` and `NumberTooLarge`."""
         return whole(amount, at)
 
+    def _quantity(self, number: Any) -> Any:
+        """What a caller sees of a whole number."""
+        return number
+
     def _judge_use(self, call: CodeType) -> None:
         """Raises `UsedByTwoThreads`, unless this thread has the program and is in no call: before Python 3.11 an error may come just when a
         call begins or ends, and it does not give the program back."""

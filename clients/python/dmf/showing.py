@@ -36,6 +36,10 @@ class Showing(Running[Node]):
         """The sink."""
         return self._kept.sink
 
+    def _ends(self) -> set[Node]:
+        """The source and the sink."""
+        return {self.source, self.sink}
+
     @property
     def scale(self) -> str:
         """What the numbers of a table were multiplied by, as the problem that was read tells it; empty if it tells none."""

@@ -6,7 +6,9 @@ import os
 import tempfile
 from array import array
 from collections import Counter
-from typing import Any
+from collections.abc import Callable, Hashable
+from dataclasses import dataclass
+from typing import Any, cast
 
 from .arcs import Columns, Node
 from .arrays import PIECE, no_capacity, numpy_for, read_lines, with_infinite
@@ -14,19 +16,58 @@ from .kept import Kept, Whole, whole
 from .network import Network
 from .numbering import AMOUNTS, NODES
 from .process import Child, FilePath, Program, bound, session_words, start
-from .tables.comments import described
+from .tables.comments import Described, described
 from .text import ARC, NODE, names_in, naming_pieces
 
 
 def read(path: FilePath, *, program: Program = None, history: int | None = None) -> Network[int | str]:
     """The network of a problem's file in the DIMACS format, which is read once. Its nodes are the numbers from 1 on. A comment
-    `c node 3 Reservoir` gives a node its name, if no other node has the same: the two nodes of a place with a limit have one name,
-    so they keep their numbers. A comment `c arc 5 Mill Street` gives the key of an arc. `program` and `history` are those of
-    `Network`.
+    `c node 3 Reservoir` gives a node its name, if no other node has the same. A comment `c arc 5 Mill Street` gives the key of an arc.
+    `program` and `history` are those of `Network`. If comments say what the numbers stand for in the table that the problem was made of, or
+    which nodes and arcs are not of that table, it is a `TableNetwork`, in the table's numbers, of its places alone.
 
     Raises a `Refused` with the number of the line if the file has a fault, an OSError if it cannot be read, and what `Network`
     raises.
     """
+    problem = _opened(path, program, history)
+    said = described(problem.text).within(problem.node_count, len(problem.tails))
+    if said == Described():
+        return _whole(problem)
+    from .tables.folded import network_of_problem
+
+    return cast("Network[int | str]", network_of_problem(problem, said, program))
+
+
+def read_whole(path: FilePath, *, program: Program = None, history: int | None = None) -> Network[int | str]:
+    """The network of a problem's file as the program has it, with all its nodes and arcs and in its whole numbers, whatever comments say of
+    a table. The two nodes of a place with a limit have one name, so they keep their numbers. Raises what `read` raises."""
+    return _whole(_opened(path, program, history))
+
+
+@dataclass
+class Opened:
+    """A problem that a session has read: the session, the text, its nodes and arcs, and the most changes that can be undone."""
+
+    child: Child
+    text: bytes
+    node_count: int
+    ends: tuple[int, int]
+    tails: array[int]
+    heads: array[int]
+    capacities: array[int]
+    most: int
+
+    def node_names(self) -> dict[int, str]:
+        """The names that comments give to nodes, by number."""
+        return _of(self.node_count, names_in(naming_pieces(self.text, NODE), NODE))
+
+    def arc_names(self) -> Callable[[], dict[int, Hashable]]:
+        """What reads the names that comments give to arcs, by number. It keeps of the text what has them."""
+        count, pieces = len(self.tails), naming_pieces(self.text, ARC)
+        return lambda: {**_of(count, names_in(pieces, ARC))}
+
+
+def _opened(path: FilePath, program: Program, history: int | None) -> Opened:
     most = bound(history)
     with open(os.fspath(path), "rb") as file:
         text = file.read()
@@ -35,13 +76,6 @@ def read(path: FilePath, *, program: Program = None, history: int | None = None)
         copy.write(text)
         copy.flush()
         child = start(copy.name, program, session_words(most))
-    network: Network[int | str] = Network.__new__(Network)
-    network._begin(child, _kept(child, text, most))
-    return network
-
-
-def _kept(child: Child, text: bytes, most: int) -> Kept[int | str]:
-    """The arcs and names of a problem that a session has read. The names of arcs are read when one is first needed."""
     tails, heads, capacities = array(NODES), array(NODES), array(AMOUNTS)
     with child.exchange("print problem"):
         node_count, arc_count = map(int, child.line()[2:])
@@ -50,17 +84,29 @@ def _kept(child: Child, text: bytes, most: int) -> Kept[int | str]:
             read = read_lines(child.lines(min(PIECE, arc_count - begin)), numpy_for(arc_count))
             for column, more in zip((tails, heads, capacities), read):
                 column.extend(more)
-    named = _of(node_count, names_in(naming_pieces(text, NODE), NODE))
-    if len(set(named.values())) < len(named):
-        used = Counter(named.values())
-        named = {number: name for number, name in named.items() if used[name] == 1}
-    nodes: dict[int | str, int] = {named.get(number, number): number for number in range(1, node_count + 1)}
+    return Opened(child, text, node_count, (source, sink), tails, heads, capacities, most)
+
+
+def _whole(problem: Opened) -> Network[int | str]:
+    """The network of a problem. The names of its arcs are read when one is first needed."""
+    named = unique(problem.node_names())
+    nodes: dict[int | str, int] = {named.get(number, number): number for number in range(1, problem.node_count + 1)}
     names = list(nodes)
-    pieces = naming_pieces(text, ARC)
-    columns = Columns(nodes, tails, heads, lambda: {**_of(arc_count, names_in(pieces, ARC))})
-    kept = Kept(columns, capacities, names[source - 1], names[sink - 1], most)
-    kept.described = described(text)
-    return kept
+    source, sink = problem.ends
+    columns = Columns(nodes, problem.tails, problem.heads, problem.arc_names())
+    kept = Kept(columns, problem.capacities, names[source - 1], names[sink - 1], problem.most)
+    kept.described = described(problem.text)
+    network: Network[int | str] = Network.__new__(Network)
+    network._begin(problem.child, kept)
+    return network
+
+
+def unique(named: dict[int, str]) -> dict[int, str]:
+    """Those of these names that one number alone has."""
+    if len(set(named.values())) == len(named):
+        return named
+    used = Counter(named.values())
+    return {number: name for number, name in named.items() if used[name] == 1}
 
 
 def _of(count: int, names: dict[int, str]) -> dict[int, str]:

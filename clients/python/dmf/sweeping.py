@@ -71,7 +71,7 @@ def each_node_shut(nodes: Iterable[Hashable] | None = None) -> Callable[[Network
     """For each node but the source and the sink, or for each of these, the case in which it is shut."""
 
     def cases(network: Network[Any]) -> Iterator[Case]:
-        ends = network.source, network.sink
+        ends = network._ends()
         return _Each(lambda node: [("shut", node)], [node for node in network.nodes if node not in ends] if nodes is None else nodes)
 
     return cases
@@ -166,11 +166,14 @@ class _Swept(Generic[Node]):
         self.kept = network._kept.copy()
         self.kept.most = MOST_KEPT
         self.measure = network._measure
+        # The arcs that are not of the network's table, if it has one.
+        described = self.kept.columns.described
+        self._inner = described.roles if described else {}
 
     def plain(self, case: Case) -> Plain | Error:
         """A case as a copy takes it, or why it is refused."""
         if callable(case):
-            return UnknownCommand("a function in a sweep of a table") if self.measure is not None else case
+            return case
         try:
             if is_unordered(case):
                 raise TypeError
@@ -188,7 +191,7 @@ class _Swept(Generic[Node]):
         if word in ("cap", "close", "open"):
             rest[0] = self.kept.arc(rest[0]).number
         if self.measure is not None and word in ("cap", "add"):
-            from .tables.live import whole_of
+            from .tables.answers import whole_of
 
             rest[-1] = whole_of(self.measure, rest[-1], command)
         return (word, *rest)
@@ -199,7 +202,8 @@ class _Swept(Generic[Node]):
             return SweepResult(case, refusal=answer.refusal)
         cut: tuple[Arc[Node], ...] | None = None
         if answer.cut is not None:
-            cut = tuple(self.opened.handle(arc) if isinstance(arc, int) else arc for arc in answer.cut)
+            numbers = [arc for arc in answer.cut if arc not in self._inner]
+            cut = tuple(self.opened.handle(arc) if isinstance(arc, int) else arc for arc in numbers)
         value: Any = answer.value
         difference: Any = answer.value - self.value
         if self.measure is not None:

@@ -5,13 +5,17 @@ from __future__ import annotations
 import argparse
 import os
 import secrets
-from dataclasses import replace
+from collections.abc import Callable
+from dataclasses import dataclass, field, replace
+from functools import cached_property
+from typing import Optional
 
 from ..desk import Desk
 from ..desk_steps import DeskFault
 from ..errors import Error, Refused, SessionEnded
 from ..process import Program
 from ..tables.cells import shown
+from ..tables.extra import Extra
 from ..tables.faults import TableFault
 from ..tables.opening import split_path
 from ..tables.options import says_table
@@ -88,10 +92,21 @@ def project_desk(path: str, table: str = "", program: Program = None) -> Project
         raise
 
 
+@dataclass(frozen=True)
+class _Kept(Subject):
+    """The problem that a project keeps. The columns of its table that were read for nothing are read again when they are asked for."""
+
+    read: Optional[Callable[[], Subject]] = field(default=None, repr=False, compare=False)
+
+    @cached_property
+    def extra(self) -> Extra:
+        return self.read().extra if self.read else Extra()
+
+
 def _base(path: str, file: ProjectFile, moved: str) -> Base:
     """The network of a project: the one that it keeps, or that of its table where that has changed since."""
     project, folder = file.project, os.path.dirname(file.path)
-    kept = Subject(
+    kept = _Kept(
         path, project.network.encode("utf-8", "surrogateescape"), project.table.noun, tuple(project.table.assumed),
         bool(project.table.options.get("raw_names")),
     )  # fmt: skip
@@ -102,7 +117,7 @@ def _base(path: str, file: ProjectFile, moved: str) -> Base:
     try:
         now = with_sums(table, folder)
         if now == project.table:
-            return Base(kept, told)
+            return Base(replace(kept, read=lambda: read_again(now, folder)), told)
         subject = read_again(now, folder)
     except (ToolFault, TableFault) as fault:
         lines = list(fault.reasons) if isinstance(fault, ToolFault) else fault.lines()

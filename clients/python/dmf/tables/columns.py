@@ -150,28 +150,33 @@ def layout_of(sample: Rows, form: Form, named: Mapping[str, str]) -> Layout:
 
 def _known(titles: Sequence[Title], form: Form) -> dict[str, int]:
     """The columns that titles tell. One that two titles tell is the one whose word is preferred."""
-    known: dict[str, int] = {}
     words = [title.word for title in titles]
     if "de" not in words:
         # In French and Spanish `a` stands beside `de`; else it is a letter.
         words = ["" if word == "a" else word for word in words]
-    columns = (*form.places, *form.amounts, *filter(None, [form.label]), *(PLACE_COLUMNS if form is ARCS else ()))
+    return _usual(words, (*form.places, *form.amounts, *filter(None, [form.label]), *(PLACE_COLUMNS if form is ARCS else ())), {})
+
+
+def _usual(words: Sequence[str], columns: Sequence[str], known: Mapping[str, int]) -> dict[str, int]:
+    """The columns that are known, and of these others those that usual titles tell."""
+    found = dict(known)
     for column in columns:
         ranks = sorted((USUAL[column].index(word), place) for place, word in enumerate(words) if word in USUAL[column])
-        free = [place for _, place in ranks if place not in known.values()]
+        free = [place for _, place in ranks if place not in found.values()]
         if free:
-            known[column] = free[0]
-    return known
+            found[column] = free[0]
+    return found
 
 
 def _named(titles: tuple[Title, ...], line: int, form: Form, named: Mapping[str, str]) -> Layout:
-    """The columns whose titles were given."""
+    """The columns whose titles were given, and those of places that usual titles tell."""
     found = [title.text for title in titles]
     for title in named.values():
         if found.count(cleaned(title)) != 1:
             which = "two columns have" if cleaned(title) in found else "no column has"
             raise TableFault(f"{which} the title {shown(title)}; the titles are {_listed(titles)}", line)
-    return Layout({column: found.index(cleaned(title)) for column, title in named.items()}, titles, line)
+    at = {column: found.index(cleaned(title)) for column, title in named.items()}
+    return Layout(_usual([title.word for title in titles], PLACE_COLUMNS if form is ARCS else (), at), titles, line)
 
 
 def _listed(titles: Sequence[Title]) -> str:

@@ -12,8 +12,8 @@ import io
 import re
 from collections.abc import Callable, Iterator, Sequence
 from dataclasses import dataclass
-from itertools import islice
-from typing import NamedTuple, Optional
+from itertools import islice, zip_longest
+from typing import Any, Optional
 
 from ..quantity import readings
 from ..text import fields
@@ -23,6 +23,9 @@ DELIMITERS = ",;\t|"
 # How many rows the search for the delimiter reads, of how many bytes; and how many rows are read at once.
 SAMPLE, SAMPLE_BYTES = 20, 1 << 18
 PIECE = 1 << 10
+# The same in bytes where rows have no quotes; and encodings in which the byte of an end of a line is nothing else.
+PIECE_BYTES = 1 << 16
+BARE_ENCODINGS = {"utf-8", "utf-8-sig", "cp1252"}
 # The most bytes that a workbook may unpack to.
 LARGEST_WORKBOOK = 1 << 30
 BYTE_ORDER_MARKS = {
@@ -63,11 +66,43 @@ class Exact(str):
     __slots__ = ()
 
 
-class Rows(NamedTuple):
-    """Rows one below the other: the line in which each begins, and its cells as texts."""
+class Rows:
+    """Rows one below the other: the line in which each begins, and its cells as texts. Iterated over it is these two."""
 
-    lines: Sequence[int]
-    cells: list[list[str]]
+    def __init__(self, lines: Sequence[int], cells: Optional[list[list[str]]] = None, columns: Sequence[Sequence[str]] = ()) -> None:
+        """Either the cells are given, or all columns, in which no cell is missing."""
+        self.lines = lines
+        self._cells = cells
+        self._columns = columns
+
+    @property
+    def cells(self) -> list[list[str]]:
+        """The cells of each row."""
+        if self._cells is None:
+            self._cells = [[*row] for row in zip(*self._columns)]
+        return self._cells
+
+    def widths(self) -> set[int]:
+        """How many cells rows have."""
+        return set(map(len, self._cells)) if self._cells is not None else {len(self._columns)}
+
+    def columns(self) -> Sequence[Sequence[str]]:
+        """The columns; where a row has no cell, that is empty."""
+        if self._cells is None:
+            return self._columns
+        return list(zip_longest(*self._cells, fillvalue="") if len(self.widths()) > 1 else zip(*self._cells))
+
+    def after_first(self) -> Rows:
+        """The rows but the first."""
+        if self._cells is None:
+            return Rows(self.lines[1:], None, [column[1:] for column in self._columns])
+        return Rows(self.lines[1:], self._cells[1:])
+
+    def __iter__(self) -> Iterator[Any]:
+        return iter((self.lines, self.cells))
+
+    def __len__(self) -> int:
+        return len(self.lines)
 
 
 @dataclass(frozen=True)
@@ -193,6 +228,9 @@ def _judge_bytes(data: bytes, encoding: str) -> None:
 
 def _rows_of(data: bytes, encoding: str, delimiter: str, line: int = 1) -> Iterator[Rows]:
     """The rows of a table, some thousands at once, blank ones too. Raises a `TableFault` if a quote is wrong, or a byte."""
+    if encoding in BARE_ENCODINGS and _is_bare(data):
+        yield from _bare_rows(data, encoding, delimiter, line)
+        return
     csv.field_size_limit(max(csv.field_size_limit(), len(data) + 1))
     reader = csv.reader(io.TextIOWrapper(io.BytesIO(data), encoding, newline=""), delimiter=delimiter, strict=True)
     cells: list[list[str]] = [[]]
@@ -215,6 +253,35 @@ def _rows_of(data: bytes, encoding: str, delimiter: str, line: int = 1) -> Itera
         yield Rows(lines, cells)
         if fault:
             raise TableFault(fault, line)
+
+
+def _is_bare(data: bytes) -> bool:
+    """Whether no quote, no other end of a line and no NUL is in a table."""
+    return b'"' not in data and b"\0" not in data and (b"\r" not in data or data.count(b"\r") == data.count(b"\r\n"))
+
+
+def _bare_rows(data: bytes, encoding: str, delimiter: str, line: int) -> Iterator[Rows]:
+    """The same of a table without quotes, in which each line is a row, and each delimiter is between two cells: column by column where
+    all lines have as many, which is twice as fast as a reader of CSV."""
+    begin = len(codecs.BOM_UTF8) if encoding == "utf-8-sig" and data.startswith(codecs.BOM_UTF8) else 0
+    while begin < len(data):
+        end = data.find(b"\n", begin + PIECE_BYTES) + 1 or len(data)
+        try:
+            text = data[begin:end].decode("utf-8" if encoding == "utf-8-sig" else encoding)
+        except UnicodeError:
+            _judge_bytes(data, encoding)
+            raise
+        text = text.replace("\r\n", "\n").removesuffix("\n")
+        rows = text.split("\n")
+        lines = range(line, line + len(rows))
+        widths = {row.count(delimiter) + 1 for row in rows}
+        if len(widths) == 1 and all(rows):
+            (width,) = widths
+            cells = text.replace("\n", delimiter).split(delimiter)
+            yield Rows(lines, None, [cells[place::width] for place in range(width)])
+        else:
+            yield Rows(lines, [row.split(delimiter) if row else [] for row in rows])
+        begin, line = end, lines.stop
 
 
 def _line_count(row: list[str]) -> int:

@@ -21,10 +21,11 @@ from typing import Optional
 from ..numbering import AMOUNTS, NODES
 from ..quantity import COMMA, LARGEST, Measure, QuantityFault, decimals, number_in, plain_text
 from .cells import cleaned, near, shown
-from .columns import ARCS, DEMAND, LIMIT, SUPPLY
+from .columns import ARCS, DEMAND, LIMIT, PLACE_COLUMNS, SUPPLY
 from .comments import SINKS, SOURCES, Described, Role
 from .faults import Faults, TableFault
-from .rows import Heading, Table, Term
+from .places import Heading, Term
+from .rows import Table
 
 MOST_NODES = 16_777_216
 MOST_ARCS = 134_217_728
@@ -46,7 +47,15 @@ class Plan:
     notes: list[str] = field(default_factory=list)
 
     def of_kind(self, kind: str) -> list[Term]:
-        return [term for term in self.terms if term.kind == kind]
+        """What is said of places of this kind, and counts."""
+        found = [term for term in self.terms if term.kind == kind]
+        return [term for term in found if not term.is_idle] or found
+
+    @property
+    def counted(self) -> list[Term]:
+        """All of it that counts, in its order."""
+        kept = {id(term) for kind in PLACE_COLUMNS for term in self.of_kind(kind)}
+        return [term for term in self.terms if id(term) in kept]
 
     @property
     def measure(self) -> Measure:
@@ -94,7 +103,7 @@ def check(plan: Plan) -> None:
     places = plan.arcs.places
     faults: list[TableFault] = []
     known: dict[tuple[str, str], Term] = {}
-    for term in plan.terms:
+    for term in plan.counted:
         kind = KINDS.get(term.kind, "")
         said = f"the {kind} {shown(term.place)}"
         if term.place not in places:

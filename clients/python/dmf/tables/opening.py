@@ -14,7 +14,8 @@ from .columns import ARCS, DEMAND, LIMIT, PLACE, PLACE_COLUMNS, SUPPLY, USUAL, F
 from .faults import Faults, TableFault, naming
 from .file import Sheet, csv_sheet
 from .network import Plan, term_of
-from .rows import Reading, Table, read_arcs, read_places, terms_of
+from .places import read_places, terms_of
+from .rows import Reading, Table, read_arcs
 from .workbook import is_workbook, workbook_sheets
 
 # By the option of a table of places, what it says.
@@ -69,7 +70,7 @@ def plan_of_sheet(wanted: Wanted, sheet: Sheet, others: Sequence[Sheet]) -> Plan
         if option in wanted.tables:
             _add_file(plan, wanted, option)
     faults = Faults(table.path)
-    plan.terms += terms_of(table.said, table.layout, faults, wanted.reading.sign, table.amounts.sign)
+    plan.terms += terms_of(table.said, table.layout, faults, wanted.reading.sign, table.amounts)
     faults.judge()
     for other in [] if wanted.tables else others:
         plan.notes.append(f"the sheet {shown(other.path.rpartition('#')[2])} says what places give, take or let through")
@@ -103,7 +104,7 @@ def _add_file(plan: Plan, wanted: Wanted, option: str) -> None:
 
 def _add_places(plan: Plan, sheet: Sheet, kinds: Sequence[str], wanted: Wanted) -> None:
     with naming(sheet.path):
-        terms, headings = read_places(sheet, kinds, wanted.reading, plan.arcs.amounts.sign)
+        terms, headings = read_places(sheet, kinds, wanted.reading, plan.arcs.amounts)
     plan.terms += terms
     plan.headings += headings
 

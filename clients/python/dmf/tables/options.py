@@ -49,17 +49,18 @@ def add_options(parser: argparse._ActionsContainer) -> None:
     add("--sinks", metavar="FILE", help="a table of sinks and their limits")
     add("--node-limits", metavar="FILE", help="a table of places and the most that may pass through each")
     add("--places", metavar="FILE", dest="place_table", help="a table of places: what each gives, takes and lets through")
-    add("--raw-names", action="store_true", help="take names in tables as they are, also those with an apostrophe before = + - @")
+    add("--raw-names", action="store_true", help="read and write names in tables as they are, without an apostrophe before = + - @")
     add("--encoding", metavar="NAME", type=encoding, help="how the tables are encoded, as in latin-1 (found)")
 
 
-def parsed(parser: argparse.ArgumentParser, given: list[str], fixed: int = 0) -> argparse.Namespace:
-    """The arguments, of which `places` gets those that are no options; so many of these stand before the source and the sink.
-    Arguments that do not go together are refused."""
+def parsed(parser: argparse.ArgumentParser, given: list[str], fixed: int | None = 0) -> argparse.Namespace:
+    """The arguments, of which `places` gets those that are no options: so many that are `fixed`, and then the source and the sink. None
+    says that all are fixed. Arguments that do not go together are refused."""
     end = given.index("--") if "--" in given else len(given)
     words = parser.parse_intermixed_args(given[:end])
     # After -- no argument is an option, so a place there may begin with a dash.
     places = [*words.places, *given[end + 1 :]]
+    fixed = len(places) if fixed is None else fixed
     words.fixed, words.places = places[:fixed], places[fixed:]
     if words.places and names_terminals(words) or len(words.places) not in (0, 2):
         parser.error("name a source and a sink, as two words or by options such as --source and --sink")

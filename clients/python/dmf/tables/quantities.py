@@ -27,6 +27,8 @@ _UNGROUPED = {sign: re.compile(rf"^(?![1-9][0-9]{{0,2}}(?:{re.escape(sign)}[0-9]
 _WITH_UNIT = re.compile(r"(.*[0-9.,])\s+([^\s\d.,'+-][^\d]*(?:[23\xb2\xb3][^\d]*)?)", re.DOTALL)
 _DATE = re.compile(r"[0-9]{1,4}[./-](?:[0-9]{1,2}|[^\W\d]{3,9})[./-][0-9]{2,4}(?:[ T][0-9:.]+)?|[0-9]{4}-[0-9]{2}-[0-9]{2}.*")
 _ENDLESS = re.compile(r"[+-]?(?:nan|inf(?:inity)?|\u221e|unlimited|unendlich|unbegrenzt)", re.IGNORECASE)
+# Cells of at least 1 decimal, 2 and so on.
+_DECIMALS = {sign: [re.compile(rf"{re.escape(sign)}[0-9]{{{count}}}") for count in range(1, PLAIN_LENGTH + 1)] for sign in SIGNS}
 OTHER = {POINT: COMMA, COMMA: POINT}
 NAMES = {POINT: "point", COMMA: "comma"}
 
@@ -71,14 +73,16 @@ class _Piece:
 
 
 class Amounts:
-    """A column of numbers. `what` is what messages call one, and `column` its number, from 1 on."""
+    """A column of numbers. `what` is what messages call one, and `column` its number, from 1 on. `unit` is that of the title, and `named` says
+    that the title names it as one, and is not just a word for what is counted."""
 
-    def __init__(self, what: str, column: int = 0, path: str = "", unit: str = "") -> None:
+    def __init__(self, what: str, column: int = 0, path: str = "", unit: str = "", *, named: bool = True) -> None:
         self.what = what
         self.column = column
         self.path = path
         # The unit of the title, and then of all cells.
         self.unit = unit
+        self._word = "" if named else unit
         self.sign = ""
         self.lines: Sequence[int] = []
         # The numbers, over ten to the power of this.
@@ -90,9 +94,20 @@ class Amounts:
 
     def add(self, cells: list[str]) -> None:
         """Takes in cells below those that are there."""
-        piece = _plain(self._count, cells) or _Piece(self._count, "", cells)
+        piece = _plain(self._count, cells)
         self._count += len(cells)
-        self._pieces.append(piece)
+        self._pieces.append(piece or _Piece(self._count - len(cells), "", [it if isinstance(it, Exact) else it.strip() for it in cells]))
+
+    @property
+    def named_unit(self) -> str:
+        """The unit, if the title or the cells name one."""
+        return self.unit if self.unit != self._word else ""
+
+    def judge_beside(self, other: Amounts, faults: Faults) -> None:
+        """Sees to it that this column has no other unit than another one."""
+        mine, theirs = self.named_unit, other.named_unit
+        if self.lines and mine and theirs and _folded(mine) != _folded(theirs):
+            faults.add(f"the {self.what} has the unit {shown(mine)}, and the {other.what} has {shown(theirs)}", self.lines[0], self.column)
 
     def reading(self, cell: str) -> tuple[dict[str, Decimal], str]:
         found = self._read.get(cell)
@@ -262,10 +277,13 @@ def _folded(unit: str) -> str:
 
 def _plain(first: int, cells: list[str]) -> _Piece | None:
     """Cells that have nothing but digits and at most one kind of decimal sign, read together; None if one is odd."""
-    if set(map(type, cells)) != {str} or max(map(len, cells)) > PLAIN_LENGTH:
+    if set(map(type, cells)) != {str}:
         return None
     text = "\n".join(cells)
-    if not text.isascii() or text.count("\n") >= len(cells):
+    if " " in text:
+        cells = list(map(str.strip, cells))
+        text = "\n".join(cells)
+    if not text or max(map(len, cells)) > PLAIN_LENGTH or not text.isascii() or text.count("\n") >= len(cells):
         return None
     digits = text.replace("\n", "")
     if digits.isdigit():
@@ -277,11 +295,16 @@ def _plain(first: int, cells: list[str]) -> _Piece | None:
 
 
 def _plain_decimals(first: int, text: str, sign: str) -> _Piece | None:
-    pointed = text.replace(sign, POINT).split("\n")
-    most = max(len(cell) - (cell.find(POINT) + 1 or len(cell)) for cell in pointed)
+    most = 0
+    while _DECIMALS[sign][most].search(text):
+        most += 1
+    cells = (text if sign == POINT else text.replace(sign, POINT)).split("\n")
     try:
-        numbers = list(map(int, map(mul, map(Decimal, pointed), repeat(Decimal(10) ** most))))
-    except InvalidOperation:
+        # A number whose digits are below 2^50 is exact: each step is off by less than its 2^52nd part.
+        numbers: list[int] = list(map(round, map(mul, map(float, cells), repeat(10.0**most))))
+        if max(numbers) >= 1 << 50:
+            numbers = list(map(int, map(mul, map(Decimal, cells), repeat(Decimal(10) ** most))))
+    except (ValueError, InvalidOperation):
         return None
     return _Piece(first, text, None, sign, most, numbers)
 

@@ -1,31 +1,26 @@
-"""From rows to columns: the places of a table of arcs, each with its number, and the amounts; or the places of a table of places, each
-with what it gives, takes or lets through. White space of any kind inside a name becomes one space, and around it none."""
+"""From rows to columns: the places of a table of arcs, each with its number, and the amounts. White space of any kind inside a name becomes
+one space, and around it none."""
 
 from __future__ import annotations
 
 import unicodedata
 from array import array
-from collections.abc import Mapping, Sequence
+from collections import defaultdict
+from collections.abc import Mapping
 from dataclasses import dataclass, field
-from decimal import Decimal
-from itertools import chain, islice
-from operator import itemgetter
-from typing import NamedTuple, Optional
+from itertools import count, islice
+from typing import NamedTuple, Union
 
 from ..numbering import NODES
 from ..spreadsheet import name_in
 from .cells import cleaned, shown
-from .columns import ARCS, CAPACITY, HEAD, LIMIT, NAME, PLACE, PLACE_COLUMNS, TAIL, Form, Layout, layout_of, unit_of
+from .columns import ARCS, CAPACITY, HEAD, NAME, PLACE_COLUMNS, TAIL, Form, Layout, layout_of, unit_of
 from .faults import Faults, TableFault
 from .file import Exact, Rows, Sheet, is_blank
 from .quantities import Amounts
 
 # The most characters of a cell. A longer one mostly has a quote that is not closed.
 LONGEST_CELL = 131_072
-# With what a cell begins that may be no name as it stands; one that is empty has nothing there.
-_ODD_FIRST = ("", " ", "'")
-# What stands in the cell of a source or a sink that has no limit.
-MARKS = {"x", "yes", "ja", "oui", "si", "s\xed", "true", "wahr", "vrai", "unlimited", "unbegrenzt", "\u2713"}
 
 
 @dataclass(frozen=True)
@@ -51,7 +46,7 @@ class Table:
     """The rows of a table of arcs: `places` has the number of each place, from 1 on, `tails` and `heads` those of each row, `labels`
     the names of the rows, if there are any, and `lines` the lines in which they begin. `said` has the rows of places. `heading` is the
     first row if it was read as titles although nobody named any, and `begins_bare` says that it was not. `respelled` has for each name
-    that the table also writes with other spaces one of these other ways."""
+    that the table also writes with other spaces one of these other ways. `is_raw` says that no apostrophe protects a name."""
 
     sheet: Sheet
     layout: Layout
@@ -59,31 +54,27 @@ class Table:
     places: dict[str, int] = field(default_factory=dict)
     tails: array[int] = field(default_factory=lambda: array(NODES))
     heads: array[int] = field(default_factory=lambda: array(NODES))
-    lines: array[int] = field(default_factory=lambda: array("Q"))
+    lines: Union[range, array[int]] = range(0)
     labels: list[str] = field(default_factory=list)
     said: list[Said] = field(default_factory=list)
     heading: list[str] = field(default_factory=list)
     begins_bare: bool = False
     respelled: dict[str, str] = field(default_factory=dict)
+    is_raw: bool = False
     notes: list[str] = field(default_factory=list)
 
     @property
     def path(self) -> str:
         return self.sheet.path
 
-    def extra(self) -> dict[str, list[str]]:
-        """The columns with titles that are read for nothing: by their titles the cells of the rows of arcs."""
-        places = {self.layout.titles[place].text: place for place in self.layout.others()}
-        found: dict[str, list[str]] = {title: [] for title in places}
-        wanted = iter(self.lines)
-        next_line = next(wanted, 0)
-        for rows in self.sheet.read() if places else ():
-            for line, row in zip(*rows):
-                if line == next_line:
-                    next_line = next(wanted, 0)
-                    for title, place in places.items():
-                        found[title].append(row[place] if place < len(row) else "")
-        return found
+    def add_lines(self, lines: range) -> None:
+        """Takes in the lines of more rows. As long as no line is left out, a range has all of them."""
+        if isinstance(self.lines, range) and (not self.lines or self.lines.stop == lines.start):
+            self.lines = range(self.lines.start if self.lines else lines.start, lines.stop)
+            return
+        if isinstance(self.lines, range):
+            self.lines = array("Q", self.lines)
+        self.lines.extend(lines)
 
     def fault(self, reason: str, line: int = 0) -> TableFault:
         return TableFault(reason, line, self.path)
@@ -105,33 +96,44 @@ def are_plain(cells: list[str]) -> bool:
     return is_cleaned and text.replace("\n", "").isprintable() and text.count("\n") == len(cells) + 1 and len(text) <= LONGEST_CELL
 
 
-class _Numbers(dict[str, int]):
+class _Numbers:
     """The number of the place that each cell names; 0 if it names none. A new place gets the next number."""
 
     def __init__(self, is_raw: bool) -> None:
-        super().__init__()
         self.is_raw = is_raw
-        self.places: dict[str, int] = {}
-        # For each name the first cell that writes it; and see `Table`.
+        # What is looked up here and is not there gets the next number.
+        self._places: defaultdict[str, int] = defaultdict(count(1).__next__)
+        # The numbers of cells that are not the name of a place as it stands.
+        self._odd: dict[str, int] = {}
+        # For each name the first cell that writes it, where cells differ; and see `Table`.
         self.spellings: dict[str, str] = {}
         self.respelled: dict[str, str] = {}
 
+    @property
+    def places(self) -> dict[str, int]:
+        """The places, each with its number."""
+        return dict(self._places)
+
     def of(self, cells: list[str]) -> list[int] | None:
         """The numbers of these cells; None, and no new number, if one names no place."""
-        known = len(self.places)
-        numbers = list(map(self.__getitem__, cells))
+        if are_plain(cells) and self.spellings.keys().isdisjoint(cells):
+            return list(map(self._places.__getitem__, cells))
+        known = len(self._places)
+        numbers = list(map(self.number, cells))
         if 0 not in numbers:
             return numbers
-        self.places = dict(islice(self.places.items(), known))
-        for cell in [cell for cell, number in self.items() if not 0 < number <= known]:
-            del self[cell]
+        for name in [*islice(self._places, known, None)]:
+            del self._places[name]
+        self._places.default_factory = count(known + 1).__next__
+        self._odd = {cell: number for cell, number in self._odd.items() if 0 < number <= known}
         return None
 
-    def __missing__(self, cell: str) -> int:
-        if cell.isprintable() and "  " not in cell and cell[:1] not in _ODD_FIRST and cell[-1] != " " and cell not in self.spellings and len(cell) <= LONGEST_CELL:
-            # A name as it stands.
-            self[cell] = number = self.places.setdefault(cell, len(self.places) + 1)
-            return number
+    def number(self, cell: str) -> int:
+        """The number of a cell."""
+        if cell in self._odd:
+            return self._odd[cell]
+        if cell in self._places and cell[0] != "'" and cell not in self.spellings:
+            return self._places[cell]
         number = 0
         if cell.strip() and len(cell) <= LONGEST_CELL:
             try:
@@ -139,20 +141,23 @@ class _Numbers(dict[str, int]):
             except ValueError:
                 name = ""
             if name:
-                number = self.places.setdefault(name, len(self.places) + 1)
+                is_new = name not in self._places
+                number = self._places[name]
                 if name != cell or name in self.spellings:
-                    self._respell(name, cell)
-        self[cell] = number
+                    self._respell(name, cell, is_new)
+                if name == cell:
+                    return number
+        self._odd[cell] = number
         return number
 
-    def _respell(self, name: str, cell: str) -> None:
+    def _respell(self, name: str, cell: str, is_new: bool) -> None:
         # A name that is first written as it is needs no entry.
-        first = self.spellings.setdefault(name, name if name in self else cell)
+        first = self.spellings.setdefault(name, cell if is_new else name)
         if first != cell:
             self.respelled[name] = cell if cell != name else first
 
 
-class _Reader:
+class Reader:
     """Takes the rows of a table, and their faults."""
 
     def __init__(self, sheet: Sheet, form: Form, layout: Layout, reading: Reading) -> None:
@@ -162,6 +167,10 @@ class _Reader:
         self.faults = Faults(sheet.path)
         self.width = len(layout.titles) if layout.line else None
         self.heading = [title.text for title in layout.titles]
+
+    def take(self, rows: Rows) -> None:
+        """Takes rows."""
+        raise NotImplementedError
 
     def column(self, place: int) -> str:
         return next((f"the {column}" for column, at in self.layout.at.items() if at == place), "a cell")
@@ -203,16 +212,13 @@ class _Reader:
         return row[place] if place < len(row) else ""
 
 
-class _ArcReader(_Reader):
+class _ArcReader(Reader):
     """Takes rows of arcs, and of places among them."""
 
     def __init__(self, sheet: Sheet, layout: Layout, reading: Reading) -> None:
         super().__init__(sheet, ARCS, layout, reading)
-        at = layout.at[CAPACITY]
-        self.table = Table(sheet, layout, Amounts(CAPACITY, at + 1, sheet.path, unit_of(layout.title(CAPACITY))))
+        self.table = Table(sheet, layout, amounts_of(CAPACITY, layout, sheet.path))
         self.numbers = _Numbers(reading.raw_names)
-        self.ends = itemgetter(layout.at[TAIL], layout.at[HEAD])
-        self.amount = itemgetter(at)
         self.label = layout.at.get(NAME)
         self.needed = max(layout.at[column] for column in (TAIL, HEAD, CAPACITY))
         # Once a row was not taken together with others, there may be more.
@@ -220,36 +226,36 @@ class _ArcReader(_Reader):
 
     def take(self, rows: Rows) -> None:
         """Takes rows: all together if they are plain, which is several times as fast."""
-        lines, cells = rows
-        if lines and lines[0] == self.layout.line:
-            lines, cells = lines[1:], cells[1:]
-        if cells and not self._take_together(lines, cells):
-            for line, row in zip(lines, cells):
+        if rows.lines and rows.lines[0] == self.layout.line:
+            rows = rows.after_first()
+        if rows.lines and not self._take_together(rows):
+            for line, row in zip(*rows):
                 self._take_row(line, row)
 
-    def _take_together(self, lines: Sequence[int], cells: list[list[str]]) -> bool:
-        widths = set(map(len, cells))
+    def _take_together(self, rows: Rows) -> bool:
+        widths, lines = rows.widths(), rows.lines
         if min(widths) <= self.needed or self.width is not None and max(widths) > self.width or not isinstance(lines, range):
             return False
-        amounts = list(map(self.amount, cells))
-        named = list(chain.from_iterable(map(self.ends, cells)))
+        columns = rows.columns()
+        amounts = columns[self.layout.at[CAPACITY]]
+        named = [""] * (2 * len(rows))
+        named[0::2], named[1::2] = columns[self.layout.at[TAIL]], columns[self.layout.at[HEAD]]
         if "" in named or self.heading and self.heading[self.layout.at[CAPACITY]] in amounts:
             return False
         ends = self.numbers.of(named)
         if ends is None:
             return False
         if self.label is not None:
-            label = self.label
-            labels = [row[label] for row in cells] if min(widths) > label else [row[label] if len(row) > label else "" for row in cells]
+            labels = list(columns[self.label]) if self.label < len(columns) else [""] * len(rows)
             if not are_plain(labels):
                 if max(map(len, labels)) > LONGEST_CELL or not "".join(labels).isprintable():
                     return False
                 labels = [cleaned(name_in(it.strip(), is_raw=self.reading.raw_names)) for it in labels]
             self._put_labels(labels)
-        self.table.tails.extend(ends[0::2])
-        self.table.heads.extend(ends[1::2])
-        self.table.lines.extend(lines)
-        self.table.amounts.add(amounts if Exact in map(type, amounts) else list(map(str.strip, amounts)))
+        self.table.tails.extend(array(NODES, ends[0::2]))
+        self.table.heads.extend(array(NODES, ends[1::2]))
+        self.table.add_lines(lines)
+        self.table.amounts.add(list(amounts))
         return True
 
     def _put_labels(self, labels: list[str]) -> None:
@@ -264,7 +270,8 @@ class _ArcReader(_Reader):
         if not self.are_cells_right(line, row) or self._is_of_place(line, row):
             return
         before = self.faults.count
-        names = [self.name(line, row, column) for column in (TAIL, HEAD)]
+        for column in TAIL, HEAD:
+            self.name(line, row, column)
         amount = self.cell(row, CAPACITY)
         if not amount.strip():
             count = f": the row has {len(row)} column{'s' * (len(row) != 1)}" if self.layout.at[CAPACITY] >= len(row) else ""
@@ -273,10 +280,10 @@ class _ArcReader(_Reader):
         if self.faults.count > before and not amount.strip():
             return
         self._put_labels([label])
-        numbers = [self.numbers[self.cell(row, column)] for column, name in zip((TAIL, HEAD), names)]
+        numbers = [self.numbers.number(self.cell(row, column)) for column in (TAIL, HEAD)]
         self.table.tails.append(numbers[0])
         self.table.heads.append(numbers[1])
-        self.table.lines.append(line)
+        self.table.add_lines(range(line, line + 1))
         self.table.amounts.add([amount if isinstance(amount, Exact) else amount.strip()])
 
     def _is_of_place(self, line: int, row: list[str]) -> bool:
@@ -295,7 +302,7 @@ class _ArcReader(_Reader):
         """The table. Raises a `TableFault` if a row has a fault."""
         table = self.table
         table.labels += [""] * (len(table.tails) - len(table.labels)) if table.labels else []
-        table.places, table.respelled = self.numbers.places, self.numbers.respelled
+        table.places, table.respelled, table.is_raw = self.numbers.places, self.numbers.respelled, self.reading.raw_names
         if self.titles_again:
             told = ", ".join(map(str, self.titles_again[:9])) + ", .." * (len(self.titles_again) > 9)
             table.notes.append(f"the titles stand once more, and are passed over: line {told}")
@@ -304,7 +311,13 @@ class _ArcReader(_Reader):
         return table
 
 
-def _first_rows(sheet: Sheet) -> Rows:
+def amounts_of(column: str, layout: Layout, path: str) -> Amounts:
+    """An empty column of amounts, as a layout has it."""
+    title = layout.title(column)
+    return Amounts(column, layout.at.get(column, -1) + 1, path, unit_of(title), named=bool(title.unit))
+
+
+def first_rows(sheet: Sheet) -> Rows:
     """The first rows of a sheet. Raises a `TableFault` if there is none."""
     sample = sheet.sample()
     if not sample.cells:
@@ -317,11 +330,11 @@ def _first_rows(sheet: Sheet) -> Rows:
 
 def read_arcs(sheet: Sheet, reading: Reading) -> Table:
     """The table of arcs of a sheet. Raises a `TableFault` with all rows that cannot be read, and if there is none."""
-    sample = _first_rows(sheet)
+    sample = first_rows(sheet)
     layout = layout_of(sample, ARCS, reading.titles)
     reader = _ArcReader(sheet, layout, reading)
     try:
-        _take_all(sheet, reader)
+        take_all(sheet, reader)
         table = reader.end()
     except TableFault as fault:
         for told in (fault, *fault.others):
@@ -334,87 +347,10 @@ def read_arcs(sheet: Sheet, reading: Reading) -> Table:
     return table
 
 
-def _take_all(sheet: Sheet, reader: _ArcReader | _PlaceReader) -> None:
+def take_all(sheet: Sheet, reader: Reader) -> None:
     """Takes all rows. A quote or a byte that is wrong ends them."""
     try:
         for rows in sheet.read():
             reader.take(rows)
     except TableFault as fault:
         reader.faults.add(fault.reason, fault.line)
-
-
-class Term(NamedTuple):
-    """What a place gives, takes or lets through (`supply`, `demand` or `limit`): so much, or without a quantity what its arcs carry; and
-    where a table says so, if one does."""
-
-    kind: str
-    place: str
-    quantity: Optional[Decimal]
-    line: int = 0
-    path: str = ""
-
-
-class _PlaceReader(_Reader):
-    """Takes rows of places."""
-
-    def __init__(self, sheet: Sheet, form: Form, layout: Layout, reading: Reading) -> None:
-        super().__init__(sheet, form, layout, reading)
-        self.said: list[Said] = []
-
-    def take(self, rows: Rows) -> None:
-        for line, row in zip(*rows):
-            if self.is_passed_over(line, row) or not self.are_cells_right(line, row):
-                continue
-            place = self.name(line, row, PLACE)
-            cells = {column: cell for column in self.form.amounts if cleaned(cell := self.cell(row, column))}
-            if len(self.form.amounts) == 1 and not cells:
-                (column,) = self.form.amounts
-                at = self.layout.at[column]
-                count = f": the row has {len(row)} column{'s' * (len(row) != 1)}" if at >= len(row) else ""
-                self.faults.add(f"no {column}{count}", line, at + 1)
-            elif place:
-                self.said.append(Said(line, place, cells))
-
-
-class Heading(NamedTuple):
-    """A first row that was read as titles: what would be a place in it, and its amount of this kind."""
-
-    kind: str
-    place: str
-    amount: str
-    line: int
-    path: str
-
-
-def read_places(sheet: Sheet, kinds: Sequence[str], reading: Reading, usual: str = "") -> tuple[list[Term], list[Heading]]:
-    """What a table of places says of these kinds, and the row of its titles. `usual` is the decimal sign of the table of arcs. Raises a
-    `TableFault` with all rows that cannot be read, and if there is none."""
-    form = Form((PLACE,), tuple(kinds))
-    layout = layout_of(_first_rows(sheet), form, {})
-    reader = _PlaceReader(sheet, form, layout, reading)
-    _take_all(sheet, reader)
-    terms = terms_of(reader.said, layout, reader.faults, reading.sign, usual)
-    reader.faults.judge()
-    if not reader.said:
-        raise TableFault("the table has titles, and no row below them")
-    heading = Heading(kinds[0], layout.title(PLACE).text, layout.title(kinds[0]).text, layout.line, sheet.path)
-    return terms, [heading] if layout.line else []
-
-
-def terms_of(said: list[Said], layout: Layout, faults: Faults, sign: str, usual: str) -> list[Term]:
-    """What rows of places say. Where a place may say several things, a supply or a demand of 0 says nothing."""
-    terms: list[Term] = []
-    for kind in PLACE_COLUMNS:
-        rows = [row for row in said if kind in row.cells]
-        marked = [row for row in rows if kind != LIMIT and cleaned(row.cells[kind]).casefold() in MARKS]
-        terms += (Term(kind, row.place, None, row.line, faults.path) for row in marked)
-        numbered = [row for row in rows if row not in marked]
-        amounts = Amounts(kind, layout.at.get(kind, 0) + 1, faults.path, unit_of(layout.title(kind)))
-        if numbered:
-            amounts.add([row.cells[kind] for row in numbered])
-        amounts.settle([row.line for row in numbered], faults, sign, usual)
-        for place, row in enumerate(numbered):
-            quantity = amounts.quantity(place)
-            if quantity or kind == LIMIT or len(layout.at) == 2:
-                terms.append(Term(kind, row.place, quantity, row.line, faults.path))
-    return terms

@@ -2,17 +2,20 @@
 
 from __future__ import annotations
 
+import functools
 import re
 import unicodedata
 from array import array
 from collections import Counter, defaultdict
-from collections.abc import Iterable, Iterator, Sequence
+from collections.abc import Collection, Iterable, Iterator, Sequence
 from itertools import compress, count, islice
-from operator import eq, ne
+from operator import eq
 from typing import Any
 
+from .. import arrays
 from .cells import MOST_TOLD, cleaned, near, shown
 from .columns import ARCS, DEMAND, SUPPLY
+from .ends import ends_alone
 from .network import Net, Plan
 
 # Among how many places a near name is looked for, and among how many arcs a way.
@@ -56,15 +59,17 @@ def _seen(name: str) -> str:
     return "".join(letter for letter in letters if unicodedata.category(letter) != "Cf")
 
 
-def _look_alike(places: Iterable[str]) -> Iterator[list[str]]:
+def _look_alike(places: Collection[str]) -> Iterator[list[str]]:
     """The names of places that look alike."""
-    seen = Counter(map(_seen, places))
-    if len(seen) == sum(seen.values()):
+    is_plain = "".join(places).isascii()
+    seen = list(map(str.casefold if is_plain else _seen, places))
+    if len(set(seen)) == len(seen):
         return
+    counted = Counter(seen)
     alike: dict[str, list[str]] = {}
-    for place in places:
-        if seen[_seen(place)] > 1:
-            alike.setdefault(_seen(place), []).append(place)
+    for place, look in zip(places, seen):
+        if counted[look] > 1:
+            alike.setdefault(look, []).append(place)
     yield from alike.values()
 
 
@@ -92,15 +97,9 @@ def _rows(plan: Plan) -> Iterator[str]:
 def _same_rows(plan: Plan) -> Iterator[str]:
     """Rows that have the same ends, capacity and name as one before."""
     table = plan.arcs
-    seen: set[int] = set()
-    add = seen.add
-    ends = list(map(hash, zip(table.tails, table.heads)))
-    twice = {pair for pair in ends if pair in seen or add(pair)}
-    if not twice:
-        return
     first: dict[tuple[object, ...], int] = {}
     same = []
-    for place in compress(count(), map(twice.__contains__, ends)):
+    for place in _alike(table.tails, table.heads, table.amounts.numbers):
         row = table.tails[place], table.heads[place], table.amounts.numbers[place], table.labels[place] if table.labels else ""
         line = table.lines[place]
         if first.setdefault(row, line) != line:
@@ -109,17 +108,32 @@ def _same_rows(plan: Plan) -> Iterator[str]:
         yield f"rows are the same, and each counts: {_listed(same)}"
 
 
+def _alike(tails: array[int], heads: array[int], numbers: Sequence[int]) -> Iterable[int]:
+    """The places of rows that may be the same as another: those that are, and perhaps a few more."""
+    np = arrays.numpy_for(len(tails))
+    if np is not None and isinstance(numbers, array):
+        columns = (np.frombuffer(column, column.typecode).astype(np.uint64) for column in (tails, heads, numbers))
+        rows = functools.reduce(lambda mixed, column: mixed * np.uint64(0x9E3779B97F4A7C15) + column, columns)
+        ordered = np.sort(rows)
+        found: Iterable[int] = np.flatnonzero(np.isin(rows, ordered[1:][ordered[1:] == ordered[:-1]])).tolist()
+        return found
+    hashes = list(map(hash, zip(tails, heads, numbers)))
+    if len(set(hashes)) == len(hashes):
+        return ()
+    twice = {row for row, times in Counter(hashes).items() if times > 1}
+    return compress(count(), map(twice.__contains__, hashes))
+
+
 def _lonely(plan: Plan) -> Iterator[str]:
     """Places that arcs only leave and that are no source, and the other way round."""
     table = plan.arcs
-    # Self loops lead nowhere.
-    left, entered = (set(compress(ends, map(ne, table.tails, table.heads))) for ends in (table.tails, table.heads))
     if plan.both_ways:
-        left = entered = left | entered
+        return
     sources, sinks = ({table.places[term.place] for term in plan.of_kind(kind)} for kind in (SUPPLY, DEMAND))
+    left, entered = ends_alone(table.tails, table.heads)
     for lonely, ends, reason in (
-        (left - entered - sources, table.tails, "arcs leave, and none enter, a place that is no source"),
-        (entered - left - sinks, table.heads, "arcs enter, and none leave, a place that is no sink"),
+        (set(left) - sources, table.tails, "arcs leave, and none enter, a place that is no source"),
+        (set(entered) - sinks, table.heads, "arcs enter, and none leave, a place that is no sink"),
     ):
         if lonely:
             yield f"{reason}: {_listed(_LonelyPlaces(plan, sorted(lonely), ends))}"

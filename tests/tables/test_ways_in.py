@@ -1,0 +1,107 @@
+"""A planner's table given to each tool that reads problems: it answers as for the problem that dmf-problem makes of the table, and the numbers are
+those of a second computation."""
+
+from __future__ import annotations
+
+import csv
+import re
+import subprocess
+from fractions import Fraction
+from pathlib import Path
+
+import pytest
+import town_table as town
+from built import BUILT
+from desk_shared import run
+
+TOOLS: dict[str, list[str]] = {"dmf-plan": [], "dmf-board": ["--no-browser"], "dmf-names": [], "dmf-dot": [], "dmf-sweep": ["--close-each"]}
+
+
+@pytest.fixture(scope="module")
+def words(tmp_path_factory: pytest.TempPathFactory) -> list[str]:
+    """What names the table. Beside it is the problem of it, and the solution of that."""
+    path = tmp_path_factory.mktemp("ways")
+    given = town.put(path)
+    made = run("dmf-problem", "--table", *given).stdout
+    (path / "netz.max").write_text(made)
+    ran = subprocess.run([BUILT, "solve", "--cut"], input=made, capture_output=True, check=True, text=True)
+    (path / "answer").write_text(ran.stdout)
+    return given
+
+
+def beside(words: list[str], name: str) -> Path:
+    return Path(words[0]).with_name(name)
+
+
+def number(cell: str) -> Fraction:
+    return Fraction(cell.replace(",", "."))
+
+
+def test_names(words: list[str]) -> None:
+    answer = beside(words, "answer").read_text()
+    ran = run("dmf-names", *words, typed=answer)
+    assert ran.returncode == 0 and "rows are the same, and each counts: line 72 as 13" in ran.stderr
+    assert ran.stdout == run("dmf-names", str(beside(words, "netz.max")), typed=answer).stdout
+    value, limit = (re.search(rf"^{word} ([0-9.]+) l/s$", ran.stdout, re.MULTILINE) for word in ("value", "limit"))
+    assert value and limit and Fraction(value[1]) == Fraction(limit[1]) == town.wanted().value
+    crossing = ran.stdout[limit.end() :].splitlines()[2:]
+    assert sum(Fraction(line.rpartition(": ")[2]) for line in crossing) == town.wanted().value
+
+
+def test_dot(words: list[str]) -> None:
+    given = [*words, str(beside(words, "answer"))]
+    ran = run("dmf-dot", given[0], given[-1], *given[1:-1])
+    assert ran.returncode == 0, ran.stderr
+    labels = re.findall(r'^  [0-9]+ \[label="([^"\\]*)', ran.stdout, re.MULTILINE)
+    assert sorted(labels) == sorted({place for pipe in town.pipes() for place in pipe[1:3]})
+    assert '  label="numbers in l/s, from netz.csv"\n' in ran.stdout
+    assert ran.stdout == run("dmf-dot", str(beside(words, "netz.max")), given[-1]).stdout
+
+
+def test_sweep(words: list[str], tmp_path: Path) -> None:
+    """Also where the table comes from a pipe, and the run goes on where another broke off."""
+    closed = ["R5", "R20", "R33"]
+    numbers = {pipe.name: place for place, pipe in reversed(list(enumerate(town.pipes(), 1)))}
+    (tmp_path / "cases").write_text("".join(f"close {numbers[name]}\n" for name in closed))
+    ran = run("dmf-sweep", "--cases", str(tmp_path / "cases"), "/dev/stdin", *words[1:], typed=Path(words[0]).read_text())
+    assert ran.returncode == 0, ran.stderr
+    rows = list(csv.DictReader(ran.stdout.splitlines(), delimiter=";"))
+    assert [row["name"] for row in rows] == closed
+    for row in rows:
+        wanted = town.wanted(row["name"]).value
+        assert (number(row["value (l/s)"]), number(row["difference (l/s)"])) == (wanted, wanted - town.wanted().value)
+    kept = [run("dmf-sweep", "--close-each", "--of", "cut", "--table", str(tmp_path / "kept.csv"), *words).returncode for _ in range(2)]
+    assert kept == [0, 0]
+
+
+@pytest.mark.parametrize("tool", TOOLS)
+def test_all_faults_in_each_tool(tmp_path: Path, tool: str) -> None:
+    (tmp_path / "netz.csv").write_text("von;nach;Kapazit\u00e4t\nA;B;x\nA;;3\nB;C;-1\n")
+    ran = run(tool, *TOOLS[tool], f"{tmp_path}/netz.csv")
+    assert (ran.returncode, ran.stdout, [line.split(":")[2] for line in ran.stderr.splitlines()]) == (
+        3, "", [" line 2, column 3", " line 3, column 2", " line 4, column 3"]
+    )  # fmt: skip
+
+
+@pytest.mark.parametrize("tool", TOOLS)
+def test_words_that_do_not_fit(words: list[str], tool: str) -> None:
+    """Options of tables beside a problem, and a place that is none."""
+    ran = run(tool, *TOOLS[tool], str(beside(words, "netz.max")), "--source", "A")
+    assert (ran.returncode, ran.stdout, "the options are for tables" in ran.stderr) == (2, "", True)
+    ran = run(tool, *TOOLS[tool], words[0], "--source", "Quelle Nrod", "--sink", town.SINK)
+    assert (ran.returncode, ran.stdout) == (3, "")
+    assert ran.stderr.endswith("the source 'Quelle Nrod' is in no row of arcs; is it 'Quelle Nord' or 'Quelle S\u00fcd'?\n")
+
+
+def test_what_is_neither(tmp_path: Path) -> None:
+    """A file of which nothing says what it is goes for what the tool has been given so far, unless an option says that it is a table."""
+    path = tmp_path / "net"
+    path.write_text("von nach cap\nA B 3\n")
+    assert run("dmf-names", str(path)).stderr == "dmf-names: line 1 of the problem: unknown line\n"
+    assert run("dmf-dot", str(path)).stderr == f"dmf-dot: {path}: line 1: unknown line: von\n"
+    assert run("dmf-sweep", "--close-each", str(path)).stderr == f"dmf-sweep: {path}: unknown line: line 1 of the problem\n"
+    path.write_text("von\tnach\tcap\nA\tB\t3\n")
+    ran = run("dmf-dot", str(path), "--source", "A", "--sink", "B")
+    assert (ran.returncode, '1 -> 2 [label="3"]' in ran.stdout) == (0, True)
+    path.write_text("von|nach|cap\nA|B|3\n")
+    assert '1 -> 2 [label="3"]' in run("dmf-dot", str(path)).stdout
