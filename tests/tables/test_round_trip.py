@@ -167,3 +167,6 @@ def test_more_columns_of_one_title(tmp_path: Path) -> None:
     assert ran.returncode == 0
     rows = list(csv.reader((tmp_path / "plan.csv").open()))
     assert [row[8:] for row in rows] == [["note", "note", "limit"], ["one", "two", "9"], ["", "", ""]]
+    (tmp_path / "u.csv").write_text("from,to,capacity,name,,,\nA,B,3,p,,seen,\nB,C,4,q,,,\n")
+    with dmf.read_table(tmp_path / "u.csv") as network:
+        assert network.extra == {"without title": ["seen", ""]}

@@ -5,13 +5,17 @@ from __future__ import annotations
 
 import csv
 import re
+import shutil
 import subprocess
 from fractions import Fraction
 from pathlib import Path
+from typing import Any
 
 import pytest
 import town_table as town
+from board_running import board
 from built import BUILT
+from client_shared import dmf
 from desk_shared import run
 
 TOOLS: dict[str, list[str]] = {"dmf-plan": [], "dmf-board": ["--no-browser"], "dmf-names": [], "dmf-dot": [], "dmf-sweep": ["--close-each"]}
@@ -105,3 +109,37 @@ def test_what_is_neither(tmp_path: Path) -> None:
     assert (ran.returncode, '1 -> 2 [label="3"]' in ran.stdout) == (0, True)
     path.write_text("von|nach|cap\nA|B|3\n")
     assert '1 -> 2 [label="3"]' in run("dmf-dot", str(path)).stdout
+
+
+def test_no_file_loses_the_unit(words: list[str], tmp_path: Path) -> None:
+    """Each file that a tool writes of the table tells the unit; and a problem, whose numbers are whole, what they were multiplied by."""
+    answer, problem = beside(words, "answer").read_text(), str(beside(words, "netz.max"))
+    files = [tmp_path / f"plan.{kind}" for kind in ("csv", "max", "dot", *["svg"] * bool(shutil.which("dot")))]
+    typed = "".join(f"{'save' if file.suffix in ('.csv', '.max') else 'draw'} {file}\n" for file in files)
+    assert run("dmf-plan", *words, typed=f"solve\n{typed}").returncode == 0
+    texts = {file.name: file.read_text() for file in files}
+    for given in words, [problem]:
+        table = tmp_path / f"sweep{len(given)}.csv"
+        assert run("dmf-sweep", "--close-each", "--of", "cut", "--table", str(table), *given).returncode == 0
+        name = Path(given[0]).name
+        texts[f"dmf-sweep {name}"] = table.read_text()
+        texts[f"dmf-names {name}"] = run("dmf-names", *given, typed=answer).stdout
+        texts[f"dmf-names --csv {name}"] = run("dmf-names", "--csv", *given, typed=answer).stdout
+        texts[f"dmf-dot {name}"] = run("dmf-dot", *given, typed=answer).stdout
+    printed = subprocess.run([BUILT, "session", problem], input="close 1\nprint problem\n", capture_output=True, check=True, text=True).stdout
+    texts["printed.max"] = run("dmf-names", problem, typed=printed).stdout
+    texts["dmf-problem.max"] = Path(problem).read_text()
+    opened: list[Any] = [dmf.read_table(tmp_path / "plan.csv"), dmf.read(problem)]
+    for at, network in enumerate(opened):
+        network.solve()
+        network.write(tmp_path / f"written{at}.max")
+        network.plot(tmp_path / f"written{at}.dot")
+        texts |= {file.name: file.read_text() for file in (tmp_path / f"written{at}.max", tmp_path / f"written{at}.dot")}
+        network.end()
+    with board(*words) as page:
+        turn = page.turn()
+        texts["board.csv"] = page.ask(page.root + f"plan.csv?turn={turn}")[2].decode()
+        texts["board.max"] = page.ask(page.root + f"problem.max?turn={turn}")[2].decode()
+    assert [name for name, text in texts.items() if "l/s" not in text] == []
+    scaled = {name: text for name, text in texts.items() if name.endswith(".max") and " " not in name}
+    assert len(scaled) == 6 and [name for name, text in scaled.items() if "c capacities are those of the table times 100\n" not in text] == []

@@ -27,6 +27,7 @@ class Extra:
         """The cells by the titles; of two columns with one title the second gets a number."""
         found: dict[str, list[str]] = {}
         for title, column in zip(self.titles, self.columns):
+            title = title or "without title"
             names = (title, *(f"{title} {count}" for count in range(2, len(found) + 3)))
             found[next(name for name in names if name not in found)] = list(column)
         return found
@@ -37,7 +38,9 @@ def extra_of(table: Table, ways: int = 1) -> Extra:
     table that the desk wrote has some that it writes again; they are none of these. Reads the table once more. Raises a `TableFault` if a
     quote or a byte in it is wrong."""
     layout, is_raw = table.layout, table.is_raw
-    titles = {place: text_in(layout.titles[place].text, is_raw=is_raw) for place in (*layout.others(), *_of_places(layout))}
+    # A column without a title, or with one of places, counts if it has something.
+    doubtful = [*_of_places(layout), *(place for place, title in enumerate(layout.titles) if not title.text and place not in layout.at.values())]
+    titles = {place: text_in(layout.titles[place].text, is_raw=is_raw) for place in (*layout.others(), *doubtful)}
     for place in _written(layout):
         del titles[place]
     columns: dict[int, list[str]] = {place: [] for place in sorted(titles)}
@@ -49,7 +52,7 @@ def extra_of(table: Table, ways: int = 1) -> Extra:
                 next_line = next(wanted, 0)
                 for place, column in columns.items():
                     column.append(text_in(row[place], is_raw=is_raw) if place < len(row) else "")
-    for place in _of_places(layout):
+    for place in doubtful:
         if not any(map(str.strip, columns[place])):
             del columns[place]
     return Extra([titles[place] for place in columns], [*columns.values()], ways)
