@@ -5,7 +5,6 @@ from __future__ import annotations
 import copy
 import os
 import random
-import select
 import signal
 import time
 from pathlib import Path
@@ -19,8 +18,8 @@ from dmf.project.opening import project_desk
 from project_shared import water_project
 
 KILLS = 200
-# How many commands a session is told, and how long it may live at most, in seconds.
-COMMANDS, LONGEST = 12, 0.25
+# How many commands a session is told; how long after a line that it told it is killed at most, and after its begin, in seconds.
+COMMANDS, AFTER_LINE, AFTER_BEGIN = 12, 0.01, 0.3
 PIPES = [pipe.name for pipe in water()]
 
 
@@ -81,13 +80,13 @@ def session(path: str, commands: list[str]) -> tuple[int, int]:
         os._exit(0)
 
 
-def killed(path: str, commands: list[str], after: float) -> int:
-    """How many lines a session told before it was killed."""
+def killed(path: str, commands: list[str], lines: int, after: float) -> int:
+    """How many lines a session told before it was killed: so long after it had told some lines."""
     pid, reading = session(path, commands)
-    until, text, is_over = time.monotonic() + after, b"", False
-    while not is_over and (left := until - time.monotonic()) > 0 and select.select([reading], [], [], left)[0]:
-        piece = os.read(reading, 1 << 16)
-        text, is_over = text + piece, not piece
+    text = b""
+    while text.count(b"\n") < lines and (piece := os.read(reading, 1 << 16)):
+        text += piece
+    time.sleep(after)
     os.kill(pid, signal.SIGKILL)
     os.waitpid(pid, 0)
     while piece := os.read(reading, 1 << 16):
@@ -108,7 +107,9 @@ def test_killed_at_random(tmp_path: Path) -> None:
             commands.append(command(chance, states[-1]))
             states.append(copy.deepcopy(states[-1]))
             states[-1].do(commands[-1])
-        told = killed(path, commands, chance.uniform(0, LONGEST))
+        lines = chance.randrange(COMMANDS)
+        told = killed(path, commands, lines, chance.uniform(0, AFTER_LINE if lines else AFTER_BEGIN))
+        assert told >= lines
         file = opened(path)
         assert not file.why_not
         kept = [at for at in (told, told + 1) if at < len(states) and states[at].is_of(file.project)]
