@@ -195,7 +195,7 @@ def test_sweep() -> None:
         while left:
             told = json.loads(it.post("sweep", arcs=left)[1])
             left, rows = told["left"], rows + told["trials"]
-        assert {row["name"]: (int(row["closed"]), int(row["doubled"])) for row in rows} == swept()
+        assert {row["name"]: (int(row["without"]), int(row["doubled"])) for row in rows} == swept()
 
 
 def portion(it: Board, arcs: list[int]) -> Any:
@@ -223,7 +223,7 @@ def test_sweep_in_portions(tmp_path: Path) -> None:
         # What flows on an arc alone is what is lost without it.
         value = int(told["value"])
         for row in told["trials"] + again["trials"]:
-            assert int(row["closed"]) == value - int(row["flow"])
+            assert int(row["without"]) == value - int(row["flow"])
         # Where the copies come to no result, nobody waits for one.
         for copy in copies:
             os.kill(copy, signal.SIGSTOP)

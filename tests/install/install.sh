@@ -86,7 +86,7 @@ lines() {
     for file in docs/*.1; do
         echo "$1 $2/share/man/man1/${file#docs/}"
     done
-    for file in clients/python/dmf/*.* clients/python/dmf/*/*.py; do
+    for file in clients/python/dmf/*.* clients/python/dmf/*/*.py clients/python/dmf/board/page/*.*; do
         echo "$1 $2/share/dmf/python/${file#clients/python/}"
     done
     for name in dmf dmf-problem dmf-names dmf-dot dmf-sweep dmf-plan dmf-board; do

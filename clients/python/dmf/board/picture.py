@@ -11,11 +11,11 @@ from dataclasses import dataclass
 from typing import NamedTuple
 from xml.etree import ElementTree
 
-from .desk import Desk
-from .desk_steps import DeskFault
-from .folding import AT_PLACE
-from .picture import CUT, SIDE, UNUSED, drawn_line, quoted
-from .quantity import POINT, plain_text
+from ..desk import Desk
+from ..desk_steps import DeskFault
+from ..folding import AT_PLACE
+from ..picture import CUT, SIDE, UNUSED, drawn_line, quoted
+from ..quantity import POINT, plain_text
 
 SVG = "http://www.w3.org/2000/svg"
 # How long Graphviz may take, in seconds.

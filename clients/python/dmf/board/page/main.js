@@ -1,0 +1,22 @@
+/** The page of a board: which part of it shows what. */
+import { watchChoice } from "./choice.js";
+import { showChosen } from "./chosen.js";
+import { at } from "./elements.js";
+import { beginFinding } from "./find.js";
+import { beginPicture, mark, showPicture } from "./picture.js";
+import { begin, watch } from "./state.js";
+import { beginSteps, showSteps } from "./steps.js";
+import { showSummary } from "./summary.js";
+import { beginTrials, showOutdated } from "./trials.js";
+
+for (const watcher of [showOutdated, showSummary, showSteps, showChosen, showPicture]) watch(watcher);
+watchChoice(mark);
+watchChoice(async () => {
+  await showChosen();
+  at("chosen").scrollIntoView({ block: "nearest" });
+});
+beginSteps();
+beginTrials();
+beginFinding();
+beginPicture();
+begin();
