@@ -52,6 +52,13 @@ class Page:
 
         WebDriverWait(self.driver, SECONDS, poll_frequency=0.02).until(lambda _: is_so())
 
+    def actions(self) -> Any:
+        """What a pointer and keys do, one after the other, once it is performed."""
+        from selenium.webdriver.common.action_chains import ActionChains
+
+        chains: Any = ActionChains
+        return chains(self.driver)
+
     def text(self, place: str) -> str:
         return str(self.driver.execute_script("return document.querySelector(arguments[0])?.innerText ?? ''", place))
 

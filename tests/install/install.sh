@@ -42,7 +42,7 @@ prefix="$work/a place"
 mkdir -p "$root/bin" "$root/crates/dmf/src" "$root/docs" "$root/clients/python/dmf"
 cp -r install dmf completions tools "$root"
 cp docs/*.1 "$root/docs"
-(cd clients/python && cp --parents dmf/*.* dmf/*/*.py "$root/clients/python")
+(cd clients/python && cp --parents dmf/*.* dmf/*/*.py dmf/board/page/*.* "$root/clients/python")
 printf 'dmf:\n' >"$root/crates.txt"
 echo 1 >"$root/crates/dmf/src/version"
 

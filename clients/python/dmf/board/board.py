@@ -18,7 +18,9 @@ from ..desk_text import near as near_arcs
 from ..desk_text import problem, table
 from ..quantity import plain_text
 from .answers import Answer, Json, Made, WrongForm, answer, judge_arcs, judge_fields, judge_words, whole
+from .many import change_many, many_view
 from .picture import NoPicture, Picture
+from .rows import Rows
 from .sweeps import Sweeps
 from .views import arc_view, found_view, opened_view, place_view, state_view
 
@@ -33,6 +35,7 @@ class Board:
     def __init__(self, desk: Desk) -> None:
         self.desk = desk
         self.picture = Picture(desk)
+        self._rows_of_all = Rows(desk)
         self._sweeps = Sweeps(desk)
         # Whether something is being done that can be stopped.
         self._is_busy = False
@@ -48,6 +51,8 @@ class Board:
             "place": (lambda node: place_view(self.desk, whole(node, "node")), ("node",)),
             "find": (lambda text: found_view(self.desk, text), ("text",)),
             "opened": (lambda: opened_view(self.desk), ()),
+            "rows": (self._rows, ("filter", "sort", "first", "count")),
+            "numbers": (self._numbers, ("filter", "sort", "first", "count")),
             "picture.svg": (self._picture_file, ("near", "turn")),
             "plan.csv": (self._table_file, ("turn",)),
             "problem.max": (self._problem_file, ("turn",)),
@@ -65,6 +70,9 @@ class Board:
                 raise WrongForm(f"wanted is a list of at most {MOST_SWEPT} arcs, and the turn")
             judge_arcs(content["arcs"], MOST_SWEPT)
             return self._judged(lambda: self._swept(content["arcs"], content["turn"]))
+        if path == "many":
+            judge_fields(content, {"arcs": list, "turn": int})
+            return self._judged(lambda: many_view(self.desk, content["arcs"]))
         if path != "do":
             return answer({"error": "there is no such page"}, 404)
         what = content.pop("what", None)
@@ -133,6 +141,8 @@ class Board:
         elif what in ("close", "open", "double"):
             calls: dict[str, Callable[[int], object]] = {"close": desk.close, "open": desk.open, "double": desk.double}
             calls[what](content["arc"])
+        elif what in MANY:
+            change_many(desk, what, content["arcs"], content.get("capacity", ""))
         elif what == "cap":
             present = desk.line(content["arc"]).capacity
             desk.cap(content["arc"], amount(content["capacity"], desk.measure, present))
@@ -144,6 +154,13 @@ class Board:
         else:
             # The first step is the solve that the board begins with.
             desk.go_to(content["step"] + 1)
+
+    def _rows(self, **words: str) -> Json:
+        return self._rows_of_all.view(words["filter"], words["sort"], whole(words["first"], "first"), whole(words["count"], "count"))
+
+    def _numbers(self, **words: str) -> Json:
+        first, count = whole(words["first"], "first"), whole(words["count"], "count")
+        return {"numbers": self._rows_of_all.numbers(words["filter"], words["sort"])[first : first + count]}
 
     def _near(self, near: str) -> tuple[int, ...]:
         return self.desk.names.place_of(whole(near, "near")) if near else ()
@@ -189,6 +206,11 @@ FORMS: dict[str, dict[str, type]] = {
     "shut": {"node": int},
     "open-place": {"node": int},
     "add": {"tail": int, "head": str, "capacity": str, "name": str},
+    "close-all": {"arcs": list},
+    "open-all": {"arcs": list},
+    "double-all": {"arcs": list},
+    "cap-all": {"arcs": list, "capacity": str},
     "go": {"step": int},
     "again": {},
 }
+MANY = ("close-all", "open-all", "double-all", "cap-all")

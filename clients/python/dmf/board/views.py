@@ -27,6 +27,8 @@ def state_view(desk: Desk) -> Json:
         "sink": names.terminal(desk.sink),
         "value": plain_text(desk.value),
         "arcs": len(desk.pictured()),
+        # The numbers of arcs after these are given anew after an undo.
+        "given": len(desk.lines) - sum(was.line is None for step in desk.steps[: desk.at] for was in step.before),
         "places": len(names.places),
         "left_out": LEFT_OUT if desk.roles() else "",
         "at": desk.at - 1,

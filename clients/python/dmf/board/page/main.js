@@ -3,13 +3,15 @@ import { watchChoice } from "./choice.js";
 import { showChosen } from "./chosen.js";
 import { at } from "./elements.js";
 import { beginFinding } from "./find.js";
+import { followMany } from "./many.js";
 import { beginPicture, mark, showPicture } from "./picture.js";
 import { begin, watch } from "./state.js";
 import { beginSteps, showSteps } from "./steps.js";
 import { showSummary } from "./summary.js";
+import { beginTable, showForms, showTable } from "./table.js";
 import { beginTrials, showOutdated } from "./trials.js";
 
-for (const watcher of [showOutdated, showSummary, showSteps, showChosen, showPicture]) watch(watcher);
+for (const watcher of [showOutdated, showSummary, showSteps, showChosen, showPicture, showForms, showTable, followMany]) watch(watcher);
 watchChoice(mark);
 watchChoice(async () => {
   await showChosen();
@@ -19,4 +21,5 @@ beginSteps();
 beginTrials();
 beginFinding();
 beginPicture();
+beginTable();
 begin();

@@ -2,10 +2,9 @@
  * The picture of the network, or of the part of it that lies near a place or the limit.
  * @typedef {import("./state.js").Arc} Arc
  */
-import { upper } from "./amounts.js";
-import { choose, pick, theChoice } from "./choice.js";
-import { at, cell, fill, numberCell, onClick } from "./elements.js";
-import { ask, caption, noun, present } from "./state.js";
+import { choose, theChoice } from "./choice.js";
+import { at, onClick } from "./elements.js";
+import { ask, noun, present } from "./state.js";
 
 let asked = 0, zoom = 1;
 /** The place that is shown with what lies near it, or nothing where that is the limit. */
@@ -32,9 +31,6 @@ export async function showPicture() {
     + `Click a ${noun()} or a place to see more, and to change it.`;
   at("near-limit").hidden = !near;
   at("take-svg").setAttribute("href", `picture.svg?near=${near}&turn=${present().turn}`);
-  at("listed-head").textContent = `The ${shown.length} in the picture, as a table`;
-  fill("arcs", caption(), [upper(noun()), "flows", "fits", ""], shown.map((arc) => [pick(arc), numberCell(arc.closed ? "closed" : arc.flow),
-    numberCell(arc.capacity), cell([arc.full && "full", arc.limit && "limit"].filter(Boolean).join(", "))]));
   draw(told.svg);
 }
 
