@@ -22,7 +22,7 @@ from .many import change_many, many_view
 from .picture import NoPicture, Picture
 from .rows import Rows
 from .sweeps import Sweeps
-from .views import arc_view, found_view, opened_view, place_view, state_view
+from .views import arc_view, opened_view, place_view, state_view
 
 MOST_SWEPT = 5_000
 CHANGED = "the network has changed in another tab: look again"
@@ -49,7 +49,7 @@ class Board:
             "picture": (self._picture, ("near",)),
             "arc": (lambda number: arc_view(self.desk, whole(number, "number")), ("number",)),
             "place": (lambda node: place_view(self.desk, whole(node, "node")), ("node",)),
-            "find": (lambda text: found_view(self.desk, text), ("text",)),
+            "find": (self._rows_of_all.found, ("text",)),
             "opened": (lambda: opened_view(self.desk), ()),
             "rows": (self._rows, ("filter", "sort", "first", "count")),
             "numbers": (self._numbers, ("filter", "sort", "first", "count")),

@@ -3,7 +3,7 @@
 from __future__ import annotations
 
 import re
-from collections.abc import Callable
+from collections.abc import Callable, Iterable
 from itertools import groupby
 from typing import Any
 
@@ -14,7 +14,7 @@ from ..tables.cells import shown
 from .answers import Json, WrongForm
 from .views import arc_view
 
-MOST_ROWS = 500
+MOST_ROWS, MOST_FOUND = 500, 20
 AND = "and"
 FORMS = 'name ~ TEXT, from ~ TEXT, to ~ TEXT, capacity < NUMBER, flow >= NUMBER, full, limit, closed, changed; with "and" between two'
 _SIGN = re.compile(r"(name|from|to|capacity|flow)\s*(~|<=|>=|<|>|=)(.*)", re.IGNORECASE | re.DOTALL)
@@ -56,6 +56,16 @@ class Rows:
                 found.sort(key=self._column(order.removeprefix("-")), reverse=order.startswith("-"))
             self._kept = key, found
         return self._kept[1]
+
+    def found(self, text: str) -> Json:
+        """The first places and arcs whose names contain a text, without regard to case and accents, and whether there are more. Those that
+        begin with it come first."""
+        sought, names = folded(text), self._desk.names
+        places = [(folded(label), {"label": label, "node": place.entry}) for label, place in names.places.items()]
+        arcs = [(self._label(number), {"label": names.arc(number), "number": number}) for number in self._desk.pictured()]
+        found_places, found_arcs = (_best(sought, named) for named in (places, arcs))
+        found = [*found_places[:MOST_FOUND], *found_arcs[:MOST_FOUND]]
+        return {"found": found, "more": len(found) < len(found_places) + len(found_arcs)}
 
     def _column(self, column: str) -> Callable[[int], Any]:
         """What arcs are sorted by."""
@@ -99,3 +109,9 @@ class Rows:
         if number not in self._labels:
             self._labels[number] = folded(self._desk.names.arc(number))
         return self._labels[number]
+
+
+def _best(sought: str, named: Iterable[tuple[str, Json]]) -> list[Json]:
+    """What has a text in its name; first what is called so, and what begins with it."""
+    found = [(label != sought, not label.startswith(sought), one) for label, one in named if sought in label]
+    return [one for *_, one in sorted(found, key=lambda it: it[:2])]

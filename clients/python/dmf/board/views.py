@@ -3,14 +3,12 @@ their unit."""
 
 from __future__ import annotations
 
-from itertools import islice
-
 from ..desk import Desk
 from ..folding import LEFT_OUT
 from ..quantity import plain_text
 from .answers import Json
 
-MOST_LISTED, MOST_SIDE, MOST_FOUND = 300, 30, 20
+MOST_LISTED, MOST_SIDE = 300, 30
 
 
 def state_view(desk: Desk) -> Json:
@@ -51,6 +49,7 @@ def arc_view(desk: Desk, number: int) -> Json:
         "name": names.arc_name(number),
         "label": names.arc(number),
         "short": names.short(number),
+        "tail_node": desk.folding.place(line.tail),
         "tail": names.node(line.tail),
         "head": names.node(line.head),
         "flow": plain_text(flow),
@@ -86,15 +85,3 @@ def place_view(desk: Desk, node: int) -> Json:
 def opened_view(desk: Desk) -> Json:
     """The arcs that can be tried: the open ones of the table and those that were added."""
     return {"arcs": [number for number in desk.pictured() if not desk.lines[number - 1].is_closed]}
-
-
-def found_view(desk: Desk, text: str) -> Json:
-    """The first places and arcs whose names contain a text, and whether there are more."""
-    wanted, names = text.casefold(), desk.names
-    places = ((label, place.entry) for label, place in names.places.items() if wanted in label.casefold())
-    lines = ((names.arc(number), number) for number in desk.pictured())
-    arcs = ((label, number) for label, number in lines if wanted in label.casefold())
-    found_places, found_arcs = (list(islice(found, MOST_FOUND + 1)) for found in (places, arcs))
-    found = [{"node": node, "label": label} for label, node in found_places[:MOST_FOUND]]
-    found += [{"number": number, "label": label} for label, number in found_arcs[:MOST_FOUND]]
-    return {"found": found, "more": len(found) < len(found_places) + len(found_arcs)}

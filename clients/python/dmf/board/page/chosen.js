@@ -7,7 +7,7 @@
 import { upper } from "./amounts.js";
 import { choose, theChoice } from "./choice.js";
 import { at, button, form, make } from "./elements.js";
-import { isPart, showNear } from "./picture.js";
+import { isPart, isShown, showNear } from "./picture.js";
 import { act, ask, noun, present, units } from "./state.js";
 
 export async function showChosen() {
@@ -31,7 +31,9 @@ function aboutArc(arc) {
   const is = arc.full ? "It is full" : arc.flow === "0" ? "Nothing flows here" : "It is not full";
   const words = arc.closed ? "It is closed." : `${arc.flow} of ${arc.capacity}${units()} flow. ${is}`
     + (arc.limit ? ", and part of the limit: a wider one may bring more." : ", and no part of the limit: a wider one brings nothing.");
+  /** @type {HTMLElement[]} */
   const about = [make("h3", arc.short), make("p", `From ${arc.tail} to ${arc.head}. ${words}`)];
+  if (!isShown({ arc: arc.number })) about.push(button("Show it in the picture", () => showNear(arc.tail_node), "plain"));
   if (arc.closed) return [...about, button("Open it again", () => act({ what: "open", arc: arc.number }, `${arc.short} is open`))];
   return [...about,
     button("Close it", () => act({ what: "close", arc: arc.number }, `${arc.short} is closed`)),

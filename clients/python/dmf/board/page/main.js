@@ -1,10 +1,9 @@
 /** The page of a board: which part of it shows what. */
 import { watchChoice } from "./choice.js";
 import { showChosen } from "./chosen.js";
-import { at } from "./elements.js";
 import { beginFinding } from "./find.js";
-import { followMany } from "./many.js";
-import { beginPicture, mark, showPicture } from "./picture.js";
+import { followMany, watchPicked } from "./many.js";
+import { beginPicture, mark, revealChosen, showPicture } from "./picture.js";
 import { begin, watch } from "./state.js";
 import { beginSteps, showSteps } from "./steps.js";
 import { showSummary } from "./summary.js";
@@ -13,10 +12,9 @@ import { beginTrials, showOutdated } from "./trials.js";
 
 for (const watcher of [showOutdated, showSummary, showSteps, showChosen, showPicture, showForms, showTable, followMany]) watch(watcher);
 watchChoice(mark);
-watchChoice(async () => {
-  await showChosen();
-  at("chosen").scrollIntoView({ block: "nearest" });
-});
+watchChoice(revealChosen);
+watchChoice(showChosen);
+watchPicked(mark);
 beginSteps();
 beginTrials();
 beginFinding();

@@ -1,7 +1,7 @@
 /**
  * The state that the board told last, and what is asked of the board.
- * @typedef {{ number: number, node: number, name: string, label: string, short: string, tail: string, head: string, flow: string,
- *   capacity: string, closed: boolean, replaced: boolean, unlimited: boolean, full: boolean, limit: boolean, turn?: number }} Arc
+ * @typedef {{ number: number, node: number, tail_node: number, name: string, label: string, short: string, tail: string, head: string,
+ *   flow: string, capacity: string, closed: boolean, replaced: boolean, unlimited: boolean, full: boolean, limit: boolean }} Arc
  * @typedef {{ node: number, name: string, in: string, out: string, roles: Arc[], is_source: boolean, is_sink: boolean, shut: boolean,
  *   open: boolean, side: boolean }} Place
  * @typedef {{ turn: number, title: string, unit: string, noun: string, notes: string[], source: string, sink: string, value: string,
