@@ -80,9 +80,13 @@ class Page:
         field.send_keys(text)
 
     def choose(self, place: str, name: str) -> None:
-        """Clicks a part of the picture."""
+        """Clicks a part of the picture: its label, or if that has no room the part itself."""
         self.settle()
-        self.click(f"#{place} text")
+        label = self.driver.find_element("css selector", f"#{place} text")
+        if label.is_displayed():
+            label.click()
+        else:
+            self.driver.execute_script("arguments[0].dispatchEvent(new MouseEvent('click', { bubbles: true }))", label)
         self.wait(lambda: self.text("#what h3") == name)
 
     def after(self, act: Callable[[], None]) -> int:

@@ -22,7 +22,7 @@ from xml.etree import ElementTree
 import pytest
 from board_running import Board, board
 from built import BUILT
-from desk_shared import ODD, PIPES, SECONDS, run, stop_session, swept, wait_until_asked
+from desk_shared import ODD, PIPES, SECONDS, run, stop_session, swept, wait_until_asked, without
 from dmf import Network, desk_sweep
 from dmf.board import Answer
 from dmf.board import Board as InBoard
@@ -185,6 +185,20 @@ def test_turns() -> None:
         now = it.turn()
         assert "error" in it.do(what="close", arc=99)
         assert it.turn() == now
+
+
+def test_shut_places() -> None:
+    """A place that was opened again is shut no more, so that another one opens with all its arcs. An arc between two shut places opens with
+    the second one."""
+    with board(PIPES) as it:
+        for what, node, names in (
+            ("shut", 5, ["Mill pipe", "Canal pipe", "Mill Lane", "Bridge pipe"]), ("open-place", 5, []),
+            ("shut", 7, ["North Street", "Mill Lane", "Market Street", "Market link"]),
+            ("shut", 5, ["Mill pipe", "Canal pipe", "Mill Lane", "Bridge pipe", "North Street", "Market Street", "Market link"]),
+            ("open-place", 7, ["Mill pipe", "Canal pipe", "Mill Lane", "Bridge pipe"]), ("open-place", 5, []),
+        ):  # fmt: skip
+            assert it.do(what=what, node=node)["value"] == str(without(*names)), (what, node)
+            assert it.told("place?node=5")["shut"] == ("Mill pipe" in names)
 
 
 def test_sweep() -> None:

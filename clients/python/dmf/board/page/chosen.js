@@ -6,14 +6,14 @@
  */
 import { upper } from "./amounts.js";
 import { choose, theChoice } from "./choice.js";
-import { at, button, form, make } from "./elements.js";
+import { at, button, form, make, replace } from "./elements.js";
 import { isPart, isShown, showNear } from "./picture.js";
 import { act, ask, noun, present, units } from "./state.js";
 
 export async function showChosen() {
   const chosen = theChoice();
   if (!chosen) {
-    at("what").replaceChildren(make("p", `Click a ${noun()} or a place in the picture, or find one by its name.`));
+    replace(at("what"), [make("p", `Click a ${noun()} or a place in the picture, or find one by its name.`)]);
     return;
   }
   // An arc that was added may be gone.
@@ -23,7 +23,7 @@ export async function showChosen() {
     choose(null);
     return;
   }
-  at("what").replaceChildren(...(chosen.arc ? aboutArc(told) : aboutPlace(told)));
+  replace(at("what"), chosen.arc ? aboutArc(told) : aboutPlace(told));
 }
 
 /** @param {Arc} arc */

@@ -71,6 +71,34 @@ export function form(fields, word, done) {
   return made;
 }
 
+/** @param {Element} host */
+const controls = (host) => [...host.querySelectorAll("button:enabled, input:enabled")];
+
+/**
+ * Changes what stands above the picture, which pushes nothing away that is looked at.
+ * @param {() => unknown} change
+ */
+export function keepInSight(change) {
+  const top = at("picture").getBoundingClientRect().top;
+  change();
+  if (scrollY > 0) scrollBy(0, at("picture").getBoundingClientRect().top - top);
+}
+
+/**
+ * Replaces what is in an element. The focus stays on what is like the one that had it, or else where that was.
+ * @param {Element} host
+ * @param {Piece[]} pieces
+ */
+export function replace(host, pieces) {
+  const held = document.activeElement;
+  const place = held && host.contains(held) ? controls(host).indexOf(held) : -1;
+  host.replaceChildren(...pieces);
+  if (!held || place < 0) return;
+  const now = controls(host), like = now.find((it) => it.id && it.id === held.id) ?? now.find((it) => it.textContent === held.textContent);
+  const found = like ?? now[Math.min(place, now.length - 1)] ?? host;
+  if (found instanceof HTMLElement) found.focus();
+}
+
 /** @param {Piece | Piece[]} content */
 export const cell = (content) => make("td", content);
 
@@ -86,8 +114,9 @@ export const numberCell = (text) => make("td", text, { class: "number" });
  */
 export function fill(id, caption, heads, rows) {
   const table = tableAt(id);
-  const titles = heads.map((head, place) => make("th", head, { scope: "col", class: place && head ? "number" : "" }));
+  const titles = heads.map((head, place) => make("th", head || make("span", "difference", { class: "unseen" }),
+    { scope: "col", class: place && head ? "number" : "" }));
   table.createCaption().textContent = caption;
   table.tHead?.replaceChildren(make("tr", titles));
-  table.tBodies[0].replaceChildren(...rows.map((row) => make("tr", row)));
+  replace(table.tBodies[0], rows.map((row) => make("tr", row)));
 }

@@ -1,5 +1,5 @@
 /**
- * Which labels of the picture are seen: each has letters of at least 11 pixels, and where these are larger than Graphviz made room for, those
+ * Which labels of the picture are seen: each has letters of at least 11 pixels. Where these are larger than Graphviz made room for, those
  * go first that matter more.
  * @typedef {{ part: SVGElement, texts: SVGTextElement[], x: number, y: number, width: number, height: number, size: number,
  *   rank: number }} Label

@@ -3,7 +3,7 @@
  * @typedef {import("./state.js").State} State
  * @typedef {{ open: number[], closed: number[], flow: string, capacity: string }} Many
  */
-import { at, button, form, make } from "./elements.js";
+import { at, button, form, make, replace } from "./elements.js";
 import { act, ask, noun, units } from "./state.js";
 
 /** @type {Set<number>} */
@@ -56,7 +56,7 @@ async function showMany() {
   const isSame = now.size === picked.size && [...now].every((number) => picked.has(number));
   picked = now;
   if (!isSame) for (const watcher of watchers) watcher();
-  at("many").replaceChildren(...(now.size ? about(told) : []));
+  replace(at("many"), now.size ? about(told) : []);
 }
 
 /** @param {Many} told */

@@ -1,5 +1,5 @@
 /** What the page says above the picture: news, trouble, and that something takes long. */
-import { at, make } from "./elements.js";
+import { at, keepInSight, make } from "./elements.js";
 
 const LONG = 1500;
 
@@ -9,15 +9,19 @@ const LONG = 1500;
  * @param {HTMLElement[]} acts
  */
 export function trouble(text, ...acts) {
-  at("trouble").replaceChildren(...(text ? [make("p", text), ...acts] : []));
-  at("trouble").hidden = !text;
+  keepInSight(() => {
+    at("trouble").replaceChildren(...(text ? [make("p", text), ...acts] : []));
+    at("trouble").hidden = !text;
+  });
 }
 
 export const hasTrouble = () => !at("trouble").hidden;
 
 /** @param {string} text */
 export function news(text) {
-  at("news").textContent = text;
+  keepInSight(() => {
+    at("news").textContent = text;
+  });
 }
 
 /**

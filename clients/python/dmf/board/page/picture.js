@@ -3,14 +3,15 @@
  * @typedef {import("./state.js").State} State
  * @typedef {import("./labels.js").Label} Label
  */
+import { moved } from "./amounts.js";
 import { choose, theChoice } from "./choice.js";
 import { at, onClick } from "./elements.js";
 import { arrange, labelsOf } from "./labels.js";
 import { isPicked, pickedCount } from "./many.js";
-import { ask, noun, present } from "./state.js";
+import { ask, noun, present, units } from "./state.js";
 import { beginView, fit, move, refresh, reveal, scale, zoom } from "./view.js";
 
-const LARGER = 1.4, STEP = 60;
+const LARGER = 1.4, STEP = 60, MOST_SAID = 10;
 let asked = 0, count = 0, pending = 0;
 /** The place that is shown with what lies near it, or nothing where that is the limit; and the one of the picture that is there. */
 let near = "", nearShown = "none";
@@ -200,6 +201,25 @@ export function beginPicture() {
   onClick("fit-chosen", () => fitTo(pickedCount() || theChoice() ? ".chosen" : ".node, .arc"));
   onClick("near-limit", () => {
     near = "";
+    at("picture").focus();
     showPicture();
   });
+}
+
+/** Goes back from what is told of the choice to the part of the picture that it was, and chooses nothing. */
+export async function closeChoice() {
+  const part = partOf(theChoice()), isBeside = at("chosen").contains(document.activeElement);
+  await choose(null);
+  if (isBeside) (part ?? at("picture")).focus();
+}
+
+/**
+ * Says what the picture shows, for who does not see it.
+ * @param {State} state
+ */
+export function sayPicture(state) {
+  const limit = state.limit.slice(0, MOST_SAID).map((arc) => arc.short).join(", "), rest = state.limit_count - MOST_SAID;
+  const step = state.at ? ` Last step: ${state.steps[state.at].text}, ${moved(state.steps[state.at - 1].value, state.value)}.` : "";
+  at("picture-said").textContent = `${state.value}${units()} flow from ${state.source} to ${state.sink}, over ${state.arcs} ${noun()}s. `
+    + `The limit: ${limit}${rest > 0 ? ` and ${rest} more` : ""}.${step}`;
 }

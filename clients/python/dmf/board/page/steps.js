@@ -3,14 +3,17 @@
  * @typedef {import("./state.js").State} State
  */
 import { moved } from "./amounts.js";
-import { at, button, field, make, onClick } from "./elements.js";
+import { at, button, field, make, onClick, replace } from "./elements.js";
 import { act, redo, undo } from "./state.js";
 
 /** @param {State} state */
 export function showSteps(state) {
+  const held = document.activeElement;
   field("undo").disabled = state.at === 0;
   field("redo").disabled = state.at === state.steps.length - 1;
-  at("way").replaceChildren(...state.steps.map((step, place) => {
+  if (held === at("undo") && state.at === 0) at("redo").focus();
+  if (held === at("redo") && field("redo").disabled) at("undo").focus();
+  replace(at("way"), state.steps.map((step, place) => {
     const words = place ? step.text : "as in the file";
     const by = place ? ` (${moved(state.steps[place - 1].value, step.value)})` : "";
     const go = button(`${words}: ${step.value}${by}`, () => act({ what: "go", step: place }, `at the step “${words}”`));

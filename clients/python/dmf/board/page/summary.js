@@ -4,11 +4,17 @@
  */
 import { moved, upper } from "./amounts.js";
 import { pick } from "./choice.js";
-import { at, fill, make, numberCell } from "./elements.js";
+import { at, fill, keepInSight, make, numberCell } from "./elements.js";
 import { caption, noun, units } from "./state.js";
 
 /** @param {State} state */
 export function showSummary(state) {
+  keepInSight(() => tell(state));
+  showLimit(state);
+}
+
+/** @param {State} state */
+function tell(state) {
   document.title = `${state.value} ${state.title}`;
   at("title").textContent = `${state.title}: from ${state.source} to ${state.sink}`;
   const by = moved(state.steps[0].value, state.value);
@@ -23,7 +29,6 @@ export function showSummary(state) {
   for (const [id, file] of [["take-csv", "plan.csv"], ["take-max", "problem.max"]]) {
     at(id).setAttribute("href", `${file}?turn=${state.turn}`);
   }
-  showLimit(state);
 }
 
 /** @param {State} state */

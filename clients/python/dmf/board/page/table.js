@@ -5,7 +5,7 @@
  */
 import { upper } from "./amounts.js";
 import { choose } from "./choice.js";
-import { at, field, make, onClick } from "./elements.js";
+import { at, field, make, onClick, replace } from "./elements.js";
 import { isPicked, pickMore, pickThese, toggle, watchPicked } from "./many.js";
 import { ask, caption, noun, units } from "./state.js";
 
@@ -65,7 +65,7 @@ function draw() {
     sort.addEventListener("click", () => {
       order = order === column ? `-${column}` : order === `-${column}` ? "" : column;
       at("rows").scrollTop = 0;
-      showTable().then(() => at("grid").querySelector(`th.${column} button`)).then((made) => made instanceof HTMLElement && made.focus());
+      showTable();
     });
     const way = order === column ? "ascending" : order === `-${column}` ? "descending" : "none";
     return make("th", sort, { scope: "col", class: column, "aria-sort": way });
@@ -74,11 +74,17 @@ function draw() {
   grid.setAttribute("aria-rowcount", String(part.total + 1));
   const keys = "arrow keys move, Space chooses, Control and A all, Enter shows one";
   grid.setAttribute("aria-label", `All ${noun()}s ${caption()}; ${keys}`);
-  grid.tHead?.replaceChildren(make("tr", [make("th", "", { class: "tick" }), ...heads, make("th", "", { class: "marks", scope: "col" })]));
+  if (grid.tHead) replace(grid.tHead, [make("tr", [title("tick", "chosen"), ...heads, title("marks", "state")])]);
   const rest = part.total - part.first - part.rows.length;
   grid.tBodies[0].replaceChildren(spacer(part.first), ...part.rows.map(row), spacer(rest));
   point();
 }
+
+/**
+ * @param {string} column
+ * @param {string} told words that stand for it where they are not seen
+ */
+const title = (column, told) => make("th", make("span", told, { class: "unseen" }), { class: column, scope: "col" });
 
 /**
  * What stands for so many rows that cannot be seen.

@@ -32,6 +32,7 @@ async function sweep(numbers, which) {
     showTrials(rows);
     at("verdict").textContent = left.length ? `${rows.length} of ${all} are tried ..` : verdict(rows, which);
   }
+  if (document.activeElement === at("stop")) at("try-all").focus();
   at("stop").hidden = true;
   if (left.length && !at("verdict").textContent?.startsWith("The network")) {
     const found = rows.length ? verdict(rows, `of these ${rows.length}`) : "";
