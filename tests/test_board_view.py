@@ -3,6 +3,7 @@
 from __future__ import annotations
 
 import json
+import math
 from collections.abc import Callable
 from pathlib import Path
 from typing import Any
@@ -11,7 +12,7 @@ from xml.etree import ElementTree
 import pytest
 from board_pages import Page
 from board_running import Board, board
-from desk_shared import PIPES
+from desk_shared import PIPES, run
 
 pytestmark = pytest.mark.seconds(20)
 SVG = "{http://www.w3.org/2000/svg}"
@@ -252,3 +253,50 @@ def test_show_near(driver: Any, tmp_path: Path) -> None:
         page.press("Show what is near the limit")
         page.wait(lambda: "nearest to the limit" in page.text("#drawn-note"))
         driver.get("about:blank")
+
+
+# Places of the water story on a map, as people write them.
+MAPS = [
+    "place,x,y\nReservoir,0,0\nMill,400.5,100\nHarbour,1000,-50\nElsewhere,1,1\n",
+    "Ort;Lon;Lat\nReservoir;8,5;47,3\nMill;8,9;47,4\nHarbour;9,5;47,25\n",
+]
+WRONG_MAPS: list[tuple[str, str]] = [
+    ("place,a,b\nReservoir,1,2\n", "line 1: a map has the columns place, x and y, or place, lon and lat; here are 'place', 'a', 'b'"),
+    ("place,x,y\nReservoir,one,2\nMill,1,\n", "line 2, column 2: 'one' is no number"),
+    ("place,lon,lat\nReservoir,190,2\n", "line 2, column 2: '190' is past 180 degrees"),
+    ("place,x,y\nReservoir,1,2\nReservoir,1,2\n", "line 3, column 1: the place 'Reservoir' stands twice"),
+    ("place;x;y\nReservoir;8.541;2\nMill;1;3\n", "'8.541' can be read in two ways; say --decimal . or --decimal ,"),
+    ("place,x,y\n", "the table has titles, and no row below them"),
+    ("place,x,y\nNowhere,1,2\n", "no place of the map is one of the network"),
+]  # fmt: skip
+
+
+def test_map(tmp_path: Path) -> None:
+    """Places lie as on the map: their distances are those of the map times one number. The others lie near their neighbours, and stay."""
+    table = tmp_path / "map.csv"
+    for text in MAPS:
+        table.write_text(text)
+        rows = [line.replace(",", ".").split(";") if ";" in line else line.split(",") for line in text.splitlines()[1:]]
+        degrees = math.cos(math.radians((47.25 + 47.4) / 2)) if ";" in text else 1.0
+        wanted = {name: (float(x) * degrees, -float(y)) for name, x, y in rows if name != "Elsewhere"}
+        with board(PIPES, "--map", str(table)) as it:
+            nodes = {name: f"node-{it.told(f'find?text={name}')['found'][0]['node']}" for name in wanted}
+            seen = spots(it)
+            ratios = [
+                (float(seen[nodes[one]][axis]) - float(seen[nodes[other]][axis])) / (wanted[one][axis] - wanted[other][axis])
+                for axis in (0, 1) for one in wanted for other in wanted if one < other
+            ]  # fmt: skip
+            assert ratios == [pytest.approx(ratios[0], rel=1e-3)] * len(ratios) and ratios[0] > 0
+            it.do(what="add", tail=1, head="Harbour", capacity="5", name="")
+            assert {place: spot for place, spot in spots(it).items() if place in nodes.values()} == {place: seen[place] for place in nodes.values()}
+
+
+def test_wrong_maps(tmp_path: Path) -> None:
+    """A map that cannot be read is refused, with the place where it is wrong."""
+    table = tmp_path / "map.csv"
+    for text, wanted in WRONG_MAPS:
+        table.write_text(text)
+        ran = run("dmf-board", "--no-browser", "--map", str(table), PIPES)
+        assert (ran.returncode, ran.stdout) == (3, "") and f"dmf-board: {table}: {wanted}\n" in ran.stderr, (text, ran)
+    ran = run("dmf-board", "--no-browser", "--map", str(tmp_path / "none.csv"), PIPES)
+    assert ran.returncode == 4 and "none.csv" in ran.stderr, ran

@@ -79,6 +79,11 @@ def changed(desk: Desk) -> set[int]:
     return {number for number, line in first.items() if _differs(desk.line(number), line)}
 
 
+def given_arcs(desk: Desk) -> int:
+    """How many arcs there are that no step added: those of the file."""
+    return len(desk.lines) - sum(was.line is None for step in desk.steps[: desk.at] for was in step.before)
+
+
 def _differs(now: Line, before: Line | None) -> bool:
     """Whether an arc is another than it was before, or than none."""
     if now.is_replaced:

@@ -9,7 +9,7 @@ from __future__ import annotations
 
 import contextlib
 import threading
-from collections.abc import Callable, Iterator
+from collections.abc import Callable, Iterator, Mapping
 
 from ..desk import Desk
 from ..desk_amounts import amount
@@ -20,6 +20,7 @@ from ..quantity import plain_text
 from .answers import Answer, Json, Made, WrongForm, answer, judge_arcs, judge_fields, judge_words, whole
 from .many import change_many, many_view
 from .picture import NoPicture, Picture
+from .places import Spot
 from .rows import Rows
 from .sweeps import Sweeps
 from .views import arc_view, opened_view, place_view, state_view
@@ -32,9 +33,11 @@ STOPPED = "it was stopped"
 class Board:
     """What a board shows of a desk, and does for its page."""
 
-    def __init__(self, desk: Desk) -> None:
+    def __init__(self, desk: Desk, spots: Mapping[int, Spot] | None = None) -> None:
+        """`spots` is where places lie in the picture, by their nodes, if that is known."""
         self.desk = desk
         self.picture = Picture(desk)
+        self.picture.places.spots.update(spots or {})
         self._rows_of_all = Rows(desk)
         self._sweeps = Sweeps(desk)
         # Whether something is being done that can be stopped.

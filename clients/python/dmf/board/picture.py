@@ -11,6 +11,8 @@ from typing import NamedTuple
 from xml.etree import ElementTree
 
 from ..desk import Desk
+from ..desk_steps import Line
+from ..desk_where import given_arcs
 from ..folding import AT_PLACE
 from ..picture import CUT, SIDE, UNUSED, drawn_line, quoted
 from ..quantity import POINT, plain_text
@@ -93,6 +95,7 @@ class Picture:
     def __init__(self, desk: Desk) -> None:
         self._desk = desk
         self.places = Places()
+        self._given: Counter[int] | None = None
         self._shape: _Shape | None = None
         self._layout = ""
 
@@ -114,19 +117,34 @@ class Picture:
             root.insert(0, style)
         return ElementTree.tostring(root, encoding="unicode")
 
+    def _ends(self, line: Line) -> tuple[int, int]:
+        """The places at the ends of an arc."""
+        return self._desk.folding.place(line.tail), self._desk.folding.place(line.head)
+
+    def _degrees(self) -> Counter[int]:
+        """How many arcs each place has, open or closed, of those that a picture can show. The arcs of the file are counted once."""
+        desk = self._desk
+        given = given_arcs(desk)
+        if self._given is None:
+            numbers = (number for number in range(1, given + 1) if not desk.folding.has_roles or not desk.role(number))
+            self._given = Counter(node for number in numbers for node in self._ends(desk.lines[number - 1]))
+        degrees = self._given.copy()
+        degrees.update(node for line in desk.lines[given:] for node in self._ends(line))
+        degrees.subtract(node for line in desk.lines if line.is_replaced for node in self._ends(line))
+        return degrees
+
     def _shape_of(self, arcs: list[int], chosen: tuple[int, ...]) -> _Shape:
         desk, names, place = self._desk, self._desk.names, self._desk.folding.place
 
         def ends(number: int) -> tuple[int, int]:
-            return place(desk.lines[number - 1].tail), place(desk.lines[number - 1].head)
+            return self._ends(desk.lines[number - 1])
 
         drawn = Counter(node for number in arcs for node in ends(number))
         drawn.update(dict.fromkeys(map(place, chosen), 0))
-        pictured = desk.pictured()
-        is_whole = len(arcs) == len(pictured)
+        is_whole = len(arcs) == len(desk.pictured())
         if is_whole:
             drawn.update(dict.fromkeys((*desk.sources, *desk.sinks), 0))
-        degrees = drawn if is_whole else Counter(node for number in pictured for node in ends(number))
+        degrees = drawn if is_whole else self._degrees()
         roles = desk.roles()
 
         def told(node: int) -> tuple[tuple[int, str, str], ...]:

@@ -4,6 +4,7 @@ their unit."""
 from __future__ import annotations
 
 from ..desk import Desk
+from ..desk_where import given_arcs
 from ..folding import LEFT_OUT
 from ..quantity import plain_text
 from .answers import Json
@@ -26,7 +27,7 @@ def state_view(desk: Desk) -> Json:
         "value": plain_text(desk.value),
         "arcs": len(desk.pictured()),
         # The numbers of arcs after these are given anew after an undo.
-        "given": len(desk.lines) - sum(was.line is None for step in desk.steps[: desk.at] for was in step.before),
+        "given": given_arcs(desk),
         "places": len(names.places),
         "left_out": LEFT_OUT if desk.roles() else "",
         "at": desk.at - 1,
