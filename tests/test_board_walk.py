@@ -99,6 +99,7 @@ class Walk:
 
     def click_row(self, place: int, shift: bool = False) -> None:
         row = self.page.driver.find_element("css selector", f"#row-{place} .name")
+        self.page.driver.execute_script("arguments[0].scrollIntoView({ block: 'center' })", row)
         actions = self.page.actions()
         if shift:
             actions.key_down("\ue008")
@@ -135,7 +136,11 @@ class Walk:
         self.click_row(last, shift=True)
         opened, closed = ([at for at in range(first, last + 1) if self.model.rows[at].is_closed == is_so] for is_so in (False, True))
         count = last - first + 1
-        self.page.wait(lambda: self.page.text("#many-told").startswith(f"{count} chosen, {len(opened)} open"))
+        told = f"{count} chosen, {len(opened)} open"
+        try:
+            self.page.wait(lambda: self.page.text("#many-told").startswith(told))
+        except Exception:
+            pytest.fail(f"rows {first} to {last} of {self.model.rows}: {self.page.text('#many-told')}, {self.page.text('#trouble')}, and not {told}")
         what = self.chance.choice(["close", "double", "cap"] * bool(opened) + ["open"] * bool(closed))
         if what == "open":
             self.model.open(closed)

@@ -63,9 +63,10 @@ def test_page_is_seen(tmp_path: Path) -> None:
         pytest.skip("eslint or tsc is not there, so it was not tried whether they find a fault")
     script = tmp_path / "wrong.js"
     script.write_text("/** @param {string} text */\nexport const wrong = (text) => { nowhere.innerHTML = text * 2; };\n")
-    for words, wanted in (
+    tools: list[tuple[list[object], tuple[str, str]]] = [
         (["eslint", "--no-eslintrc", "-f", "unix", "-c", ROOT / "tests/eslint.json", script.name], ("no-undef", "no-restricted-properties")),
         (["tsc", "--allowJs", "--checkJs", "--noEmit", "--strict", "--target", "es2022", script.name], ("TS2304", "TS2362")),
-    ):
+    ]
+    for words, wanted in tools:
         ran = subprocess.run([*map(str, words)], cwd=tmp_path, capture_output=True, text=True, env=NODE)
         assert ran.returncode and all(word in ran.stdout for word in wanted), ran.stdout
