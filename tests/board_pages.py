@@ -40,7 +40,8 @@ class Page:
         self.ready()
 
     def ready(self) -> None:
-        self.wait(lambda: self.driver.execute_script("return document.readyState === 'complete' && Boolean(document.querySelector('#picture svg'))"))
+        script = "return document.readyState === 'complete' && Boolean(document.querySelector('#picture svg'))"
+        self.wait(lambda: self.driver.execute_script(script))
         self.settle()
 
     def settle(self) -> None:

@@ -45,8 +45,8 @@ for (const element of document.querySelectorAll("body *")) {
   found.push([element.outerHTML.slice(0, 150), ratio(element instanceof SVGElement ? looks.fill : looks.color, behind(element)), isLarge]);
 }
 const paper = getComputedStyle(document.getElementById("picture")).backgroundColor;
-const marks = [["#picture .cut path:not(.wide)", "stroke"], ["#picture .unused path:not(.wide)", "stroke"], ["#picture .chosen path.wide", "stroke"]]
-  .map(([at, what]) => [at, ratio(getComputedStyle(document.querySelector(at))[what], paper)]);
+const marks = ["#picture .cut path:not(.wide)", "#picture .unused path:not(.wide)", "#picture .chosen path.wide"]
+  .map((at) => [at, ratio(getComputedStyle(document.querySelector(at)).stroke, paper)]);
 return [found, marks];
 """
 
@@ -99,7 +99,8 @@ def judge_tree(driver: Any) -> None:
     driver.execute_cdp_cmd("Accessibility.enable", {})
     nodes = [node for node in driver.execute_cdp_cmd("Accessibility.getFullAXTree", {})["nodes"] if not node["ignored"]]
     told = [
-        (node["role"]["value"], node.get("name", {}).get("value", ""), {one["name"] for one in node.get("properties", ())}) for node in nodes
+        (node["role"]["value"], node.get("name", {}).get("value", ""), {one["name"] for one in node.get("properties", ())})
+        for node in nodes
     ]
     assert {"button", "checkbox", "searchbox", "grid", "columnheader", "textbox"} <= {role for role, *_ in told}
     nameless = [(role, name) for role, name, _ in told if role in ACTED_ON and not name.strip()]
@@ -158,8 +159,8 @@ def test_escape(driver: Any) -> None:
 
 def middles(driver: Any) -> dict[str, tuple[float, float]]:
     """The middle of each place on the screen."""
-    script = "return [...document.querySelectorAll('#picture .node')].map((it) => [it.id, it.querySelector('ellipse').getBoundingClientRect()])"
-    found = driver.execute_script(script)
+    nodes = "[...document.querySelectorAll('#picture .node')]"
+    found = driver.execute_script(f"return {nodes}.map((it) => [it.id, it.querySelector('ellipse').getBoundingClientRect()])")
     return {node: (box["x"] + box["width"] / 2, box["y"] + box["height"] / 2) for node, box in found}
 
 
@@ -233,9 +234,9 @@ def test_narrow(driver: Any) -> None:
         after = driver.execute_script("return [scrollY, document.getElementById('picture').getBoundingClientRect().top]")
         # A sentence at the top may take another line, and what is looked at stays where it is.
         assert after[1] == pytest.approx(before[1], abs=1)
-        top = driver.execute_script("return document.getElementById('chosen').getBoundingClientRect().top - document.getElementById('drawn')"
-                                    ".getBoundingClientRect().bottom")
-        assert 0 <= top < 40
+        box = "document.getElementById('{}').getBoundingClientRect()"
+        apart = driver.execute_script(f"return {box.format('chosen')}.top - {box.format('drawn')}.bottom")
+        assert 0 <= apart < 40
         assert driver.execute_script("return document.getAnimations().length") == 0
         assert driver.execute_script("return document.documentElement.scrollWidth") <= 400
         as_before(driver)

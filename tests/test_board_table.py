@@ -42,8 +42,8 @@ FILTERS: list[tuple[str, Callable[[Pipe], bool], str]] = [
 ]
 # Filters without a meaning, and what is said.
 WRONG = [
-    ("capacity < many", "'many' is no number"), ("capacity <", "'capacity <' is no condition"), ("capacity ~ 5", "is no condition; wanted is: name ~ TEXT"),
-    ("length < 5", "'length < 5' is no condition"), ("capacity < 1,200", "may be 1.2 or 1200"),
+    ("capacity < many", "'many' is no number"), ("capacity <", "'capacity <' is no condition"),
+    ("capacity ~ 5", "is no condition; wanted is: name ~ TEXT"), ("length < 5", "'length < 5' is no condition"), ("capacity < 1,200", "may be 1.2 or 1200"),
 ]  # fmt: skip
 
 

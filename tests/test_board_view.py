@@ -89,7 +89,8 @@ def test_new_place_is_near(tmp_path: Path) -> None:
     """A place that comes into a picture beside known ones lies nearer to its neighbours than most places do."""
     with board(grid_table(tmp_path, 32)) as it:
         before = spots(it)
-        node = next(one["node"] for one in (arc_end(it, number) for number in it.told("opened")["arcs"]) if f"node-{one['node']}" not in before)
+        tails = (it.told(f"arc?number={number}")["tail_node"] for number in it.told("opened")["arcs"])
+        node = next(tail for tail in tails if f"node-{tail}" not in before)
         after = spots(it, str(node))
         ends = [(int(arc["tail_node"]), arc) for arc in json.loads(it.ask(it.root + f"picture?near={node}")[2])["arcs"]]
         assert f"node-{node}" in after and ends
@@ -103,11 +104,6 @@ def test_new_place_is_near(tmp_path: Path) -> None:
         assert beside
         nearer = sum(away(f"node-{node}", other) > min(away(f"node-{node}", one) for one in beside) for other in after)
         assert nearer > len(after) / 2
-
-
-def arc_end(it: Board, number: int) -> Any:
-    """The place that an arc leaves."""
-    return it.told(f"place?node={it.told(f'arc?number={number}')['tail_node']}")
 
 
 def seen(page: Page, what: str) -> list[float]:
@@ -139,7 +135,8 @@ def test_view(driver: Any, tmp_path: Path, side: int) -> None:
 
 
 def sink_of(driver: Any, name: str) -> str:
-    script = "return [...document.querySelectorAll('#picture .node')].find((it) => it.querySelector('text').textContent === arguments[0]).id"
+    nodes = "[...document.querySelectorAll('#picture .node')]"
+    script = f"return {nodes}.find((it) => it.querySelector('text').textContent === arguments[0]).id"
     return str(driver.execute_script(script, name))
 
 
@@ -185,7 +182,8 @@ def judge_wheel(page: Page, host: Any) -> None:
     const [host, delta] = arguments, box = host.getBoundingClientRect();
     const [x, y] = [box.left + box.width / 4, box.top + box.height / 3].map(Math.round);
     const svg = host.querySelector("svg"), at = () => new DOMPoint(x, y).matrixTransform(svg.getScreenCTM().inverse());
-    const before = at(), isDone = host.dispatchEvent(new WheelEvent("wheel", { deltaY: delta, clientX: x, clientY: y, cancelable: true, bubbles: true }));
+    const event = new WheelEvent("wheel", { deltaY: delta, clientX: x, clientY: y, cancelable: true, bubbles: true });
+    const before = at(), isDone = host.dispatchEvent(event);
     return [before.x - at().x, before.y - at().y, isDone];
     """
     wide = page.driver.execute_script("return document.querySelector('#picture svg').viewBox.baseVal.width")
@@ -243,13 +241,12 @@ def test_show_near(driver: Any, tmp_path: Path) -> None:
         page.wait(lambda: page.text("#found button").startswith("right 30 2,"))
         page.click("#found button")
         page.wait(lambda: page.text("#what h3") == "right 30 2")
-        number = driver.execute_script("return document.querySelector('#what form') && performance.getEntriesByType('resource').at(-1).name")
         page.press("Show it in the picture")
         page.wait(lambda: "what lies nearest to a place" in page.text("#drawn-note"))
         page.settle()
         page.wait(lambda: driver.find_elements("css selector", "#picture .arc.chosen"))
         label = driver.find_element("css selector", "#picture .arc.chosen").get_attribute("aria-label")
-        assert label.startswith("right 30 2,") and number
+        assert label.startswith("right 30 2,")
         page.press("Show what is near the limit")
         page.wait(lambda: "nearest to the limit" in page.text("#drawn-note"))
         driver.get("about:blank")
@@ -288,7 +285,8 @@ def test_map(tmp_path: Path) -> None:
             ]  # fmt: skip
             assert ratios == [pytest.approx(ratios[0], rel=1e-3)] * len(ratios) and ratios[0] > 0
             it.do(what="add", tail=1, head="Harbour", capacity="5", name="")
-            assert {place: spot for place, spot in spots(it).items() if place in nodes.values()} == {place: seen[place] for place in nodes.values()}
+            now = spots(it)
+            assert [now[node] for node in nodes.values()] == [seen[node] for node in nodes.values()]
 
 
 def test_wrong_maps(tmp_path: Path) -> None:

@@ -1,5 +1,5 @@
-"""A random walk over a board's page: clicks, keys, edits of one and of many, undo and redo, reloads, and requests of another tab. After each
-step the page, its table and its picture show what a list of whole states says, whose values networkx finds."""
+"""A random walk over a board's page: clicks, keys, edits of one and of many, undo and redo, reloads, and requests of another tab. After
+each step the page, its table and its picture show what a list of whole states says, whose values networkx finds."""
 
 from __future__ import annotations
 
@@ -25,7 +25,8 @@ SHOWN = """
 const texts = (at) => [...document.querySelectorAll(at)];
 return [document.querySelector("#value strong").textContent, texts("#way button").findIndex((it) => it.ariaCurrent),
   texts("#way button").length,
-  texts("#grid tbody tr[id]").map((row) => ["name", "from", "to", "capacity", "marks"].map((kind) => row.querySelector("td." + kind).textContent)),
+  texts("#grid tbody tr[id]").map((row) =>
+    ["name", "from", "to", "capacity", "marks"].map((kind) => row.querySelector("td." + kind).textContent)),
   texts("#picture g.arc").map((arc) => [Number(arc.id.slice(4)), [...arc.querySelectorAll("text")].at(-1).textContent])];
 """
 Key = tuple[str, str, str, str, bool]
@@ -140,7 +141,8 @@ class Walk:
         try:
             self.page.wait(lambda: self.page.text("#many-told").startswith(told))
         except Exception:
-            pytest.fail(f"rows {first} to {last} of {self.model.rows}: {self.page.text('#many-told')}, {self.page.text('#trouble')}, and not {told}")
+            seen = self.page.text("#many-told"), self.page.text("#trouble")
+            pytest.fail(f"rows {first} to {last} of {self.model.rows}: {seen}, and not {told}")
         what = self.chance.choice(["close", "double", "cap"] * bool(opened) + ["open"] * bool(closed))
         if what == "open":
             self.model.open(closed)

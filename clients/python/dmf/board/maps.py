@@ -62,7 +62,8 @@ def _sheet(data: bytes, path: str, name: str, encoding: str | None) -> Sheet:
         return csv_sheet(data, path, encoding, 3)
     found = [sheet for sheet in workbook_sheets(data, path) if not name or sheet.path.rpartition("#")[2] == name]
     if len(found) != 1:
-        raise TableFault("which sheet is it? Name one after the file, as in places.xlsx#Sheet" if found else f"no sheet is called {shown(name)}")
+        several = "which sheet is it? Name one after the file, as in places.xlsx#Sheet"
+        raise TableFault(several if found else f"no sheet is called {shown(name)}")
     return found[0]
 
 
