@@ -188,15 +188,15 @@ def test_turns() -> None:
 
 
 def test_shut_places() -> None:
-    """A place that was opened again is shut no more, so that another one opens with all its arcs. An arc between two shut places opens with
-    the second one."""
+    """A place that was opened again is shut no more; an arc between two shut places opens with the second one."""
     with board(PIPES) as it:
-        for what, node, names in (
+        done: list[tuple[str, int, list[str]]] = [
             ("shut", 5, ["Mill pipe", "Canal pipe", "Mill Lane", "Bridge pipe"]), ("open-place", 5, []),
             ("shut", 7, ["North Street", "Mill Lane", "Market Street", "Market link"]),
             ("shut", 5, ["Mill pipe", "Canal pipe", "Mill Lane", "Bridge pipe", "North Street", "Market Street", "Market link"]),
             ("open-place", 7, ["Mill pipe", "Canal pipe", "Mill Lane", "Bridge pipe"]), ("open-place", 5, []),
-        ):  # fmt: skip
+        ]  # fmt: skip
+        for what, node, names in done:
             assert it.do(what=what, node=node)["value"] == str(without(*names)), (what, node)
             assert it.told("place?node=5")["shut"] == ("Mill pipe" in names)
 

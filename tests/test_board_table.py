@@ -128,9 +128,9 @@ def test_many() -> None:
 def test_many_forms() -> None:
     with board(PIPES) as it:
         for arcs, wanted in ([1, 1], "stands twice"), (["1"], "whole numbers"), ([True], "whole numbers"), ("1", "a list of arcs"):
-            for path, what in ("do", {"what": "close-all"}), ("many", {}):
-                content: dict[str, Any] = {"arcs": arcs, **what}
-                status, told = it.post(path, **content)
+            for path in "do", "many":
+                content: dict[str, Any] = {"what": "close-all"} if path == "do" else {}
+                status, told = it.post(path, arcs=arcs, **content)
                 assert status == 400 and wanted.encode() in told, (path, arcs, told)
 
 
