@@ -12,8 +12,9 @@ from collections.abc import Iterator
 from contextlib import contextmanager
 from itertools import islice
 from pathlib import Path
-from typing import NamedTuple
+from typing import Any, NamedTuple
 
+import board_pages
 import built
 import pytest
 from _pytest.terminal import TerminalReporter
@@ -212,3 +213,9 @@ def case_folder(case_room: Path) -> Iterator[Path]:
     os.chdir(case_room)
     yield case_room
     os.chdir(ROOT)
+
+
+@pytest.fixture(scope="module")
+def driver() -> Iterator[Any]:
+    """A headless browser."""
+    yield from board_pages.browser()

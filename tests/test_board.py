@@ -22,7 +22,7 @@ from xml.etree import ElementTree
 import pytest
 from board_running import Board, board
 from built import BUILT
-from desk_shared import ODD, PIPES, SECONDS, run, stop_session, swept, wait_until_asked
+from desk_shared import ODD, PIPES, SECONDS, run, stop_session, swept, wait_until_asked, without
 from dmf import Network, desk_sweep
 from dmf.board import Answer
 from dmf.board import Board as InBoard
@@ -187,6 +187,20 @@ def test_turns() -> None:
         assert it.turn() == now
 
 
+def test_shut_places() -> None:
+    """A place that was opened again is shut no more; an arc between two shut places opens with the second one."""
+    with board(PIPES) as it:
+        done: list[tuple[str, int, list[str]]] = [
+            ("shut", 5, ["Mill pipe", "Canal pipe", "Mill Lane", "Bridge pipe"]), ("open-place", 5, []),
+            ("shut", 7, ["North Street", "Mill Lane", "Market Street", "Market link"]),
+            ("shut", 5, ["Mill pipe", "Canal pipe", "Mill Lane", "Bridge pipe", "North Street", "Market Street", "Market link"]),
+            ("open-place", 7, ["Mill pipe", "Canal pipe", "Mill Lane", "Bridge pipe"]), ("open-place", 5, []),
+        ]  # fmt: skip
+        for what, node, names in done:
+            assert it.do(what=what, node=node)["value"] == str(without(*names)), (what, node)
+            assert it.told("place?node=5")["shut"] == ("Mill pipe" in names)
+
+
 def test_sweep() -> None:
     """A sweep comes in parts, and is that of all sets of places."""
     with board(PIPES) as it:
@@ -195,7 +209,7 @@ def test_sweep() -> None:
         while left:
             told = json.loads(it.post("sweep", arcs=left)[1])
             left, rows = told["left"], rows + told["trials"]
-        assert {row["name"]: (int(row["closed"]), int(row["doubled"])) for row in rows} == swept()
+        assert {row["name"]: (int(row["without"]), int(row["doubled"])) for row in rows} == swept()
 
 
 def portion(it: Board, arcs: list[int]) -> Any:
@@ -223,7 +237,7 @@ def test_sweep_in_portions(tmp_path: Path) -> None:
         # What flows on an arc alone is what is lost without it.
         value = int(told["value"])
         for row in told["trials"] + again["trials"]:
-            assert int(row["closed"]) == value - int(row["flow"])
+            assert int(row["without"]) == value - int(row["flow"])
         # Where the copies come to no result, nobody waits for one.
         for copy in copies:
             os.kill(copy, signal.SIGSTOP)

@@ -16,7 +16,7 @@ from typing import Any, Optional
 from urllib.parse import urlsplit
 
 import pytest
-from board_running import JSON, board
+from board_running import JSON, Board, board
 from built import heed_interrupts
 from desk_shared import PIPES, ROOT, SECONDS, run
 
@@ -32,7 +32,7 @@ def test_strangers() -> None:
         strangers += [(it.root, {"Origin": origin}) for origin in ("http://evil.example", "null", f"https://{it.host}", "http://127.0.0.1:1")]
         strangers += [(it.root, {"Sec_Fetch_Site": site}) for site in ("cross-site", "same-site")]
         for root, headers in strangers:
-            for path, body in ("", None), ("state", None), ("do", close), ("life", None):
+            for path, body in ("", None), ("state", None), ("do", close), ("life", None), ("main.js", None):
                 status, sent, told = it.ask(root + path, body, **{"Content_Type": "application/json", **headers})
                 is_shut = status in (400, 403) and b"165" not in told and "Access-Control-Allow-Origin" not in sent
                 assert is_shut, f"{root} {path} {headers}: {status}, {told!r:.300}"
@@ -44,12 +44,32 @@ def test_strangers() -> None:
             assert status == (200 if host == it.host else 409), host
         status, sent, page = it.ask(it.root)
         policy = sent.get("Content-Security-Policy", "")
-        is_strict = policy.startswith("default-src 'none'; script-src 'sha256-") and "unsafe" not in policy
+        is_strict = policy.startswith("default-src 'none'; script-src 'self'; style-src 'self'; connect-src 'self'; ") and "unsafe" not in policy
         assert status == 200 and is_strict and sent.get("Referrer-Policy") == "no-referrer", f"the page: {status}, {sent}"
         assert len(page) <= 100_000, f"the page has {len(page)} bytes"
-        assert re.search(rb'(src|href)="?(https?:)?//', page) is None
+        scripts = re.findall(rb'(?:src|href)="([a-z]+[.](?:js|css))"', page)
+        assert (re.search(rb'(src|href)="?(https?:)?//', page), scripts) == (None, [b"style.css", b"main.js"])
+        judge_scripts(it)
         bound = [line.split()[1] for line in Path("/proc/net/tcp").read_text().splitlines()[1:] if line.split()[3] == "0A"]
         assert [at for at in bound if at.endswith(f":{it.port:04X}")] == [f"0100007F:{it.port:04X}"], f"it listens at {bound}"
+
+
+def judge_scripts(it: Board) -> None:
+    """The page's scripts are its own files, which have nothing of the network, and each script that one of them imports is there. Nothing
+    else is a script to a browser."""
+    kinds: dict[str, str] = {}
+    left = ["main.js"]
+    while left:
+        name = left.pop()
+        status, sent, told = it.ask(it.root + name)
+        assert (status, sent["X-Content-Type-Options"], b"Reservoir" in told) == (200, "nosniff", False), name
+        kinds[name] = sent["Content-Type"]
+        left += [found for found in re.findall(r'from "[.]/(\w+[.]js)"', told.decode()) if found not in kinds and found not in left]
+    assert len(kinds) > 5 and set(kinds.values()) == {"text/javascript; charset=utf-8"}
+    for path in "state", "picture?near=", "plan.csv?turn=2", "arc?number=1", "style.css", "":
+        assert "script" not in it.ask(it.root + path)[1]["Content-Type"], path
+    for path in "../board.py", "%2e%2e/board.py", "page/main.js", "main.js/", "Main.js", "tsconfig.json":
+        assert it.ask(it.root + path)[0] in (400, 404), path
 
 
 def test_side_doors() -> None:

@@ -284,7 +284,7 @@ def test_dmf_board(page: Board) -> None:
     while left:
         told_ = json.loads(page.post("sweep", arcs=left)[1])
         trials, left = trials + told_["trials"], told_["left"]
-    assert {it["name"]: (it["closed"], it["doubled"]) for it in trials} == {
+    assert {it["name"]: (it["without"], it["doubled"]) for it in trials} == {
         pipe.name: (told(CLOSED[pipe.name]), told(DOUBLED[pipe.name])) for pipe in PIPES
     }
     assert not any(word in json.dumps([state, trials]) for word in INNER)

@@ -1,8 +1,10 @@
-"""Checks every script of the repository by the field's tools: mypy the types in Python, flake8 names and idle statements, and
-shellcheck the shell."""
+"""Checks every script of the repository by the field's tools: mypy the types in Python, flake8 names and idle statements, shellcheck the
+shell, and eslint and tsc the page of a board."""
 
 from __future__ import annotations
 
+import os
+import shutil
 import subprocess
 import sys
 from pathlib import Path
@@ -12,8 +14,13 @@ from conftest import ROOT, Types
 from sources import PYTHON, SHELL
 
 
+# Where Debian has the modules of its tools in JavaScript, which another build of node does not look for there.
+NODE = {**os.environ, "NODE_PATH": "/usr/share/nodejs"}
+PAGE = ROOT / "clients/python/dmf/board/page"
+
+
 def judge(*words: object) -> None:
-    ran = subprocess.run([*map(str, words)], cwd=ROOT, capture_output=True, text=True)
+    ran = subprocess.run([*map(str, words)], cwd=ROOT, capture_output=True, text=True, env=NODE)
     assert ran.returncode == 0, ran.stdout + ran.stderr
 
 
@@ -40,3 +47,26 @@ def test_shell(script: Path) -> None:
     # A script of tests/ may source what stands beside it.
     dialect = ["--shell=bash"] if script.suffix == ".bash" else []
     judge("shellcheck", "-x", "--source-path=SCRIPTDIR", *dialect, script)
+
+
+@pytest.mark.parametrize("words", [["eslint", "--no-eslintrc", "-f", "unix", "-c", "tests/eslint.json", PAGE], ["tsc", "-p", "tests/tsconfig.json"]])
+def test_page(words: list[object]) -> None:
+    """The scripts of a board's page, their types by what their comments say of them."""
+    if not shutil.which(str(words[0])):
+        pytest.skip(f"{words[0]} is not there, so the page's scripts were not checked by it")
+    judge(*words)
+
+
+def test_page_is_seen(tmp_path: Path) -> None:
+    """These tools find what is wrong in a script, so their silence on the page means something."""
+    if not shutil.which("eslint") or not shutil.which("tsc"):
+        pytest.skip("eslint or tsc is not there, so it was not tried whether they find a fault")
+    script = tmp_path / "wrong.js"
+    script.write_text("/** @param {string} text */\nexport const wrong = (text) => { nowhere.innerHTML = text * 2; };\n")
+    tools: list[tuple[list[object], tuple[str, str]]] = [
+        (["eslint", "--no-eslintrc", "-f", "unix", "-c", ROOT / "tests/eslint.json", script.name], ("no-undef", "no-restricted-properties")),
+        (["tsc", "--allowJs", "--checkJs", "--noEmit", "--strict", "--target", "es2022", script.name], ("TS2304", "TS2362")),
+    ]
+    for words, wanted in tools:
+        ran = subprocess.run([*map(str, words)], cwd=tmp_path, capture_output=True, text=True, env=NODE)
+        assert ran.returncode and all(word in ran.stdout for word in wanted), ran.stdout

@@ -76,7 +76,7 @@ def test_a_board() -> None:
     for what in "close", "open":
         assert board.post("do", {"what": what, "arc": 1, "turn": desk.turn}).status == 200
     answer = board.post("sweep", {"arcs": [2, 3], "turn": desk.turn})
-    trials = [(it["number"], it["closed"], it["doubled"]) for it in json.loads(answer.body)["trials"]]
+    trials = [(it["number"], it["without"], it["doubled"]) for it in json.loads(answer.body)["trials"]]
     assert (answer.status, trials) == (200, [(2, str(HALF), str(HALF + 2)), (3, "1", "")])
     desk.end()
 

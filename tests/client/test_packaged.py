@@ -160,8 +160,12 @@ def test_board(folder: Path) -> None:
     board = subprocess.Popen(words, env=environment, stdout=subprocess.PIPE, text=True, preexec_fn=heed_interrupts)
     try:
         assert board.stdout
-        with urllib.request.urlopen(board.stdout.readline().strip(), timeout=SECONDS) as page:
-            assert page.status == 200 and b"<html" in page.read()
+        address = board.stdout.readline().strip()
+        files = sorted(file.name for file in (ROOT / "clients/python/dmf/board/page").iterdir())
+        assert {"index.html", "main.js", "style.css"} <= {*files}
+        for name in "", *files:
+            with urllib.request.urlopen(address + name, timeout=SECONDS) as page:
+                assert (page.status, page.read()) == (200, (ROOT / "clients/python/dmf/board/page" / (name or "index.html")).read_bytes())
         board.send_signal(signal.SIGINT)
         assert board.wait(SECONDS) == 130
     finally:

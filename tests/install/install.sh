@@ -42,7 +42,7 @@ prefix="$work/a place"
 mkdir -p "$root/bin" "$root/crates/dmf/src" "$root/docs" "$root/clients/python/dmf"
 cp -r install dmf completions tools "$root"
 cp docs/*.1 "$root/docs"
-(cd clients/python && cp --parents dmf/*.* dmf/*/*.py "$root/clients/python")
+(cd clients/python && cp --parents dmf/*.* dmf/*/*.py dmf/board/page/*.* "$root/clients/python")
 printf 'dmf:\n' >"$root/crates.txt"
 echo 1 >"$root/crates/dmf/src/version"
 
@@ -86,7 +86,7 @@ lines() {
     for file in docs/*.1; do
         echo "$1 $2/share/man/man1/${file#docs/}"
     done
-    for file in clients/python/dmf/*.* clients/python/dmf/*/*.py; do
+    for file in clients/python/dmf/*.* clients/python/dmf/*/*.py clients/python/dmf/board/page/*.*; do
         echo "$1 $2/share/dmf/python/${file#clients/python/}"
     done
     for name in dmf dmf-problem dmf-names dmf-dot dmf-sweep dmf-plan dmf-board; do

@@ -11,7 +11,7 @@ from pathlib import Path
 import pytest
 from client_shared import dmf, needs
 from desk_shared import run
-from dmf.board_picture import Picture
+from dmf.board.picture import Picture
 from dmf.desk import Desk
 from dmf.desk_text import picture_text
 from dmf.tables.subject import Subject

@@ -109,10 +109,10 @@ class Desk(DeskView):
         text = f"add {name + ', ' if name else ''}{ends}, {self.told(capacity)}"
         return self._do(text, [Add(tail.exit, head.entry, capacity, name or None)])
 
-    def double(self, number: int) -> Step:
-        """Adds a second arc beside an open one, of the same capacity."""
-        line = self._open_line(number)
-        return self._do(f"a second one beside {self.names.short(number)}", [Add(line.tail, line.head, line.capacity)])
+    def double(self, *numbers: int, words: str = "") -> Step:
+        """Adds a second arc beside each of these open ones, of the same capacity, in one step of these words."""
+        added: list[Change] = [Add(line.tail, line.head, line.capacity) for line in map(self._open_line, numbers)]
+        return self._do(f"a second one beside {words or self.names.short(numbers[0])}", added)
 
     def shut(self, place: Place) -> Step:
         """Closes each open arc at a place, and the one that has its limit."""

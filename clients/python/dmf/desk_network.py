@@ -244,7 +244,17 @@ class Held:
                     self.network.undo(made)
                 raise
         self._seen = seen
+        self.shut_nodes -= self._opened_places(changes)
         return Step(text, changes, self.measure.quantity(self.network.value), tuple(before), shut_before)
+
+    def _opened_places(self, changes: Iterable[Change]) -> set[int]:
+        """The shut places whose arcs these changes opened again, all but those to other shut places."""
+        opened = {node for it in changes if isinstance(it, Reopen) for node in self.lines[it.arc - 1][:2] if node in self.shut_nodes}
+        left = set()
+        for line in self.lines if opened else ():
+            if line.is_shut and line.is_closed:
+                left |= {node for node in line[:2] if node in opened and not self.shut_nodes & {*line[:2]} - {node}}
+        return opened - left
 
     def undo(self, steps: list[Step]) -> None:
         """Undoes the last steps."""

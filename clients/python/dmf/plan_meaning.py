@@ -3,21 +3,18 @@
 from __future__ import annotations
 
 import contextlib
-import operator
 from collections.abc import Callable
 from itertools import groupby
 
 from .desk import Desk
 from .desk_amounts import amount, is_amount
 from .desk_steps import DeskFault, Place
+from .desk_where import Condition, condition
 from .plan_words import COMMANDS, is_number
 from .quantity import Quantity
 from .tables.cells import shown
 
 WHERE, AND = "where", "and"
-COMPARED: dict[str, Callable[[Quantity, Quantity], bool]] = {
-    "<": operator.lt, "<=": operator.le, "=": operator.eq, ">=": operator.ge, ">": operator.gt,
-}  # fmt: skip
 CONDITIONS = 'name ~ TEXT, from ~ TEXT, to ~ TEXT, capacity < NUMBER, flow >= NUMBER, full, limit; with "and" between two'
 
 
@@ -130,30 +127,12 @@ def arcs_where(desk: Desk, words: list[str], *, are_closed: bool = False) -> lis
     return found
 
 
-def _condition(desk: Desk, words: list[str]) -> Callable[[int], bool]:
-    """Whether a condition is so of an arc."""
-    if words == ["full"]:
-        return lambda number: 0 < desk.flow(number) == desk.line(number).capacity
-    if words == ["limit"]:
-        if not desk.is_greatest:
-            raise DeskFault("the flow is not greatest, so there is no limit to tell; `solve` first")
-        return lambda number: number in desk.cut_arcs()
-    if len(words) < 3:
+def _condition(desk: Desk, words: list[str]) -> Condition:
+    """Whether a condition is so of an arc. Raises a `DeskFault` if it is none."""
+    found = condition(desk, words)
+    if not found:
         raise DeskFault(f"{shown(' '.join(words))} is no condition; wanted is: {CONDITIONS}")
-    what, sign, text = words[0], words[1], " ".join(words[2:])
-    names: dict[str, Callable[[int], str]] = {
-        "name": desk.names.arc_name,
-        "from": lambda number: desk.names.node(desk.line(number).tail),
-        "to": lambda number: desk.names.node(desk.line(number).head),
-    }
-    numbers: dict[str, Callable[[int], Quantity]] = {"capacity": lambda number: desk.line(number).capacity, "flow": desk.flow}
-    if what in names and sign == "~":
-        sought = text.casefold()
-        return lambda number: sought in names[what](number).casefold()
-    if what in numbers and sign in COMPARED:
-        bound = amount(text, desk.measure)
-        return lambda number: COMPARED[sign](numbers[what](number), bound)
-    raise DeskFault(f"{shown(' '.join(words))} is no condition; wanted is: {CONDITIONS}")
+    return found
 
 
 def capped_where(desk: Desk, words: list[str]) -> tuple[dict[int, Quantity], str]:

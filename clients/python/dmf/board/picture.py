@@ -1,25 +1,28 @@
-"""The picture on a board: laid out by Graphviz once for what is drawn, and filled with the flows and the cut at each step, so that
-places stay where they are."""
+"""The picture on a board: drawn by Graphviz once for what it shows, with each place where it was before, and filled with the flows and the
+cut at each step."""
 
 from __future__ import annotations
 
 import re
-import subprocess
 from collections import Counter
 from collections.abc import Iterator
 from dataclasses import dataclass
 from typing import NamedTuple
 from xml.etree import ElementTree
 
-from .desk import Desk
-from .desk_steps import DeskFault
-from .folding import AT_PLACE
-from .picture import CUT, SIDE, UNUSED, drawn_line, quoted
-from .quantity import POINT, plain_text
+from ..desk import Desk
+from ..desk_steps import Line
+from ..desk_where import given_arcs
+from ..folding import AT_PLACE
+from ..picture import CUT, SIDE, UNUSED, drawn_line, quoted
+from ..quantity import POINT, plain_text
+from .places import NoPicture, Places, Way, run
+
+__all__ = ["NoPicture", "Picture"]
 
 SVG = "http://www.w3.org/2000/svg"
-# How long Graphviz may take, in seconds.
-PATIENCE = 20
+# Among how many places new arcs are led around others: that takes a second for 50 of them.
+MOST_ROUTED = 20
 # A text as wide as any digit of a number, and what stands in place of the numbers of a closed arc.
 WIDEST, CLOSED = "8", "closed"
 STYLE = f"""
@@ -38,10 +41,6 @@ text {{ font-family: Helvetica, Arial, sans-serif; }}
 """
 # Characters that XML does not allow, and that `display` leaves as they are.
 _NO_XML = re.compile("[\ufffe\uffff]")
-
-
-class NoPicture(DeskFault):
-    """Why there is no picture."""
 
 
 class _Arc(NamedTuple):
@@ -72,16 +71,31 @@ class _Shape:
     arcs: tuple[_Arc, ...]
     nodes: tuple[_Node, ...]
 
+    def ways(self) -> dict[int, Way]:
+        """The way of each arc, by its number."""
+        ranks: Counter[tuple[int, int]] = Counter()
+        found: dict[int, Way] = {}
+        for arc in self.arcs:
+            ranks[arc.tail, arc.head] += 1
+            found[arc.number] = arc.tail, arc.head, ranks[arc.tail, arc.head]
+        return found
+
+
+def _text(lines: Iterator[str]) -> str:
+    return "".join(f"{line}\n" for line in lines)
+
 
 def _label(text: str) -> str:
     return _NO_XML.sub("\ufffd", text)
 
 
 class Picture:
-    """The pictures of a desk. Each keeps the layout of the one before, if that fits."""
+    """The pictures of a desk, and where its places lie in all of them."""
 
     def __init__(self, desk: Desk) -> None:
         self._desk = desk
+        self.places = Places()
+        self._given: Counter[int] | None = None
         self._shape: _Shape | None = None
         self._layout = ""
 
@@ -90,9 +104,12 @@ class Picture:
         `NoPicture`."""
         shape = self._shape_of(arcs, nodes)
         if shape != self._shape:
-            self._layout = _laid_out("".join(f"{line}\n" for line in self._lines(shape)))
+            ways = shape.ways()
+            self.places.put((it.node for it in shape.nodes), ways.values(), _text(self._lines(shape, ways)))
+            self._layout = run(_text(self._lines(shape, ways, is_put=True)), "neato", "-n2", "-Tsvg")
             self._shape = shape
         root = ElementTree.fromstring(self._layout)
+        _seen(root)
         self._fill(root, shape)
         if to_take:
             style = ElementTree.Element(f"{{{SVG}}}style")
@@ -100,19 +117,34 @@ class Picture:
             root.insert(0, style)
         return ElementTree.tostring(root, encoding="unicode")
 
+    def _ends(self, line: Line) -> tuple[int, int]:
+        """The places at the ends of an arc."""
+        return self._desk.folding.place(line.tail), self._desk.folding.place(line.head)
+
+    def _degrees(self) -> Counter[int]:
+        """How many arcs each place has, open or closed, of those that a picture can show. The arcs of the file are counted once."""
+        desk = self._desk
+        given = given_arcs(desk)
+        if self._given is None:
+            numbers = (number for number in range(1, given + 1) if not desk.folding.has_roles or not desk.role(number))
+            self._given = Counter(node for number in numbers for node in self._ends(desk.lines[number - 1]))
+        degrees = self._given.copy()
+        degrees.update(node for line in desk.lines[given:] for node in self._ends(line))
+        degrees.subtract(node for line in desk.lines if line.is_replaced for node in self._ends(line))
+        return degrees
+
     def _shape_of(self, arcs: list[int], chosen: tuple[int, ...]) -> _Shape:
         desk, names, place = self._desk, self._desk.names, self._desk.folding.place
 
         def ends(number: int) -> tuple[int, int]:
-            return place(desk.lines[number - 1].tail), place(desk.lines[number - 1].head)
+            return self._ends(desk.lines[number - 1])
 
         drawn = Counter(node for number in arcs for node in ends(number))
         drawn.update(dict.fromkeys(map(place, chosen), 0))
-        pictured = desk.pictured()
-        is_whole = len(arcs) == len(pictured)
+        is_whole = len(arcs) == len(desk.pictured())
         if is_whole:
             drawn.update(dict.fromkeys((*desk.sources, *desk.sinks), 0))
-        degrees = drawn if is_whole else Counter(node for number in pictured for node in ends(number))
+        degrees = drawn if is_whole else self._degrees()
         roles = desk.roles()
 
         def told(node: int) -> tuple[tuple[int, str, str], ...]:
@@ -127,8 +159,10 @@ class Picture:
             ),
         )
 
-    def _lines(self, shape: _Shape) -> Iterator[str]:
-        yield "digraph dmf {\n  rankdir=LR; bgcolor=transparent; ranksep=0.2"
+    def _lines(self, shape: _Shape, ways: dict[int, Way], *, is_put: bool = False) -> Iterator[str]:
+        """A picture for Graphviz, with the spots and routes that are known if it is put."""
+        splines = "line" if is_put and len(shape.nodes) > MOST_ROUTED else "true"
+        yield f"digraph dmf {{\n  rankdir=LR; bgcolor=transparent; ranksep=0.2; splines={splines}; notranslate=true"
         yield '  node [fontname="Helvetica"]\n  edge [fontname="Helvetica", fontsize=11]'
         if self._desk.measure.legend:
             yield f'  fontname="Helvetica"; fontsize=11; label={quoted(self._desk.measure.legend)}'
@@ -137,10 +171,16 @@ class Picture:
             looks = {"id": quoted(f"node-{it.node}"), "label": quoted(_label(it.label), *roles, *["shut"] * it.is_shut)}
             if it.node in (*self._desk.sources, *self._desk.sinks):
                 looks["peripheries"] = "2"
+            if is_put:
+                looks["pos"] = '"{:.2f},{:.2f}"'.format(*self.places.spots[it.node])
             yield drawn_line(str(it.node), looks)
         for arc in shape.arcs:
             label = quoted(_label(arc.name), arc.widest) if arc.name else quoted(arc.widest)
-            yield drawn_line(f"{arc.tail} -> {arc.head}", {"id": quoted(f"arc-{arc.number}"), "label": label})
+            way = ways[arc.number]
+            looks = {"id": quoted(f"arc-{arc.number}"), "label": label, "class": '"{} {} {}"'.format(*way)}
+            if is_put and way in self.places.routes:
+                looks.update({name: quoted(text) for name, text in zip(("pos", "lp"), self.places.routes[way]) if text})
+            yield drawn_line(f"{arc.tail} -> {arc.head}", looks)
         yield "}"
 
     def _fill(self, root: ElementTree.Element, shape: _Shape) -> None:
@@ -204,16 +244,13 @@ def _mark(group: ElementTree.Element, kind: str, looks: dict[str, bool], label: 
     group.insert(0, title)
 
 
-def _laid_out(text: str) -> str:
-    try:
-        ran = subprocess.run(["dot", "-Tsvg"], input=text.encode(), capture_output=True, timeout=PATIENCE, check=True)
-    except FileNotFoundError:
-        raise NoPicture("Graphviz is not there, which draws. On Debian and Ubuntu: apt install graphviz") from None
-    except subprocess.TimeoutExpired:
-        raise NoPicture(f"Graphviz has not drawn it in {PATIENCE} seconds") from None
-    except (OSError, subprocess.SubprocessError) as error:
-        raise NoPicture(f"Graphviz did not draw it: {error}") from None
-    return ran.stdout.decode()
+def _seen(root: ElementTree.Element) -> None:
+    """Has a picture go by the spots of places alone, so that a place has the same coordinates in each picture."""
+    graph = next(group for group in root.iter(f"{{{SVG}}}g") if group.get("class") == "graph")
+    moved = re.search(r"translate\(([-0-9.e]+)[ ,]+([-0-9.e]+)\)", graph.attrib.pop("transform", ""))
+    _, _, width, height = map(float, (root.get("viewBox") or "0 0 1 1").split())
+    left, up = (float(moved[1]), float(moved[2])) if moved else (0.0, 0.0)
+    root.set("viewBox", f"{-left:.2f} {-up:.2f} {width:.2f} {height:.2f}")
 
 
 ElementTree.register_namespace("", SVG)

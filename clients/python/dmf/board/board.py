@@ -1,0 +1,219 @@
+"""A board: what a page in the browser shows of a desk, and does to it.
+
+It refuses a request with 400 if that does not have the form that the page gives it, with 409 if the desk refuses it, and with 410 if the
+session has ended and none could be begun in its place. Each answer in JSON has the desk's turn, by which a page sees that it shows a state
+that has passed, and each change says which turn the page shows that asks for it.
+"""
+
+from __future__ import annotations
+
+import contextlib
+import threading
+from collections.abc import Callable, Iterator, Mapping
+
+from ..desk import Desk
+from ..desk_amounts import amount
+from ..desk_steps import DeskFault, unforeseen
+from ..desk_text import near as near_arcs
+from ..desk_text import problem, table
+from ..quantity import plain_text
+from .answers import Answer, Json, Made, WrongForm, answer, judge_arcs, judge_fields, judge_words, whole
+from .many import change_many, many_view
+from .picture import NoPicture, Picture
+from .places import Spot
+from .rows import Rows
+from .sweeps import Sweeps
+from .views import arc_view, opened_view, place_view, state_view
+
+MOST_SWEPT = 5_000
+CHANGED = "the network has changed in another tab: look again"
+STOPPED = "it was stopped"
+
+
+class Board:
+    """What a board shows of a desk, and does for its page."""
+
+    def __init__(self, desk: Desk, spots: Mapping[int, Spot] | None = None) -> None:
+        """`spots` is where places lie in the picture, by their nodes, if that is known."""
+        self.desk = desk
+        self.picture = Picture(desk)
+        self.picture.places.spots.update(spots or {})
+        self._rows_of_all = Rows(desk)
+        self._sweeps = Sweeps(desk)
+        # Whether something is being done that can be stopped.
+        self._is_busy = False
+        self._busy_lock = threading.Lock()
+
+    def get(self, path: str, words: dict[str, str]) -> Answer:
+        """The answer to a request that changes nothing."""
+        forms: dict[str, tuple[Callable[..., Made], tuple[str, ...]]] = {
+            "turn": (dict, ()),
+            "state": (lambda: state_view(self.desk), ()),
+            "picture": (self._picture, ("near",)),
+            "arc": (lambda number: arc_view(self.desk, whole(number, "number")), ("number",)),
+            "place": (lambda node: place_view(self.desk, whole(node, "node")), ("node",)),
+            "find": (self._rows_of_all.found, ("text",)),
+            "opened": (lambda: opened_view(self.desk), ()),
+            "rows": (self._rows, ("filter", "sort", "first", "count")),
+            "numbers": (self._numbers, ("filter", "sort", "first", "count")),
+            "picture.svg": (self._picture_file, ("near", "turn")),
+            "plan.csv": (self._table_file, ("turn",)),
+            "problem.max": (self._problem_file, ("turn",)),
+        }
+        if path not in forms:
+            return answer({"error": "there is no such page"}, 404)
+        serve, wanted = forms[path]
+        judge_words(words, wanted)
+        return self._judged(lambda: serve(**words), tries=2)
+
+    def post(self, path: str, content: Json) -> Answer:
+        """The answer to a request that changes something, or tries it."""
+        if path == "sweep":
+            if set(content) != {"arcs", "turn"} or type(content["arcs"]) is not list or type(content["turn"]) is not int:
+                raise WrongForm(f"wanted is a list of at most {MOST_SWEPT} arcs, and the turn")
+            judge_arcs(content["arcs"], MOST_SWEPT)
+            return self._judged(lambda: self._swept(content["arcs"], content["turn"]))
+        if path == "many":
+            judge_fields(content, {"arcs": list, "turn": int})
+            return self._judged(lambda: many_view(self.desk, content["arcs"]))
+        if path != "do":
+            return answer({"error": "there is no such page"}, 404)
+        what = content.pop("what", None)
+        if not isinstance(what, str) or what not in FORMS:
+            raise WrongForm(f"what is to be done is one of {', '.join(FORMS)}")
+        judge_fields(content, {**FORMS[what], "turn": int})
+        return self._judged(lambda: self._done(what, content))
+
+    def stop(self) -> Answer:
+        """Stops what is being done, for another thread that does it. The steps before it are kept."""
+        with self._busy_lock:
+            if self._is_busy:
+                self.desk.break_off(STOPPED)
+        return answer({})
+
+    def _judged(self, make: Callable[[], Made], tries: int = 1) -> Answer:
+        """The answer, or why there is none. If the session ends meanwhile, begins another with the steps that were made, and tries once
+        more if a try is left."""
+        told = ""
+        while True:
+            try:
+                made = make()
+                return made if isinstance(made, Answer) else answer({"turn": self.desk.turn, "told": told, **made})
+            except WrongForm:
+                raise
+            except Exception as error:
+                why = unforeseen(error)
+            tries -= 1
+            if self.desk.has_ended:
+                told = f"{why}. The session was begun again, with the steps that were made"
+                try:
+                    with self._stoppable():
+                        self.desk.begin_again()
+                except Exception as error:
+                    return answer({"ended": f"{why}, and it could not be begun again: {unforeseen(error)}", "steps": self.desk.at - 1}, 410)
+            if not tries or not told:
+                return answer({"error": told or why, "turn": self.desk.turn}, 409)
+
+    def _judge_turn(self, turn: int) -> None:
+        """Raises a `DeskFault` if a page shows another state than the present one."""
+        if turn != self.desk.turn:
+            raise DeskFault(CHANGED)
+
+    def _done(self, what: str, content: Json) -> Json:
+        self._judge_turn(content["turn"])
+        self._sweeps.end()
+        with self._stoppable():
+            self._do(what, content)
+            return state_view(self.desk)
+
+    @contextlib.contextmanager
+    def _stoppable(self) -> Iterator[None]:
+        """Lets `stop` end the block."""
+        with self._busy_lock:
+            self._is_busy = True
+        try:
+            yield
+        finally:
+            with self._busy_lock:
+                self._is_busy = False
+
+    def _do(self, what: str, content: Json) -> None:
+        desk, names = self.desk, self.desk.names
+        if what == "again":
+            desk.begin_again()
+        elif what in ("close", "open", "double"):
+            calls: dict[str, Callable[[int], object]] = {"close": desk.close, "open": desk.open, "double": desk.double}
+            calls[what](content["arc"])
+        elif what in MANY:
+            change_many(desk, what, content["arcs"], content.get("capacity", ""))
+        elif what == "cap":
+            present = desk.line(content["arc"]).capacity
+            desk.cap(content["arc"], amount(content["capacity"], desk.measure, present))
+        elif what in ("shut", "open-place"):
+            {"shut": desk.shut, "open-place": desk.open_place}[what](names.place_of(content["node"]))
+        elif what == "add":
+            tail, head = names.place_of(content["tail"]), names.place(content["head"])
+            desk.add(tail, head, amount(content["capacity"], desk.measure), " ".join(content["name"].split()))
+        else:
+            # The first step is the solve that the board begins with.
+            desk.go_to(content["step"] + 1)
+
+    def _rows(self, **words: str) -> Json:
+        return self._rows_of_all.view(words["filter"], words["sort"], whole(words["first"], "first"), whole(words["count"], "count"))
+
+    def _numbers(self, **words: str) -> Json:
+        first, count = whole(words["first"], "first"), whole(words["count"], "count")
+        return {"numbers": self._rows_of_all.numbers(words["filter"], words["sort"])[first : first + count]}
+
+    def _near(self, near: str) -> tuple[int, ...]:
+        return self.desk.names.place_of(whole(near, "near")) if near else ()
+
+    def _picture(self, near: str) -> Json:
+        nodes = self._near(near)
+        svg, reason, arcs = "", "", near_arcs(self.desk, nodes)
+        try:
+            svg = self.picture.svg(nodes, arcs)
+        except NoPicture as fault:
+            reason = str(fault)
+        return {"svg": svg, "reason": reason, "arcs": [arc_view(self.desk, number) for number in arcs]}
+
+    def _picture_file(self, near: str, turn: str) -> Answer:
+        self._judge_turn(whole(turn, "turn"))
+        nodes = self._near(near)
+        svg = self.picture.svg(nodes, near_arcs(self.desk, nodes), to_take=True)
+        return Answer(200, "image/svg+xml", svg.encode(), "plan.svg")
+
+    def _table_file(self, turn: str) -> Answer:
+        self._judge_turn(whole(turn, "turn"))
+        return Answer(200, "text/csv; charset=utf-8", table(self.desk).encode(), "plan.csv")
+
+    def _problem_file(self, turn: str) -> Answer:
+        self._judge_turn(whole(turn, "turn"))
+        return Answer(200, "text/plain; charset=utf-8", problem(self.desk).encode(), "problem.max")
+
+    def _swept(self, numbers: list[int], turn: int) -> Json:
+        """The result for each of the first arcs."""
+        self._judge_turn(turn)
+        trials = self._sweeps.portion(numbers)
+        doubled = ("" if trial.doubled is None else plain_text(trial.doubled) for trial in trials)
+        rows = [{**arc_view(self.desk, it.arc), "without": plain_text(it.closed), "doubled": second} for it, second in zip(trials, doubled)]
+        return {"value": plain_text(self.desk.value), "trials": rows, "left": numbers[len(trials) :]}
+
+
+# The requests, with the fields that each needs.
+FORMS: dict[str, dict[str, type]] = {
+    "close": {"arc": int},
+    "open": {"arc": int},
+    "double": {"arc": int},
+    "cap": {"arc": int, "capacity": str},
+    "shut": {"node": int},
+    "open-place": {"node": int},
+    "add": {"tail": int, "head": str, "capacity": str, "name": str},
+    "close-all": {"arcs": list},
+    "open-all": {"arcs": list},
+    "double-all": {"arcs": list},
+    "cap-all": {"arcs": list, "capacity": str},
+    "go": {"step": int},
+    "again": {},
+}
+MANY = ("close-all", "open-all", "double-all", "cap-all")

@@ -1,0 +1,35 @@
+/**
+ * What is chosen on the page: an arc or a place.
+ * @typedef {import("./state.js").Choice} Choice
+ */
+import { button, cell } from "./elements.js";
+
+/** @type {Choice | null} */
+let chosen = null;
+/** @type {((chosen: Choice | null) => unknown)[]} */
+const watchers = [];
+
+export const theChoice = () => chosen;
+
+/**
+ * Has each choice told to a part of the page.
+ * @param {(chosen: Choice | null) => unknown} watcher
+ */
+export function watchChoice(watcher) {
+  watchers.push(watcher);
+}
+
+/** @param {Choice | null} what */
+export async function choose(what) {
+  chosen = what;
+  await Promise.all(watchers.map((watcher) => watcher(what)));
+}
+
+/**
+ * A cell with an arc that a click chooses. One that stands for a limit of a place is seen at that place.
+ * @param {import("./state.js").Arc} arc
+ * @param {string} text
+ */
+export function pick(arc, text = arc.label) {
+  return cell(button(text, () => choose(arc.node ? { node: arc.node } : { arc: arc.number }), "link"));
+}

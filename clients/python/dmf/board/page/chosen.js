@@ -1,0 +1,93 @@
+/**
+ * What is told of a chosen arc or place, and what can be done to it.
+ * @typedef {import("./state.js").Arc} Arc
+ * @typedef {import("./state.js").Place} Place
+ * @typedef {import("./elements.js").Piece} Piece
+ */
+import { upper } from "./amounts.js";
+import { choose, theChoice } from "./choice.js";
+import { at, button, form, make, replace } from "./elements.js";
+import { isPart, isShown, showNear } from "./picture.js";
+import { act, ask, noun, present, units } from "./state.js";
+
+export async function showChosen() {
+  const chosen = theChoice();
+  if (!chosen) {
+    replace(at("what"), [make("p", `Click a ${noun()} or a place in the picture, or find one by its name.`)]);
+    return;
+  }
+  // An arc that was added may be gone.
+  const told = await ask(chosen.arc ? `arc?number=${chosen.arc}` : `place?node=${chosen.node}`, undefined, true);
+  if (chosen !== theChoice() || told === undefined) return;
+  if (!told || told.replaced) {
+    choose(null);
+    return;
+  }
+  replace(at("what"), chosen.arc ? aboutArc(told) : aboutPlace(told));
+}
+
+/** @param {Arc} arc */
+function aboutArc(arc) {
+  const is = arc.full ? "It is full" : arc.flow === "0" ? "Nothing flows here" : "It is not full";
+  const words = arc.closed ? "It is closed." : `${arc.flow} of ${arc.capacity}${units()} flow. ${is}`
+    + (arc.limit ? ", and part of the limit: a wider one may bring more." : ", and no part of the limit: a wider one brings nothing.");
+  /** @type {HTMLElement[]} */
+  const about = [make("h3", arc.short), make("p", `From ${arc.tail} to ${arc.head}. ${words}`)];
+  if (!isShown({ arc: arc.number })) about.push(button("Show it in the picture", () => showNear(arc.tail_node), "plain"));
+  if (arc.closed) return [...about, button("Open it again", () => act({ what: "open", arc: arc.number }, `${arc.short} is open`))];
+  return [...about,
+    button("Close it", () => act({ what: "close", arc: arc.number }, `${arc.short} is closed`)),
+    button("Put a second one beside it", () => act({ what: "double", arc: arc.number }, `a second ${arc.short}`)),
+    setting(arc, "What it can carry", "capacity")];
+}
+
+/**
+ * The form that gives an arc another capacity.
+ * @param {Arc} arc
+ * @param {string} words
+ * @param {string} id
+ */
+function setting(arc, words, id) {
+  const room = make("input", [], { id, value: arc.capacity, autocomplete: "off", "aria-describedby": `${id}-forms` });
+  const asked = make("label", [`${words}${units() && " in"}${units()} `, room]);
+  return form([asked, make("span", "or +10 %, or -5 ", { id: `${id}-forms`, class: "soft" })],
+    "Set", () => act({ what: "cap", arc: arc.number, capacity: room.value }));
+}
+
+/**
+ * What a place gives, takes or lets through.
+ * @param {Arc} arc
+ */
+function aboutRole(arc) {
+  const most = arc.unlimited ? `no limit, and ${arc.flow}${units()} flow` : `${arc.capacity}${units()}, of which ${arc.flow} flow`;
+  const limit = arc.unlimited ? "" : arc.limit ? " It is part of the limit: more may bring more."
+    : arc.full ? " That is all, and no part of the limit: more brings nothing." : "";
+  return [make("p", `${upper(arc.short)}: ${most}.${limit}`),
+    setting(arc.unlimited ? { ...arc, capacity: "" } : arc, upper(arc.short), `capacity-${arc.number}`)];
+}
+
+/** @param {Place} place */
+function aboutPlace(place) {
+  const kind = place.is_source ? (place.name === present().source ? " It all comes from here." : " It is one of the sources.")
+    : place.is_sink ? (place.name === present().sink ? " It all goes here." : " It is one of the sinks.") : "";
+  const told = `${place.in}${units()} come in, and ${place.out} go out.${kind}${place.shut ? " It is shut." : ""}`;
+  /** @type {HTMLElement[]} */
+  const about = [make("h3", place.name), make("p", told), ...place.roles.filter((role) => !role.closed).flatMap(aboutRole)];
+  if (place.shut) about.push(button("Open it again", () => act({ what: "open-place", node: place.node }, `${place.name} is open`)));
+  if (place.open) about.push(button("Shut it", () => act({ what: "shut", node: place.node }, `${place.name} is shut`)));
+  if (isPart()) about.push(button("Show what is near it", () => showNear(place.node), "plain"));
+  return [...about, adding(place)];
+}
+
+/**
+ * The form that adds an arc from a place.
+ * @param {Place} place
+ */
+function adding(place) {
+  const head = make("input", [], { list: "places", autocomplete: "off", id: "new-head" });
+  const room = make("input", [], { autocomplete: "off", id: "new-capacity" });
+  const name = make("input", [], { autocomplete: "off", id: "new-name" });
+  return form([make("p", `A new ${noun()} from here:`), make("label", ["leads to ", head]), make("label", [`carries${units()} `, room]),
+    make("label", ["name (may be left out) ", name])], "Add it",
+  () => act({ what: "add", tail: place.node, head: head.value, capacity: room.value, name: name.value }, `a new ${noun()}`));
+}

@@ -1,0 +1,122 @@
+/**
+ * The elements of the page, and new ones. Names of places and arcs are text in them, never markup.
+ * @typedef {Node | string} Piece
+ */
+
+/**
+ * The element of this id. Throws if there is none.
+ * @param {string} id
+ */
+export function at(id) {
+  const found = document.getElementById(id);
+  if (!found) throw new Error(`the page has no ${id}`);
+  return found;
+}
+
+/** @param {string} id */
+export const field = (id) => /** @type {HTMLInputElement} */ (at(id));
+
+/** @param {string} id */
+const tableAt = (id) => /** @type {HTMLTableElement} */ (at(id));
+
+/**
+ * Has a click on the element of this id do something.
+ * @param {string} id
+ * @param {(event: MouseEvent) => unknown} act
+ */
+export function onClick(id, act) {
+  at(id).addEventListener("click", act);
+}
+
+/**
+ * An element with what is in it and its attributes; one that is false is left out.
+ * @template {keyof HTMLElementTagNameMap} Tag
+ * @param {Tag} tag
+ * @param {Piece | Piece[]} content
+ * @param {Record<string, string | boolean>} looks
+ * @returns {HTMLElementTagNameMap[Tag]}
+ */
+export function make(tag, content = [], looks = {}) {
+  const made = document.createElement(tag);
+  for (const [name, value] of Object.entries(looks)) {
+    if (value !== false) made.setAttribute(name, value === true ? "" : value);
+  }
+  made.append(...[content].flat());
+  return made;
+}
+
+/**
+ * @param {string} text
+ * @param {() => unknown} act
+ * @param {string} kind its class
+ */
+export function button(text, act, kind = "") {
+  const made = make("button", text, { type: "button", class: kind });
+  made.addEventListener("click", act);
+  return made;
+}
+
+/**
+ * A form that does something when its button is pressed, or Enter in a field.
+ * @param {Piece[]} fields
+ * @param {string} word on its button
+ * @param {() => unknown} done
+ */
+export function form(fields, word, done) {
+  const made = make("form", [...fields, make("button", word, { type: "submit" })]);
+  made.addEventListener("submit", (event) => {
+    event.preventDefault();
+    done();
+  });
+  return made;
+}
+
+/** @param {Element} host */
+const controls = (host) => [...host.querySelectorAll("button:enabled, input:enabled")];
+
+/**
+ * Changes what stands above the picture, which pushes nothing away that is looked at.
+ * @param {() => unknown} change
+ */
+export function keepInSight(change) {
+  const top = at("picture").getBoundingClientRect().top;
+  change();
+  if (scrollY > 0) scrollBy(0, at("picture").getBoundingClientRect().top - top);
+}
+
+/**
+ * Replaces what is in an element. The focus stays on what is like the one that had it, or else where that was.
+ * @param {Element} host
+ * @param {Piece[]} pieces
+ */
+export function replace(host, pieces) {
+  const held = document.activeElement;
+  const place = held && host.contains(held) ? controls(host).indexOf(held) : -1;
+  host.replaceChildren(...pieces);
+  if (!held || place < 0) return;
+  const now = controls(host), like = now.find((it) => it.id && it.id === held.id) ?? now.find((it) => it.textContent === held.textContent);
+  const found = like ?? now[Math.min(place, now.length - 1)] ?? host;
+  if (found instanceof HTMLElement) found.focus();
+}
+
+/** @param {Piece | Piece[]} content */
+export const cell = (content) => make("td", content);
+
+/** @param {string} text */
+export const numberCell = (text) => make("td", text, { class: "number" });
+
+/**
+ * Gives a table another title line and other rows.
+ * @param {string} id
+ * @param {string} caption
+ * @param {string[]} heads the titles, of which all but the first are of numbers, unless they are empty
+ * @param {HTMLTableCellElement[][]} rows
+ */
+export function fill(id, caption, heads, rows) {
+  const table = tableAt(id);
+  const titles = heads.map((head, place) => make("th", head || make("span", "difference", { class: "unseen" }),
+    { scope: "col", class: place && head ? "number" : "" }));
+  table.createCaption().textContent = caption;
+  table.tHead?.replaceChildren(make("tr", titles));
+  replace(table.tBodies[0], rows.map((row) => make("tr", row)));
+}

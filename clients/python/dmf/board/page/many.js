@@ -1,0 +1,95 @@
+/**
+ * Arcs that are chosen at once, and what can be done to all of them, each in one step.
+ * @typedef {import("./state.js").State} State
+ * @typedef {{ open: number[], closed: number[], flow: string, capacity: string }} Many
+ */
+import { at, button, form, make, replace } from "./elements.js";
+import { act, ask, noun, units } from "./state.js";
+
+/** @type {Set<number>} */
+let picked = new Set();
+let asked = 0;
+/** @type {(() => unknown)[]} */
+const watchers = [];
+
+export const isPicked = (/** @type {number} */ number) => picked.has(number);
+export const pickedCount = () => picked.size;
+
+/**
+ * Has each other choice of many arcs told to a part of the page.
+ * @param {() => unknown} watcher
+ */
+export function watchPicked(watcher) {
+  watchers.push(watcher);
+}
+
+/**
+ * Chooses these arcs and no others.
+ * @param {Iterable<number>} numbers
+ */
+export function pickThese(numbers) {
+  picked = new Set(numbers);
+  return showMany();
+}
+
+/**
+ * Chooses these arcs beside those that are chosen.
+ * @param {Iterable<number>} numbers
+ */
+export const pickMore = (numbers) => pickThese([...picked, ...numbers]);
+
+/** @param {number} number */
+export const toggle = (number) => pickThese(picked.has(number) ? [...picked].filter((it) => it !== number) : [...picked, number]);
+
+/** Tells what of the choice is open and closed now, with what can be done to it. */
+async function showMany() {
+  const turn = (asked += 1);
+  for (const watcher of watchers) watcher();
+  if (!picked.size) {
+    at("many").replaceChildren();
+    return;
+  }
+  /** @type {Many | null | undefined} */
+  const told = await ask("many", { arcs: [...picked] });
+  if (!told || turn !== asked) return;
+  const now = new Set([...told.open, ...told.closed]);
+  const isSame = now.size === picked.size && [...now].every((number) => picked.has(number));
+  picked = now;
+  if (!isSame) for (const watcher of watchers) watcher();
+  replace(at("many"), now.size ? about(told) : []);
+}
+
+/** @param {Many} told */
+function about(told) {
+  const opened = told.open.length, closed = told.closed.length;
+  const sums = opened ? `: ${told.flow} of ${told.capacity}${units()} flow` : "";
+  const counts = [`${opened} open${sums}`, ...(closed ? [`${closed} closed`] : [])];
+  /** @type {HTMLElement[]} */
+  const parts = [make("p", `${opened + closed} chosen, ${counts.join("; ")}.`, { id: "many-told" })];
+  if (opened) {
+    const room = make("input", [], { id: "many-capacity", autocomplete: "off", "aria-describedby": "many-forms" });
+    parts.push(
+      button(`Close ${opened}`, () => act({ what: "close-all", arcs: told.open })),
+      button(`Put a second one beside ${opened === 1 ? "it" : `each of ${opened}`}`, () => act({ what: "double-all", arcs: told.open })),
+      form([make("label", [`What each open ${noun()} can carry${units() && " in"}${units()} `, room]),
+        make("span", "or +10 %, or -5 ", { id: "many-forms", class: "soft" })], `Set ${opened}`,
+      () => act({ what: "cap-all", arcs: told.open, capacity: room.value })));
+  }
+  if (closed) parts.push(button(`Open ${closed} again`, () => act({ what: "open-all", arcs: told.closed })));
+  parts.push(button("Choose none", () => {
+    pickThese([]);
+    at("grid").focus();
+  }, "plain"));
+  return parts;
+}
+
+/**
+ * Follows a new state. Where more than one step was taken, the number of an arc that was added may be another's.
+ * @param {State} state
+ * @param {State | null} before
+ */
+export function followMany(state, before) {
+  if (!before || state.turn === before.turn || !picked.size) return undefined;
+  const isNext = state.turn === before.turn + 1;
+  return pickThese([...picked].filter((number) => isNext || number <= state.given));
+}

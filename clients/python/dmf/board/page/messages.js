@@ -1,0 +1,42 @@
+/** What the page says above the picture: news, trouble, and that something takes long. */
+import { at, keepInSight, make } from "./elements.js";
+
+const LONG = 1500;
+
+/**
+ * Says what went wrong, with buttons beside it; or nothing any more.
+ * @param {string} text
+ * @param {HTMLElement[]} acts
+ */
+export function trouble(text, ...acts) {
+  keepInSight(() => {
+    at("trouble").replaceChildren(...(text ? [make("p", text), ...acts] : []));
+    at("trouble").hidden = !text;
+  });
+}
+
+export const hasTrouble = () => !at("trouble").hidden;
+
+/** @param {string} text */
+export function news(text) {
+  keepInSight(() => {
+    at("news").textContent = text;
+  });
+}
+
+/**
+ * Waits for an answer, and lets the planner stop what takes long.
+ * @template Told
+ * @param {Promise<Told>} answer
+ */
+export async function patiently(answer) {
+  const late = setTimeout(() => {
+    at("long").hidden = false;
+  }, LONG);
+  try {
+    return await answer;
+  } finally {
+    clearTimeout(late);
+    at("long").hidden = true;
+  }
+}

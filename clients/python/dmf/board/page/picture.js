@@ -1,0 +1,225 @@
+/**
+ * The picture of the network, or of the part of it that lies near a place or the limit.
+ * @typedef {import("./state.js").State} State
+ * @typedef {import("./labels.js").Label} Label
+ */
+import { moved } from "./amounts.js";
+import { choose, theChoice } from "./choice.js";
+import { at, onClick } from "./elements.js";
+import { arrange, labelsOf } from "./labels.js";
+import { isPicked, pickedCount } from "./many.js";
+import { ask, noun, present, units } from "./state.js";
+import { beginView, fit, move, refresh, reveal, scale, zoom } from "./view.js";
+
+const LARGER = 1.4, STEP = 60, MOST_SAID = 10;
+let asked = 0, count = 0, pending = 0;
+/** The place that is shown with what lies near it, or nothing where that is the limit; and the one of the picture that is there. */
+let near = "", nearShown = "none";
+/** @type {Label[]} */
+let labels = [];
+
+/** Whether not all arcs are shown. */
+export const isPart = () => count < present().arcs;
+
+/**
+ * The part of the picture that is an arc or a place.
+ * @param {import("./choice.js").Choice | null} choice
+ */
+const partOf = (choice) => parts().find((part) => part.id === (choice?.arc ? `arc-${choice.arc}` : `node-${choice?.node}`));
+
+/** @param {import("./choice.js").Choice} choice */
+export const isShown = (choice) => Boolean(partOf(choice));
+
+/** @param {number} node */
+export function showNear(node) {
+  near = String(node);
+  return showPicture();
+}
+
+export async function showPicture() {
+  const turn = (asked += 1);
+  const told = await ask(`picture?near=${near}`);
+  if (!told || turn !== asked) return;
+  count = told.arcs.length;
+  const where = near && theChoice()?.node ? "the chosen place" : near ? "a place" : "the limit";
+  at("drawn-note").textContent = (told.reason || (isPart() ? `${count} of ${present().arcs}: what lies nearest to ${where}. ` : ""))
+    + `Click a ${noun()} or a place to see more, and to change it.`;
+  at("near-limit").hidden = !near;
+  at("take-svg").setAttribute("href", `picture.svg?near=${near}&turn=${present().turn}`);
+  draw(told.svg);
+}
+
+/** @param {string} text */
+function draw(text) {
+  const active = document.activeElement;
+  const held = active && at("picture").contains(active) ? active.id : "";
+  if (!text) {
+    at("picture").replaceChildren();
+    return;
+  }
+  const made = document.importNode(new DOMParser().parseFromString(text, "image/svg+xml").documentElement, true);
+  const svg = /** @type {SVGSVGElement} */ (/** @type {unknown} */ (made));
+  const whole = svg.viewBox.baseVal, box = { x: whole.x, y: whole.y, width: whole.width, height: whole.height };
+  for (const name of ["width", "height"]) svg.removeAttribute(name);
+  svg.setAttribute("aria-hidden", "false");
+  for (const group of svg.querySelectorAll("g.arc, g.node")) prepare(group);
+  at("picture").replaceChildren(svg);
+  labels = labelsOf(parts());
+  mark();
+  if (nearShown === near) {
+    refresh();
+  } else {
+    // The room of a picture follows its form, once, so that nothing jumps at a step.
+    at("main").classList.toggle("long", box.width > 700 && box.width > 2.5 * box.height);
+    at("picture").style.setProperty("--form", String(box.width / box.height));
+    nearShown = near;
+    fit(box);
+  }
+  if (held) document.getElementById(held)?.focus();
+}
+
+/**
+ * Makes a part of the picture a button, with room for a click, and for the mark of what is chosen beside it.
+ * @param {Element} group
+ */
+function prepare(group) {
+  group.setAttribute("role", "button");
+  group.setAttribute("tabindex", "-1");
+  group.setAttribute("aria-label", group.querySelector("title")?.textContent ?? "");
+  const line = group.querySelector("path, ellipse");
+  if (!line) return;
+  const beside = /** @type {Element} */ (line.cloneNode());
+  beside.setAttribute("class", line.matches("path") ? "wide" : "halo");
+  group.insertBefore(beside, group.querySelector("path, ellipse"));
+}
+
+/** @returns {SVGGElement[]} */
+const parts = () => [...at("picture").querySelectorAll("g")].filter((group) => group.matches(".node, .arc"));
+
+/** Marks what is chosen, and has its label seen. */
+export function mark() {
+  const chosen = partOf(theChoice());
+  for (const part of parts()) {
+    const is = part === chosen || part.matches(".arc") && isPicked(Number(part.id.slice("arc-".length)));
+    part.classList.toggle("chosen", is);
+    part.setAttribute("aria-pressed", String(is));
+  }
+  label();
+}
+
+/** Shows what is chosen, if it is not seen. */
+export function revealChosen() {
+  const part = partOf(theChoice());
+  if (part) reveal(part.getBBox());
+}
+
+/** Arranges the labels before the page is drawn next. */
+function label() {
+  pending = pending || requestAnimationFrame(() => {
+    pending = 0;
+    arrange(labels, scale());
+  });
+}
+
+/**
+ * Fits the picture to all that is like this.
+ * @param {string} like a selector
+ */
+function fitTo(like) {
+  const boxes = parts().filter((part) => part.matches(like)).map((part) => part.getBBox());
+  if (!boxes.length) return;
+  const [left, top] = [Math.min(...boxes.map((box) => box.x)), Math.min(...boxes.map((box) => box.y))];
+  const right = Math.max(...boxes.map((box) => box.x + box.width)), bottom = Math.max(...boxes.map((box) => box.y + box.height));
+  fit({ x: left, y: top, width: right - left, height: bottom - top });
+}
+
+/** @param {Element} part */
+function choosePart(part) {
+  const [kind, digits] = part.id.split("-");
+  return choose(kind === "arc" ? { arc: Number(digits) } : { node: Number(digits) });
+}
+
+/** @type {Record<string, [number, number]>} */
+const WAYS = { ArrowRight: [1, 0], ArrowLeft: [-1, 0], ArrowDown: [0, 1], ArrowUp: [0, -1] };
+
+/**
+ * The nearest part in a direction, of those that are like this.
+ * @param {Element} from
+ * @param {[number, number]} way
+ * @param {string} like
+ */
+function nextPart(from, [right, down], like) {
+  const center = (/** @type {Element} */ part) => {
+    const box = (part.querySelector("ellipse, text") ?? part).getBoundingClientRect();
+    return [box.x + box.width / 2, box.y + box.height / 2];
+  };
+  const [x, y] = center(from);
+  let best = null, least = Infinity;
+  for (const part of parts()) {
+    const [toX, toY] = center(part), along = (toX - x) * right + (toY - y) * down;
+    const aside = Math.abs((toX - x) * down) + Math.abs((toY - y) * right);
+    if (part === from || !part.matches(like) || along <= 1 || along + 2 * aside >= least) continue;
+    [best, least] = [part, along + 2 * aside];
+  }
+  return best;
+}
+
+/** @param {KeyboardEvent} event */
+function goByKeys(event) {
+  const part = parts().find((it) => it === document.activeElement), way = WAYS[event.key];
+  if (way && event.ctrlKey) {
+    move(way[0] * STEP, way[1] * STEP);
+  } else if (way) {
+    const next = part ? nextPart(part, way, event.shiftKey ? ".arc" : ".node") : parts().find((it) => it.matches(".node"));
+    if (next) {
+      next.focus({ preventScroll: true });
+      reveal(next.getBBox());
+    }
+  } else if ("+=-".includes(event.key)) {
+    zoom(event.key === "-" ? 1 / LARGER : LARGER);
+  } else if (event.key === "0") {
+    fitTo(".node, .arc");
+  } else if (part && (event.key === "Enter" || event.key === " ")) {
+    choosePart(part);
+  } else {
+    return;
+  }
+  event.preventDefault();
+}
+
+export function beginPicture() {
+  beginView(label);
+  at("picture").addEventListener("click", (event) => {
+    const part = event.target instanceof Element && event.target.closest("g.arc, g.node");
+    if (part) choosePart(part);
+  });
+  at("picture").addEventListener("keydown", goByKeys);
+  onClick("larger", () => zoom(LARGER));
+  onClick("smaller", () => zoom(1 / LARGER));
+  onClick("fit-all", () => fitTo(".node, .arc"));
+  onClick("fit-limit", () => fitTo(".cut"));
+  onClick("fit-chosen", () => fitTo(pickedCount() || theChoice() ? ".chosen" : ".node, .arc"));
+  onClick("near-limit", () => {
+    near = "";
+    at("picture").focus();
+    showPicture();
+  });
+}
+
+/** Goes back from what is told of the choice to the part of the picture that it was, and chooses nothing. */
+export async function closeChoice() {
+  const part = partOf(theChoice()), isBeside = at("chosen").contains(document.activeElement);
+  await choose(null);
+  if (isBeside) (part ?? at("picture")).focus();
+}
+
+/**
+ * Says what the picture shows, for who does not see it.
+ * @param {State} state
+ */
+export function sayPicture(state) {
+  const limit = state.limit.slice(0, MOST_SAID).map((arc) => arc.short).join(", "), rest = state.limit_count - MOST_SAID;
+  const step = state.at ? ` Last step: ${state.steps[state.at].text}, ${moved(state.steps[state.at - 1].value, state.value)}.` : "";
+  at("picture-said").textContent = `${state.value}${units()} flow from ${state.source} to ${state.sink}, over ${state.arcs} ${noun()}s. `
+    + `The limit: ${limit}${rest > 0 ? ` and ${rest} more` : ""}.${step}`;
+}

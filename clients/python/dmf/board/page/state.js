@@ -1,0 +1,138 @@
+/**
+ * The state that the board told last, and what is asked of the board.
+ * @typedef {{ number: number, node: number, tail_node: number, name: string, label: string, short: string, tail: string, head: string,
+ *   flow: string, capacity: string, closed: boolean, replaced: boolean, unlimited: boolean, full: boolean, limit: boolean }} Arc
+ * @typedef {{ node: number, name: string, in: string, out: string, roles: Arc[], is_source: boolean, is_sink: boolean, shut: boolean,
+ *   open: boolean, side: boolean }} Place
+ * @typedef {{ turn: number, title: string, unit: string, noun: string, notes: string[], source: string, sink: string, value: string,
+ *   arcs: number, given: number, places: number, at: number, steps: { text: string, value: string }[], limit: Arc[],
+ *   limit_count: number, side: string[], side_count: number, names: string[] }} State
+ * @typedef {{ arc?: number, node?: number }} Choice
+ */
+import { moved, upper } from "./amounts.js";
+import { at, button } from "./elements.js";
+import { hasTrouble, news, patiently, trouble } from "./messages.js";
+
+/** @type {State | null} */
+let state = null;
+let acting = false, newest = 0;
+/** @type {((state: State, before: State | null) => unknown)[]} */
+const watchers = [];
+
+/** The present state. Throws before there is one. */
+export function present() {
+  if (!state) throw new Error("nothing is told yet");
+  return state;
+}
+
+export const noun = () => state?.noun || "connection";
+export const units = () => (state?.unit ? ` ${state.unit}` : "");
+export const caption = () => state?.unit && `in ${state.unit}` || "";
+
+/**
+ * Has each new state told to a part of the page, with the one before it.
+ * @param {(state: State, before: State | null) => unknown} watcher
+ */
+export function watch(watcher) {
+  watchers.push(watcher);
+}
+
+/**
+ * Asks the board, which answers with JSON. Gives null where it refuses, and says why; and undefined where the answer is of another state
+ * than this page shows, which is then, or soon, shown anew.
+ * @param {string} path
+ * @param {object} [content] what is sent, if something is to be done
+ * @param {boolean} isQuiet that a refusal is not told
+ * @returns {Promise<any>}
+ */
+export async function ask(path, content, isQuiet = false) {
+  let answer, told;
+  try {
+    answer = await fetch(path, content === undefined ? {} : {
+      method: "POST", headers: { "Content-Type": "application/json" }, body: JSON.stringify({ turn: state?.turn, ...content }),
+    });
+    told = await answer.json();
+  } catch (error) {
+    lost();
+    return null;
+  }
+  if (answer.status === 410) {
+    trouble(`The session ended by itself: ${told.ended}. To take along, there is the problem below.`, button(
+      told.steps ? `Begin again, with the steps made so far (${told.steps})` : "Begin again", () => act({ what: "again" }, "begun again")));
+    return null;
+  }
+  if (!answer.ok && !isQuiet || told.told) trouble(`${upper(told.error || told.told)}.`);
+  if (state && told.turn !== undefined && told.turn !== state.turn && path !== "state" && !(path === "do" && answer.ok)) {
+    // While this page does something itself, it looks anew at its end.
+    if (told.turn > state.turn && (!acting || path === "do")) await renew();
+    return undefined;
+  }
+  return answer.ok ? told : null;
+}
+
+function lost() {
+  trouble("The board does not answer: it has ended. Start it again with dmf-board, and open the address that it tells.");
+  for (const it of document.querySelectorAll("button, input")) it.setAttribute("disabled", "");
+  life.close();
+}
+
+/** Shows what the board has now, which another tab may have changed. */
+async function renew() {
+  const told = await patiently(ask("state"));
+  if (!told || state && told.turn < state.turn) return;
+  if (state && state.turn !== told.turn) news(hasTrouble() ? "" : "The network has changed in another tab.");
+  await show(told);
+}
+
+/** Shows the newest state that was told of, if this page shows an older one. */
+async function catchUp() {
+  if (state && newest > state.turn) await renew();
+}
+
+/** @param {State} told */
+async function show(told) {
+  const before = state;
+  state = told;
+  await Promise.all(watchers.map((watcher) => watcher(told, before)));
+}
+
+/**
+ * Does something, and shows what came of it, by these words or else by those of the step. A second click meanwhile was meant for what is
+ * not shown yet.
+ * @param {object} content
+ * @param {string} words
+ */
+export async function act(content, words = "") {
+  if (acting) return;
+  acting = true;
+  at("main").setAttribute("aria-busy", "true");
+  trouble("");
+  const before = state;
+  /** @type {State | null | undefined} */
+  const told = await patiently(ask("do", content));
+  acting = false;
+  if (told) {
+    news(`${upper(words || told.steps[told.at].text)}: ${told.value}${units()}${before ? `, ${moved(before.value, told.value)}` : ""}`);
+    await show(told);
+  }
+  await catchUp();
+  at("main").setAttribute("aria-busy", String(acting));
+}
+
+export const undo = () => present().at > 0 && act({ what: "go", step: present().at - 1 }, "undone");
+export const redo = () => present().at < present().steps.length - 1 && act({ what: "go", step: present().at + 1 }, "done again");
+
+// The board lives as long as a page holds this connection, by which it tells the turn of each newer state.
+const life = new EventSource("life");
+life.addEventListener("error", lost);
+life.addEventListener("message", (event) => {
+  newest = Number(event.data);
+  if (!acting) catchUp();
+});
+
+/** Shows the page for the first time. */
+export async function begin() {
+  at("end").addEventListener("click", () => ask("stop", {}));
+  await renew();
+  at("main").setAttribute("aria-busy", "false");
+}

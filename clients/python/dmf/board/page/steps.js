@@ -1,0 +1,35 @@
+/**
+ * The steps that were made, and those that were undone.
+ * @typedef {import("./state.js").State} State
+ */
+import { moved } from "./amounts.js";
+import { at, button, field, make, onClick, replace } from "./elements.js";
+import { act, redo, undo } from "./state.js";
+
+/** @param {State} state */
+export function showSteps(state) {
+  const held = document.activeElement;
+  field("undo").disabled = state.at === 0;
+  field("redo").disabled = state.at === state.steps.length - 1;
+  if (held === at("undo") && state.at === 0) at("redo").focus();
+  if (held === at("redo") && field("redo").disabled) at("undo").focus();
+  replace(at("way"), state.steps.map((step, place) => {
+    const words = place ? step.text : "as in the file";
+    const by = place ? ` (${moved(state.steps[place - 1].value, step.value)})` : "";
+    const go = button(`${words}: ${step.value}${by}`, () => act({ what: "go", step: place }, `at the step “${words}”`));
+    if (place === state.at) go.setAttribute("aria-current", "step");
+    return make("li", go, { class: place > state.at ? "undone" : "" });
+  }));
+}
+
+export function beginSteps() {
+  onClick("undo", undo);
+  onClick("redo", redo);
+  document.addEventListener("keydown", (event) => {
+    if (!(event.ctrlKey || event.metaKey) || event.target instanceof HTMLInputElement) return;
+    if (event.key === "z" && !event.shiftKey) undo();
+    else if (event.key === "y" || (event.key.toLowerCase() === "z" && event.shiftKey)) redo();
+    else return;
+    event.preventDefault();
+  });
+}

@@ -1,0 +1,40 @@
+/**
+ * What can be sent, at the top, and the limit.
+ * @typedef {import("./state.js").State} State
+ */
+import { moved, upper } from "./amounts.js";
+import { pick } from "./choice.js";
+import { at, fill, keepInSight, make, numberCell } from "./elements.js";
+import { caption, noun, units } from "./state.js";
+
+/** @param {State} state */
+export function showSummary(state) {
+  keepInSight(() => tell(state));
+  showLimit(state);
+}
+
+/** @param {State} state */
+function tell(state) {
+  document.title = `${state.value} ${state.title}`;
+  at("title").textContent = `${state.title}: from ${state.source} to ${state.sink}`;
+  const by = moved(state.steps[0].value, state.value);
+  const since = state.at ? ` (${by} than at the beginning).`.replace("no change than", "as much as") : ".";
+  at("value").replaceChildren(
+    make("strong", state.value), `${units()} can be sent from ${state.source} to ${state.sink}, and not more${since}`);
+  at("legend").textContent = `45/60: 45${units()} flow where 60 fit`;
+  at("notes").hidden = !state.notes.length;
+  at("notes").lastElementChild?.replaceChildren(...state.notes.map((note) => make("li", note)));
+  at("places").replaceChildren(...state.names.map((name) => make("option", [], { value: name })));
+  for (const [id, file] of [["take-csv", "plan.csv"], ["take-max", "problem.max"]]) {
+    at(id).setAttribute("href", `${file}?turn=${state.turn}`);
+  }
+}
+
+/** @param {State} state */
+function showLimit(state) {
+  const rest = state.limit_count - state.limit.length;
+  const more = state.side_count > state.side.length ? ` and ${state.side_count - state.side.length} more` : "";
+  at("limit-note").textContent = `Whatever way is taken, it leads over one of these, and together they carry ${state.value}${units()}. `
+    + `Before the limit: ${state.side.join(", ")}${more}.` + (rest ? ` The first ${state.limit.length} of ${state.limit_count}:` : "");
+  fill("limit-table", caption(), [upper(noun()), "carries"], state.limit.map((arc) => [pick(arc), numberCell(arc.capacity)]));
+}

@@ -1,0 +1,209 @@
+/**
+ * The table of all arcs. It holds the rows that can be seen, and asks for others as one scrolls.
+ * @typedef {import("./state.js").Arc} Arc
+ * @typedef {{ total: number, first: number, rows: Arc[], reading: string, fault: string }} Part
+ */
+import { upper } from "./amounts.js";
+import { choose } from "./choice.js";
+import { at, field, make, onClick, replace } from "./elements.js";
+import { isPicked, pickMore, pickThese, toggle, watchPicked } from "./many.js";
+import { ask, caption, noun, units } from "./state.js";
+
+/** The height of a row in pixels, as the style has it; how many rows are asked for at once; how many a page of keys moves by. */
+const HEIGHT = 32, AT_ONCE = 120, PAGE = 10;
+const COLUMNS = [["name", ""], ["from", "From"], ["to", "To"], ["flow", "flows"], ["capacity", "fits"]];
+/** @type {Part} */
+let part = { total: 0, first: 0, rows: [], reading: "", fault: "" };
+let order = "", asked = 0, current = 0, anchor = 0, isAsking = false, isLate = false;
+
+const words = () => `filter=${encodeURIComponent(field("filter").value.trim())}&sort=${order}`;
+
+/**
+ * The numbers of so many arcs of the table.
+ * @param {number} first
+ * @param {number} count
+ * @returns {Promise<number[] | null>}
+ */
+async function numbers(first, count) {
+  const told = await ask(`numbers?${words()}&first=${first}&count=${count}`);
+  return told ? told.numbers : null;
+}
+
+/** Shows the rows that can be seen, after another state, filter or order. */
+export async function showTable() {
+  const turn = (asked += 1);
+  const first = Math.max(0, Math.floor(at("rows").scrollTop / HEIGHT) - AT_ONCE / 3);
+  const told = await ask(`rows?${words()}&first=${first}&count=${AT_ONCE}`);
+  if (turn !== asked || !told) return;
+  part = told;
+  at("filter-told").textContent = reading();
+  at("filter").setAttribute("aria-invalid", String(Boolean(part.fault)));
+  current = Math.min(current, Math.max(0, part.total - 1));
+  draw();
+}
+
+/** How the filter is understood, and how many it shows. */
+function reading() {
+  return part.fault ? `${upper(part.fault)}.` : `${part.total} ${part.total === 1 ? "row" : "rows"}: ${part.reading || "all"}.`;
+}
+
+/** Asks for the rows that came into sight, one request after the other. */
+async function scrolled() {
+  const first = Math.floor(at("rows").scrollTop / HEIGHT), last = first + Math.ceil(at("rows").clientHeight / HEIGHT);
+  if (first >= part.first && Math.min(last, part.total) <= part.first + part.rows.length) return;
+  isLate = isAsking;
+  if (isAsking) return;
+  isAsking = true;
+  await showTable();
+  isAsking = false;
+  if (isLate) scrolled();
+}
+
+function draw() {
+  const heads = COLUMNS.map(([column, title]) => {
+    const sort = make("button", title || upper(noun()), { type: "button", class: "link" });
+    sort.addEventListener("click", () => {
+      order = order === column ? `-${column}` : order === `-${column}` ? "" : column;
+      at("rows").scrollTop = 0;
+      showTable();
+    });
+    const way = order === column ? "ascending" : order === `-${column}` ? "descending" : "none";
+    return make("th", sort, { scope: "col", class: column, "aria-sort": way });
+  });
+  const grid = /** @type {HTMLTableElement} */ (at("grid"));
+  grid.setAttribute("aria-rowcount", String(part.total + 1));
+  const keys = "arrow keys move, Space chooses, Control and A all, Enter shows one";
+  grid.setAttribute("aria-label", `All ${noun()}s ${caption()}; ${keys}`);
+  if (grid.tHead) replace(grid.tHead, [make("tr", [title("tick", "chosen"), ...heads, title("marks", "state")])]);
+  const rest = part.total - part.first - part.rows.length;
+  grid.tBodies[0].replaceChildren(spacer(part.first), ...part.rows.map(row), spacer(rest));
+  point();
+}
+
+/**
+ * @param {string} column
+ * @param {string} told words that stand for it where they are not seen
+ */
+const title = (column, told) => make("th", make("span", told, { class: "unseen" }), { class: column, scope: "col" });
+
+/**
+ * What stands for so many rows that cannot be seen.
+ * @param {number} count
+ */
+function spacer(count) {
+  const made = make("tr", [], { class: "spacer", "aria-hidden": "true" });
+  made.style.setProperty("height", `${Math.max(0, count) * HEIGHT}px`);
+  return made;
+}
+
+/**
+ * @param {Arc} arc
+ * @param {number} place
+ */
+function row(arc, place) {
+  const marks = [arc.closed && "closed", arc.full && "full", arc.limit && "limit"].filter(Boolean).join(", ");
+  const tick = make("input", [], { type: "checkbox", tabindex: "-1", "aria-label": `choose ${arc.label}` });
+  tick.checked = isPicked(arc.number);
+  return make("tr", [make("td", tick, { class: "tick" }),
+    make("td", arc.name || arc.label, { class: "name", title: arc.label }),
+    make("td", arc.tail, { class: "from" }), make("td", arc.head, { class: "to" }),
+    make("td", arc.closed ? "" : arc.flow, { class: "flow" }), make("td", arc.capacity, { class: "capacity" }),
+    make("td", marks, { class: "marks" })],
+  { id: `row-${part.first + place}`, "aria-rowindex": String(part.first + place + 2), "aria-selected": String(tick.checked) });
+}
+
+/** Marks the row that keys move from, and those that are chosen. */
+function point() {
+  for (const [place, { number }] of part.rows.entries()) {
+    const shown = document.getElementById(`row-${part.first + place}`), is = isPicked(number);
+    shown?.classList.toggle("current", part.first + place === current);
+    shown?.setAttribute("aria-selected", String(is));
+    const tick = shown?.querySelector("input");
+    if (tick) tick.checked = is;
+  }
+  at("grid").setAttribute("aria-activedescendant", part.total ? `row-${current}` : "");
+}
+
+/**
+ * Goes to a row, and shows it.
+ * @param {number} place
+ */
+async function go(place) {
+  current = Math.max(0, Math.min(part.total - 1, place));
+  const box = at("rows"), top = current * HEIGHT, room = box.clientHeight - HEIGHT;
+  if (top < box.scrollTop) box.scrollTop = top;
+  else if (top + HEIGHT > box.scrollTop + room) box.scrollTop = top + HEIGHT - room;
+  await scrolled();
+  point();
+}
+
+const arcAt = (/** @type {number} */ place) => part.rows[place - part.first];
+
+/** Chooses the rows between the one where the choice began and the present one. */
+async function pickRange() {
+  const found = await numbers(Math.min(anchor, current), Math.abs(anchor - current) + 1);
+  if (found) pickThese(found);
+}
+
+/** Chooses all that the filter shows. */
+async function pickAll() {
+  const found = await numbers(0, part.total);
+  if (found) pickMore(found);
+}
+
+/** @param {MouseEvent} event */
+async function clicked(event) {
+  const target = event.target instanceof Element ? event.target : null;
+  const shown = target?.closest("tbody tr[id]");
+  if (!shown) return;
+  current = Number(shown.id.slice("row-".length));
+  const arc = arcAt(current);
+  if (event.shiftKey) {
+    await pickRange();
+  } else {
+    anchor = current;
+    if (event.ctrlKey || event.metaKey || target?.matches("input, .tick")) await toggle(arc.number);
+    else await Promise.all([pickThese([arc.number]), choose({ arc: arc.number })]);
+  }
+  point();
+}
+
+/** @param {KeyboardEvent} event */
+async function typed(event) {
+  if (event.target !== at("grid") || !part.total) return;
+  const steps = { ArrowDown: 1, ArrowUp: -1, PageDown: PAGE, PageUp: -PAGE, Home: -part.total, End: part.total }[event.key];
+  const to = steps && current + steps;
+  const isAll = event.key === "a" && (event.ctrlKey || event.metaKey);
+  if (to === undefined && !isAll && ![" ", "Enter", "Escape"].includes(event.key)) return;
+  event.preventDefault();
+  if (isAll) await pickAll();
+  else if (event.key === "Escape") pickThese([]);
+  else if (to !== undefined) {
+    await go(to);
+    if (event.shiftKey) await pickRange();
+    else anchor = current;
+  } else if (arcAt(current)) {
+    anchor = current;
+    await (event.key === " " ? toggle(arcAt(current).number) : choose({ arc: arcAt(current).number }));
+  }
+}
+
+export function beginTable() {
+  at("rows").addEventListener("scroll", scrolled);
+  at("grid").addEventListener("click", clicked);
+  at("grid").addEventListener("keydown", typed);
+  onClick("pick-all", pickAll);
+  at("filter").addEventListener("input", () => {
+    at("rows").scrollTop = 0;
+    current = anchor = 0;
+    showTable();
+  });
+  watchPicked(point);
+}
+
+/** Says how amounts are told, beside the filter. */
+export const showForms = () => {
+  at("listed-head").textContent = `All ${noun()}s`;
+  at("filter-forms").textContent = "A part of a name, or full, limit, closed, changed, capacity < 60, flow >= 10, from ~ Mill"
+    + `; with “and” between two. Amounts are in${units() || " the table’s unit"}.`;
+};

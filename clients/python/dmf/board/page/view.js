@@ -1,0 +1,110 @@
+/**
+ * The part of the picture that is seen: dragged, made larger and smaller about a point, and fitted to what is in it.
+ * @typedef {{ x: number, y: number, width: number, height: number }} Box
+ */
+import { at } from "./elements.js";
+
+/** The largest number of pixels for a unit of the picture, also where that is fitted; the smallest; what a drag is, in pixels; its rim. */
+const MOST = 6, MOST_FITTED = 1.33, LEAST = 0.02, DRAG = 4, RIM = 12;
+/** @type {Box} */
+let seen = { x: 0, y: 0, width: 1, height: 1 };
+/** @type {Map<number, { x: number, y: number }>} */
+const pointers = new Map();
+let isDragged = false, wide = 1, high = 1;
+/** @type {() => unknown} */
+let told = () => undefined;
+
+/** The pixels for a unit of the picture. */
+export const scale = () => wide / seen.width;
+
+/**
+ * Shows the part of a size about a middle, with as many pixels for a unit.
+ * @param {number} x
+ * @param {number} y
+ * @param {number} pixels
+ */
+function show(x, y, pixels) {
+  const by = Math.min(MOST, Math.max(LEAST, pixels)), { clientWidth, clientHeight } = at("picture");
+  [wide, high] = [clientWidth, clientHeight];
+  seen = { width: clientWidth / by, height: clientHeight / by, x: x - clientWidth / by / 2, y: y - clientHeight / by / 2 };
+  put();
+}
+
+/** Has the picture show what is to be seen. */
+function put() {
+  at("picture").querySelector("svg")?.setAttribute("viewBox", [seen.x, seen.y, seen.width, seen.height].join(" "));
+  told();
+}
+
+const middle = () => ({ x: seen.x + seen.width / 2, y: seen.y + seen.height / 2 });
+
+/** Shows the same middle again, in another picture or in another room. */
+export function refresh() {
+  const { clientWidth, clientHeight } = at("picture");
+  if (clientWidth === wide && clientHeight === high) put();
+  else show(middle().x, middle().y, scale());
+}
+
+/**
+ * Makes the picture larger about a point of the window, or its middle; below 1 smaller.
+ * @param {number} by
+ * @param {{ x: number, y: number }} [point]
+ */
+export function zoom(by, point) {
+  const box = at("picture").getBoundingClientRect(), pixels = Math.min(MOST, Math.max(LEAST, scale() * by));
+  const [right, down] = point ? [point.x - box.x - box.width / 2, point.y - box.y - box.height / 2] : [0, 0];
+  show(middle().x + right / scale() - right / pixels, middle().y + down / scale() - down / pixels, pixels);
+}
+
+/**
+ * Moves what is seen, by pixels.
+ * @param {number} right
+ * @param {number} down
+ */
+export function move(right, down) {
+  show(middle().x + right / scale(), middle().y + down / scale(), scale());
+}
+
+/** @param {Box} box */
+export function fit({ x, y, width, height }) {
+  const { clientWidth, clientHeight } = at("picture"), room = [clientWidth - 2 * RIM, clientHeight - 2 * RIM];
+  show(x + width / 2, y + height / 2, Math.min(MOST_FITTED, room[0] / Math.max(width, 1), room[1] / Math.max(height, 1)));
+}
+
+/** @param {Box} box what is to be seen, at the present size if it is not */
+export function reveal({ x, y, width, height }) {
+  const isIn = x >= seen.x && y >= seen.y && x + width <= seen.x + seen.width && y + height <= seen.y + seen.height;
+  if (!isIn) show(x + width / 2, y + height / 2, scale());
+}
+
+/** @param {PointerEvent} event */
+function dragged(event) {
+  const before = pointers.get(event.pointerId);
+  if (!before || !isDragged && Math.hypot(event.x - before.x, event.y - before.y) < DRAG) return;
+  isDragged = true;
+  if (!at("picture").hasPointerCapture(event.pointerId)) at("picture").setPointerCapture(event.pointerId);
+  const other = [...pointers].find(([id]) => id !== event.pointerId)?.[1];
+  const apart = (/** @type {{ x: number, y: number }} */ one) => other ? Math.max(1, Math.hypot(one.x - other.x, one.y - other.y)) : 1;
+  if (other) zoom(apart(event) / apart(before), other);
+  else move(before.x - event.x, before.y - event.y);
+  pointers.set(event.pointerId, { x: event.x, y: event.y });
+}
+
+/** @param {() => unknown} tell what is done whenever another part is seen */
+export function beginView(tell) {
+  told = tell;
+  const host = at("picture");
+  host.addEventListener("pointerdown", (event) => {
+    if (!pointers.size) isDragged = false;
+    if (event.button === 0) pointers.set(event.pointerId, { x: event.x, y: event.y });
+  });
+  host.addEventListener("pointermove", dragged);
+  addEventListener("pointerup", (event) => pointers.delete(event.pointerId));
+  addEventListener("pointercancel", (event) => pointers.delete(event.pointerId));
+  host.addEventListener("click", (event) => isDragged && event.stopImmediatePropagation(), true);
+  host.addEventListener("wheel", (event) => {
+    event.preventDefault();
+    zoom(Math.exp(-event.deltaY * (event.deltaMode ? 0.05 : 0.002)), event);
+  }, { passive: false });
+  new ResizeObserver(refresh).observe(host);
+}

@@ -1,0 +1,91 @@
+"""Arcs of a desk by what is so of them: the conditions that a planner writes, and which arcs were changed."""
+
+from __future__ import annotations
+
+import operator
+import unicodedata
+from collections.abc import Callable
+
+from .desk import Desk
+from .desk_amounts import amount
+from .desk_steps import DeskFault, Line, Step
+from .quantity import Quantity
+
+COMPARED: dict[str, Callable[[Quantity, Quantity], bool]] = {
+    "<": operator.lt, "<=": operator.le, "=": operator.eq, ">=": operator.ge, ">": operator.gt,
+}  # fmt: skip
+Condition = Callable[[int], bool]
+
+
+def condition(desk: Desk, words: list[str]) -> Condition | None:
+    """Whether something is so of an arc: `full`, `limit`, `name ~ TEXT` (also of `from` and `to`), or `capacity < NUMBER` (also of `flow`
+    and with `<=`, `=`, `>=`, `>`). None if the words are no condition. Raises a `DeskFault` where it cannot be told."""
+    if words == ["full"]:
+        return lambda number: 0 < desk.flow(number) == desk.line(number).capacity
+    if words == ["limit"]:
+        if not desk.is_greatest:
+            raise DeskFault("the flow is not greatest, so there is no limit to tell; `solve` first")
+        return lambda number: number in desk.cut_arcs()
+    if len(words) < 3:
+        return None
+    what, sign, text = words[0], words[1], " ".join(words[2:])
+    names: dict[str, Callable[[int], str]] = {
+        "name": desk.names.arc_name,
+        "from": lambda number: desk.names.node(desk.line(number).tail),
+        "to": lambda number: desk.names.node(desk.line(number).head),
+    }
+    numbers: dict[str, Callable[[int], Quantity]] = {"capacity": lambda number: desk.line(number).capacity, "flow": desk.flow}
+    if what in names and sign == "~":
+        sought = text.casefold()
+        return lambda number: sought in names[what](number).casefold()
+    if what in numbers and sign in COMPARED:
+        bound = amount(text, desk.measure)
+        return lambda number: COMPARED[sign](numbers[what](number), bound)
+    return None
+
+
+def folded(text: str) -> str:
+    """A text by which it is found: without case and accents."""
+    if text.isascii():
+        return text.casefold()
+    return "".join(sign for sign in unicodedata.normalize("NFKD", text.casefold()) if not unicodedata.combining(sign))
+
+
+def reopened(step: Step) -> dict[int, int]:
+    """The arcs that a step opened again, with those that they were before they were closed."""
+    pairs = zip(step.before, step.before[1:])
+    return {new.number: old.number for new, old in pairs if new.line is None and old.line is not None and old.line.is_closed}
+
+
+def successors(desk: Desk) -> dict[int, int]:
+    """The arcs that were closed and opened again, with what they are now."""
+    found: dict[int, int] = {}
+    for step in reversed(desk.steps[: desk.at]):
+        for new, old in reopened(step).items():
+            found[old] = found.get(new, new)
+    return found
+
+
+def changed(desk: Desk) -> set[int]:
+    """The arcs that are not as they were before the first step: closed, of another capacity, or added. One that was closed and opened
+    again is as it was."""
+    first: dict[int, Line | None] = {}
+    for step in desk.steps[: desk.at]:
+        was = {number: line for number, line in reversed(step.before)}
+        for new, old in reopened(step).items():
+            was[new] = first.get(old, was[old])
+        for number, line in was.items():
+            first.setdefault(number, line)
+    return {number for number, line in first.items() if _differs(desk.line(number), line)}
+
+
+def given_arcs(desk: Desk) -> int:
+    """How many arcs there are that no step added: those of the file."""
+    return len(desk.lines) - sum(was.line is None for step in desk.steps[: desk.at] for was in step.before)
+
+
+def _differs(now: Line, before: Line | None) -> bool:
+    """Whether an arc is another than it was before, or than none."""
+    if now.is_replaced:
+        return False
+    return before is None or (now.capacity, now.is_closed) != (before.capacity, before.is_closed)

@@ -1,0 +1,101 @@
+"""A headless browser that shows a board, and what the tests do on its page."""
+
+from __future__ import annotations
+
+import shutil
+from collections.abc import Callable, Iterator
+from typing import Any
+
+import pytest
+
+# How long the page is waited for, in seconds.
+SECONDS = 20
+
+
+def browser() -> Iterator[Any]:
+    """A headless Chromium. Skips the test where something is not there that it needs."""
+    for program in "chromium", "chromedriver", "dot":
+        if not shutil.which(program):
+            pytest.skip(f"{program} is not there, so the board was not shown by a browser")
+    pytest.importorskip("selenium", reason="python3-selenium is not there, so the board was not shown by a browser")
+    from selenium import webdriver
+    from selenium.webdriver.chrome.service import Service
+
+    options: Any = webdriver.ChromeOptions()
+    for word in ("--headless=new", "--no-sandbox", "--disable-gpu", "--disable-dev-shm-usage", "--window-size=1280,1000"):
+        options.add_argument(word)
+    options.set_capability("goog:loggingPrefs", {"browser": "ALL"})
+    made = webdriver.Chrome(service=Service("/usr/bin/chromedriver"), options=options)
+    yield made
+    made.quit()
+
+
+class Page:
+    """A page that a browser shows."""
+
+    def __init__(self, driver: Any, address: str) -> None:
+        self.driver = driver
+        if address:
+            driver.get(address)
+        self.ready()
+
+    def ready(self) -> None:
+        script = "return document.readyState === 'complete' && Boolean(document.querySelector('#picture svg'))"
+        self.wait(lambda: self.driver.execute_script(script))
+        self.settle()
+
+    def settle(self) -> None:
+        """Waits until nothing is being done."""
+        self.wait(lambda: self.driver.execute_script("return document.getElementById('main').getAttribute('aria-busy') === 'false'"))
+
+    def wait(self, is_so: Callable[[], object]) -> None:
+        from selenium.webdriver.support.wait import WebDriverWait
+
+        WebDriverWait(self.driver, SECONDS, poll_frequency=0.02).until(lambda _: is_so())
+
+    def actions(self) -> Any:
+        """What a pointer and keys do, one after the other, once it is performed."""
+        from selenium.webdriver.common.action_chains import ActionChains
+
+        chains: Any = ActionChains
+        return chains(self.driver)
+
+    def text(self, place: str) -> str:
+        return str(self.driver.execute_script("return document.querySelector(arguments[0])?.innerText ?? ''", place))
+
+    def value(self) -> int:
+        return int(self.text("#value strong"))
+
+    def click(self, place: str) -> None:
+        self.driver.find_element("css selector", place).click()
+
+    def press(self, word: str) -> None:
+        """Presses the button of this text, once it is there."""
+        found = f"//button[text()={word!r}]"
+        self.wait(lambda: self.driver.find_elements("xpath", found))
+        self.driver.find_element("xpath", found).click()
+
+    def write(self, place: str, text: str) -> None:
+        field = self.driver.find_element("css selector", place)
+        field.clear()
+        field.send_keys(text)
+
+    def choose(self, place: str, name: str) -> None:
+        """Clicks a part of the picture: its label, or if that has no room the part itself."""
+        self.settle()
+        label = self.driver.find_element("css selector", f"#{place} text")
+        if label.is_displayed():
+            label.click()
+        else:
+            self.driver.execute_script("arguments[0].dispatchEvent(new MouseEvent('click', { bubbles: true }))", label)
+        self.wait(lambda: self.text("#what h3") == name)
+
+    def after(self, act: Callable[[], None]) -> int:
+        """The value once a click has made a step, or has gone to one, and the picture shows it."""
+        self.settle()
+        act()
+        self.settle()
+        return self.value()
+
+    def undo(self) -> int:
+        return self.after(lambda: self.click("#undo"))

@@ -1,0 +1,97 @@
+"""Tabs of a board that show the same, and what takes long, by headless Chromium."""
+
+from __future__ import annotations
+
+from typing import Any
+
+import pytest
+from board_pages import Page
+from board_running import board
+from desk_shared import PIPES, stop_session, wait_until_asked, without
+
+pytestmark = pytest.mark.seconds(20)
+
+
+# Lets a page hear of no newer state while `deaf` is true.
+DEAF = """
+const add = EventSource.prototype.addEventListener;
+EventSource.prototype.addEventListener = function (kind, listener) {
+  add.call(this, kind, (event) => { if (!window.deaf || kind !== "message") listener(event); });
+};
+"""
+
+
+def test_live(driver: Any) -> None:
+    """What one tab does, the others show, at whichever step they are; and what is done by a request alone."""
+    with board(PIPES) as it:
+        page = Page(driver, it.address)
+        first = driver.current_window_handle
+        page.choose("arc-9", "Mill Lane")
+        driver.switch_to.new_window("tab")
+        other = Page(driver, it.address)
+        other.choose("arc-10", "Bridge pipe")
+        assert other.after(lambda: other.press("Close it")) == without("Bridge pipe")
+        driver.switch_to.window(first)
+        page.wait(lambda: page.value() == without("Bridge pipe"))
+        page.wait(lambda: "Bridge pipe" in page.text("#way"))
+        assert page.text("#news") == "The network has changed in another tab."
+        assert page.text("#what h3") == "Mill Lane"
+        assert page.after(lambda: page.press("Close it")) == without("Bridge pipe", "Mill Lane")
+        it.do(what="go", step=1)
+        page.wait(lambda: page.value() == without("Bridge pipe"))
+        driver.switch_to.window(driver.window_handles[-1])
+        other.wait(lambda: other.value() == without("Bridge pipe"))
+        driver.close()
+        driver.switch_to.window(first)
+        driver.get("about:blank")
+
+
+def test_late(driver: Any) -> None:
+    """What a tab asks for that shows what is no more so changes nothing, and the tab then shows what is."""
+    script = driver.execute_cdp_cmd("Page.addScriptToEvaluateOnNewDocument", {"source": DEAF})
+    with board(PIPES) as it:
+        page = Page(driver, it.address)
+        page.choose("arc-3", "North rise")
+        driver.execute_script("window.deaf = true")
+        it.do(what="close", arc=10)
+        it.do(what="close", arc=9)
+        now = it.state()
+        assert page.value() == 165
+        page.press("Close it")
+        page.wait(lambda: page.text("#trouble") == "The network has changed in another tab: look again.")
+        page.wait(lambda: page.value() == without("Bridge pipe", "Mill Lane"))
+        assert (it.state(), "Mill Lane" in page.text("#way")) == (now, True)
+        # Of two clicks at once the second is none.
+        driver.execute_script("for (const _ of [1, 2]) document.getElementById('undo').click()")
+        page.wait(lambda: page.value() == without("Bridge pipe"))
+        page.settle()
+        assert (page.text("#trouble"), it.state()["at"]) == ("", 1)
+        # What is asked of a state that has passed shows the present one.
+        it.do(what="go", step=0)
+        page.click("#arc-9 text")
+        page.wait(lambda: page.value() == 165)
+        page.wait(lambda: page.text("#what h3") == "Mill Lane")
+        driver.get("about:blank")
+    driver.execute_cdp_cmd("Page.removeScriptToEvaluateOnNewDocument", script)
+
+
+def test_long(driver: Any) -> None:
+    """What takes long can be stopped, and the steps before it are kept."""
+    with board(PIPES) as it:
+        page = Page(driver, it.address)
+        page.choose("arc-10", "Bridge pipe")
+        assert page.after(lambda: page.press("Close it")) == 155
+        page.choose("node-5", "Mill")
+        (session,) = it.sessions()
+        stop_session(session)
+        page.press("Shut it")
+        stop = driver.find_element("id", "end")
+        page.wait(stop.is_displayed)
+        wait_until_asked(session)
+        stop.click()
+        page.wait(lambda: "It was stopped. The session was begun again" in page.text("#trouble"))
+        page.settle()
+        assert (page.value(), stop.is_displayed(), it.state()["at"]) == (155, False, 1)
+        assert page.after(lambda: page.press("Shut it")) < 155
+        assert page.text("#trouble") == ""
+        driver.get("about:blank")
