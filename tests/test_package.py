@@ -25,7 +25,7 @@ END = "\x1e"
 SCRIPT = """
 import dmf
 network = dmf.Network([("lake", "mill", 3), ("mill", "sea", 2)], "lake", "sea")
-print(dmf.__file__, network._child.process.args[0], network.solve().value)
+print(dmf.__file__, network._session.process.args[0], network.solve().value)
 """
 
 

@@ -17,7 +17,7 @@ SECONDS = 20
 
 def program_of(network: dmf.Network[Any]) -> str:
     """The path of the program that a network runs."""
-    words: Any = network._child.process.args
+    words: Any = network._session.process.args
     return str(words[0])
 
 

@@ -65,9 +65,9 @@ def test_a_node() -> None:
     with pipes() as network, pipes() as other:
         plan = network.solve()
         other.solve()
-        process = network._child.process
+        process = network._session.process
         network.add_node("mill")
-        assert network.solve().value == 5 and network._child.process is process
+        assert network.solve().value == 5 and network._session.process is process
         network.undo()
         network.add_node("pond")
         network.add_node(7)

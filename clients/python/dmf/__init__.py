@@ -16,7 +16,7 @@ help(dmf.sweep)           thousands of changes, each alone; each_arc_closed,
                           each_node_shut, each_capacity_raised, each_pair_added
 help(dmf.Error)           the base of all exceptions; each refusal is one, as
                           dmf.NoSuchArc: dir(dmf) has all names
-help(dmf.program)         which program runs
+help(dmf.program)         which program runs; help(dmf.library): or which library
 
 docs/PYTHON.md says what calls cost, and how to come from networkx, scipy and igraph.
 """
@@ -86,6 +86,7 @@ if TYPE_CHECKING:
     )
     from .tables.faults import TableFault as TableFault
     from .tables.live import TableNetwork as TableNetwork, read_table as read_table
+    from .ways import library as library
 
 # The public names of each module, but for those of the exceptions, which the module `errors` knows itself.
 _NAMES = {
@@ -98,6 +99,7 @@ _NAMES = {
     "tables.faults": ["TableFault"],
     "tables.live": ["TableNetwork", "read_table"],
     "sweeping": ["SweepResult", "each_arc_closed", "each_capacity_raised", "each_node_shut", "each_pair_added", "sweep"],
+    "ways": ["library"],
 }
 _HOMES = {name: module for module, names in _NAMES.items() for name in names}
 if not TYPE_CHECKING:

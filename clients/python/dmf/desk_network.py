@@ -62,11 +62,11 @@ class Held:
     @property
     def has_ended(self) -> bool:
         """Whether the session is known to have ended."""
-        return self._is_broken or not self.network._child.end.alive
+        return self._is_broken or not self.network._session.end.alive
 
     def break_off(self, why: str) -> None:
         """Ends the session at once, also for a thread that waits for it."""
-        self.network._child.break_off(why)
+        self.network._session.break_off(why)
 
     def drop(self) -> None:
         """Ends the session, which may be between two steps."""

@@ -6,17 +6,24 @@ import os
 import weakref
 from array import array
 from collections.abc import Callable, Sequence
-from typing import NamedTuple, Union
+from typing import TYPE_CHECKING, NamedTuple, Union
 
 from .errors import Refused, SessionEnded, shown
-from .executable import Program
+from .executable import FilePath, Program
 
+if TYPE_CHECKING:
+    from .loaded import Library
+
+# What runs a session: a program, by its path, or the library.
+Way = Union[FilePath, "Library"]
+PROGRAM = str, bytes, os.PathLike
 # The flow on each arc: the text of the open arcs, as the program writes it, or an array of all arcs, closed ones too.
 Told = Union[bytes, "array[int]"]
 
 
 class Problem(NamedTuple):
-    """A network by its numbers: how many nodes there are, the source and the sink, and the columns of the arcs."""
+    """A network by its numbers: how many nodes there are, the source and the sink, and the columns of the arcs. The capacities may be
+    followed by others."""
 
     nodes: int
     source: int
@@ -24,6 +31,10 @@ class Problem(NamedTuple):
     tails: array[int]
     heads: array[int]
     capacities: array[int]
+
+    def columns(self) -> tuple[array[int], array[int], array[int]]:
+        """The columns of the arcs."""
+        return self.tails, self.heads, self.capacities
 
 
 class Session:
@@ -42,6 +53,11 @@ class Session:
         self._owner = os.getpid()
         # How many commands it was given.
         self.asked_count = 0
+
+    @property
+    def way(self) -> Way:
+        """What begins another session in the same way."""
+        raise NotImplementedError
 
     @property
     def is_owned(self) -> bool:
@@ -90,6 +106,11 @@ class Session:
         to what is found. The value is the given one before and after each. Raises `SessionEnded` if one is refused, since the answers
         after it are of another network."""
         raise NotImplementedError
+
+
+def case_lines(commands: Sequence[str]) -> list[str]:
+    """The lines that try a case of commands: these, a solve, and the steps back."""
+    return [*commands, "solve", f"undo {len(commands) + 1}"]
 
 
 def refused(text: str, command: str, at: object) -> Refused:

@@ -3,19 +3,20 @@
 from __future__ import annotations
 
 import os
-import tempfile
 from array import array
 from collections import Counter
 from typing import Any
 
 from .arcs import Columns, Node
-from .arrays import PIECE, no_capacity, numpy_for, read_lines, with_infinite
+from .arrays import no_capacity, numpy_for, pieces_of, read_lines, with_infinite
 from .kept import Kept, Whole, whole
 from .network import Network
 from .numbering import AMOUNTS, NODES
-from .process import Child, FilePath, Program, bound, session_words, start
+from .process import FilePath, Program, bound
+from .session import Session
 from .tables.comments import described
 from .text import ARC, NODE, names_in, naming_pieces
+from .ways import chosen, started_on
 
 
 def read(path: FilePath, *, program: Program = None, history: int | None = None) -> Network[int | str]:
@@ -30,26 +31,23 @@ def read(path: FilePath, *, program: Program = None, history: int | None = None)
     most = bound(history)
     with open(os.fspath(path), "rb") as file:
         text = file.read()
-    # The program reads a copy: a pipe is empty by now, a file may have changed, and /dev/stdin is another file to the program.
-    with tempfile.NamedTemporaryFile(prefix="dmf-", suffix=".max") as copy:
-        copy.write(text)
-        copy.flush()
-        child = start(copy.name, program, session_words(most))
+    # The session has this text: a pipe is empty by now, a file may have changed, and /dev/stdin is another file to a program.
+    session = started_on(text, chosen(program), most)
+    session.program = program
     network: Network[int | str] = Network.__new__(Network)
-    network._begin(child, _kept(child, text, most))
+    network._begin(session, _kept(session, text, most))
     return network
 
 
-def _kept(child: Child, text: bytes, most: int) -> Kept[int | str]:
+def _kept(session: Session, text: bytes, most: int) -> Kept[int | str]:
     """The arcs and names of a problem that a session has read. The names of arcs are read when one is first needed."""
+    head, *ends, arcs = session.problem().split(b"\n", 3)
+    node_count, arc_count = map(int, head.split()[2:])
+    source, sink = (int(line.split()[1]) for line in ends)
     tails, heads, capacities = array(NODES), array(NODES), array(AMOUNTS)
-    with child.exchange("print problem"):
-        node_count, arc_count = map(int, child.line()[2:])
-        source, sink = (int(child.line()[1]) for _ in range(2))
-        for begin in range(0, arc_count, PIECE):
-            read = read_lines(child.lines(min(PIECE, arc_count - begin)), numpy_for(arc_count))
-            for column, more in zip((tails, heads, capacities), read):
-                column.extend(more)
+    for piece in pieces_of(arcs):
+        for column, more in zip((tails, heads, capacities), read_lines(piece, numpy_for(arc_count))):
+            column.extend(more)
     named = _of(node_count, names_in(naming_pieces(text, NODE), NODE))
     if len(set(named.values())) < len(named):
         used = Counter(named.values())

@@ -135,10 +135,9 @@ def sweep(
     made = cases(network) if callable(cases) else cases
     programs = _programs(jobs)
     swept = _Swept(network)
-    program: Any = network._child.process.args
-    begin: Callable[[], Tries] = functools.partial(Here, swept.kept, program[0], want_cut, programs)
+    begin: Callable[[], Tries] = functools.partial(Here, swept.kept, network._session.way, want_cut, programs)
     if executor is not None:
-        begin = functools.partial(There, Sent.of(swept.kept, network._child.program), executor, want_cut)
+        begin = functools.partial(There, Sent.of(swept.kept, network._session.program), executor, want_cut)
     results = _results(swept, iter(made), begin)
     return _shown(results, operator.length_hint(made) or None) if progress else results
 

@@ -20,9 +20,10 @@ from ..network import Network
 from ..notebook import table as html_table
 from ..process import Program, bound
 from ..quantity import Measure, Quantity, QuantityFault, number_in
-from ..running import alone, started
+from ..running import alone
 from ..solution import Cut, Solution
 from ..text import ARC, NODE
+from ..ways import chosen, started
 from .columns import DEMAND, LIMIT, SUPPLY
 from .comments import Described, comments
 from .faults import TableFault, naming
@@ -192,7 +193,8 @@ class TableNetwork(Network[str]):
         columns = FoldedColumns(numbers, net.tails, net.heads, net.row_names, halves)
         kept: Kept[Any] = Kept(columns, net.capacities, nodes[net.source - 1], nodes[net.sink - 1], bound(history))
         kept.described = net.described
-        made._begin(started(kept, program), kept)
+        made._begin(started(kept, chosen(program)), kept)
+        made._session.program = program
         return made
 
     @property
@@ -319,7 +321,7 @@ class TableNetwork(Network[str]):
     @alone
     def cut(self) -> TableCut:
         """As `Network.cut`, in the table's numbers, with the places whose supply, demand or limit is in it."""
-        capacity, side = self._asked_cut()
+        capacity, side = self._session.cut()
         names, halves = self._kept.columns.names, self._net.described.halves
         places = frozenset(names[node - 1] for node in side if node <= self._net.place_count and node not in halves)
         crossing = self._kept.leaving(side)
@@ -340,10 +342,7 @@ class TableNetwork(Network[str]):
             before += "".join(f"c node {number} {written(NODE, number, name)}\n" for number, name in enumerate(self._net.node_names, 1))
             keys = {place: self._name(number) for place, number in enumerate(opened.numbers(), 1)}
             before += "".join(f"c arc {place} {written(ARC, place, key)}\n" for place, key in keys.items() if key.strip(" \t"))
-        with self._child.exchange("print problem"):
-            begin = self._child.lines(1)
-            self._begun(begin.split(), "print problem", [b"p"])
-            return before + (begin + self._child.lines(len(opened) + 2)).decode()
+        return before + self._session.problem().decode()
 
     def _name(self, number: int) -> str:
         """The name of an arc, as a problem has it."""
@@ -367,8 +366,8 @@ class TableNetwork(Network[str]):
         made = type(self).__new__(type(self))
         made._plan, made._net, made._measure, made.notes = self._plan, self._net, self._measure, self.notes
         kept = self._kept.twin()
-        program: Any = self._child.process.args
-        made._begin(started(kept, program[0]), kept)
+        made._begin(started(kept, self._session.way), kept)
+        made._session.program = self._session.program
         return made
 
     def __enter__(self) -> TableNetwork:
