@@ -14,7 +14,7 @@ from pathlib import Path
 import pytest
 from broken_off import CALLS, all_told, prepared, told
 from built import heed_interrupts
-from client_shared import BUILT, CLIENT, PIPES, dmf, ends, interrupted_soon, is_running, pipes, script, stop
+from client_shared import BUILT, CLIENT, PIPES, dmf, ends, interrupted_soon, is_running, pipes, process_of, script, stop
 from desk_shared import wait_until_asked
 from dmf import running
 from tool_runs import wait_until_asleep
@@ -25,7 +25,7 @@ SECONDS = 20
 @contextlib.contextmanager
 def stopped(network: dmf.Network[str]) -> Iterator[None]:
     """A block in which the program comes to no end, and is broken off."""
-    stop(network._session.process.pid)
+    stop(process_of(network).pid)
     with pytest.raises(KeyboardInterrupt), interrupted_soon():
         yield
 
@@ -34,7 +34,7 @@ def stopped(network: dmf.Network[str]) -> Iterator[None]:
 @pytest.mark.parametrize("call", CALLS)
 def test_each_call(call: str, history: int | None) -> None:
     with prepared(history=history) as network, prepared(history=history) as other:
-        process, plan, pump = network._session.process, network.flow(), network.arc("pump")
+        process, plan, pump = process_of(network), network.flow(), network.arc("pump")
         with stopped(network):
             CALLS[call](network)
         assert process.returncode == -signal.SIGKILL
@@ -87,7 +87,7 @@ def test_the_end_of_what_is_tried_out() -> None:
     with prepared() as network, prepared() as other:
         with stopped(network), network.try_out():
             network.close(("lake", "town"))
-            stop(network._session.process.pid)
+            stop(process_of(network).pid)
         assert told(network) == told(other)
 
 
@@ -137,15 +137,15 @@ def test_begin_again(how: str) -> None:
     with prepared() as network, prepared() as other:
         plan = network.solve()
         if how == "killed":
-            network._session.process.kill()
+            process_of(network).kill()
         else:
             network.end()
         with pytest.raises(dmf.SessionEnded):
             network.close("pump")
         assert network.begin_again() == other.solve().value
         assert list(plan.values()) == list(other.flow().values())
-        process = network._session.process
-        assert network.begin_again() == other.value and network._session.process is process
+        process = process_of(network)
+        assert network.begin_again() == other.value and process_of(network) is process
         assert all_told(network) == all_told(other)
 
 
@@ -183,7 +183,7 @@ def test_many_lines(monkeypatch: pytest.MonkeyPatch) -> None:
         for turn in range(60):
             assert network.cap(("lake", "mill"), turn % 4) == other.cap(("lake", "mill"), turn % 4)
             assert network.solve().value == other.solve().value
-            processes.add(network._session.process.pid)
+            processes.add(process_of(network).pid)
             assert network.undo(2) == other.undo(2)
         assert len(processes) > 3 and all_told(network) == all_told(other)
         assert [result.value for result in dmf.sweep(network, dmf.each_arc_closed())] == [
