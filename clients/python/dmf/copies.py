@@ -14,8 +14,7 @@ from .errors import Error, NoProgram, SessionEnded
 from .kept import Kept, whole
 from .network import Network
 from .lexical import LARGEST, MOST_ARCS
-from .process import MOST_TEXT
-from .session import Way, case_lines
+from .session import MOST_TEXT, Way, case_lines
 
 # A command of a case: ("cap", arc, capacity), ("close", arc), ("open", arc), ("shut", node) or ("add", tail, head, capacity).
 Command = Tuple[Any, ...]

@@ -19,7 +19,7 @@ from .desk_steps import Add, Cap, Change, Close, DeskFault, Line, Place, Reopen,
 from .desk_sweep import trials
 from .errors import CapacitiesPast64Bits, Error, SessionEnded
 from .folding import Folding
-from .process import Program
+from .session import Program
 from .quantity import Measure, Quantity, plain_text
 from .tables.cells import shown
 from .tables.comments import Role

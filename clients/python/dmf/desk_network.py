@@ -15,7 +15,7 @@ from .desk_names import Names
 from .desk_steps import Add, Cap, Change, Close, DeskFault, Follow, Line, Node, Reopen, Shut, Solve, Step, Was
 from .errors import Error, FlowIsNotGreatest, Refused
 from .folding import Folding
-from .process import Program
+from .session import Program
 from .quantity import EXACT, Measure, Quantity
 from .tables.cells import cleaned, shown
 from .tables.comments import Role

@@ -10,13 +10,10 @@ import re
 import shutil
 import signal
 import subprocess
-from typing import Optional, Union
 
 from .errors import NoProgram, SessionEnded
 from .lexical import display
 
-FilePath = Union[str, bytes, "os.PathLike[str]", "os.PathLike[bytes]"]
-Program = Optional[FilePath]
 PACKAGE = os.path.dirname(os.path.realpath(__file__))
 # Where pip puts the executable, below this package.
 OWN = "bin/dmf"

@@ -236,6 +236,7 @@ class InProcess(Session):
             if not self._why_broken:
                 job.wait()
             if self._why_broken:
+                self.kill(self._why_broken)
                 raise self.ended()
             return job.given()
         finally:

@@ -13,9 +13,8 @@ from .arcs import Arc, Columns, Node
 from .changes import Change
 from .errors import ArcIsOpen, Refused, SessionEnded
 from .kept import Kept, Whole, columns_of, whole
-from .process import Program, bound
 from .running import alone
-from .session import Way, where
+from .session import Program, Way, bound, where
 from .showing import Showing
 from .solution import Solution
 from .ways import chosen, started

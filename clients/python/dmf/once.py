@@ -7,15 +7,14 @@ from array import array
 from collections.abc import Callable, Hashable, Mapping, Sequence
 from typing import TYPE_CHECKING, Any, Dict, NamedTuple, overload
 
-from . import arrays, executable
+from . import arrays
 from .arcs import Columns, Node
 from .arrays import columns_of_arrays, is_unbounded
 from .errors import Refused, Unbounded
 from .kept import Kept, Whole, columns_of, whole
-from .process import FilePath, Program, answer_to
 from .running import Running
 from .scratch import scratch
-from .session import PROGRAM, Told, where
+from .session import PROGRAM, FilePath, Program, Told, where
 from .sources import rows_of_graph
 from .ways import chosen, problem_of
 
@@ -181,7 +180,9 @@ def _solved(given: _Given, words: list[str], program: Program) -> _Solved:
         if isinstance(way, PROGRAM):
             return _by_program(given, words, way)
         if len(given.kept.columns) > MOST_IN_PROCESS:
-            return _by_program(given, words, executable.program())
+            from .executable import program as found_program
+
+            return _by_program(given, words, found_program())
         return _by_library(given, words, way)
     except Refused as refused:
         raise where(refused, given.kept.handle) from None
@@ -199,6 +200,8 @@ def _by_library(given: _Given, words: list[str], library: Library) -> _Solved:
 
 
 def _by_program(given: _Given, words: list[str], program: FilePath) -> _Solved:
+    from .process import answer_to
+
     with scratch() as file:
         file.writelines(arrays.problem_pieces(problem_of(given.kept)))
         file.seek(0)

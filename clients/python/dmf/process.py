@@ -3,7 +3,6 @@
 from __future__ import annotations
 
 import contextlib
-import operator
 import os
 import re
 import subprocess
@@ -11,20 +10,14 @@ from collections.abc import Iterator, Sequence
 from typing import IO, Any
 
 from . import executable
-from .errors import Error, HistoryOutOfRange, Refused, SessionEnded, shown
-from .executable import FilePath as FilePath, Program as Program
+from .errors import Error, Refused, SessionEnded
 from .lexical import display
 from .scratch import passed_on, scratch
-from .session import Session, case_lines, judged, refused, refused_line
-# The largest number of changes that a session can keep.
-MOST_KEPT = 1_000_000
+from .session import MOST_KEPT, MOST_TEXT, FilePath, Session, case_lines, judged, refused, refused_line
 # How long the program may take to end after its input has ended, in seconds.
 SECONDS = 2
 # How much of the program's standard error is shown, in bytes.
 MOST_TOLD = 1 << 16
-# How much text is sent at once, in bytes: every pipe has room for it, so that the program never waits for a reader of its replies
-# while it has lines to take.
-MOST_TEXT = 4_096
 # How much of an answer is read at once, in bytes.
 PIECE = 1 << 20
 _TOLD = re.compile(r"dmf: (?:line ([0-9]{1,10}): )?(.*)")
@@ -283,19 +276,6 @@ def _end(process: subprocess.Popen[bytes], told: IO[bytes], owner: int) -> None:
         process.wait()
     process.stdout.close()
     told.close()
-
-
-def bound(history: int | None) -> int:
-    """The largest number of changes that can be undone. Raises `HistoryOutOfRange`."""
-    if history is None:
-        return MOST_KEPT
-    try:
-        kept = operator.index(history)
-    except TypeError:
-        kept = -1
-    if not 0 <= kept <= MOST_KEPT:
-        raise HistoryOutOfRange(f"history out of range: {shown(history)} is no whole number from 0 to 1,000,000")
-    return kept
 
 
 def session_words(most: int) -> list[str | bytes]:

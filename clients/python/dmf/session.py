@@ -2,18 +2,25 @@
 
 from __future__ import annotations
 
+import operator
 import os
 import weakref
 from array import array
 from collections.abc import Callable, Sequence
-from typing import TYPE_CHECKING, NamedTuple, Union
+from typing import TYPE_CHECKING, NamedTuple, Optional, Union
 
-from .errors import Refused, SessionEnded, shown
-from .executable import FilePath, Program
+from .errors import HistoryOutOfRange, Refused, SessionEnded, shown
 
 if TYPE_CHECKING:
     from .loaded import Library
 
+FilePath = Union[str, bytes, "os.PathLike[str]", "os.PathLike[bytes]"]
+Program = Optional[FilePath]
+# The largest number of changes that a session can keep.
+MOST_KEPT = 1_000_000
+# How much text is sent to a program at once, in bytes: every pipe has room for it, so that the program never waits for a reader of its
+# replies while it has lines to take.
+MOST_TEXT = 4_096
 # What runs a session: a program, by its path, or the library.
 Way = Union[FilePath, "Library"]
 PROGRAM = str, bytes, os.PathLike
@@ -106,6 +113,19 @@ class Session:
         to what is found. The value is the given one before and after each. Raises `SessionEnded` if one is refused, since the answers
         after it are of another network."""
         raise NotImplementedError
+
+
+def bound(history: int | None) -> int:
+    """The largest number of changes that can be undone. Raises `HistoryOutOfRange`."""
+    if history is None:
+        return MOST_KEPT
+    try:
+        kept = operator.index(history)
+    except TypeError:
+        kept = -1
+    if not 0 <= kept <= MOST_KEPT:
+        raise HistoryOutOfRange(f"history out of range: {shown(history)} is no whole number from 0 to 1,000,000")
+    return kept
 
 
 def case_lines(commands: Sequence[str]) -> list[str]:

@@ -11,8 +11,8 @@ from typing import TYPE_CHECKING, Any
 from . import arrays
 from .arcs import Node, OpenArcs
 from .errors import FlowIsNotGreatest
-from .process import FilePath
 from .running import Running, alone
+from .session import FilePath
 from .solution import Cut, Solution
 
 if TYPE_CHECKING:

@@ -12,8 +12,7 @@ from .arrays import no_capacity, numpy_for, pieces_of, read_lines, with_infinite
 from .kept import Kept, Whole, whole
 from .network import Network
 from .numbering import AMOUNTS, NODES
-from .process import FilePath, Program, bound
-from .session import Session
+from .session import FilePath, Program, Session, bound
 from .tables.comments import described
 from .text import ARC, NODE, names_in, naming_pieces
 from .ways import chosen, started_on

@@ -18,7 +18,7 @@ from .copies import Answer, Command, Plain
 from .errors import Error, JobsOutOfRange, NotAnArc, UnknownCommand, shown
 from .kept import Whole, is_unordered
 from .network import Network
-from .process import MOST_KEPT
+from .session import MOST_KEPT
 from .trying import Here, Pending, Sent, There, Tries
 
 if TYPE_CHECKING:

@@ -16,8 +16,7 @@ from .arcs import Arc
 from .copies import Answer, Copy, Plain
 from .errors import Error
 from .kept import Kept
-from .process import MOST_KEPT, Program
-from .session import PROGRAM, Way
+from .session import MOST_KEPT, PROGRAM, Program, Way
 from .ways import chosen, problem_file
 
 if TYPE_CHECKING:

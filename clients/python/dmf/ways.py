@@ -6,24 +6,22 @@ from __future__ import annotations
 import contextlib
 import functools
 import os
-import subprocess
 import sys
 from array import array
 from collections.abc import Iterator
 from typing import TYPE_CHECKING, Any
 
-from . import arrays, executable
+from . import arrays
 from .errors import NoProgram
-from .executable import PACKAGE, Program
 from .kept import Kept
 from .numbering import NODES
-from .process import session_words, start
 from .scratch import path_of, scratch
-from .session import PROGRAM, Problem, Session, Way
+from .session import PROGRAM, Problem, Program, Session, Way
 
 if TYPE_CHECKING:
     from .loaded import Library
 
+PACKAGE = os.path.dirname(os.path.realpath(__file__))
 NAME = "libdmf.so.0"
 # Where pip puts the library, below this package.
 OWN = f"bin/{NAME}"
@@ -47,7 +45,14 @@ def library() -> str | None:
 def chosen(program: Program) -> Way:
     """What runs a session: the program that the caller names; or the library; or the program that is found without it. Raises
     `NoProgram`."""
-    return (_library() or executable.program()) if program is None else os.fspath(program)
+    if program is not None:
+        return os.fspath(program)
+    found = _library()
+    if found is not None:
+        return found
+    from .executable import program as found_program
+
+    return found_program()
 
 
 def _library() -> Library | None:
@@ -86,6 +91,8 @@ def _of_repository(root: str) -> str | None:
         return path
     if not os.access(take, os.X_OK):
         return None
+    import subprocess
+
     ran = subprocess.run([take, "library"], stdin=subprocess.DEVNULL, stdout=subprocess.PIPE, stderr=subprocess.DEVNULL, text=True)
     return ran.stdout.rstrip("\n") if ran.returncode == 0 else None
 
@@ -127,6 +134,8 @@ def started(kept: Kept[Any], way: Way, path: str | None = None) -> Session:
     value."""
     session: Session
     if isinstance(way, PROGRAM):
+        from .process import session_words, start
+
         with problem_file(kept) if path is None else contextlib.nullcontext(path) as path:
             session = start(path, way, session_words(kept.most))
     else:
@@ -142,6 +151,8 @@ def started_on(text: bytes, way: Way, most: int) -> Session:
     """A session on the text of a problem, in which so many changes can be undone. Raises what `started` raises."""
     if not isinstance(way, PROGRAM):
         return way.begin_text(text, most)
+    from .process import session_words, start
+
     with scratch() as file:
         file.write(text)
         file.flush()

@@ -18,9 +18,9 @@ from ..kept import Kept, whole
 from ..names import written
 from ..network import Network
 from ..notebook import table as html_table
-from ..process import Program, bound
 from ..quantity import Measure, Quantity, QuantityFault, number_in
 from ..running import alone
+from ..session import Program, bound
 from ..solution import Cut, Solution
 from ..text import ARC, NODE
 from ..ways import chosen, started
