@@ -1,4 +1,4 @@
-"""Which tests of the client run over both ways: by the program behind a pipe, as all do, and by the C library in this process too."""
+"""Which tests of the client run over both ways: by the program behind a pipe, as all others do, and by the C library in this process too."""
 
 from __future__ import annotations
 
@@ -8,6 +8,7 @@ from collections.abc import Iterator
 import pytest
 from c_library import library_folder
 
+os.environ["DMF_LIBRARY"] = ""
 # Where the way matters twice: what is asked of a session, what it refuses, what breaks it off, and what is tried on copies of it.
 BOTH = {
     "test_broken_off",
@@ -42,4 +43,4 @@ def way(request: pytest.FixtureRequest) -> Iterator[None]:
         assert dmf.library() == (library or None)
         yield
     finally:
-        del os.environ["DMF_LIBRARY"]
+        os.environ["DMF_LIBRARY"] = ""
