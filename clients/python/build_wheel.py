@@ -113,7 +113,7 @@ def build_wheel(wheel_directory: str, config_settings: Any = None, metadata_dire
     with zipfile.ZipFile(Path(wheel_directory) / f"{base}-{kind}.whl", "w") as wheel:
         for name, content in files.items():
             member = zipfile.ZipInfo(name, (1980, 1, 1, 0, 0, 0))
-            member.external_attr = (0o100755 if name in program or name in commands else 0o100644) << 16
+            member.external_attr = (0o100755 if name == INSIDE or name in commands else 0o100644) << 16
             wheel.writestr(member, content, zipfile.ZIP_DEFLATED)
     return f"{base}-{kind}.whl"
 
@@ -132,7 +132,7 @@ def build_sdist(sdist_directory: str, config_settings: Any = None) -> str:
     with tarfile.open(fileobj=text, mode="w") as archive:
         for name, content in files.items():
             member = tarfile.TarInfo(f"{base}/{name}")
-            member.size, member.mode = len(content), 0o755 if name in program else 0o644
+            member.size, member.mode = len(content), 0o755 if name == INSIDE else 0o644
             archive.addfile(member, io.BytesIO(content))
     (Path(sdist_directory) / f"{base}.tar.gz").write_bytes(gzip.compress(text.getvalue(), mtime=0))
     return f"{base}.tar.gz"
