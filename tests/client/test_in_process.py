@@ -317,3 +317,53 @@ def test_large_networks_are_solved_by_the_program(monkeypatch: pytest.MonkeyPatc
         monkeypatch.setenv("DMF", program)
         assert [dmf.value(PIPES[:4], "lake", "sea"), dmf.value(PIPES, "lake", "sea")] == [2, 5]
         assert Path(f"{program}.calls").read_text() == "\n"
+
+
+def short(monkeypatch: pytest.MonkeyPatch, word: str, arc: int) -> None:
+    """Lets the library answer that memory is short to a command about an arc, or to one about none."""
+    commands: Any = loaded.load(library()).commands
+    call = commands[word]
+
+    def refusing(address: int, *numbers: int) -> int:
+        return loaded.NO_MEMORY if not numbers or numbers[0] == arc else int(call(address, *numbers))
+
+    monkeypatch.setitem(commands, word, refusing)
+
+
+def test_want_of_memory(monkeypatch: pytest.MonkeyPatch, bound: int) -> None:
+    """A call that is refused changes nothing; of cases that are tried together the others have their values; one that is made again when a
+    session begins anew ends that."""
+    with pipes() as network:
+        network.solve()
+        with monkeypatch.context() as patched:
+            short(patched, "close", 2)
+            with pytest.raises(dmf.NoMemory, match="^no memory: <Arc 2: 'lake' to 'town'>$"):
+                network.close(("lake", "town"))
+            # Each pipe closed in turn, worked by hand.
+            told = [it.value if it.refusal is None else type(it.refusal) for it in dmf.sweep(network, dmf.each_arc_closed(), jobs=1)]
+            assert told == [2, dmf.NoMemory, 4, 3, 2]
+        assert (network.value, network.close(("lake", "town"))) == (5, 3)
+        with monkeypatch.context() as patched:
+            short(patched, "close", 2)
+            network._session.break_off("it was stopped")
+            with pytest.raises(dmf.SessionEnded):
+                network.solve()
+            with pytest.raises(dmf.SessionEnded, match="^the session could not begin anew: `close 2` was refused: no memory$"):
+                network.begin_again()
+        assert network.begin_again() == 3
+        with monkeypatch.context() as patched:
+            patched.setattr(loaded.load(library()), "new", lambda *_: loaded.NO_MEMORY)
+            with pytest.raises(dmf.NoMemory, match="^no memory$"):
+                pipes()
+
+
+def test_cases_that_go_wrong_in_the_middle(monkeypatch: pytest.MonkeyPatch) -> None:
+    """Those before it have their values, and the session has ended."""
+    with pipes() as network:
+        network.solve()
+        short(monkeypatch, "close", 3)
+        found: list[int] = []
+        with pytest.raises(dmf.SessionEnded, match="was not understood"):
+            network._try_cases([["close 1"], ["close 2"], ["close 3"], ["close 4"]], found)
+        assert found == [2, 3]
+        assert network.begin_again() == 5

@@ -1,4 +1,4 @@
-"""Maximum flows, minimum cuts and what-if sessions, by the program `dmf`.
+"""Maximum flows, minimum cuts and what-if sessions, by the C library of `dmf` or its program.
 
 >>> import dmf
 >>> network = dmf.Network([("lake", "mill", 3), ("mill", "sea", 2), ("lake", "sea", 1)], source="lake", sink="sea")

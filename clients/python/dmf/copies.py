@@ -79,7 +79,7 @@ class Copy:
         self.used = time.monotonic()
 
     def answers(self, cases: list[Plain | Error], want_cut: bool) -> list[Answer]:
-        """What comes of cases. Sends those together that no session refuses, so that the program need not wait for the next one. If
+        """What comes of cases. Sends those together that no session refuses, so that a program need not wait for the next one. If
         it ends at one of these, tries that once more."""
         answers: list[Answer] = []
         while len(answers) < len(cases):
@@ -96,7 +96,7 @@ class Copy:
         return answers
 
     def _answer(self, case: Plain | Error, want_cut: bool, tries: int) -> Answer:
-        """What comes of a case. If the program ends, tries it once more, if a try is left."""
+        """What comes of a case. If the session ends, tries it once more, if a try is left."""
         if isinstance(case, Error):
             return Answer(refusal=case)
         for left in reversed(range(tries)):

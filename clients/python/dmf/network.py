@@ -33,11 +33,12 @@ class Network(Showing[Node]):
 
     `program` is the path of the program, and `history` the most changes that can be undone, from 0 to 1,000,000.
 
-    A network is a running `dmf session`. It ends with `end`, with the `with` block that it is made for, when nothing refers to it any
-    more, or with the interpreter. It is for one thread at a time.
+    A network is a running session: of the program, if `program` names it, or else of the library that `dmf.library` tells, in this
+    process. It ends with `end`, with the `with` block that it is made for, when nothing refers to it any more, or with the interpreter. It
+    is for one thread at a time.
 
     Raises a `Refused` if the problem has a fault, `NotAnArc` for a row of another form, `HistoryOutOfRange`, `SessionEnded` if the
-    program fails, and `NoProgram` if none is found that fits. Each method that asks the program raises `SessionEnded` if the program has
+    program fails, and `NoProgram` if none is found that fits. Each method that asks the session raises `SessionEnded` if that has
     ended, and `UsedByTwoThreads` if another thread is using the network. Ctrl-C, or whatever else breaks a call off, leaves the network as
     it was before the call; the next call begins a new session in the same state.
 

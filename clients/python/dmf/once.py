@@ -56,7 +56,7 @@ class _Given(NamedTuple):
 def value(
     graph: Any, source: Hashable, sink: Hashable, capacity: str = "capacity", *, infinite: Whole | None = None, program: Program = None
 ) -> int:
-    """The greatest value of a flow from the source to the sink, by one run of the program, which leaves no session behind.
+    """The greatest value of a flow from the source to the sink, in one call, which leaves no session behind.
 
     `graph` is one of those that `maximum_flow` takes, or rows `(tail, head, capacity)` as `Network` has them, a tuple of three arrays, or
     a frame with columns `tail`, `head` and `capacity`. `capacity` is the attribute, or the column, that has the capacities, and `infinite`
@@ -70,7 +70,7 @@ def minimum_cut(
 ) -> tuple[int, tuple[set[Node], set[Node]]]:
     """The capacity of a minimum cut, and the two sides of the smallest one: the nodes that every minimum cut has on the side of the source,
     and all others. That is the shape of `networkx.minimum_cut`, whose cut is the one with the largest such side. The arguments are those
-    of `value`; the nodes of a matrix are numbers from 0 on. One run of the program, which leaves no session behind."""
+    of `value`; the nodes of a matrix are numbers from 0 on. It leaves no session behind."""
     given = _given(graph, source, sink, capacity, infinite)
     found = _solved(given, CUT, program)
     amount = _bounded(given, found.value)
@@ -94,7 +94,7 @@ def maximum_flow(
 def maximum_flow(
     graph: Any, source: Any, sink: Any, capacity: str = "capacity", *, infinite: Whole | None = None, program: Program = None
 ) -> Any:
-    """A maximum flow, by one run of the program, in the shape in which the package of the graph has it:
+    """A maximum flow, in the shape in which the package of the graph has it:
 
     - A graph of networkx, or a dictionary `{tail: {head: capacity}}`, gives `(value, flows)`, where `flows[tail][head]` is the flow on
       that edge. In a dictionary, attributes `{"capacity": 3}` may stand in place of the number. In an undirected graph the flow stands in

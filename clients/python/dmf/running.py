@@ -91,8 +91,8 @@ class Running(Generic[Node]):
         return whole(amount, at)
 
     def _judge_use(self, call: CodeType) -> None:
-        """Raises `UsedByTwoThreads`, unless this thread has the program and is in no call: before Python 3.11 an error may come just when a
-        call begins or ends, and it does not give the program back."""
+        """Raises `UsedByTwoThreads`, unless this thread has the session and is in no call: before Python 3.11 an error may come just when a
+        call begins or ends, and it does not give the session back."""
         frame: FrameType | None = sys._getframe(2)
         is_in_call = self._taken.get(0) != [threading.get_ident()]
         while frame and not is_in_call:
@@ -104,7 +104,7 @@ class Running(Generic[Node]):
 
     @alone
     def _ready(self) -> None:
-        """Raises what each call raises where the program cannot be asked."""
+        """Raises what each call raises where the session cannot be asked."""
 
     @alone
     def _try_cases(self, cases: Sequence[Sequence[str]], found: list[int]) -> None:
@@ -119,7 +119,7 @@ class Running(Generic[Node]):
         self._kept.begin_call()
 
     def _break_off(self, present: weakref.ref[Flows[Node]] | None) -> None:
-        """Goes back to the state before the present call, which the program may have left. `present` was the present flow then."""
+        """Goes back to the state before the present call, which the session may have left. `present` was the present flow then."""
         self._why_over = f"{TWICE} at once"
         self._session.kill("the session was ended when a call was broken off")
         self._kept.roll_back()
@@ -127,7 +127,7 @@ class Running(Generic[Node]):
         self._is_broken, self._why_over = True, ""
 
     def _take_back(self, place: int, value: int) -> None:
-        """Takes back all changes but the first so many without the program. If that still goes on, it is ended, since something broke off
+        """Takes back all changes but the first so many without the session. If that still goes on, it is ended, since something broke off
         its `undo`."""
         self._lose_flows()
         if self._is_running:
@@ -161,12 +161,12 @@ class Running(Generic[Node]):
 
     @property
     def _is_free(self) -> bool:
-        """Whether nobody else has the program."""
+        """Whether nobody else has the session."""
         return not self._taken and self._session.is_owned
 
     @property
     def _is_running(self) -> bool:
-        """Whether the program is there, in the state that is kept."""
+        """Whether the session is there, in the state that is kept."""
         return self._session.end.alive and not self._is_broken
 
     def _stepped(self, line: str, at: object = None) -> int:

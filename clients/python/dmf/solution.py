@@ -1,4 +1,4 @@
-"""The answers of the program about a network: solutions and cuts."""
+"""The answers of a session about a network: solutions and cuts."""
 
 from __future__ import annotations
 
@@ -115,7 +115,7 @@ class Solution(Mapping[Arc[Node], int], Generic[Node]):
     >>> solution["pipe"], solution["b", "c"], solution.between("a", "b"), solution.value
     (5, 5, 5, 5)
 
-    The program sends the flows when somebody looks at one, and at the latest before the network changes or ends; so a value alone
+    The session tells the flows when somebody looks at one, and at the latest before the network changes or ends; so a value alone
     costs nothing more.
     """
 

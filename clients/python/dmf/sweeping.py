@@ -121,10 +121,10 @@ def sweep(
     Any other error ends the sweep. An error in making the cases comes after the results of the cases before it. If a program is
     killed, another takes its place, and tries its case once more.
 
-    Without an `executor` each of so many `jobs` (as many as there are processors) has a program here. Raises `JobsOutOfRange` if that is
+    Without an `executor` each of so many `jobs` (as many as there are processors) has a session here. Raises `JobsOutOfRange` if that is
     no whole number from 1 on. An `executor` is anything of the form of `concurrent.futures`, as `Client.get_executor()` of
-    dask.distributed: each of its processes is sent the network, and begins programs of its own: the one that the network was made with
-    by `program`, or else the one that it finds itself. There functions are pickled, and name arcs by their keys or ends. `progress`
+    dask.distributed: each of its processes is sent the network, and begins sessions of its own: by the program that the network was made
+    with, if that was named, or else by what it finds itself. There functions are pickled, and name arcs by their keys or ends. `progress`
     shows a bar of tqdm, where that is there.
 
     >>> with Network([("a", "b", 3, "x"), ("a", "b", 4, "y")], source="a", sink="b") as network:

@@ -1,4 +1,4 @@
-"""How the cases of a sweep are tried: by programs of this process, or in the processes of an executor, which may be elsewhere."""
+"""How the cases of a sweep are tried: by sessions of this process, or in the processes of an executor, which may be elsewhere."""
 
 from __future__ import annotations
 
@@ -61,7 +61,7 @@ Pending = Callable[[], "list[Answer]"]
 
 class Here(Tries):
     """Sessions of this process, each with a thread that waits for it. Programs read one file. The first tries the cases alone, and another one
-    begins whenever those that are there have tried cases for as long as it took them to begin: so a small sweep takes one program, and no
+    begins whenever those that are there have tried cases for as long as it took them to begin: so a small sweep takes one session, and no
     sweep more than twice the processor time of its cases."""
 
     def __init__(self, kept: Kept[Any], way: Way, want_cut: bool, jobs: int) -> None:
