@@ -4,6 +4,7 @@ from __future__ import annotations
 
 import contextlib
 import gc
+import itertools
 import os
 import re
 import shutil
@@ -367,3 +368,20 @@ def test_cases_that_go_wrong_in_the_middle(monkeypatch: pytest.MonkeyPatch) -> N
             network._try_cases([["close 1"], ["close 2"], ["close 3"], ["close 4"]], found)
         assert found == [2, 3]
         assert network.begin_again() == 5
+
+
+def test_an_interrupt_ends_a_sweep(bound: int) -> None:
+    """However many cases are left, and its threads with it."""
+    with pipes() as network:
+        network.solve()
+        before = threading.active_count()
+        cases: Any = ([("cap", ("lake", "mill"), turn % 5)] for turn in itertools.count())
+        with pytest.raises(KeyboardInterrupt), interrupted_soon(0.5):
+            for result in dmf.sweep(network, cases, jobs=2):
+                assert result.value <= 6
+        gc.collect()
+        until = time.monotonic() + SECONDS
+        while threading.active_count() > before:
+            assert time.monotonic() < until, "a thread of the sweep goes on"
+            time.sleep(0.01)
+        assert network.solve().value == 5
