@@ -1,4 +1,4 @@
-"""Which tests of the client run over both ways: by the program behind a pipe, as all others do, and by the C library in this process too."""
+"""Which tests of the client run over both ways: by the program behind a pipe, as all others do, and by the C library in this process."""
 
 from __future__ import annotations
 

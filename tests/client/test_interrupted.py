@@ -14,7 +14,7 @@ from pathlib import Path
 import pytest
 from broken_off import CALLS, all_told, prepared, told
 from built import heed_interrupts
-from client_shared import BUILT, CLIENT, PIPES, dmf, ends, interrupted_soon, is_running, pipes, process_of, script, stop
+from client_shared import BUILT, CLIENT, dmf, ends, interrupted_soon, is_running, pipes, process_of, script, stop
 from desk_shared import wait_until_asked
 from dmf import running
 from tool_runs import wait_until_asleep

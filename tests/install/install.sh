@@ -188,7 +188,10 @@ chmod 755 "$root/tools/library"
 call "a library that is not built" 1 "" "${unlibraried}no proof
 install: the C library could not be built; nothing was put
 " --prefix "$prefix"
-printf '#!/bin/sh\necho another library >"$1/libdmf.so.0"\n' >"$root/tools/library"
+cat >"$root/tools/library" <<'END'
+#!/bin/sh
+echo another library >"$1/libdmf.so.0"
+END
 call "a library that is built" 0 "$putting" "$unlibraried" --prefix "$prefix"
 same "it is put" "$(cat "$prefix/lib/libdmf.so.0")" "another library"
 mv "$root/library" "$root/tools/library"

@@ -246,7 +246,7 @@ def test_of_what_it_was_made(clone: Clone) -> None:
 
 
 def take_library(clone: Clone) -> Ended:
-    words = [clone.root / "tools/prebuilt", "library"]
+    words = [str(clone.root / "tools/prebuilt"), "library"]
     ran = subprocess.run(words, env=clone.environment(), capture_output=True, text=True, timeout=SECONDS)
     return Ended(ran.returncode, ran.stdout, ran.stderr)
 

@@ -100,7 +100,8 @@ def _of_repository(root: str) -> str | None:
 def _is_older(path: str, root: str) -> bool:
     """Whether a source, or a folder of sources, has changed since the library was put there."""
     put, crates = os.stat(path).st_mtime_ns, os.path.join(root, "crates")
-    places = [os.path.join(root, name) for name in ("crates.txt", "tools/library", "tools/dmf.map") if os.path.exists(os.path.join(root, name))]
+    others = (os.path.join(root, name) for name in ("crates.txt", "tools/library", "tools/dmf.map"))
+    places = [place for place in others if os.path.exists(place)]
     for crate in os.listdir(crates):
         for part in "src", "specs", "proofs":
             for folder, _, files in os.walk(os.path.join(crates, crate, part)):
