@@ -1,26 +1,23 @@
-"""The C library, which the toolchain makes, and its calls by ctypes."""
+"""The C library of prebuilt/, and its calls by ctypes."""
 
 from __future__ import annotations
 
 import ctypes
-import fcntl
+import functools
 import subprocess
 from ctypes import byref, c_char, c_size_t, c_uint32, c_uint64, c_void_p, create_string_buffer
 from pathlib import Path
 
 ROOT = Path(__file__).resolve().parent.parent
-BUILT = ROOT / "out/library"
 HEADER = ROOT / "include/dmf.h"
 
 
+@functools.cache
 def library_folder() -> Path:
-    """The folder of libdmf.so.0, which is made of the present sources. One call at a time makes it."""
-    BUILT.mkdir(parents=True, exist_ok=True)
-    with open(BUILT / "lock", "w") as lock:
-        fcntl.flock(lock, fcntl.LOCK_EX)
-        made = subprocess.run([ROOT / "tools/library", BUILT], capture_output=True, text=True)
-        assert made.returncode == 0, made.stderr
-    return BUILT
+    """The folder of libdmf.so.0, which is of the present sources; ./prove compares it with what they make."""
+    taken = subprocess.run([ROOT / "tools/prebuilt", "library"], capture_output=True, text=True)
+    assert taken.returncode == 0, taken.stdout
+    return Path(taken.stdout.rstrip("\n")).parent
 
 
 class Refused(Exception):

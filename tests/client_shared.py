@@ -4,6 +4,7 @@ import contextlib
 import importlib
 import os
 import signal
+import subprocess
 import tempfile
 import time
 from collections.abc import Iterable, Iterator
@@ -11,6 +12,7 @@ from typing import Any
 
 import dmf as dmf
 import pytest
+from dmf.process import Child
 
 ROOT = os.path.dirname(os.path.dirname(os.path.abspath(__file__)))
 CLIENT = f"{ROOT}/clients/python"
@@ -38,6 +40,13 @@ def needs(is_there: object, package: str, so: str) -> pytest.MarkDecorator:
 
 def pipes(**options: Any) -> dmf.Network[str]:
     return dmf.Network(PIPES, "lake", "sea", **options)
+
+
+def process_of(network: dmf.Network[Any]) -> subprocess.Popen[bytes]:
+    """The program of a network that runs one."""
+    session = network._session
+    assert isinstance(session, Child)
+    return session.process
 
 
 def ends(arcs: Iterable[dmf.Arc[Any]]) -> list[tuple[Any, Any]]:

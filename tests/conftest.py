@@ -24,6 +24,7 @@ from kept import FOUND_FILE, shown_cases, with_cases
 from sources import judged_at_once
 from tool_runs import Tools
 
+pytest_plugins = ["both_ways"]
 ROOT = Path(__file__).resolve().parent.parent
 # So many seeded random cases are tried in the gate, and by --long; a test tries a batch of them. Hypothesis tries so many in each of its
 # tests, or one for so many seeded cases where --cases tells how many those are.

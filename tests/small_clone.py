@@ -1,5 +1,5 @@
 """A folder with ./dmf, the other scripts of the gate, some small crates, and a PATH of few tools. There a stand-in for rt makes a program
-that writes its words, from which `tools/prebuilt renew` fills prebuilt/."""
+that writes its words, and one for tools/library a library, from which `tools/prebuilt renew` fills prebuilt/."""
 
 from __future__ import annotations
 
@@ -13,6 +13,7 @@ from conftest import ROOT
 
 SECONDS = 60
 PACKED, FACTS = "prebuilt/dmf-x86_64-linux.gz", "prebuilt/dmf-x86_64-linux.txt"
+PACKED_LIBRARY, LIBRARY = "prebuilt/libdmf-x86_64-linux.so.0.gz", "crates/dmf_c/out/libdmf.so.0"
 # What a system has that has no toolchain, no Python and no compiler.
 FEW = ["sh", "awk", "cat", "chmod", "cmp", "cut", "dirname", "find", "gzip", "head", "id", "mkdir", "mktemp", "mv", "readlink", "rm"]
 FEW += ["sed", "sha256sum", "sort", "uname"]
@@ -26,6 +27,7 @@ run) mkdir -p out/rlib && cp "$MADE" out/dmf ;;
 esac
 """
 PROGRAM = "#!/bin/sh\necho ran {} \"$@\"\n"
+MAKES_LIBRARY = '#!/bin/sh\nmkdir -p "$1" && echo "${LIBRARY:-a library}" >"$1/libdmf.so.0"\n'
 
 
 class Ended(NamedTuple):
@@ -37,19 +39,22 @@ class Ended(NamedTuple):
 
 
 class Clone:
-    """A folder with the scripts, three crates of which one is of tests, and a PATH of few tools."""
+    """A folder with the scripts, four crates of which one is of tests, and a PATH of few tools."""
 
     def __init__(self, root: Path) -> None:
         self.root, self.bin, self.home = root / "clone", root / "bin", root / "home"
         self.rt, self.made = root / "toolchain" / "rt", root / "made"
-        for crate in "low", "dmf", "test_low":
+        for crate in "low", "dmf", "dmf_c", "test_low":
             (self.root / "crates" / crate / "src").mkdir(parents=True)
             (self.root / "crates" / crate / "src" / "lib.rt").write_text(f"// {crate}\n")
         for folder in self.bin, self.home, self.rt.parent, self.root / "tools", self.root / ".ci":
             folder.mkdir()
         for script in "dmf", "prove", ".ci/run", "tools/build.py", "tools/prebuilt", "tools/count.sh", "tools/packages.sh":
             shutil.copy(ROOT / script, self.root / script)
-        (self.root / "crates.txt").write_text("# Crates.\nlow:\ndmf: low # and no other\ntest_low: low\n")
+        (self.root / "crates.txt").write_text("# Crates.\nlow:\ndmf: low # and no other\ndmf_c staticlib: low\ntest_low: low\n")
+        (self.root / "tools/library").write_text(MAKES_LIBRARY)
+        (self.root / "tools/library").chmod(0o755)
+        shutil.copy(ROOT / "tools/dmf.map", self.root / "tools")
         for tool in FEW:
             (self.bin / tool).symlink_to(shutil.which(tool) or tool)
         self.rt.write_text(STAND_IN)

@@ -72,6 +72,19 @@ def test_another_executable(clone: Clone) -> None:
     assert (status, lines[-1], said in lines) == (1, "6 passed, 1 failed", True)
 
 
+def test_another_library(clone: Clone) -> None:
+    """Sources that make another C library than the one of prebuilt/; and none."""
+    again = "`tools/prebuilt renew` makes it anew"
+    for made, said in ("another", f"prebuilt/ has another library than out/library/libdmf.so.0: {again}"), ("", "out/library/libdmf.so.0 is not there"):
+        script = f'#!/bin/sh\nmkdir -p "$1" && echo {made} >"$1/libdmf.so.0"\n' if made else "#!/bin/sh\nrm -rf $1\nexit 1\n"
+        # What makes the library is one of its sources too.
+        (clone.root / "tools/made").write_text(script)
+        (clone.root / "tools/made").chmod(0o755)
+        (clone.root / "prove").write_text((ROOT / "prove").read_text().replace("\ntools/library ", "\ntools/made "))
+        status, lines = ended(clone, ".ci/run")
+        assert (status, lines[-1], said in lines) == (1, "6 passed, 1 failed", True)
+
+
 def skipping(tmp_path: Path, **environment: str) -> tuple[int, str]:
     """How pytest ends on a test that is skipped and one that passes."""
     (tmp_path / "test_skipping.py").write_text(SKIPPING)

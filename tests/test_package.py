@@ -25,7 +25,7 @@ END = "\x1e"
 SCRIPT = """
 import dmf
 network = dmf.Network([("lake", "mill", 3), ("mill", "sea", 2)], "lake", "sea")
-print(dmf.__file__, network._child.process.args[0], network.solve().value)
+print(dmf.__file__, dmf.program(), dmf.library(), network.solve().value)
 """
 
 
@@ -50,7 +50,7 @@ def made(tmp_path_factory: pytest.TempPathFactory) -> Path:
     folder = tmp_path_factory.mktemp("made")
     told = ran("./package", "--output", folder)
     assert sorted(told.split()[1::2]) == sorted(map(str, folder.iterdir()))
-    assert sorted(path.suffix for path in folder.iterdir()) == ["", ".deb", ".gz", ".whl"]
+    assert sorted(path.suffix for path in folder.iterdir()) == ["", ".deb", ".deb", ".deb", ".gz", ".whl"]
     return folder
 
 
@@ -75,9 +75,9 @@ def system(made: Path, tmp_path_factory: pytest.TempPathFactory) -> Path:
     """An empty root, with the Debian package alone."""
     root = tmp_path_factory.mktemp("root")
     if os.geteuid():
-        ran("dpkg-deb", "-x", the(made, "*.deb"), root)
+        ran("dpkg-deb", "-x", the(made, "dmf_*.deb"), root)
     else:
-        call_dpkg(root, "-i", the(made, "*.deb"))
+        call_dpkg(root, "-i", the(made, "dmf_*.deb"))
     return root
 
 
@@ -133,11 +133,11 @@ def test_the_same_elsewhere(tmp_path: Path) -> None:
             (tree / "LICENSE").chmod(0o600)
         ran("./package", "--output", output, folder=tree)
         contents.append({path.name: path.read_bytes() for path in output.iterdir()})
-    assert len(contents[0]) == 4 and contents[0] == contents[1]
+    assert len(contents[0]) == 6 and contents[0] == contents[1]
 
 
 def test_only_what_git_tracks(unpacked: Path, system: Path) -> None:
-    tracked = {*ran("git", "ls-files").splitlines(), "crates/dmf/out/dmf"}
+    tracked = {*ran("git", "ls-files").splitlines(), "crates/dmf/out/dmf", "crates/dmf_c/out/libdmf.so.0"}
     assert {str(path.relative_to(unpacked)) for path in unpacked.rglob("*") if path.is_file()} <= tracked
     documents = system / "usr/share/doc/dmf"
     theirs = {"copyright", "changelog.gz", "changelog.Debian.gz"}
@@ -179,14 +179,15 @@ def test_plain_links(tmp_path: Path) -> None:
 def test_lintian(made: Path) -> None:
     if not shutil.which("lintian"):
         pytest.skip("lintian is not there, so the Debian package was not judged")
-    said = run("lintian", the(made, "*.deb")).stdout
-    assert not re.search("^[EW]: ", said, re.MULTILINE), said
+    for package in made.glob("*.deb"):
+        said = run("lintian", package).stdout
+        assert not re.search("^[EW]: ", said, re.MULTILINE), said
 
 
 def test_files(system: Path, made: Path) -> None:
     """Each file has its sum, and no file is writable or hidden for others."""
     control = made.parent / "control"
-    ran("dpkg-deb", "-e", the(made, "*.deb"), control)
+    ran("dpkg-deb", "-e", the(made, "dmf_*.deb"), control)
     named = {line.split(maxsplit=1)[1]: line.split()[0] for line in (control / "md5sums").read_text().splitlines()}
     files = {path for path in (system / "usr").rglob("*") if path.is_file() and path.suffix != ".pyc"}
     assert {str(path.relative_to(system)) for path in files} == set(named)
@@ -217,15 +218,32 @@ def test_python_of_the_package(system: Path, tmp_path: Path) -> None:
     """The module is where Debian's Python looks, and finds the program beside itself. So do the tools."""
     modules = system / "usr/lib/python3/dist-packages"
     told = ran("/usr/bin/python3", "-c", SCRIPT, folder=tmp_path, PYTHONPATH=str(modules))
-    assert told == f"{modules}/dmf/__init__.py {system}/usr/bin/dmf 2\n"
+    assert told == f"{modules}/dmf/__init__.py {system}/usr/bin/dmf None 2\n"
     table = system / "usr/share/doc/dmf/examples/water/pipes.csv"
     assert run(system / "usr/bin/dmf-plan", table, folder=tmp_path, PYTHONPATH=str(modules)).returncode == 0
+
+
+def test_the_library(system: Path, made: Path, tmp_path: Path) -> None:
+    """Beside dmf, by the packages of the library: its Python package runs by it, and a C program is compiled with it."""
+    root = tmp_path / "root"
+    shutil.copytree(system, root, symlinks=True)
+    for name in "libdmf0", "libdmf-dev":
+        ran("dpkg-deb", "-x", the(made, f"{name}_*.deb"), root)
+    (found,) = (root / "usr/lib").glob("*-linux-gnu*/libdmf.so.0")
+    told = ran("/usr/bin/python3", "-c", SCRIPT, folder=tmp_path, PYTHONPATH=f"{root}/usr/lib/python3/dist-packages")
+    assert told.split()[1:] == [f"{root}/usr/bin/dmf", str(found), "2"]
+    flags = dict(line.split("=", 1) for line in (found.parent / "pkgconfig/dmf.pc").read_text().splitlines() if "=" in line)
+    assert (flags["prefix"], flags["libdir"], flags["includedir"]) == ("/usr", f"/{found.parent.relative_to(root)}", "${prefix}/include")
+    assert (found.parent / "libdmf.so").readlink() == Path("libdmf.so.0")
+    ran("gcc", ROOT / "examples/c/limit.c", "-o", tmp_path / "limit", f"-I{root}/usr/include", f"-L{found.parent}", "-ldmf")
+    assert ran(tmp_path / "limit", LD_LIBRARY_PATH=str(found.parent)).endswith("without arc 1: 2\nagain: 5\n")
+    assert (root / "usr/share/man/man3/dmf.3.gz").is_file()
 
 
 @pytest.mark.skipif(os.geteuid() != 0, reason="only root puts a package into a root")
 def test_removed(made: Path, tmp_path: Path) -> None:
     """Nothing is left but what dpkg keeps, also where Python has compiled the modules."""
-    call_dpkg(tmp_path, "-i", the(made, "*.deb"))
+    call_dpkg(tmp_path, "-i", the(made, "dmf_*.deb"))
     modules = tmp_path / "usr/lib/python3/dist-packages"
     ran("/usr/bin/python3", "-c", "import dmf.plan", PYTHONPATH=str(modules))
     assert len([*(modules / "dmf/__pycache__").glob("*.pyc")]) > 20
@@ -235,10 +253,10 @@ def test_removed(made: Path, tmp_path: Path) -> None:
 
 def test_description(made: Path) -> None:
     """It claims no more than what is proved, and its file belongs to the package."""
-    told = " ".join(ran("dpkg-deb", "-f", the(made, "*.deb"), "Description").split())
+    told = " ".join(ran("dpkg-deb", "-f", the(made, "dmf_*.deb"), "Description").split())
     assert "The calls that do so are proved to meet their contracts; the page TRUST of the documents says what that covers" in told
     assert "greatest" not in told and "minimum" not in told
-    assert " ./usr/share/doc/dmf/docs/TRUST.md\n" in ran("dpkg-deb", "-c", the(made, "*.deb"))
+    assert " ./usr/share/doc/dmf/docs/TRUST.md\n" in ran("dpkg-deb", "-c", the(made, "dmf_*.deb"))
 
 
 def test_tutorial_of_the_archive(unpacked: Path) -> None:
@@ -264,7 +282,7 @@ def test_install_of_the_archive(unpacked: Path, tmp_path: Path) -> None:
     assert told.replace(str(prefix), str(tmp_path / "other")) == from_here
     assert (prefix / "bin/dmf").read_bytes() == (ROOT / "crates/dmf/out/dmf").read_bytes()
     used = ran("/usr/bin/python3", "-c", SCRIPT, folder=tmp_path, PYTHONPATH=str(prefix / "share/dmf/python"))
-    assert used.split()[1:] == [f"{prefix}/bin/dmf", "2"]
+    assert used.split()[1:] == [f"{prefix}/bin/dmf", f"{prefix}/lib/libdmf.so.0", "2"]
     ran("./install", "--prefix", prefix, "--remove", folder=unpacked)
     assert not prefix.exists()
 

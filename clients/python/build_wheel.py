@@ -1,6 +1,6 @@
 """Builds the wheel of the package `dmf` for pip, which asks for it by the names of PEP 517. Nothing but Python is needed.
 
-The wheel has the executable, if there is one for this machine, and the tools as commands."""
+The wheel has the executable and the C library, if there are such for this machine, and the tools as commands."""
 
 from __future__ import annotations
 
@@ -21,8 +21,8 @@ from typing import Any
 HERE = Path(__file__).resolve().parent
 # A source archive has beside this file what the repository has above it.
 ROOT = HERE if (HERE / "PKG-INFO").is_file() else HERE.parents[1]
-# The executable in the wheel and in a source archive.
-INSIDE = "dmf/bin/dmf"
+# The executable and the C library in the wheel and in a source archive.
+INSIDE, LIBRARY = "dmf/bin/dmf", "dmf/bin/libdmf.so.0"
 
 
 def version() -> str:
@@ -68,7 +68,20 @@ def executable() -> dict[str, bytes]:
         # In a repository that cannot be written it is put elsewhere.
         take = subprocess.run([ROOT / "tools/prebuilt", "take"], stdout=subprocess.PIPE, text=True, check=True)
         path = Path(take.stdout.rstrip("\n"))
-    return {INSIDE: path.read_bytes()}
+    return {INSIDE: path.read_bytes(), **library()}
+
+
+def library() -> dict[str, bytes]:
+    """The C library, if there is one of these sources: that of a source archive, or that of the repository. Without it the package asks
+    the executable."""
+    for path in HERE / LIBRARY, *([] if (ROOT / "tools/prebuilt").is_file() else [ROOT / "crates/dmf_c/out/libdmf.so.0"]):
+        if path.is_file():
+            return {LIBRARY: path.read_bytes()}
+    try:
+        take = subprocess.run([ROOT / "tools/prebuilt", "library"], stdout=subprocess.PIPE, text=True)
+    except OSError:
+        return {}
+    return {LIBRARY: Path(take.stdout.rstrip("\n")).read_bytes()} if take.returncode == 0 else {}
 
 
 def tools() -> dict[str, bytes]:
@@ -76,9 +89,9 @@ def tools() -> dict[str, bytes]:
     return {tool.name: re.sub(rb"\A#!.*", b"#!python", tool.read_bytes()) for tool in sorted((ROOT / "tools").glob("dmf-*"))}
 
 
-def tag(program: bytes | None) -> str:
-    """For which systems a wheel with this executable is: with glibc from the newest version on whose symbols it names."""
-    if program is None:
+def tag(program: bytes) -> str:
+    """For which systems a wheel with this executable and library is: with glibc from the newest version on whose symbols they name."""
+    if not program:
         return "py3-none-any"
     needed = [int(minor) for minor in re.findall(rb"GLIBC_2\.(\d+)", program)]
     if needed:
@@ -92,7 +105,7 @@ def build_wheel(wheel_directory: str, config_settings: Any = None, metadata_dire
     info, commands = f"{base}.dist-info", {f"{base}.data/scripts/{name}": content for name, content in tools().items()}
     if program:
         commands[f"{base}.data/scripts/dmf"] = re.sub(rb"\A#!.*", b"#!python", (HERE / "command.py").read_bytes())
-    kind = tag(program.get(INSIDE))
+    kind = tag(b"".join(program.values()))
     about = f"Wheel-Version: 1.0\nGenerator: dmf\nRoot-Is-Purelib: {str(not program).lower()}\nTag: {kind}\n"
     files = {**package(), **program, **commands, f"{info}/METADATA": metadata(), f"{info}/WHEEL": about.encode(), f"{info}/LICENSE": licence()}
     record = "".join(f"{name},sha256={_sum(content)},{len(content)}\n" for name, content in files.items())
@@ -100,7 +113,7 @@ def build_wheel(wheel_directory: str, config_settings: Any = None, metadata_dire
     with zipfile.ZipFile(Path(wheel_directory) / f"{base}-{kind}.whl", "w") as wheel:
         for name, content in files.items():
             member = zipfile.ZipInfo(name, (1980, 1, 1, 0, 0, 0))
-            member.external_attr = (0o100755 if name in program or name in commands else 0o100644) << 16
+            member.external_attr = (0o100755 if name == INSIDE or name in commands else 0o100644) << 16
             wheel.writestr(member, content, zipfile.ZIP_DEFLATED)
     return f"{base}-{kind}.whl"
 
@@ -119,7 +132,7 @@ def build_sdist(sdist_directory: str, config_settings: Any = None) -> str:
     with tarfile.open(fileobj=text, mode="w") as archive:
         for name, content in files.items():
             member = tarfile.TarInfo(f"{base}/{name}")
-            member.size, member.mode = len(content), 0o755 if name in program else 0o644
+            member.size, member.mode = len(content), 0o755 if name == INSIDE else 0o644
             archive.addfile(member, io.BytesIO(content))
     (Path(sdist_directory) / f"{base}.tar.gz").write_bytes(gzip.compress(text.getvalue(), mtime=0))
     return f"{base}.tar.gz"

@@ -57,6 +57,7 @@ def test_commands() -> None:
         refuse(dmf.ArcIsClosed, network.close, ("lake", "mill"))
 
 
+@pytest.mark.pipe
 def test_lines() -> None:
     """Refusals of lines that no method sends, and of numbers that are judged before they are sent."""
     lines = {
@@ -70,7 +71,7 @@ def test_lines() -> None:
     }
     with pipes() as network:
         for kind, line in lines.items():
-            refuse(kind, network._answered, line)
+            refuse(kind, network._session.step, line)
         assert network.solve().value == 5
 
 

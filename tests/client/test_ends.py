@@ -11,14 +11,14 @@ import time
 from collections.abc import Callable
 
 import pytest
-from client_shared import CLIENT, PIPES, dmf, is_running, pipes
+from client_shared import CLIENT, PIPES, dmf, is_running, pipes, process_of
 
 SECONDS = 20
 
 
 def test_it_ends() -> None:
     with pipes() as network:
-        process = network._child.process
+        process = process_of(network)
         assert process.poll() is None
     assert process.returncode == 0
     with pytest.raises(dmf.SessionEnded):
@@ -28,7 +28,7 @@ def test_it_ends() -> None:
 
 def test_nothing_refers_to_it() -> None:
     network = pipes()
-    process = network._child.process
+    process = process_of(network)
     del network
     gc.collect()
     assert process.returncode == 0
@@ -36,7 +36,7 @@ def test_nothing_refers_to_it() -> None:
 
 def test_the_interpreter_ends() -> None:
     for last in "", "raise SystemExit(3)", "network.loop = network":
-        script = f"import dmf\nnetwork = dmf.Network([('a', 'b', 1)], 'a', 'b')\nprint(network._child.process.pid)\n{last}"
+        script = f"import dmf\nnetwork = dmf.Network([('a', 'b', 1)], 'a', 'b')\nprint(network._session.process.pid)\n{last}"
         environment = {**os.environ, "PYTHONPATH": CLIENT}
         ran = subprocess.run([sys.executable, "-c", script], env=environment, capture_output=True, text=True, timeout=SECONDS)
         assert (ran.returncode, ran.stderr) == (3 if "3" in last else 0, "")
@@ -47,8 +47,8 @@ def test_it_is_killed() -> None:
     commands: list[Callable[[dmf.Network[str]], object]] = [dmf.Network.solve, lambda network: network.cap(("lake", "mill"), 1)]
     for command in commands:
         with pipes() as network:
-            network._child.process.kill()
-            network._child.process.wait()
+            process_of(network).kill()
+            process_of(network).wait()
             for _ in range(2):
                 with pytest.raises(dmf.SessionEnded, match="^dmf ended by the signal SIGKILL$"):
                     command(network)
@@ -56,7 +56,7 @@ def test_it_is_killed() -> None:
 
 def test_it_is_killed_while_it_answers() -> None:
     with dmf.Network([(node, node + 1, 1) for node in range(100_000)], 0, 100_000) as network:
-        process = network._child.process
+        process = process_of(network)
         os.kill(process.pid, signal.SIGSTOP)
         threading.Timer(0.2, process.kill).start()
         with pytest.raises(dmf.SessionEnded, match="SIGKILL"):
@@ -65,7 +65,7 @@ def test_it_is_killed_while_it_answers() -> None:
 
 def test_it_is_ended_while_it_stands_still() -> None:
     network = pipes()
-    process = network._child.process
+    process = process_of(network)
     os.kill(process.pid, signal.SIGSTOP)
     network.end()
     assert process.returncode == -signal.SIGKILL
@@ -75,7 +75,7 @@ def test_a_forked_process_leaves_it_alone() -> None:
     with pipes() as network:
         child = os.fork()
         if child == 0:
-            network._child.end()
+            network._session.end()
             os._exit(0)
         os.waitpid(child, 0)
         assert network.solve().value == 5

@@ -21,7 +21,7 @@ REAL = f'#!/bin/sh\nexec {BUILT} "$@"\n'
 ASK = """
 import dmf, sys
 print(dmf.program())
-print(dmf.Network([("a", "b", 1)], "a", "b", program=sys.argv[1] or None)._child.process.args[0])
+print(dmf.Network([("a", "b", 1)], "a", "b", program=sys.argv[1] or None)._session.process.args[0])
 """
 OTHER = "name another by the argument program or by DMF"
 

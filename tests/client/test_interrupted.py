@@ -4,96 +4,28 @@ comes to the same state. What it is compared with is another network that made t
 from __future__ import annotations
 
 import contextlib
-import linecache
 import os
-import re
 import signal
 import subprocess
 import sys
-import threading
-from collections.abc import Callable, Iterator
+from collections.abc import Iterator
 from pathlib import Path
-from random import Random
-from types import FrameType
-from typing import Any
 
 import pytest
+from broken_off import CALLS, all_told, prepared, told
 from built import heed_interrupts
-from client_shared import BUILT, CLIENT, PIPES, dmf, ends, interrupted_soon, is_running, pipes, script, stop
+from client_shared import BUILT, CLIENT, dmf, ends, interrupted_soon, is_running, pipes, process_of, script, stop
 from desk_shared import wait_until_asked
 from dmf import running
 from tool_runs import wait_until_asleep
 
 SECONDS = 20
 
-SECONDS = 20
-# A second path, and what leads back, so that a flow depends on the steps that led to it.
-ROWS: list[Any] = [*PIPES, ("lake", "sea", 1, "canal"), ("sea", "lake", 4), ("town", "mill", 2, "back")]
-# Lines before which Python heeds no signal: those that take the program and give it back are made so.
-UNHEEDED = re.compile(r"^ *try:$|self\._taken")
-Step = Callable[["dmf.Network[str]"], object]
-# Each call that asks the program, on a network that has something to undo, to redo and to open.
-CALLS: dict[str, Step] = {
-    "solve": lambda network: network.solve(),
-    "cap": lambda network: network.cap(("lake", "mill"), 1),
-    "close": lambda network: network.close(("lake", "town")),
-    "shut": lambda network: network.shut("mill"),
-    "add": lambda network: network.add("lake", "sea", 7, "new"),
-    "open": lambda network: network.open("canal"),
-    "undo": lambda network: network.undo(2),
-    "redo": lambda network: network.redo(),
-    "flow": lambda network: list(network.flow().values()),
-    "cut": lambda network: network.cut(),
-    "problem": lambda network: network.problem(),
-    "an arc's flow": lambda network: network.arc(("lake", "mill")).flow,
-}
-
-
-def prepared(**options: Any) -> dmf.Network[str]:
-    network = dmf.Network(ROWS, "lake", "sea", **options)
-    network.solve()
-    network.close("canal")
-    network.cap(("town", "sea"), 4)
-    network.add("mill", "sea", 1, "pump")
-    network.solve()
-    network.shut("town")
-    network.undo()
-    return network
-
-
-def told(network: dmf.Network[str]) -> tuple[object, ...]:
-    """All that a network tells of its present state."""
-    flow = network.flow()
-    arcs = [(arc.number, arc.tail, arc.head, arc.key, arc.capacity, arc.is_open) for arc in network.arcs]
-    try:
-        cut: object = sorted(network.cut().side)
-    except dmf.FlowIsNotGreatest:
-        cut = None
-    return network.value, flow.value, list(flow.values()), arcs, network.problem(), cut
-
-
-def all_told(network: dmf.Network[str]) -> list[tuple[object, ...]]:
-    """All that it tells of each state that it can go to. It is then where it was."""
-    found, back, on = [told(network)], 0, 0
-    with contextlib.suppress(dmf.NothingToUndo):
-        while True:
-            network.undo()
-            back += 1
-            found.append(told(network))
-    network.redo(back)
-    with contextlib.suppress(dmf.NothingToRedo):
-        while True:
-            network.redo()
-            on += 1
-            found.append(told(network))
-    network.undo(on)
-    return found
-
 
 @contextlib.contextmanager
 def stopped(network: dmf.Network[str]) -> Iterator[None]:
     """A block in which the program comes to no end, and is broken off."""
-    stop(network._child.process.pid)
+    stop(process_of(network).pid)
     with pytest.raises(KeyboardInterrupt), interrupted_soon():
         yield
 
@@ -102,7 +34,7 @@ def stopped(network: dmf.Network[str]) -> Iterator[None]:
 @pytest.mark.parametrize("call", CALLS)
 def test_each_call(call: str, history: int | None) -> None:
     with prepared(history=history) as network, prepared(history=history) as other:
-        process, plan, pump = network._child.process, network.flow(), network.arc("pump")
+        process, plan, pump = process_of(network), network.flow(), network.arc("pump")
         with stopped(network):
             CALLS[call](network)
         assert process.returncode == -signal.SIGKILL
@@ -113,46 +45,6 @@ def test_each_call(call: str, history: int | None) -> None:
         CALLS[call](network)
         CALLS[call](other)
         assert all_told(network) == all_told(other)
-
-
-@pytest.mark.parametrize("call", CALLS)
-@pytest.mark.seconds(3)
-def test_each_line(call: str) -> None:
-    """Ctrl-C comes before each line of the package that a call runs, one after another."""
-    with prepared() as network, prepared() as other:
-        wanted, was, count = all_told(other), told(other), 0
-        while interrupted(network, CALLS[call], count):
-            assert told(network) == was, f"{call}, line {count}"
-            count += 1
-        CALLS[call](other)
-        assert (count > 9, all_told(network)) == (True, all_told(other))
-        assert all_told(network) != wanted or call in ("flow", "cut", "problem", "an arc's flow")
-
-
-def interrupted(network: dmf.Network[str], call: Step, count: int) -> bool:
-    """Whether a call was broken off before so many lines of it were run: it may have fewer."""
-    left, folder = count, os.path.dirname(dmf.__file__)
-
-    def trace(frame: FrameType, event: str, _: object) -> Any:
-        nonlocal left
-        if not frame.f_code.co_filename.startswith(folder):
-            return None
-        if event == "line" and not UNHEEDED.search(linecache.getline(frame.f_code.co_filename, frame.f_lineno)):
-            left -= 1
-            if left < 0:
-                sys.settrace(None)
-                raise KeyboardInterrupt
-        return trace
-
-    network.undo(0)
-    try:
-        sys.settrace(trace)
-        call(network)
-    except KeyboardInterrupt:
-        return True
-    finally:
-        sys.settrace(None)
-    return False
 
 
 def test_a_solution_that_nobody_has_looked_at() -> None:
@@ -195,7 +87,7 @@ def test_the_end_of_what_is_tried_out() -> None:
     with prepared() as network, prepared() as other:
         with stopped(network), network.try_out():
             network.close(("lake", "town"))
-            stop(network._child.process.pid)
+            stop(process_of(network).pid)
         assert told(network) == told(other)
 
 
@@ -245,15 +137,15 @@ def test_begin_again(how: str) -> None:
     with prepared() as network, prepared() as other:
         plan = network.solve()
         if how == "killed":
-            network._child.process.kill()
+            process_of(network).kill()
         else:
             network.end()
         with pytest.raises(dmf.SessionEnded):
             network.close("pump")
         assert network.begin_again() == other.solve().value
         assert list(plan.values()) == list(other.flow().values())
-        process = network._child.process
-        assert network.begin_again() == other.value and network._child.process is process
+        process = process_of(network)
+        assert network.begin_again() == other.value and process_of(network) is process
         assert all_told(network) == all_told(other)
 
 
@@ -291,7 +183,7 @@ def test_many_lines(monkeypatch: pytest.MonkeyPatch) -> None:
         for turn in range(60):
             assert network.cap(("lake", "mill"), turn % 4) == other.cap(("lake", "mill"), turn % 4)
             assert network.solve().value == other.solve().value
-            processes.add(network._child.process.pid)
+            processes.add(process_of(network).pid)
             assert network.undo(2) == other.undo(2)
         assert len(processes) > 3 and all_told(network) == all_told(other)
         assert [result.value for result in dmf.sweep(network, dmf.each_arc_closed())] == [
@@ -299,43 +191,11 @@ def test_many_lines(monkeypatch: pytest.MonkeyPatch) -> None:
         ]
 
 
-@pytest.mark.parametrize("seed", range(8))
-def test_at_any_time(seed: int) -> None:
-    """Random steps, each of which may be broken off after a random time. One that came to its end at that moment may count as made."""
-    random = Random(f"interrupted {seed}")
-    before = signal.signal(signal.SIGALRM, signal.default_int_handler)
-    broken_off = 0
-    try:
-        with prepared() as network, prepared() as other:
-            for _ in range(60):
-                name, place = random.choice(sorted(CALLS)), network._kept.place
-                try:
-                    signal.setitimer(signal.ITIMER_REAL, random.choice([random.random() / 5_000, random.random() / 500]))
-                    try:
-                        CALLS[name](network)
-                    finally:
-                        signal.setitimer(signal.ITIMER_REAL, 0)
-                except KeyboardInterrupt:
-                    broken_off += 1
-                    if network._kept.place == place:
-                        assert told(network) == told(other), name
-                        continue
-                except dmf.Error:
-                    pass
-                with contextlib.suppress(dmf.Error):
-                    CALLS[name](other)
-                assert told(network) == told(other), name
-            assert all_told(network) == all_told(other)
-    finally:
-        signal.signal(signal.SIGALRM, before)
-    assert broken_off
-
-
 SCRIPT = """
 import dmf, sys
 network = dmf.Network([("a", "b", 3), ("b", "c", 2, "narrow")], "a", "c")
 network.solve()
-print(network._child.process.pid, flush=True)
+print(network._session.process.pid, flush=True)
 input()
 try:
     network.cap("narrow", 1)
@@ -366,18 +226,3 @@ def test_ctrl_c() -> None:
             assert (said, user.returncode, is_running(session)) == (b"broken off 2 2\n1 2 0 1\n3\n", 0, False)
         finally:
             user.kill()
-
-
-def test_a_call_that_gave_nothing_back() -> None:
-    """Ctrl-C came just when a call ended, and the next one of this thread goes on; a call of another thread, or within a call, does not."""
-    with prepared() as network, prepared() as other:
-        network._taken[0] = [threading.get_ident()]
-        assert all_told(network) == all_told(other)
-        network._taken[0] = [threading.get_ident() + 1]
-        with pytest.raises(dmf.UsedByTwoThreads):
-            network.solve()
-        del network._taken[0]
-        with pytest.raises(dmf.UsedByTwoThreads):
-            network._ask("undo 0", lambda child: network.solve())
-        network.begin_again()
-        assert all_told(network) == all_told(other)

@@ -10,14 +10,14 @@ from collections.abc import Callable, Iterator
 from typing import Any
 
 import pytest
-from client_shared import WANTED, answering, dmf, pipes
+from client_shared import WANTED, answering, dmf, pipes, process_of
 
 SECONDS = 20
 
 
 def program_of(network: dmf.Network[Any]) -> str:
     """The path of the program that a network runs."""
-    words: Any = network._child.process.args
+    words: Any = process_of(network).args
     return str(words[0])
 
 

@@ -19,6 +19,7 @@ from typing import NamedTuple
 
 import pytest
 from built import heed_interrupts
+from c_library import library_folder
 from client_shared import BUILT, CLIENT, dmf, needs
 from conftest import ROOT, shared
 from trees import copy_tracked
@@ -94,10 +95,14 @@ import dmf, importlib.metadata
 told = importlib.metadata.distribution("dmf")
 assert (told.version, told.metadata["License"]) == (dmf.__version__, "MIT")
 assert any(str(file).endswith("LICENSE") for file in told.files) and any(file.name == "py.typed" for file in told.files)
-print(dmf.program(), dmf.Network([("a", "b", 3)], "a", "b").solve().value)
+network = dmf.Network([("a", "b", 3)], "a", "b")
+print(dmf.program(), dmf.library(), type(network._session).__name__, network.solve().value)
 """
-    assert out(folder, "python", "-c", script) == f"{own(folder)} 3\n"
+    library = own(folder).with_name("libdmf.so.0")
+    assert out(folder, "python", "-c", script) == f"{own(folder)} {library} InProcess 3\n"
     assert own(folder).read_bytes() == Path(BUILT).read_bytes()
+    assert library.read_bytes() == (library_folder() / "libdmf.so.0").read_bytes()
+    assert out(folder, "python", ROOT / "examples/c/limit.py", library) == "5 [3, 2, 1, 2, 3]\n"
 
 
 @pytest.mark.parametrize("words", [["dmf"], ["python", "-m", "dmf"]], ids=["command", "module"])
@@ -259,10 +264,11 @@ def test_without_the_program(folder: Path, tmp_path: Path) -> None:
 
 
 def test_a_repository_that_cannot_be_written(wheel: Path, tmp_path: Path) -> None:
-    """The executable is where tools/prebuilt puts it then."""
+    """The executable and the library are where tools/prebuilt puts them then."""
     copy_tracked(tmp_path / "tree")
     elsewhere = (tmp_path / "tree/crates/dmf/out/dmf").rename(tmp_path / "a program")
-    for script, text in ("dmf", f'exec "{elsewhere}" "$@"'), ("tools/prebuilt", f'echo "{elsewhere}"'):
+    take = f'case $1 in take) echo "{elsewhere}" ;; library) echo "{library_folder()}/libdmf.so.0" ;; esac'
+    for script, text in ("dmf", f'exec "{elsewhere}" "$@"'), ("tools/prebuilt", take):
         (tmp_path / "tree" / script).write_text(f"#!/bin/sh\n{text}\n")
     name = build(tmp_path / "tree/clients/python", tmp_path / "wheel").stdout.strip()
     assert (tmp_path / "wheel" / name).read_bytes() == wheel.read_bytes()

@@ -10,7 +10,7 @@ from pathlib import Path
 from typing import Any
 
 import pytest
-from client_shared import CLIENT, PIPES, dmf, needs, pipes, there
+from client_shared import CLIENT, PIPES, dmf, needs, pipes, process_of, there
 
 matplotlib = there("matplotlib")
 networkx = there("networkx")
@@ -65,9 +65,9 @@ def test_a_node() -> None:
     with pipes() as network, pipes() as other:
         plan = network.solve()
         other.solve()
-        process = network._child.process
+        process = process_of(network)
         network.add_node("mill")
-        assert network.solve().value == 5 and network._child.process is process
+        assert network.solve().value == 5 and process_of(network) is process
         network.undo()
         network.add_node("pond")
         network.add_node(7)

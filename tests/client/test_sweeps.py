@@ -9,7 +9,7 @@ from random import Random
 from typing import Any
 
 import pytest
-from client_shared import dmf, is_running, needs, pipes, there
+from client_shared import dmf, is_running, needs, pipes, process_of, there
 from oracle.network import smallest_side
 from oracle.session import Session, SolveReply
 from oracle.texts import LARGEST, Fault
@@ -148,6 +148,7 @@ def test_it_is_lazy_and_leaves_nothing() -> None:
     assert children() == before
 
 
+@pytest.mark.pipe
 def test_a_program_that_is_killed() -> None:
     before = children()
     with pipes() as network:
@@ -163,7 +164,7 @@ def test_a_program_that_is_killed() -> None:
             assert values == [2, 3, 4, 5] * 15
         # One that dies at each try is told.
         def kill(copy: dmf.Network[Any]) -> None:
-            copy._child.process.kill()
+            process_of(copy).kill()
             copy.solve()
 
         results = list(dmf.sweep(network, [kill, [("close", ("lake", "mill"))]], jobs=1))
@@ -171,11 +172,12 @@ def test_a_program_that_is_killed() -> None:
         assert results[1].value == 2
 
 
+@pytest.mark.pipe
 def test_an_interrupt_ends_all() -> None:
     before = children()
     with pipes() as network:
         def wait(copy: dmf.Network[Any]) -> None:
-            os.kill(copy._child.process.pid, signal.SIGSTOP)
+            os.kill(process_of(copy).pid, signal.SIGSTOP)
             copy.solve()
 
         old = signal.signal(signal.SIGALRM, signal.default_int_handler)

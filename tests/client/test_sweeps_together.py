@@ -74,11 +74,12 @@ def test_what_is_sent_together_is_short() -> None:
     cases: list[Any] = [[("close", number) for number in range(1, ARCS + 1) if number != left] for left in range(1, ARCS + 1)]
     with beside(BUILT) as network:
         assert swept(network, cases * 20) == list(range(1, ARCS + 1)) * 20
-        lines = Copy(network._kept.copy(), BUILT)._together(cases * 20)
+        sent = Copy(network._kept.copy(), BUILT)._together(cases * 20)
+        lines = ["\n".join([*commands, "solve", f"undo {len(commands) + 1}"]) for commands in sent]
         # Each has 23 commands of 7 or 8 letters, a solve and `undo 24`, with their ends.
         letters = 9 * 8 + 14 * 9 + len("solve\nundo 24\n")
-        assert [len(it.text) + 1 for it in lines[9:]] == [letters] * (len(lines) - 9)
-        assert 4_096 - letters < sum(len(it.text) + 1 for it in lines) <= 4_096
+        assert [len(it) + 1 for it in lines[9:]] == [letters] * (len(lines) - 9)
+        assert 4_096 - letters < sum(len(it) + 1 for it in lines) <= 4_096
 
 
 def test_a_function_makes_nothing_again_that_another_case_did() -> None:

@@ -56,7 +56,7 @@ def test_a_session_that_ends_in_the_block(is_killed: bool) -> None:
             network.shut("mill")
             network.add("lake", "sea", 7)
             if is_killed:
-                network._child.process.kill()
+                network._session.break_off("it was killed")
             else:
                 network.end()
                 network.solve()

@@ -39,12 +39,20 @@ judge() {
 chmod 755 "$work"
 root="$work/a clone"
 prefix="$work/a place"
-mkdir -p "$root/bin" "$root/crates/dmf/src" "$root/docs" "$root/clients/python/dmf"
-cp -r install dmf completions tools "$root"
-cp docs/*.1 "$root/docs"
+mkdir -p "$root/bin" "$root/crates/dmf/src" "$root/docs" "$root/clients/python/dmf" "$root/prebuilt"
+cp -r install dmf completions tools include "$root"
+cp docs/*.[13] "$root/docs"
 (cd clients/python && cp --parents dmf/*.* dmf/*/*.py dmf/board/page/*.* "$root/clients/python")
 printf 'dmf:\n' >"$root/crates.txt"
 echo 1 >"$root/crates/dmf/src/version"
+
+# prebuilt/ has no program, and a C library of these sources.
+sum_of() {
+    sha256sum | cut -d ' ' -f 1
+}
+echo "a library" | gzip >"$root/prebuilt/libdmf-x86_64-linux.so.0.gz"
+printf '%s\n' "library: $(echo "a library" | sum_of)" \
+    "library sources: $(cd "$root" && sha256sum crates.txt tools/dmf.map tools/library | sum_of)" >"$root/prebuilt/dmf-x86_64-linux.txt"
 
 stand_in() {
     cat >"$root/bin/rt"
@@ -83,9 +91,13 @@ lines() {
     for file in dmf dmf-problem dmf-names dmf-dot dmf-sweep dmf-plan dmf-board; do
         echo "$1 $2/bin/$file"
     done
-    for file in docs/*.1; do
-        echo "$1 $2/share/man/man1/${file#docs/}"
+    for file in docs/*.[13]; do
+        echo "$1 $2/share/man/man${file##*.}/${file#docs/}"
     done
+    echo "$1 $2/lib/libdmf.so.0"
+    echo "$1 $2/lib/libdmf.so"
+    echo "$1 $2/lib/pkgconfig/dmf.pc"
+    echo "$1 $2/include/dmf.h"
     for file in clients/python/dmf/*.* clients/python/dmf/*/*.py clients/python/dmf/board/page/*.*; do
         echo "$1 $2/share/dmf/python/${file#clients/python/}"
     done
@@ -137,7 +149,8 @@ call "the first call" 0 "$putting" "$first$built" --prefix "a place/"
 
 # What is put.
 same "the program is put" "$("$prefix/bin/dmf")" "dmf 1"
-for pair in docs/dmf.1=share/man/man1/dmf.1 completions/dmf.bash=share/bash-completion/completions/dmf \
+for pair in docs/dmf.1=share/man/man1/dmf.1 docs/dmf.3=share/man/man3/dmf.3 include/dmf.h=include/dmf.h include/libdmf.so=lib/libdmf.so \
+    include/dmf.pc=lib/pkgconfig/dmf.pc completions/dmf.bash=share/bash-completion/completions/dmf \
     completions/_dmf=share/zsh/site-functions/_dmf completions/dmf.fish=share/fish/vendor_completions.d/dmf.fish \
     completions/_dmf-tools=share/zsh/site-functions/_dmf-tools \
     completions/dmf-tools.bash=share/bash-completion/completions/dmf-names \
@@ -147,6 +160,7 @@ for pair in docs/dmf.1=share/man/man1/dmf.1 completions/dmf.bash=share/bash-comp
     same "${pair%=*} can be read by all" "$(stat -c %a "$prefix/${pair#*=}")" 644
 done
 same "the program can be run by all" "$(stat -c %a "$prefix/bin/dmf")" 755
+same "the library is put" "$(cat "$prefix/lib/libdmf.so.0") $(stat -c %a "$prefix/lib/libdmf.so.0")" "a library 644"
 placed=$(tree "$prefix")
 call "a second call" 0 "$putting" "" --prefix="$prefix"
 same "a second call puts the same" "$(tree "$prefix")" "$placed"
@@ -162,6 +176,26 @@ same "the newer program is put" "$("$prefix/bin/dmf")" "dmf 2"
 same "the older program is whole" "$(sh <&3)" "dmf 1"
 exec 3<&-
 touch -r "$root/install" "$root/crates/dmf/src"
+
+# A library that prebuilt/ has not is built.
+unlibraried="install: prebuilt/libdmf-x86_64-linux.so.0.gz is not there, or cannot be read
+"
+mv "$root/prebuilt" "$root/no prebuilt"
+mv "$root/tools/library" "$root/library"
+rm "$root/crates/dmf_c/out/libdmf.so.0"
+printf '#!/bin/sh\necho no proof >&2\nexit 1\n' >"$root/tools/library"
+chmod 755 "$root/tools/library"
+call "a library that is not built" 1 "" "${unlibraried}no proof
+install: the C library could not be built; nothing was put
+" --prefix "$prefix"
+cat >"$root/tools/library" <<'END'
+#!/bin/sh
+echo another library >"$1/libdmf.so.0"
+END
+call "a library that is built" 0 "$putting" "$unlibraried" --prefix "$prefix"
+same "it is put" "$(cat "$prefix/lib/libdmf.so.0")" "another library"
+mv "$root/library" "$root/tools/library"
+mv "$root/no prebuilt" "$root/prebuilt"
 
 # Removing.
 rm "$prefix/share/man/man1/dmf.1"
@@ -372,7 +406,21 @@ env -i PATH=/usr/bin:/bin ./install --prefix "$work/real" >"$work/out" 2>"$work/
 judge "the program is installed" "$?" 0 "$(told "$work/real")"$'\n' ""
 env -i "$work/real/bin/dmf" solve <examples/a.max >"$work/out" 2>"$work/err"
 judge "the installed program runs" "$?" 0 $'s 5\nf 1 2 3\nf 1 3 2\nf 2 3 1\nf 2 4 2\nf 3 4 3\n' ""
-same "it needs libc alone" "$(ldd "$work/real/bin/dmf" | sed -n 's/^\t\(lib[^ ]*\.so\).*/\1/p')" libc.so
+for file in bin/dmf lib/libdmf.so.0; do
+    same "$file needs libc alone" "$(ldd "$work/real/$file" | sed -n 's/^\t\(lib[^ ]*\.so\).*/\1/p')" libc.so
+done
+
+# A C program that finds the library as its field does: by pkg-config's file, here read by hand, and by the loader.
+if command -v gcc >/dev/null; then
+    flags="$(sed -n "s|^prefix=.*||; s|\${includedir}|$work/real/include|; s|\${libdir}|$work/real/lib|; s/^\(Libs\|Cflags\): //p" "$work/real/lib/pkgconfig/dmf.pc")"
+    # shellcheck disable=SC2086 # It has a word for each flag.
+    gcc examples/c/limit.c -o "$work/limit" $flags >"$work/out" 2>"$work/err"
+    same "a C program is linked" "$? $(cat "$work/err")" "0 "
+    same "it runs" "$(LD_LIBRARY_PATH="$work/real/lib" "$work/limit" | tail -n 2)" $'without arc 1: 2\nagain: 5'
+else
+    echo "skipped: no gcc, so no C program was linked with the installed library"
+fi
+same "the example of ctypes runs" "$(python3 examples/c/limit.py "$work/real/lib/libdmf.so.0")" "5 [3, 2, 1, 2, 3]"
 
 # The tools, from elsewhere and by a link, and the package.
 ln -s "$work/real/bin/dmf-problem" "$work/a tool"

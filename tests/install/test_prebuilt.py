@@ -15,7 +15,7 @@ from pathlib import Path
 
 import pytest
 from conftest import BUILT, ROOT
-from small_clone import FACTS, PACKED, PROGRAM, SECONDS, Clone, Ended
+from small_clone import FACTS, LIBRARY, PACKED, PACKED_LIBRARY, PROGRAM, SECONDS, Clone, Ended
 
 DAMAGED = rf"dmf: {PACKED} is damaged.*"
 NOBODY = 65534
@@ -235,16 +235,73 @@ def test_compared(clone: Clone) -> None:
 
 
 def test_of_what_it_was_made(clone: Clone) -> None:
-    """The facts: three lines, the second of which is that of `rt version`, and the same each time."""
+    """The facts: five lines, the first of which is that of `rt version`, and the same each time."""
     facts = (clone.root / FACTS).read_text()
-    assert re.fullmatch("executable: [0-9a-f]{64}\ntoolchain: a kit of the test\nsources: [0-9a-f]{64}\n", facts)
-    packed = (clone.root / PACKED).read_bytes()
+    names = ["executable", "sources", "library", "library sources"]
+    assert re.fullmatch("toolchain: a kit of the test\n" + "".join(f"{name}: [0-9a-f]{{64}}\n" for name in names), facts)
+    files = [clone.root / name for name in (FACTS, PACKED, PACKED_LIBRARY)]
+    before = [file.read_bytes() for file in files]
     clone.renew()
-    assert ((clone.root / FACTS).read_text(), (clone.root / PACKED).read_bytes()) == (facts, packed)
+    assert [file.read_bytes() for file in files] == before
+
+
+def take_library(clone: Clone) -> Ended:
+    words = [str(clone.root / "tools/prebuilt"), "library"]
+    ran = subprocess.run(words, env=clone.environment(), capture_output=True, text=True, timeout=SECONDS)
+    return Ended(ran.returncode, ran.stdout, ran.stderr)
+
+
+def test_the_library(clone: Clone) -> None:
+    """It is put where it was built, and what it was made of is judged apart from the program."""
+    library = clone.root / LIBRARY
+    assert take_library(clone) == (0, f"{library}\n", "")
+    assert library.read_text() == "a library\n" and stat.S_IMODE(library.stat().st_mode) == 0o644
+    for changed in "crates/dmf_c/src/lib.rt", "tools/library", "tools/dmf.map":
+        path = clone.root / changed
+        before = path.read_text()
+        path.write_text(f"{before}# Changed.\n")
+        assert take_library(clone) == (1, "the C library of prebuilt/ is of other sources\n", "")
+        assert clone.check() == (1, "the C library of prebuilt/ is of other sources: `tools/prebuilt renew` makes it anew\n")
+        assert clone.call().out == "ran the first\n"
+        path.write_text(before)
+    assert clone.check() == (0, "")
+
+
+@pytest.mark.parametrize("damage", DAMAGES)
+def test_a_damaged_library(clone: Clone, damage: str) -> None:
+    packed = clone.root / PACKED_LIBRARY
+    packed.write_bytes(DAMAGES[damage](packed.read_bytes()))
+    status, said, _ = take_library(clone)
+    assert status == 1 and said.startswith(f"{PACKED_LIBRARY} is damaged") and not (clone.root / LIBRARY).exists()
+    assert clone.check() == (1, f"{said[:-1]}: `tools/prebuilt renew` makes it anew\n")
+    assert clone.call().out == "ran the first\n"
+
+
+def test_a_library_compared(clone: Clone) -> None:
+    program, library = clone.root / "crates/dmf/out/dmf", clone.root / LIBRARY
+    assert (clone.call().status, take_library(clone).status) == (0, 0)
+    assert clone.check(str(program), str(library)) == (0, "")
+    library.write_bytes(flipped(library.read_bytes()))
+    assert clone.check(str(program), str(library)) == (1, f"prebuilt/ has another library than {library}: `tools/prebuilt renew` makes it anew\n")
+    library.unlink()
+    assert clone.check(str(program), str(library)) == (1, f"{library} is not there\n")
+
+
+def test_a_library_read_only(read_only: Clone) -> None:
+    """Where the clone cannot be written, the library lies in the caller's cache, beside the program's."""
+    clone, by = read_only, somebody(read_only)
+    (clone.root / "crates/dmf_c").chmod(0o555)
+    words = [*by, str(clone.root / "tools/prebuilt"), "library"]
+    ran = subprocess.run(words, env=clone.environment(), capture_output=True, text=True, timeout=SECONDS)
+    (clone.root / "crates/dmf_c").chmod(0o755)
+    if not by:
+        return
+    (kept,) = clone.home.glob(".cache/dmf/*/libdmf.so.0")
+    assert (ran.returncode, ran.stdout, ran.stderr, kept.read_text()) == (0, f"{kept}\n", "", "a library\n")
 
 
 def test_words(clone: Clone) -> None:
     """A command that is none, or with words too many, is refused."""
-    for words in (), ("wash",), ("take", "it"), ("renew", "it"), ("check", "a", "b"):
+    for words in (), ("wash",), ("take", "it"), ("library", "it"), ("renew", "it"), ("check", "a", "b", "c"):
         ran = subprocess.run([clone.root / "tools/prebuilt", *words], capture_output=True, text=True, timeout=SECONDS)
         assert (ran.returncode, ran.stdout, ran.stderr[:5]) == (2, "", "Usage"), words

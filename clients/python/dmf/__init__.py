@@ -1,4 +1,4 @@
-"""Maximum flows, minimum cuts and what-if sessions, by the program `dmf`.
+"""Maximum flows, minimum cuts and what-if sessions, by the C library of `dmf` or its program.
 
 >>> import dmf
 >>> network = dmf.Network([("lake", "mill", 3), ("mill", "sea", 2), ("lake", "sea", 1)], source="lake", sink="sea")
@@ -17,7 +17,7 @@ help(dmf.sweep)           thousands of changes, each alone; each_arc_closed,
                           each_node_shut, each_capacity_raised, each_pair_added
 help(dmf.Error)           the base of all exceptions; each refusal is one, as
                           dmf.NoSuchArc: dir(dmf) has all names
-help(dmf.program)         which program runs
+help(dmf.program)         which program runs; help(dmf.library): or which library
 
 docs/PYTHON.md says what calls cost, and how to come from networkx, scipy and igraph.
 """
@@ -91,6 +91,7 @@ if TYPE_CHECKING:
     from .tables.faults import TableFault as TableFault
     from .tables.live import TableNetwork as TableNetwork
     from .tables.opened import read_table as read_table
+    from .ways import library as library
 
 # The public names of each module, but for those of the exceptions, which the module `errors` knows itself.
 _NAMES = {
@@ -107,6 +108,7 @@ _NAMES = {
     "tables.live": ["TableNetwork"],
     "tables.opened": ["read_table"],
     "sweeping": ["SweepResult", "each_arc_closed", "each_capacity_raised", "each_node_shut", "each_pair_added", "sweep"],
+    "ways": ["library"],
 }
 _HOMES = {name: module for module, names in _NAMES.items() for name in names}
 if not TYPE_CHECKING:

@@ -27,7 +27,7 @@ class Owner(Protocol):
 
 
 class Arc(Generic[Node]):
-    """An arc of a network: its handle. `number` is the one that the program knows it by, `tail` and `head` are its ends, and
+    """An arc of a network: its handle. `number` is the one that the session knows it by, `tail` and `head` are its ends, and
     `given_key` is the key that the caller gave it, or None. `is_open`, `capacity` and `flow` say how it is now in its network. Each
     arc is equal to itself alone, so a copy of it is the arc itself. One that was pickled has no network any more."""
 
@@ -62,7 +62,7 @@ class Arc(Generic[Node]):
     @property
     def flow(self) -> int:
         """The flow on it now, which is 0 if it is closed. Raises `NoSuchArc` if the change that added it was undone. The first look
-        at an arc after a change asks the program for all flows."""
+        at an arc after a change asks the session for all flows."""
         return self._network().flow_now(self)
 
     def _network(self) -> Owner:
@@ -118,7 +118,7 @@ class Handles(Generic[Node]):
         return self._made.get(arc.number) is arc
 
     def __reduce__(self) -> tuple[Any, ...]:
-        # Without the network, which is a running program.
+        # Without the network, which is a running session.
         return Handles, (self.columns,), {"_made": self._made}
 
 

@@ -16,6 +16,7 @@ from .arcs import Columns, Node, OpenArcs
 from .errors import NoCapacity, NotAnArc, NumberTooLarge, shown
 from .kept import LARGEST_NODE, columns_of, is_missing, is_unordered, refuse_node, whole
 from .numbering import AMOUNTS, NODES, WholeNodes
+from .session import Problem
 
 # How many lines of a text are made or read at once, and how many are made without numpy, with an object for each number.
 PIECE, PLAIN_PIECE = 1 << 14, 1 << 11
@@ -39,22 +40,20 @@ def loaded() -> Any:
     return sys.modules.get("numpy")
 
 
-def problem_lines(columns: Columns[Any], capacities: array[int]) -> Iterator[bytes]:
-    """The arc lines of a problem, many at once. The capacities may be followed by those of added arcs."""
-    np, count = loaded(), len(columns)
+def problem_lines(problem: Problem) -> Iterator[bytes]:
+    """The arc lines of a problem, many at once."""
+    np, count = loaded(), len(problem.tails)
     size = PLAIN_PIECE if np is None else PIECE
     for begin in range(0, count, size):
         end = min(begin + size, count)
-        piece = [column[begin:end] for column in (columns.tails, columns.heads, capacities)]
+        piece = [column[begin:end] for column in problem.columns()]
         yield _plain_lines(piece) if np is None else _lines(np, piece)
 
 
-def problem_pieces(columns: Columns[Any], capacities: array[int], source: int, sink: int, more: Sequence[tuple[int, int, int]] = ()) -> Iterator[bytes]:
-    """The text of a problem, in pieces. More arcs may follow those of the columns."""
-    yield b"p max %d %d\nn %d s\nn %d t\n" % (len(columns.numbers), len(columns) + len(more), source, sink)
-    yield from problem_lines(columns, capacities)
-    for arc in more:
-        yield b"a %d %d %d\n" % arc
+def problem_pieces(problem: Problem) -> Iterator[bytes]:
+    """The text of a problem, in pieces."""
+    yield b"p max %d %d\nn %d s\nn %d t\n" % (problem.nodes, len(problem.tails), problem.source, problem.sink)
+    yield from problem_lines(problem)
 
 
 def _plain_lines(columns: list[array[int]]) -> bytes:
@@ -101,6 +100,15 @@ def numpy_for(count: int) -> Any:
         with contextlib.suppress(ImportError):
             return importlib.import_module("numpy")
     return loaded()
+
+
+def pieces_of(lines: bytes) -> Iterator[bytes]:
+    """Lines, as many at once as the processor's cache holds."""
+    begin = 0
+    while begin < len(lines):
+        end = lines.rfind(b"\n", begin, begin + LETTERS) + 1
+        yield lines[begin:end]
+        begin = end
 
 
 def read_lines(lines: bytes, np: Any) -> tuple[array[int], array[int], array[int]]:

@@ -88,7 +88,7 @@ class Changes:
             self._changes[place - self.most - 1] = oldest.command
 
     def note(self, change: Change, value: int) -> None:
-        """Notes a change that the program made, makes it here, and drops what was undone. The flow has this value then."""
+        """Notes a change that the session made, makes it here, and drops what was undone. The flow has this value then."""
         now = self._now
         back = _Back(now, made=[change], dropped=self._changes[now.place :])
         self._now = _Now(now.place, now.value, back)

@@ -7,14 +7,14 @@ import time
 from collections.abc import Callable
 from dataclasses import dataclass
 from itertools import takewhile
-from typing import Any, NamedTuple, Tuple, Union
+from typing import Any, Tuple, Union
 
 from .arcs import Arc
 from .errors import Error, NoProgram, SessionEnded
 from .kept import Kept, whole
 from .network import Network
-from .process import MOST_TEXT, Child, Program
 from .lexical import LARGEST, MOST_ARCS
+from .session import MOST_TEXT, Way, case_lines
 
 # A command of a case: ("cap", arc, capacity), ("close", arc), ("open", arc), ("shut", node) or ("add", tail, head, capacity).
 Command = Tuple[Any, ...]
@@ -31,13 +31,6 @@ class Answer:
     value: int = 0
     cut: tuple[int | Arc[Any], ...] | None = None
     refusal: Error | None = None
-
-
-class _Lines(NamedTuple):
-    """The text that tries a case: its commands, a solve, and the steps back; and how many lines these are."""
-
-    text: str
-    line_count: int
 
 
 def _try(network: Network[Any], case: Plain, want_cut: bool) -> Answer:
@@ -62,29 +55,22 @@ def _try(network: Network[Any], case: Plain, want_cut: bool) -> Answer:
         return Answer(value, tuple(arc.number if arc.number <= known else arc for arc in network.cut().arcs))
 
 
-def _try_together(network: Network[Any], cases: list[_Lines], answers: list[Answer]) -> None:
-    """Sends cases at once, and adds what comes of each. Raises `SessionEnded` if one is refused, since the replies after it are of
-    another network."""
-
-    def read(child: Child) -> None:
-        for case in cases:
-            *changed, solved, undone = (line.split() for line in child.lines(case.line_count).splitlines())
-            if any(fields[1] == b"refused" for fields in changed) or solved[:3] != [b"c", b"solve", b"value"]:
-                raise ValueError
-            if undone != [b"c", b"undo", b"value", b"%d" % network._kept.value]:
-                raise ValueError
-            answers.append(Answer(int(solved[3])))
-
-    network._ask("\n".join(case.text for case in cases), read)
+def _try_together(network: Network[Any], cases: list[list[str]], answers: list[Answer]) -> None:
+    """Tries cases at once, and adds what comes of each. Raises `SessionEnded` if one is refused."""
+    values: list[int] = []
+    try:
+        network._try_cases(cases, values)
+    finally:
+        answers.extend(map(Answer, values))
 
 
 class Copy:
-    """A solved copy of a network, which is begun when a case comes, and anew where its program ends. Its problem may be in a file that
-    several copies read."""
+    """A solved copy of a network, which is begun when a case comes, and anew where its session ends. Its problem may be in a file that
+    several programs read."""
 
-    def __init__(self, kept: Kept[Any], program: Program, path: str | None = None) -> None:
+    def __init__(self, kept: Kept[Any], way: Way, path: str | None = None) -> None:
         self._kept = kept
-        self._program = program
+        self._way = way
         self._path = path
         # How long it took to begin, in seconds, each time counted.
         self.begin_seconds = 0.0
@@ -96,7 +82,7 @@ class Copy:
         self.used = time.monotonic()
 
     def answers(self, cases: list[Plain | Error], want_cut: bool) -> list[Answer]:
-        """What comes of cases. Sends those together that no session refuses, so that the program need not wait for the next one. If
+        """What comes of cases. Sends those together that no session refuses, so that a program need not wait for the next one. If
         it ends at one of these, tries that once more."""
         answers: list[Answer] = []
         while len(answers) < len(cases):
@@ -113,7 +99,7 @@ class Copy:
         return answers
 
     def _answer(self, case: Plain | Error, want_cut: bool, tries: int) -> Answer:
-        """What comes of a case. If the program ends, tries it once more, if a try is left."""
+        """What comes of a case. If the session ends, tries it once more, if a try is left."""
         if isinstance(case, Error):
             return Answer(refusal=case)
         for left in reversed(range(tries)):
@@ -129,19 +115,19 @@ class Copy:
                 return Answer(refusal=error)
         raise AssertionError
 
-    def _together(self, cases: list[Plain | Error]) -> list[_Lines]:
-        """The lines of the first cases, as many as may go together."""
+    def _together(self, cases: list[Plain | Error]) -> list[list[str]]:
+        """The commands of the first cases, as many as may go together."""
         found, size = [], 0
-        for lines in takewhile(bool, map(self._lines, cases)):
-            assert lines
-            size += len(lines.text) + 1
+        for commands in takewhile(lambda it: it is not None, map(self._commands, cases)):
+            assert commands is not None
+            size += sum(len(line) + 1 for line in case_lines(commands))
             if size > MOST_TEXT:
                 break
-            found.append(lines)
+            found.append(commands)
         return found
 
-    def _lines(self, case: Plain | Error) -> _Lines | None:
-        """The lines of a case that a session can refuse for want of memory alone, and nothing for another case."""
+    def _commands(self, case: Plain | Error) -> list[str] | None:
+        """The commands of a case that a session can refuse for want of memory alone, and nothing for another case."""
         if isinstance(case, Error) or callable(case):
             return None
         try:
@@ -155,8 +141,7 @@ class Copy:
         is_open = len(set(changed)) == len(changed) and self._kept.closed.isdisjoint(changed)
         if not (is_known and is_open and amount <= self._room and self._kept.arc_count + words.count("add") <= MOST_ARCS):
             return None
-        lines = [" ".join(map(str, command)) for command in commands]
-        return _Lines("\n".join([*lines, "solve", f"undo {len(lines) + 1}"]), len(lines) + 2)
+        return [" ".join(map(str, command)) for command in commands]
 
     def _in_numbers(self, word: str, *rest: Any) -> tuple[Any, ...]:
         """A command with its nodes by number, too. Raises a `Refused` if something in it is no node or no capacity."""
@@ -172,7 +157,7 @@ class Copy:
             raise SessionEnded("the sweep was ended")
         if self.network is None:
             began = time.monotonic()
-            network: Network[Any] = self._kept.columns.network_class()._of(self._kept.copy(), self._program, self._path)
+            network: Network[Any] = self._kept.columns.network_class()._of(self._kept.copy(), self._way, self._path)
             with self._lock:
                 self.network = network
                 if self._is_over:
@@ -182,13 +167,13 @@ class Copy:
         return self.network
 
     def end(self) -> None:
-        """Ends the program."""
+        """Ends the session."""
         network, self.network = self.network, None
         if network:
-            network._child.end()
+            network._session.end()
 
     def break_off(self) -> None:
-        """Kills the program for another thread that waits for it, and lets it begin no more."""
+        """Ends the session for another thread that waits for it, and lets it begin no more."""
         with self._lock:
             self._is_over = True
             if self.network:

@@ -17,8 +17,8 @@ from .desk_steps import Add, Cap, Change, Close, DeskFault, Line, Place, Reopen,
 from .desk_sweep import trials
 from .desk_view import DeskView
 from .errors import CapacitiesPast64Bits, Error, SessionEnded
-from .process import Program
 from .quantity import Quantity, plain_text
+from .session import Program
 from .tables.cells import shown
 from .tables.subject import Subject
 

@@ -16,7 +16,7 @@ from .desk_names import Names
 from .desk_steps import Add, Cap, Change, Close, DeskFault, Follow, Line, Node, Reopen, Shut, Solve, Step, Was
 from .errors import Error, FlowIsNotGreatest, Refused
 from .folding import Folding
-from .process import Program
+from .session import Program
 from .quantity import EXACT, Measure, Quantity
 from .sources import read_whole
 from .tables.cells import cleaned, shown
@@ -66,11 +66,11 @@ class Held:
     @property
     def has_ended(self) -> bool:
         """Whether the session is known to have ended."""
-        return self._is_broken or not self.network._child.end.alive
+        return self._is_broken or not self.network._session.end.alive
 
     def break_off(self, why: str) -> None:
         """Ends the session at once, also for a thread that waits for it."""
-        self.network._child.break_off(why)
+        self.network._session.break_off(why)
 
     def drop(self) -> None:
         """Ends the session, which may be between two steps."""

@@ -19,11 +19,12 @@ class Error(Exception):
 
 
 class SessionEnded(Error):
-    """The program has ended: it was killed, it failed, or the session was ended. The network can answer nothing until `begin_again`."""
+    """The session has ended: its program was killed or failed, or it was ended. The network can answer nothing until `begin_again`."""
 
 
 class NoProgram(Error, FileNotFoundError):
-    """There is no program `dmf`, or the one that was found cannot be run here, or is of another version than this package needs."""
+    """There is no program `dmf`, or the one that was found, or the library that DMF_LIBRARY names, cannot be run here, or is of another
+    version than this package needs."""
 
 
 class AmbiguousArc(Error, LookupError):

@@ -1,4 +1,4 @@
-"""What is kept of a network outside the program, which knows only numbers: names, which arcs are open, and the changes."""
+"""What is kept of a network outside its session, which knows only numbers: names, which arcs are open, and the changes."""
 
 from __future__ import annotations
 

@@ -1,4 +1,4 @@
-"""Networks, each of which is a running session of the program."""
+"""Networks, each of which is a running session."""
 
 from __future__ import annotations
 
@@ -13,10 +13,11 @@ from .arcs import Arc, Columns, Node
 from .changes import Change
 from .errors import ArcIsOpen, Refused, SessionEnded
 from .kept import Kept, Whole, columns_of, whole
-from .process import Program, bound, where
-from .running import alone, started
+from .running import alone
+from .session import Program, Way, bound, where
 from .showing import Showing
 from .solution import Solution
+from .ways import chosen, started
 
 # An arc as the caller gives it: its tail, its head, its capacity and, if it has one, its key.
 Row = Union[Tuple[Node, Node, Whole], Tuple[Node, Node, Whole, Hashable]]
@@ -32,11 +33,12 @@ class Network(Showing[Node]):
 
     `program` is the path of the program, and `history` the most changes that can be undone, from 0 to 1,000,000.
 
-    A network is a running `dmf session`. It ends with `end`, with the `with` block that it is made for, when nothing refers to it any
-    more, or with the interpreter. It is for one thread at a time.
+    A network is a running session: of the program, if `program` names it, or else of the library that `dmf.library` tells, in this
+    process. It ends with `end`, with the `with` block that it is made for, when nothing refers to it any more, or with the interpreter. It
+    is for one thread at a time.
 
     Raises a `Refused` if the problem has a fault, `NotAnArc` for a row of another form, `HistoryOutOfRange`, `SessionEnded` if the
-    program fails, and `NoProgram` if none is found that fits. Each method that asks the program raises `SessionEnded` if the program has
+    program fails, and `NoProgram` if none is found that fits. Each method that asks the session raises `SessionEnded` if that has
     ended, and `UsedByTwoThreads` if another thread is using the network. Ctrl-C, or whatever else breaks a call off, leaves the network as
     it was before the call; the next call begins a new session in the same state.
 
@@ -146,15 +148,16 @@ class Network(Showing[Node]):
         """Begins the session of a problem."""
         kept = Kept(columns, capacities, source, sink, most)
         try:
-            self._begin(started(kept, program), kept)
+            self._begin(started(kept, chosen(program)), kept)
         except Refused as refused:
             raise where(refused, kept.handle) from None
+        self._session.program = program
 
     @classmethod
-    def _of(cls, kept: Kept[Node], program: Program, path: str | None = None) -> Network[Node]:
+    def _of(cls, kept: Kept[Node], way: Way, path: str | None = None) -> Network[Node]:
         """A network on a session of its own that has carried out the commands of what is kept, on the first problem at this path."""
         made = cls.__new__(cls)
-        made._begin(started(kept, program, path), kept)
+        made._begin(started(kept, way, path), kept)
         return made
 
     @property
@@ -295,18 +298,19 @@ class Network(Showing[Node]):
         other. The handles of arcs that this one has now name those of the copy too. The copy is a session of its own, which takes the same
         problem and the same commands, so it takes as long as those took together. Raises what making a network raises."""
         self._ready()
-        program: Any = self._child.process.args
-        return type(self)._of(self._kept.twin(), program[0])
+        copy = type(self)._of(self._kept.twin(), self._session.way)
+        copy._session.program = self._session.program
+        return copy
 
     def end(self) -> None:
         """Ends the session. The network answers nothing after that."""
-        if not self._child.is_owned or self._why_over:
+        if not self._session.is_owned or self._why_over:
             return
         if self._is_running:
             with contextlib.suppress(SessionEnded):
                 self._settle()
-        self._why_over = "the session was ended" if self._is_broken else self._child.why_ended
-        self._child.end()
+        self._why_over = "the session was ended" if self._is_broken else self._session.why_ended
+        self._session.end()
 
     def begin_again(self) -> int:
         """Begins the session anew where it has ended: since the program was killed or failed, or by `end`. Returns the value. The network

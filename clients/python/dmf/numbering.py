@@ -1,4 +1,4 @@
-"""The numbers by which the program knows nodes that are whole numbers themselves, without an object for each."""
+"""The numbers by which a session knows nodes that are whole numbers themselves, without an object for each."""
 
 from __future__ import annotations
 

@@ -3,9 +3,8 @@ scipy."""
 
 from __future__ import annotations
 
-import tempfile
 from array import array
-from collections.abc import Callable, Hashable, Mapping
+from collections.abc import Callable, Hashable, Mapping, Sequence
 from typing import TYPE_CHECKING, Any, Dict, NamedTuple, overload
 
 from . import arrays
@@ -13,15 +12,21 @@ from .arcs import Columns, Node
 from .arrays import columns_of_arrays, is_unbounded
 from .errors import Refused, Unbounded
 from .kept import Kept, Whole, columns_of, whole
-from .process import Program, answer_to, where
 from .running import Running
+from .scratch import scratch
+from .session import PROGRAM, FilePath, Program, Told, where
 from .sources import rows_of_graph
+from .ways import chosen, problem_of
 
 if TYPE_CHECKING:
+    from .loaded import Library
+
     Flows = Dict[Node, Dict[Node, int]]
 
-# How the program is asked: for the value alone, for the cut too, and for the flows, of which any greatest one will do.
+# How the program is asked: for the value alone, for the cut too, and for the flows, of which any greatest one will do. These words find a
+# value sooner than a session, so a network with more arcs than these is solved by them, also where the library is there.
 VALUE, CUT, FLOW = ["solve", "--brief"], ["solve", "--brief", "--cut"], ["solve", "--any"]
+MOST_IN_PROCESS = 20_000
 WANTED = "a graph of networkx, a sparse matrix of scipy, or a dictionary of dictionaries"
 
 
@@ -31,6 +36,14 @@ class MatrixFlow(NamedTuple):
 
     flow_value: int
     flow: Any
+
+
+class _Solved(NamedTuple):
+    """A solved network: the greatest value, and the flows or the nodes of the cut's side where these were asked for."""
+
+    value: int
+    flows: Told = b""
+    side: Sequence[int] = ()
 
 
 class _Given(NamedTuple):
@@ -43,13 +56,13 @@ class _Given(NamedTuple):
 def value(
     graph: Any, source: Hashable, sink: Hashable, capacity: str = "capacity", *, infinite: Whole | None = None, program: Program = None
 ) -> int:
-    """The greatest value of a flow from the source to the sink, by one run of the program, which leaves no session behind.
+    """The greatest value of a flow from the source to the sink, in one call, which leaves no session behind.
 
     `graph` is one of those that `maximum_flow` takes, or rows `(tail, head, capacity)` as `Network` has them, a tuple of three arrays, or
     a frame with columns `tail`, `head` and `capacity`. `capacity` is the attribute, or the column, that has the capacities, and `infinite`
     the capacity of arcs whose capacity is missing or infinite. Raises what `maximum_flow` raises."""
     given = _given(graph, source, sink, capacity, infinite)
-    return _bounded(given, _number(_answer(given, VALUE, program)[0]))
+    return _bounded(given, _solved(given, VALUE, program).value)
 
 
 def minimum_cut(
@@ -57,12 +70,12 @@ def minimum_cut(
 ) -> tuple[int, tuple[set[Node], set[Node]]]:
     """The capacity of a minimum cut, and the two sides of the smallest one: the nodes that every minimum cut has on the side of the source,
     and all others. That is the shape of `networkx.minimum_cut`, whose cut is the one with the largest such side. The arguments are those
-    of `value`; the nodes of a matrix are numbers from 0 on. One run of the program, which leaves no session behind."""
+    of `value`; the nodes of a matrix are numbers from 0 on. It leaves no session behind."""
     given = _given(graph, source, sink, capacity, infinite)
-    found, *lines = _answer(given, CUT, program)
-    amount = _bounded(given, _number(found))
+    found = _solved(given, CUT, program)
+    amount = _bounded(given, found.value)
     names = given.kept.columns.names
-    side = {names[int(line[7:]) - 1] for line in lines if line.startswith(b"c side ")}
+    side = {names[node - 1] for node in found.side}
     return amount, (side, {node for node in names if node not in side})
 
 
@@ -81,7 +94,7 @@ def maximum_flow(
 def maximum_flow(
     graph: Any, source: Any, sink: Any, capacity: str = "capacity", *, infinite: Whole | None = None, program: Program = None
 ) -> Any:
-    """A maximum flow, by one run of the program, in the shape in which the package of the graph has it:
+    """A maximum flow, in the shape in which the package of the graph has it:
 
     - A graph of networkx, or a dictionary `{tail: {head: capacity}}`, gives `(value, flows)`, where `flows[tail][head]` is the flow on
       that edge. In a dictionary, attributes `{"capacity": 3}` may stand in place of the number. In an undirected graph the flow stands in
@@ -96,12 +109,12 @@ def maximum_flow(
     if not is_matrix and not isinstance(graph, Mapping) and not _is_graph(graph):
         raise TypeError(f"a flow in the shape of the graph needs {WANTED}, and not a {type(graph).__name__}: make a Network of it")
     given = _given(graph, source, sink, capacity, infinite)
-    text = _run(given, FLOW, program)
-    amount = _bounded(given, _number(text[: text.find(b"\n")]))
+    found = _solved(given, FLOW, program)
+    amount = _bounded(given, found.value)
     count = len(given.kept.columns)
     if is_matrix:
-        return MatrixFlow(amount, _matrix(given.kept.columns, arrays.flow_array(text, count), max(graph.shape)))
-    flows = arrays.flows(text, count)
+        return MatrixFlow(amount, _matrix(given.kept.columns, arrays.flow_array(found.flows, count), max(graph.shape)))
+    flows = found.flows if isinstance(found.flows, array) else arrays.flows(found.flows, count)
     assert flows is not None, "the program told no flow for each arc"
     return amount, _as_dictionaries(graph, given.kept, flows)
 
@@ -160,25 +173,43 @@ def _filled(rows: list[tuple[Any, ...]], infinite: Whole | None) -> tuple[list[t
     return [(*row[:2], room, row[3]) if is_missing else row for row, is_missing in zip(rows, missing)], unbounded
 
 
-def _run(given: _Given, words: list[str], program: Program) -> bytes:
-    """What the program writes. Raises a `Refused` that names the arc of a fault."""
-    kept = given.kept
-    with tempfile.TemporaryFile(prefix="dmf-") as file:
-        file.writelines(arrays.problem_pieces(kept.columns, kept.capacities, kept.number(kept.source), kept.number(kept.sink)))
+def _solved(given: _Given, words: list[str], program: Program) -> _Solved:
+    """What these words ask for. Raises a `Refused` that names the arc of a fault."""
+    way = chosen(program)
+    try:
+        if isinstance(way, PROGRAM):
+            return _by_program(given, words, way)
+        if len(given.kept.columns) > MOST_IN_PROCESS:
+            from .executable import program as found_program
+
+            return _by_program(given, words, found_program())
+        return _by_library(given, words, way)
+    except Refused as refused:
+        raise where(refused, given.kept.handle) from None
+
+
+def _by_library(given: _Given, words: list[str], library: Library) -> _Solved:
+    session = library.begin(problem_of(given.kept), 0)
+    try:
+        value = session.step("solve")
+        if words == CUT:
+            return _Solved(value, side=session.cut()[1])
+        return _Solved(value, session.flows(value, len(given.kept.columns)) if words == FLOW else b"")
+    finally:
+        session.end()
+
+
+def _by_program(given: _Given, words: list[str], program: FilePath) -> _Solved:
+    from .process import answer_to
+
+    with scratch() as file:
+        file.writelines(arrays.problem_pieces(problem_of(given.kept)))
         file.seek(0)
-        try:
-            return answer_to(file, program, words)
-        except Refused as refused:
-            raise where(refused, kept.handle) from None
-
-
-def _answer(given: _Given, words: list[str], program: Program) -> list[bytes]:
-    return _run(given, words, program).splitlines()
-
-
-def _number(line: bytes) -> int:
-    """The value in the first line of an answer."""
-    return int(line.split()[-1])
+        text = answer_to(file, program, words)
+    value = int(text[: text.find(b"\n")].split()[-1])
+    if words == CUT:
+        return _Solved(value, side=[int(line[7:]) for line in text.splitlines() if line.startswith(b"c side ")])
+    return _Solved(value, text)
 
 
 def _matrix(columns: Columns[Any], flow: Any, count: int) -> Any:

@@ -3,63 +3,53 @@
 from __future__ import annotations
 
 import contextlib
-import operator
 import os
 import re
 import subprocess
-import tempfile
-import weakref
-from collections.abc import Callable, Iterator, Sequence
-from typing import IO, Optional, Union
+from collections.abc import Iterator, Sequence
+from typing import IO, Any
 
 from . import executable
-from .errors import Error, HistoryOutOfRange, Refused, SessionEnded, shown
+from .errors import Error, Refused, SessionEnded
 from .lexical import display
-
-FilePath = Union[str, bytes, "os.PathLike[str]", "os.PathLike[bytes]"]
-Program = Optional[FilePath]
-# The largest number of changes that a session can keep.
-MOST_KEPT = 1_000_000
+from .scratch import passed_on, scratch
+from .session import MOST_KEPT, MOST_TEXT, FilePath, Session, case_lines, judged, refused, refused_line
 # How long the program may take to end after its input has ended, in seconds.
 SECONDS = 2
 # How much of the program's standard error is shown, in bytes.
 MOST_TOLD = 1 << 16
-# How much text is sent at once, in bytes: every pipe has room for it, so that the program never waits for a reader of its replies
-# while it has lines to take.
-MOST_TEXT = 4_096
 # How much of an answer is read at once, in bytes.
 PIECE = 1 << 20
 _TOLD = re.compile(r"dmf: (?:line ([0-9]{1,10}): )?(.*)")
 
 
-class Child:
+class Child(Session):
     """A running session of the program, and the lines that go to it and come from it."""
 
-    def __init__(self, words: list[str | bytes]) -> None:
-        """Starts a program. Raises an OSError if it cannot be started."""
+    def __init__(self, words: list[str | bytes], path: str) -> None:
+        """Starts a program with these words, on a problem at this path. Raises an OSError if it cannot be started."""
         pipe = subprocess.PIPE
         # In a file, standard error has room for all that a program writes, and nobody has to read it meanwhile.
-        self._told = tempfile.TemporaryFile(prefix="dmf-")
+        self._told = scratch()
         try:
             # In a session of its own: Ctrl-C at a terminal is for the caller alone.
             self.process = subprocess.Popen(
-                words, stdin=pipe, stdout=pipe, stderr=self._told, bufsize=1 << 16, start_new_session=True
+                [*words, "--", path],
+                stdin=pipe,
+                stdout=pipe,
+                stderr=self._told,
+                bufsize=1 << 16,
+                start_new_session=True,
+                pass_fds=passed_on(path),
             )
         except BaseException:
             self._told.close()
             raise
-        self._owner = os.getpid()
-        self.end = weakref.finalize(self, _end, self.process, self._told, self._owner)
-        self.why_ended = "the session was ended"
-        self._why_broken = ""
+        super().__init__(_end, self.process, self._told, os.getpid())
         assert self.process.stdin and self.process.stdout
         self._input, self._output = self.process.stdin, self.process.stdout.fileno()
         # What was read and belongs to later lines.
         self._rest = b""
-        # How many lines were sent.
-        self.line_count = 0
-        # The program, if the caller named it.
-        self.program: Program = None
 
     @contextlib.contextmanager
     def exchange(self, lines: str) -> Iterator[None]:
@@ -68,7 +58,7 @@ class Child:
         if not self.end.alive:
             raise self.ended()
         try:
-            self.line_count += 1 + lines.count("\n")
+            self.asked_count += 1 + lines.count("\n")
             self._input.write(lines.encode() + b"\n")
             self._input.flush()
             yield
@@ -83,9 +73,21 @@ class Child:
             self.kill(f"the session was ended when `{lines}` was broken off")
             raise
 
+    @property
+    def way(self) -> FilePath:
+        words: Any = self.process.args
+        used: FilePath = words[0]
+        return used
+
+    def is_full_after(self, most: int) -> bool:
+        return self.asked_count > most
+
+    def step(self, command: str, at: object = None) -> int:
+        with self.exchange(command):
+            return int(_begun(self.line(), command, [b"c", command.split()[0].encode()], at)[-1])
+
     def carry_out(self, commands: Sequence[str]) -> int:
-        """Sends commands that a session has carried out before, some at once, and returns the value after the last; 0 if there are none.
-        Raises `SessionEnded` if one is refused now."""
+        """Sends some at once."""
         value = begin = 0
         while begin < len(commands):
             end, size = begin, 0
@@ -103,6 +105,41 @@ class Child:
                     value = int(fields[-1])
             begin = end
         return value
+
+    def flows(self, value: int, open_count: int) -> bytes:
+        with self.exchange("print flow"):
+            begin = self.lines(1)
+            judged(int(_begun(begin.split(), "print flow", [b"s"])[1]), value)
+            text = begin + self.lines(open_count)
+            judged(text.count(b"\nf "), open_count)
+            return text
+
+    def cut(self) -> tuple[int, list[int]]:
+        # A cut does not say how long it is. The reply to `undo 0`, which changes nothing, marks its end.
+        with self.exchange("print cut\nundo 0"):
+            lines = self.lines_before(b"c undo value ").split(b"\n")[:-1]
+            capacity = int(_begun(lines[0].split(), "print cut", [b"c", b"cut"])[2])
+            side = [int(line[7:]) for line in lines[1:] if line.startswith(b"c side ")]
+            judged(len(side), len(lines) - 1)
+            return capacity, side
+
+    def problem(self) -> bytes:
+        with self.exchange("print problem"):
+            begin = self.lines(1)
+            fields = _begun(begin.split(), "print problem", [b"p"])
+            return begin + self.lines(int(fields[3]) + 2)
+
+    def try_cases(self, cases: Sequence[Sequence[str]], value: int, found: list[int]) -> None:
+        """Sends all at once, so that the program need not wait for the next one."""
+        lines = list(map(case_lines, cases))
+        with self.exchange("\n".join("\n".join(case) for case in lines)):
+            for case in lines:
+                *changed, solved, undone = (line.split() for line in self.lines(len(case)).splitlines())
+                if any(fields[1] == b"refused" for fields in changed) or solved[:3] != [b"c", b"solve", b"value"]:
+                    raise ValueError
+                if undone != [b"c", b"undo", b"value", b"%d" % value]:
+                    raise ValueError
+                found.append(int(solved[3]))
 
     def line(self) -> list[bytes]:
         """The fields of the next line of the answer. Raises an EOFError if none comes."""
@@ -147,23 +184,14 @@ class Child:
             raise EOFError
         return piece
 
-    @property
-    def is_owned(self) -> bool:
-        """Whether this process began the program, rather than its parent process."""
-        return os.getpid() == self._owner
-
-    def ended(self) -> SessionEnded:
-        """Why the program can answer nothing any more."""
-        return SessionEnded(self.why_ended)
-
     def break_off(self, why: str) -> None:
-        """Kills the program for a thread that waits for its answer, or may ask it later: each of its calls raises `SessionEnded`."""
+        """Kills the program."""
         if self.end.alive:
             self._why_broken = why
             self.process.kill()
 
     def kill(self, why: str) -> None:
-        """Ends the program at once, if it has not ended before."""
+        """Kills the program."""
         if not self.end.alive:
             return
         self.why_ended = why
@@ -200,20 +228,21 @@ def _refusal(told: str) -> Refused | None:
     found = _TOLD.fullmatch(told)
     if not found or not found[1] and found[2] not in Refused.kinds:
         return None
-    refused = Refused.of(display(found[2]), f"line {found[1]} of the problem" if found[1] else "")
-    refused.line = int(found[1]) if found[1] else None
-    return refused
+    return refused_line(display(found[2]), int(found[1]) if found[1] else None)
 
 
-def where(refused: Refused, handle: Callable[[int], object]) -> Refused:
-    """The refusal of a problem that was made of arcs, with the faulty one. The lines of the arcs stand after three others."""
-    number = (refused.line or 0) - 3
-    return Refused.of(refused.text, repr(handle(number)) if number >= 1 else "")
+def _begun(fields: list[bytes], command: str, begin: list[bytes], at: object = None) -> list[bytes]:
+    """The fields of the first line of a reply, which begins with these words. Raises a `Refused`, and a ValueError for another reply."""
+    if fields[:2] == [b"c", b"refused"]:
+        raise refused(display(b" ".join(fields[3:]).decode()), command, at)
+    if fields[: len(begin)] != begin:
+        raise ValueError
+    return fields
 
 
-def answer_to(file: IO[bytes], program: Program, words: list[str]) -> bytes:
+def answer_to(file: IO[bytes], program: FilePath, words: list[str]) -> bytes:
     """What the program answers to a problem's file, from its present place on. Raises what `start` raises."""
-    used = executable.program() if program is None else os.fspath(program)
+    used = os.fspath(program)
     pipe = subprocess.PIPE
     try:
         # In a session of its own: Ctrl-C at a terminal is for the caller alone, who then ends the program.
@@ -225,9 +254,9 @@ def answer_to(file: IO[bytes], program: Program, words: list[str]) -> bytes:
     if ran.returncode == 0:
         return ran.stdout
     told = ran.stderr[:MOST_TOLD].decode(errors="replace").strip()
-    refused = _refusal(told)
-    if refused:
-        raise refused
+    fault = _refusal(told)
+    if fault:
+        raise fault
     ended = SessionEnded(f"dmf {executable.ended(ran.returncode)}{': ' if told else ''}{_shown(told)}")
     executable.refuse_unfit(used, ended)
     raise ended
@@ -249,37 +278,23 @@ def _end(process: subprocess.Popen[bytes], told: IO[bytes], owner: int) -> None:
     told.close()
 
 
-def bound(history: int | None) -> int:
-    """The largest number of changes that can be undone. Raises `HistoryOutOfRange`."""
-    if history is None:
-        return MOST_KEPT
-    try:
-        kept = operator.index(history)
-    except TypeError:
-        kept = -1
-    if not 0 <= kept <= MOST_KEPT:
-        raise HistoryOutOfRange(f"history out of range: {shown(history)} is no whole number from 0 to 1,000,000")
-    return kept
-
-
 def session_words(most: int) -> list[str | bytes]:
     """The words for a session in which so many changes can be undone, and whose replies to solves are brief."""
     words: list[str | bytes] = ["session", "--brief"]
     return words if most == MOST_KEPT else [*words, "--history", str(most)]
 
 
-def start(path: str, program: Program, words: list[str | bytes]) -> Child:
+def start(path: str, program: FilePath, words: list[str | bytes]) -> Child:
     """A session with these words, on the problem's file, once it has read the problem. Raises a `Refused` if the problem has a fault,
-    `SessionEnded` if the program fails, and `NoProgram` if there is none that this package can use."""
-    used = executable.program() if program is None else os.fspath(program)
+    `SessionEnded` if the program fails, and `NoProgram` if this package cannot use it."""
+    used = os.fspath(program)
     try:
-        child = Child([used, *words, "--", path])
+        child = Child([used, *words], path)
     except OSError as error:
         # A temporary file may not be had either.
         if error.filename == used:
             executable.refuse_unrun(used, error)
         raise
-    child.program = program
     try:
         with child.exchange("undo 0"):
             if child.line() != [b"c", b"undo", b"value", b"0"]:

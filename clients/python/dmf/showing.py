@@ -11,8 +11,8 @@ from typing import TYPE_CHECKING, Any
 from . import arrays
 from .arcs import Node, OpenArcs
 from .errors import FlowIsNotGreatest
-from .process import FilePath
 from .running import Running, alone
+from .session import FilePath
 from .solution import Cut, Solution
 
 if TYPE_CHECKING:
@@ -55,8 +55,8 @@ class Showing(Running[Node]):
     @alone
     def flow(self) -> Solution[Node]:
         """The present flow."""
-        if not self._child.end.alive:
-            raise self._child.ended()
+        if not self._session.end.alive:
+            raise self._session.ended()
         return Solution(self._flows())
 
     @alone
@@ -66,21 +66,10 @@ class Showing(Running[Node]):
         return self._cut()
 
     def _cut(self) -> Cut[Node]:
-        capacity, side = self._asked_cut()
+        capacity, side = self._session.cut()
         names = self._kept.columns.names
         look = self._look(set(side)) if self._kept.open_count <= MOST_DRAWN else None
         return Cut(capacity, frozenset(names[node - 1] for node in side), tuple(self._kept.leaving(side)), names, look)
-
-    def _asked_cut(self) -> tuple[int, list[int]]:
-        """The capacity of the smallest minimum cut, and the numbers of the nodes of its side."""
-        # A cut does not say how long it is. The reply to `undo 0`, which changes nothing, marks its end.
-        with self._child.exchange("print cut\nundo 0"):
-            lines = self._child.lines_before(b"c undo value ").split(b"\n")[:-1]
-            capacity = int(self._begun(lines[0].split(), "print cut", [b"c", b"cut"])[2])
-            side = [int(line[7:]) for line in lines[1:] if line.startswith(b"c side ")]
-            if len(side) != len(lines) - 1:
-                raise ValueError
-            return capacity, side
 
     @alone
     def problem(self, *, names: bool = True, escapes: bool = False) -> str:
@@ -99,10 +88,7 @@ class Showing(Running[Node]):
         if names:
             keys = {place: key for place, key in enumerate(opened.keys(), 1) if key is not None}
             before += comments(dict(enumerate(self._kept.columns.names, 1)), keys, escapes=escapes)
-        with self._child.exchange("print problem"):
-            begin = self._child.lines(1)
-            self._begun(begin.split(), "print problem", [b"p"])
-            return before + (begin + self._child.lines(len(opened) + 2)).decode()
+        return before + self._session.problem().decode()
 
     def to_networkx(self) -> Any:
         """A MultiDiGraph of networkx with an edge for each open arc. Its key is the arc's number, and its attributes are `capacity`,
@@ -137,7 +123,7 @@ class Showing(Running[Node]):
     @alone
     def _look_with_cut(self) -> Callable[[], Look]:
         try:
-            side = set(self._asked_cut()[1])
+            side = set(self._session.cut()[1])
         except FlowIsNotGreatest:
             side = set()
         return self._look(side)

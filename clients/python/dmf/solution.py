@@ -1,4 +1,4 @@
-"""The answers of the program about a network: solutions and cuts."""
+"""The answers of a session about a network: solutions and cuts."""
 
 from __future__ import annotations
 
@@ -9,6 +9,7 @@ from typing import TYPE_CHECKING, Any, Generic, TypeVar, overload
 from . import arrays
 from .arcs import Arc, Node, OpenArcs
 from .errors import NoSuchArc, SessionEnded
+from .session import Told
 
 if TYPE_CHECKING:
     from .notebook import Look
@@ -17,54 +18,55 @@ Other = TypeVar("Other")
 
 
 class Flows(Generic[Node]):
-    """The flow of one state of a network. It asks the program for its text when somebody looks at it, and at the latest before the
-    network changes. It keeps the text, and reads it when somebody looks at a flow."""
+    """The flow of one state of a network. It asks the session for it when somebody looks at it, and at the latest before the network
+    changes. It keeps what it was told, a text or an array, and reads a text when somebody looks at a flow."""
 
-    def __init__(self, value: int, arcs: OpenArcs[Node], capacities: array[int], ask: Callable[[], bytes]) -> None:
+    def __init__(self, value: int, arcs: OpenArcs[Node], capacities: array[int], ask: Callable[[], Told]) -> None:
         self.value = value
         self.arcs = arcs
         # These belong to the network until it changes.
         self._capacities = capacities
-        self._ask: Callable[[], bytes] | None = ask
-        self._text = b""
-        self._numbers: array[int] | None = None
+        self._ask: Callable[[], Told] | None = ask
+        self._told: Told = b""
 
-    def settle(self, ask: Callable[[], bytes] | None = None) -> None:
-        """Takes the text, if it was not asked for yet. A caller who is using the program passes the function that asks for it."""
+    def settle(self, ask: Callable[[], Told] | None = None) -> None:
+        """Takes the flow, if it was not asked for yet. A caller who is using the session passes the function that asks for it."""
         own = self._ask
         if own:
-            text = (ask or own)()
-            # Another thread that changed the network meanwhile took the text first.
+            told = (ask or own)()
+            # Another thread that changed the network meanwhile took it first.
             if self._ask:
-                self._text, self._ask = text, None
+                self._told, self._ask = told, None
 
     def lose(self, error: SessionEnded) -> None:
-        """Notes that the program can tell the text no more, if it was not asked for yet: whoever asks for it gets this error."""
+        """Notes that the session can tell the flow no more, if it was not asked for yet: whoever asks for it gets this error."""
 
-        def ask() -> bytes:
+        def ask() -> Told:
             raise error
 
         if self._ask:
             self._ask = ask
 
-    def part(self, ask: Callable[[], bytes]) -> None:
+    def part(self, ask: Callable[[], Told]) -> None:
         """Takes all that the network no longer has after a change."""
         self.settle(ask)
         self._capacities = self._capacities[:]
 
-    def text(self) -> bytes:
-        """The text of the solution."""
+    def told(self) -> Told:
+        """The text of the solution, or the flow on each open arc."""
         self.settle()
-        return self._text
+        return self._told
 
     def numbers(self) -> array[int]:
         """The flow on each open arc. Raises `SessionEnded` if the program answered something else."""
-        if self._numbers is None:
-            self._numbers = arrays.flows(self.text(), len(self.arcs))
-            if self._numbers is None:
-                raise SessionEnded("what dmf answered was not understood: it told no flow for each open arc")
-            self._text = b""
-        return self._numbers
+        told = self.told()
+        if isinstance(told, array):
+            return told
+        numbers = arrays.flows(told, len(self.arcs))
+        if numbers is None:
+            raise SessionEnded("what dmf answered was not understood: it told no flow for each open arc")
+        self._told = numbers
+        return numbers
 
     def capacities(self) -> array[int]:
         """The capacities of the open arcs."""
@@ -75,9 +77,8 @@ class Flows(Generic[Node]):
 
 
 def _settled(value: int, arcs: OpenArcs[Any], capacities: array[int], numbers: array[int]) -> Flows[Any]:
-    flows = Flows(value, arcs, capacities, bytes)
+    flows = Flows(value, arcs, capacities, lambda: numbers)
     flows.settle()
-    flows._numbers = numbers
     return flows
 
 
@@ -114,7 +115,7 @@ class Solution(Mapping[Arc[Node], int], Generic[Node]):
     >>> solution["pipe"], solution["b", "c"], solution.between("a", "b"), solution.value
     (5, 5, 5, 5)
 
-    The program sends the flows when somebody looks at one, and at the latest before the network changes or ends; so a value alone
+    The session tells the flows when somebody looks at one, and at the latest before the network changes or ends; so a value alone
     costs nothing more.
     """
 
@@ -182,7 +183,7 @@ class Solution(Mapping[Arc[Node], int], Generic[Node]):
     def array(self) -> Any:
         """The flows as an array of numpy, in the order of the arcs: signed integers of 64 bits, or unsigned ones if a flow is 2^63 or
         more. Raises an ImportError if numpy is not installed."""
-        return arrays.flow_array(self._flows.text() if self._flows._numbers is None else self._flows.numbers(), len(self))
+        return arrays.flow_array(self._flows.told(), len(self))
 
     def frame(self) -> Any:
         """A frame of pandas with a row for each open arc: its number, tail, head and key, its flow, and the capacity that it had.

@@ -3,7 +3,6 @@
 from __future__ import annotations
 
 import os
-import tempfile
 from array import array
 from collections import Counter
 from collections.abc import Callable, Hashable
@@ -11,13 +10,14 @@ from dataclasses import dataclass
 from typing import Any, cast
 
 from .arcs import Columns, Node
-from .arrays import PIECE, no_capacity, numpy_for, read_lines, with_infinite
+from .arrays import no_capacity, numpy_for, pieces_of, read_lines, with_infinite
 from .kept import Kept, Whole, whole
 from .network import Network
 from .numbering import AMOUNTS, NODES
-from .process import Child, FilePath, Program, bound, session_words, start
+from .session import FilePath, Program, Session, bound
 from .tables.comments import Described, described
 from .text import ARC, NODE, names_in, naming_pieces
+from .ways import chosen, started_on
 
 
 def read(path: FilePath, *, program: Program = None, history: int | None = None) -> Network[int | str]:
@@ -35,7 +35,7 @@ def read(path: FilePath, *, program: Program = None, history: int | None = None)
         return _whole(problem)
     from .tables.folded import network_of_problem
 
-    return cast("Network[int | str]", network_of_problem(problem, said, program))
+    return cast("Network[int | str]", network_of_problem(problem, said))
 
 
 def read_whole(path: FilePath, *, program: Program = None, history: int | None = None) -> Network[int | str]:
@@ -48,7 +48,7 @@ def read_whole(path: FilePath, *, program: Program = None, history: int | None =
 class Opened:
     """A problem that a session has read: the session, the text, its nodes and arcs, and the most changes that can be undone."""
 
-    child: Child
+    session: Session
     text: bytes
     node_count: int
     ends: tuple[int, int]
@@ -71,20 +71,17 @@ def _opened(path: FilePath, program: Program, history: int | None) -> Opened:
     most = bound(history)
     with open(os.fspath(path), "rb") as file:
         text = file.read()
-    # The program reads a copy: a pipe is empty by now, a file may have changed, and /dev/stdin is another file to the program.
-    with tempfile.NamedTemporaryFile(prefix="dmf-", suffix=".max") as copy:
-        copy.write(text)
-        copy.flush()
-        child = start(copy.name, program, session_words(most))
+    # The session has this text: a pipe is empty by now, a file may have changed, and /dev/stdin is another file to a program.
+    session = started_on(text, chosen(program), most)
+    session.program = program
+    head, *ends, arcs = session.problem().split(b"\n", 3)
+    node_count, arc_count = map(int, head.split()[2:])
+    source, sink = (int(line.split()[1]) for line in ends)
     tails, heads, capacities = array(NODES), array(NODES), array(AMOUNTS)
-    with child.exchange("print problem"):
-        node_count, arc_count = map(int, child.line()[2:])
-        source, sink = (int(child.line()[1]) for _ in range(2))
-        for begin in range(0, arc_count, PIECE):
-            read = read_lines(child.lines(min(PIECE, arc_count - begin)), numpy_for(arc_count))
-            for column, more in zip((tails, heads, capacities), read):
-                column.extend(more)
-    return Opened(child, text, node_count, (source, sink), tails, heads, capacities, most)
+    for piece in pieces_of(arcs):
+        for column, more in zip((tails, heads, capacities), read_lines(piece, numpy_for(arc_count))):
+            column.extend(more)
+    return Opened(session, text, node_count, (source, sink), tails, heads, capacities, most)
 
 
 def _whole(problem: Opened) -> Network[int | str]:
@@ -97,7 +94,7 @@ def _whole(problem: Opened) -> Network[int | str]:
     kept = Kept(columns, problem.capacities, names[source - 1], names[sink - 1], problem.most)
     kept.described = described(problem.text)
     network: Network[int | str] = Network.__new__(Network)
-    network._begin(problem.child, kept)
+    network._begin(problem.session, kept)
     return network
 
 

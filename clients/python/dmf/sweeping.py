@@ -18,7 +18,7 @@ from .copies import Answer, Command, Plain
 from .errors import Error, JobsOutOfRange, NotAnArc, UnknownCommand, shown
 from .kept import Whole, is_unordered
 from .network import Network
-from .process import MOST_KEPT
+from .session import MOST_KEPT
 from .trying import Here, Pending, Sent, There, Tries
 
 if TYPE_CHECKING:
@@ -121,10 +121,10 @@ def sweep(
     Any other error ends the sweep. An error in making the cases comes after the results of the cases before it. If a program is
     killed, another takes its place, and tries its case once more.
 
-    Without an `executor` each of so many `jobs` (as many as there are processors) has a program here. Raises `JobsOutOfRange` if that is
+    Without an `executor` each of so many `jobs` (as many as there are processors) has a session here. Raises `JobsOutOfRange` if that is
     no whole number from 1 on. An `executor` is anything of the form of `concurrent.futures`, as `Client.get_executor()` of
-    dask.distributed: each of its processes is sent the network, and begins programs of its own: the one that the network was made with
-    by `program`, or else the one that it finds itself. There functions are pickled, and name arcs by their keys or ends. `progress`
+    dask.distributed: each of its processes is sent the network, and begins sessions of its own: by the program that the network was made
+    with, if that was named, or else by what it finds itself. There functions are pickled, and name arcs by their keys or ends. `progress`
     shows a bar of tqdm, where that is there.
 
     >>> with Network([("a", "b", 3, "x"), ("a", "b", 4, "y")], source="a", sink="b") as network:
@@ -135,10 +135,9 @@ def sweep(
     made = cases(network) if callable(cases) else cases
     programs = _programs(jobs)
     swept = _Swept(network)
-    program: Any = network._child.process.args
-    begin: Callable[[], Tries] = functools.partial(Here, swept.kept, program[0], want_cut, programs)
+    begin: Callable[[], Tries] = functools.partial(Here, swept.kept, network._session.way, want_cut, programs)
     if executor is not None:
-        begin = functools.partial(There, Sent.of(swept.kept, network._child.program), executor, want_cut)
+        begin = functools.partial(There, Sent.of(swept.kept, network._session.program), executor, want_cut)
     results = _results(swept, iter(made), begin)
     return _shown(results, operator.length_hint(made) or None) if progress else results
 

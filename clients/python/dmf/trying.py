@@ -1,4 +1,4 @@
-"""How the cases of a sweep are tried: by programs of this process, or in the processes of an executor, which may be elsewhere."""
+"""How the cases of a sweep are tried: by sessions of this process, or in the processes of an executor, which may be elsewhere."""
 
 from __future__ import annotations
 
@@ -16,8 +16,8 @@ from .arcs import Arc
 from .copies import Answer, Copy, Plain
 from .errors import Error
 from .kept import Kept
-from .process import MOST_KEPT, Program
-from .running import problem_file
+from .session import MOST_KEPT, PROGRAM, Program, Way
+from .ways import chosen, problem_file
 
 if TYPE_CHECKING:
     from concurrent.futures import Executor, Future
@@ -60,20 +60,20 @@ Pending = Callable[[], "list[Answer]"]
 
 
 class Here(Tries):
-    """Programs of this process, each with a thread that waits for it. They read one file. The first tries the cases alone, and another one
-    begins whenever those that are there have tried cases for as long as it took them to begin: so a small sweep takes one program, and no
+    """Sessions of this process, each with a thread that waits for it. Programs read one file. The first tries the cases alone, and another one
+    begins whenever those that are there have tried cases for as long as it took them to begin: so a small sweep takes one session, and no
     sweep more than twice the processor time of its cases."""
 
-    def __init__(self, kept: Kept[Any], program: Program, want_cut: bool, jobs: int) -> None:
+    def __init__(self, kept: Kept[Any], way: Way, want_cut: bool, jobs: int) -> None:
         # It takes 1 MB, and nothing else needs it.
         from concurrent.futures import ThreadPoolExecutor
 
         super().__init__(4 * jobs)
-        self._begin_copy = functools.partial(Copy, kept, program)
+        self._begin_copy = functools.partial(Copy, kept, way)
         self._want_cut = want_cut
         self._jobs = jobs
         self._stack = contextlib.ExitStack()
-        self._file = problem_file(kept)
+        self._file = problem_file(kept) if isinstance(way, PROGRAM) else contextlib.nullcontext(None)
         self._path: str | None = None
         self._copies: list[Copy] = []
         # The copies that no thread has, and how long cases were tried so far, in seconds. Whoever waits for a copy waits for a change.
@@ -272,7 +272,7 @@ def _answers_there(name: str, sent: bytes | None, asked: Any) -> tuple[list[Answ
         if sent is None:
             return None
         network: Sent = pickle.loads(sent)
-        another = functools.partial(Copy, network.kept(), network.program)
+        another = functools.partial(Copy, network.kept(), chosen(network.program))
         with _free_lock:
             _known.clear()
             _known[name] = another

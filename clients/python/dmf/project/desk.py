@@ -16,7 +16,7 @@ from ..desk_amounts import finer
 from ..desk_steps import Change, DeskFault, Follow, Solve, Step
 from ..desk_view import Timeline
 from ..errors import Refused
-from ..process import Program
+from ..session import Program
 from ..quantity import decimals, plain_text
 from ..tables.cells import shown
 from ..tables.subject import Subject

@@ -13,7 +13,7 @@ from .. import executable
 from ..desk import Desk
 from ..desk_steps import DeskFault, Trial
 from ..desk_text import drawn, problem
-from ..process import Program
+from ..session import Program
 from ..quantity import Quantity
 from .comparison import ArcDifference, compare
 from .desk import BASE, ProjectDesk

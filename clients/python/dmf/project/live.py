@@ -10,7 +10,7 @@ from typing import NamedTuple, Union
 
 from ..desk_amounts import amount
 from ..desk_steps import DeskFault
-from ..process import Program
+from ..session import Program
 from ..quantity import Quantity
 from ..tool import write_file
 from .comparison import Comparison, compare

@@ -13,7 +13,7 @@ from typing import Optional
 from ..desk import Desk
 from ..desk_steps import DeskFault
 from ..errors import Error, Refused, SessionEnded
-from ..process import Program
+from ..session import Program
 from ..tables.cells import shown
 from ..tables.extra import Extra
 from ..tables.faults import TableFault

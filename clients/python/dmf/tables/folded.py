@@ -11,7 +11,6 @@ from typing import TYPE_CHECKING, Any
 from ..columns import Columns
 from ..folding import renumbered
 from ..kept import Kept
-from ..process import Program
 from ..quantity import LARGEST
 from .comments import SUPPLY, Described, Role
 
@@ -86,10 +85,10 @@ class FoldedColumns(Columns[Any]):
         return (number for number in self.at(node) if ends[number - 1] == node and number not in self.described.roles)
 
 
-def network_of_problem(problem: Opened, said: Described, program: Program) -> TableNetwork:
+def network_of_problem(problem: Opened, said: Described) -> TableNetwork:
     """The network of a problem of whose table its comments say this. Which arcs are of the table is told by their ends, as in all tools."""
-    from ..running import started
     from ..sources import unique
+    from ..ways import started
     from .live import TableNetwork
 
     said = renumbered(said, zip(problem.tails, problem.heads)) if said.joints or said.halves else replace(said, roles={})
@@ -109,12 +108,13 @@ def network_of_problem(problem: Opened, said: Described, program: Program) -> Ta
     capacities = with_room(problem.capacities, said)
     source, sink = problem.ends
     kept: Kept[Any] = Kept(columns, capacities, names[source - 1], names[sink - 1], problem.most)
-    child = problem.child
+    session = problem.session
     if capacities is not problem.capacities:
-        child.end()
-        child = started(kept, program)
+        session.end()
+        session = started(kept, session.way)
+        session.program = problem.session.program
     made = TableNetwork.__new__(TableNetwork)
-    made._begin(child, kept)
+    made._begin(session, kept)
     return made
 
 

@@ -14,9 +14,9 @@ from ..kept import Kept
 from ..names import written
 from ..network import Network
 from ..notebook import table as html_table
-from ..process import Child
 from ..quantity import Measure, Quantity
 from ..running import alone
+from ..session import Session
 from ..solution import Solution
 from ..text import ARC, NODE
 from .answers import TableCut, TableSolution, whole_of
@@ -39,9 +39,9 @@ class TableNetwork(Network[str]):
     # What reads the other columns, when somebody asks for them.
     _load: Callable[[], dict[str, list[str]]] = dict
 
-    def _begin(self, child: Child, kept: Kept[Any]) -> None:
+    def _begin(self, session: Session, kept: Kept[Any]) -> None:
         self._measure = kept.described.measure
-        super()._begin(child, kept)
+        super()._begin(session, kept)
 
     @property
     def _columns(self) -> FoldedColumns:
@@ -186,7 +186,7 @@ class TableNetwork(Network[str]):
     @alone
     def cut(self) -> TableCut:
         """As `Network.cut`, in the table's numbers, with the places whose supply, demand or limit is in it."""
-        capacity, side = self._asked_cut()
+        capacity, side = self._session.cut()
         names, is_place = self._columns.names, self._columns.is_place
         places = frozenset(names[node - 1] for node in side if is_place(node))
         crossing = self._kept.leaving(side)
@@ -208,11 +208,7 @@ class TableNetwork(Network[str]):
             before += "".join(f"c node {number} {written(NODE, number, str(name))}\n" for number, name in labels if name != number)
             keys = {place: self._name(number) for number, place in places.items()}
             before += "".join(f"c arc {place} {written(ARC, place, key)}\n" for place, key in keys.items() if key.strip(" \t"))
-        with self._child.exchange("print problem"):
-            begin = self._child.lines(1)
-            self._begun(begin.split(), "print problem", [b"p"])
-            text = (begin + self._child.lines(len(opened) + 2)).decode()
-        return before + self._without_room(text, places)
+        return before + self._without_room(self._session.problem().decode(), places)
 
     def _name(self, number: int) -> str:
         """The name of an arc, as a problem has it."""

@@ -9,8 +9,9 @@ from functools import partial
 from typing import Any, Optional, Union, cast
 
 from ..kept import Kept
-from ..process import Program, bound
 from ..quantity import number_in
+from ..session import Program, bound
+from ..ways import chosen
 from .columns import DEMAND, LIMIT, SUPPLY
 from .extra import extra_of
 from .faults import TableFault, naming
@@ -40,7 +41,8 @@ def network_of_plan(plan: Plan, program: Program, history: Optional[int]) -> Tab
     columns = FoldedColumns(numbers, net.tails, net.heads, net.row_names, net.described, net.inner_names)
     nodes = list(numbers)
     kept: Kept[Any] = Kept(columns, with_room(net.capacities, net.described), nodes[net.source - 1], nodes[net.sink - 1], bound(history))
-    made = cast(TableNetwork, TableNetwork._of(kept, program))
+    made = cast(TableNetwork, TableNetwork._of(kept, chosen(program)))
+    made._session.program = program
     made.notes, made._load = notes, lambda: extra_of(plan.arcs).by_title()
     return made
 
