@@ -1,10 +1,11 @@
 """Compares solves by any greatest flow (`dmf solve --brief` and `--any`) with ordinary ones: on networks of each family of the benchmark, on
 the examples, and on random ones. On the families the ordinary search is seen to find no path after the engine. `--long` tries 100,000
-random networks."""
+random networks. An interrupt in the engine's work ends a run with nothing written."""
 
 from __future__ import annotations
 
 import shutil
+import signal
 import subprocess
 import time
 from collections.abc import Iterator
@@ -19,7 +20,9 @@ from make_network import problem_of
 from oracle.problem import read_problem
 from oracle.program import AnySolution
 from oracle.texts import LineFault
+from program.test_named_networks import NETWORKS
 from random_cases import fitting, network, plain_text, problem_lines
+from worked_forms import text
 
 FAMILIES = "grid", "random", "road", "bip", "ac", "rmf-wide", "rmf-long", "wash-wide", "wash-long"
 ARCS = 3000
@@ -28,6 +31,24 @@ SECONDS = 60
 # Longer than reading is silent after its first report, in seconds.
 PAUSE = 0.4
 CHAIN = b"p max 3 2\nn 1 s\nn 3 t\na 1 2 7\na 2 3 4\n"
+# Networks of textbooks and of other solvers' tests, with the greatest value that stands there.
+PUBLISHED = {
+    "Cormen and others, Introduction to Algorithms, figure 26.1": (
+        "p max 6 9 / n 1 s / n 6 t / a 1 2 16 / a 1 3 13 / a 3 2 4 / a 2 4 12 / a 4 3 9 / a 3 5 14 / a 5 4 7 / a 4 6 20 / a 5 6 4",
+        23,
+    ),
+    "Wikipedia, Edmonds-Karp algorithm, in networkx too": (
+        "p max 7 11 / n 1 s / n 7 t / a 1 4 3 / a 1 2 3 / a 2 3 4 / a 3 1 3 / a 3 4 1 / a 3 5 2 / a 4 5 2 / a 4 6 6 / a 5 2 1"
+        " / a 5 7 1 / a 6 7 9",
+        5,
+    ),
+    "a bridge of 1 between two ways of 1000, in networkx too": (
+        "p max 4 5 / n 1 s / n 4 t / a 1 2 1000 / a 1 3 1000 / a 2 3 1 / a 2 4 1000 / a 3 4 1000",
+        2000,
+    ),
+}
+# Two combs of so many teeth take the engine 15 s, and the signal comes long before.
+TEETH, HALF_A_SECOND = 15_000, 0.5
 
 
 def solved(problem: bytes, *words: bytes) -> bytes:
@@ -73,6 +94,46 @@ def test_families(generated: dict[str, bytes]) -> None:
 @pytest.mark.parametrize("file", [pytest.param(it, id=it.name) for it in sorted((ROOT / "examples").glob("*.max"))])
 def test_examples(file: Path) -> None:
     assert difference(file.read_bytes()) is None
+
+
+@pytest.mark.parametrize("name", NETWORKS)
+def test_named_networks(name: str) -> None:
+    network, _ = NETWORKS[name]
+    assert difference(network if isinstance(network, bytes) else text(network)) is None
+
+
+@pytest.mark.parametrize("name", PUBLISHED)
+def test_published_networks(name: str) -> None:
+    network, value = PUBLISHED[name]
+    assert solved(text(network), b"--brief") == b"c solve value %d\n" % value
+    assert solved(text(network), b"--any").startswith(b"s %d\n" % value)
+    assert difference(text(network)) is None
+
+
+def combs(teeth: int) -> bytes:
+    """Two combs joined by their teeth: paths of every length lead from one to the other."""
+    random, wide = Random(3), 2 * teeth
+    arcs = [(wide + 1, 1, wide), (wide, wide + 2, wide)]
+    for node in range(1, teeth):
+        arcs += [(node, node + 1, wide), (teeth + node, teeth + node + 1, wide)]
+    for node in range(1, teeth + 1):
+        arcs += [(node, teeth + random.randint(1, teeth), 1) for _ in range(2)]
+    lines = [f"p max {wide + 2} {len(arcs)}", f"n {wide + 1} s", f"n {wide + 2} t", *(f"a {tail} {head} {cap}" for tail, head, cap in arcs)]
+    return "".join(f"{line}\n" for line in lines).encode()
+
+
+@pytest.mark.seconds(2)
+@pytest.mark.parametrize("word", ["--brief", "--any"])
+def test_interrupt(word: str, tmp_path: Path) -> None:
+    """The signal comes while the engine works, and ends the run before it has written anything."""
+    file = tmp_path / "combs.max"
+    file.write_bytes(combs(TEETH))
+    with file.open("rb") as problem:
+        run = subprocess.Popen([BUILT, "solve", word, "--cut"], stdin=problem, stdout=subprocess.PIPE, stderr=subprocess.PIPE)
+    time.sleep(HALF_A_SECOND)
+    run.send_signal(signal.SIGINT)
+    out, err = run.communicate(timeout=SECONDS)
+    assert (run.returncode, out, err) == (-signal.SIGINT, b"", b"")
 
 
 def told(problems: dict[str, bytes], *words: str) -> dict[str, bytes]:
