@@ -5,7 +5,9 @@ from __future__ import annotations
 import shutil
 import signal
 from pathlib import Path
+from typing import Any
 
+from board_pages import Page
 from board_running import board
 from desk_shared import PIPES, ROOT, run, without
 
@@ -32,3 +34,14 @@ def test_kept(tmp_path: Path) -> None:
         assert "read alone" in run("dmf-plan", path, typed="close Mill Lane\n").stderr
         assert it.end() == 130
     assert run("dmf-plan", path, typed="scenario\n").stdout.splitlines()[-1] == "  * Later, from 'first': 3 of 3 steps, value 155"
+
+
+def test_page_says_so(driver: Any, tmp_path: Path) -> None:
+    """The page says where its steps are kept, and where they are not that they are not."""
+    shutil.copy(ROOT / PIPES, tmp_path)
+    table = f"{tmp_path}/pipes.csv"
+    told = "Nothing is saved of itself: the steps end with this page."
+    for words, wanted in ((table,), told), ((table, "--keep"), "Each step is kept in pipes.dmf.json."):
+        with board(*words) as it:
+            assert Page(driver, it.address).text("#kept") == wanted
+        driver.get("about:blank")

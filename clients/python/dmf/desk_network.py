@@ -6,7 +6,6 @@ Amounts are quantities, as the table has them. The session has whole numbers: th
 from __future__ import annotations
 
 import contextlib
-import tempfile
 from collections.abc import Hashable, Iterable, Iterator
 from dataclasses import dataclass
 from itertools import chain
@@ -16,9 +15,9 @@ from .desk_names import Names
 from .desk_steps import Add, Cap, Change, Close, DeskFault, Follow, Line, Node, Reopen, Shut, Solve, Step, Was
 from .errors import Error, FlowIsNotGreatest, Refused
 from .folding import Folding
-from .session import Program
 from .quantity import EXACT, Measure, Quantity
-from .sources import read_whole
+from .session import Program
+from .sources import whole_network
 from .tables.cells import cleaned, shown
 from .tables.comments import Role
 from .tables.subject import Subject
@@ -41,10 +40,7 @@ class Held:
 
     def __init__(self, subject: Subject, program: Program = None) -> None:
         self.subject = subject
-        with tempfile.NamedTemporaryFile(prefix="dmf-", suffix=".max") as file:
-            file.write(subject.text)
-            file.flush()
-            self.network = read_whole(file.name, program=program)
+        self.network = whole_network(subject.text, program=program)
         kept = self.network._kept
         columns, quantity = kept.columns, self.measure.quantity
         self._nodes = self.network.nodes

@@ -28,6 +28,9 @@ class Timeline:
 class DeskView:
     """The answers about a network and the steps that were made on it. Arcs and nodes go by their numbers."""
 
+    # The file in which a project keeps the steps; empty if none does.
+    kept_in = ""
+
     def __init__(self, held: Held, with_solve: bool) -> None:
         self._held = held
         self._time = Timeline()

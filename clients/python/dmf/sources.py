@@ -29,7 +29,10 @@ def read(path: FilePath, *, program: Program = None, history: int | None = None)
     Raises a `Refused` with the number of the line if the file has a fault, an OSError if it cannot be read, and what `Network`
     raises.
     """
-    problem = _opened(path, program, history)
+    most = bound(history)
+    with open(os.fspath(path), "rb") as file:
+        text = file.read()
+    problem = _opened(text, program, most)
     said = described(problem.text).within(problem.node_count, len(problem.tails))
     if said == Described():
         return _whole(problem)
@@ -38,10 +41,10 @@ def read(path: FilePath, *, program: Program = None, history: int | None = None)
     return cast("Network[int | str]", network_of_problem(problem, said))
 
 
-def read_whole(path: FilePath, *, program: Program = None, history: int | None = None) -> Network[int | str]:
-    """The network of a problem's file as the program has it, with all its nodes and arcs and in its whole numbers, whatever comments say of
+def whole_network(text: bytes, *, program: Program = None) -> Network[int | str]:
+    """The network of a problem's text as the program has it, with all its nodes and arcs and in its whole numbers, whatever comments say of
     a table. The two nodes of a place with a limit have one name, so they keep their numbers. Raises what `read` raises."""
-    return _whole(_opened(path, program, history))
+    return _whole(_opened(text, program, bound(None)))
 
 
 @dataclass
@@ -67,10 +70,7 @@ class Opened:
         return lambda: {**_of(count, names_in(pieces, ARC))}
 
 
-def _opened(path: FilePath, program: Program, history: int | None) -> Opened:
-    most = bound(history)
-    with open(os.fspath(path), "rb") as file:
-        text = file.read()
+def _opened(text: bytes, program: Program, most: int) -> Opened:
     # The session has this text: a pipe is empty by now, a file may have changed, and /dev/stdin is another file to a program.
     session = started_on(text, chosen(program), most)
     session.program = program

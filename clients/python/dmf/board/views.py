@@ -3,6 +3,8 @@ their unit."""
 
 from __future__ import annotations
 
+import os
+
 from ..desk import Desk
 from ..desk_where import given_arcs
 from ..quantity import plain_text
@@ -28,6 +30,7 @@ def state_view(desk: Desk) -> Json:
         # The numbers of arcs after these are given anew after an undo.
         "given": given_arcs(desk),
         "places": len(names.places),
+        "kept_in": os.path.basename(desk.kept_in),
         "at": desk.at - 1,
         "steps": [{"text": step.text, "value": plain_text(step.value)} for step in desk.steps],
         "limit": [arc_view(desk, number) for number in cut[:MOST_LISTED]],

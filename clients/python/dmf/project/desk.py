@@ -68,6 +68,7 @@ class ProjectDesk(Desk):
 
     def __init__(self, file: ProjectFile, base: Base, program: Program = None) -> None:
         self.file = file
+        self.kept_in = file.path
         # Whether what is done is kept; if not, it is only tried, or is kept already.
         self._keeps = False
         super().__init__(finest(base.subject, file.project), with_solve=True, program=program)

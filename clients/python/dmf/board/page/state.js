@@ -5,7 +5,7 @@
  * @typedef {{ node: number, name: string, in: string, out: string, roles: Arc[], is_source: boolean, is_sink: boolean, shut: boolean,
  *   open: boolean, side: boolean }} Place
  * @typedef {{ turn: number, title: string, unit: string, noun: string, notes: string[], source: string, sink: string, value: string,
- *   arcs: number, given: number, places: number, at: number, steps: { text: string, value: string }[], limit: Arc[],
+ *   arcs: number, given: number, places: number, kept_in: string, at: number, steps: { text: string, value: string }[], limit: Arc[],
  *   limit_count: number, side: string[], side_count: number, names: string[] }} State
  * @typedef {{ arc?: number, node?: number }} Choice
  */

@@ -25,6 +25,8 @@ function tell(state) {
   at("notes").hidden = !state.notes.length;
   at("notes").lastElementChild?.replaceChildren(...state.notes.map((note) => make("li", note)));
   at("places").replaceChildren(...state.names.map((name) => make("option", [], { value: name })));
+  at("kept").textContent = state.kept_in
+    ? `Each step is kept in ${state.kept_in}.` : "Nothing is saved of itself: the steps end with this page.";
   for (const [id, file] of [["take-csv", "plan.csv"], ["take-max", "problem.max"]]) {
     at(id).setAttribute("href", `${file}?turn=${state.turn}`);
   }
