@@ -16,6 +16,7 @@ BOTH = {
     "test_closed_arcs",
     "test_documented",
     "test_each_refusal",
+    "test_networks",
     "test_numbering",
     "test_once",
     "test_reading",
