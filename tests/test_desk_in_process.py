@@ -45,7 +45,7 @@ def told_by(it: Board) -> list[Any]:
     while left:
         portion = json.loads(it.post("sweep", arcs=left)[1])
         left, rows = portion["left"], rows + portion["trials"]
-    assert {row["name"]: (int(row["closed"]), int(row["doubled"])) for row in rows} == swept()
+    assert {row["name"]: (int(row["without"]), int(row["doubled"])) for row in rows} == swept()
     return told
 
 

@@ -174,13 +174,9 @@ class Held:
         raise DeskFault(f"{arcs} is open" if is_closed else f"{arcs} is closed; `open` opens it")
 
     def _replacing(self, number: int) -> int:
-        """The arc that replaced one when it was opened again: the last with its name and its ends."""
-        line, name = self.lines[number - 1], self.names.arc_name(number)
-        return max(
-            other
-            for other, it in enumerate(self.lines, 1)
-            if (it.tail, it.head, self.names.arc_name(other)) == (line.tail, line.head, name)
-        )
+        """The arc that replaced one when it was opened again."""
+        first = self.lines[number - 1].first or number
+        return max(other for other, it in enumerate(self.lines, 1) if it.first == first)
 
     # Changes.
 

@@ -168,12 +168,3 @@ class DeskView:
     def first_count(self) -> int:
         """How many arcs the problem has; those after them were added."""
         return self._held.first_count
-
-    def opened_again(self) -> dict[int, int]:
-        """By the number of an arc that stands for a closed one that was opened again, the number of that one."""
-        found: dict[int, int] = {}
-        for step in self._time.done:
-            for added, was in zip(step.before, step.before[1:]):
-                if added.line is None and was.line is not None and was.line.is_closed:
-                    found[added.number] = was.number
-        return found

@@ -8,7 +8,7 @@ from collections.abc import Callable
 
 from .desk import Desk
 from .desk_amounts import amount
-from .desk_steps import DeskFault, Line, Step
+from .desk_steps import DeskFault, Line
 from .quantity import Quantity
 
 COMPARED: dict[str, Callable[[Quantity, Quantity], bool]] = {
@@ -51,37 +51,23 @@ def folded(text: str) -> str:
     return "".join(sign for sign in unicodedata.normalize("NFKD", text.casefold()) if not unicodedata.combining(sign))
 
 
-def reopened(step: Step) -> dict[int, int]:
-    """The arcs that a step opened again, with those that they were before they were closed."""
-    pairs = zip(step.before, step.before[1:])
-    return {new.number: old.number for new, old in pairs if new.line is None and old.line is not None and old.line.is_closed}
-
-
 def successors(desk: Desk) -> dict[int, int]:
     """The arcs that were closed and opened again, with what they are now."""
-    found: dict[int, int] = {}
-    for step in reversed(desk.steps[: desk.at]):
-        for new, old in reopened(step).items():
-            found[old] = found.get(new, new)
-    return found
+    added = enumerate(desk.lines[desk.first_count :], desk.first_count + 1)
+    again = [(number, line.first) for number, line in added if line.first]
+    last = {first: number for number, first in again}
+    return {**last, **{number: last[first] for number, first in again if last[first] != number}}
 
 
 def changed(desk: Desk) -> set[int]:
     """The arcs that are not as they were before the first step: closed, of another capacity, or added. One that was closed and opened
     again is as it was."""
-    first: dict[int, Line | None] = {}
+    before: dict[int, Line | None] = {}
     for step in desk.steps[: desk.at]:
-        was = {number: line for number, line in reversed(step.before)}
-        for new, old in reopened(step).items():
-            was[new] = first.get(old, was[old])
-        for number, line in was.items():
-            first.setdefault(number, line)
-    return {number for number, line in first.items() if _differs(desk.line(number), line)}
-
-
-def given_arcs(desk: Desk) -> int:
-    """How many arcs there are that no step added: those of the file."""
-    return len(desk.lines) - sum(was.line is None for step in desk.steps[: desk.at] for was in step.before)
+        for number, line in step.before:
+            before.setdefault(number, line)
+    lines = ((number, line, line.first or number) for number, line in enumerate(desk.lines, 1))
+    return {number for number, line, first in lines if first in before and _differs(line, before[first])}
 
 
 def _differs(now: Line, before: Line | None) -> bool:

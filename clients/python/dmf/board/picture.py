@@ -12,7 +12,6 @@ from xml.etree import ElementTree
 
 from ..desk import Desk
 from ..desk_steps import Line
-from ..desk_where import given_arcs
 from ..folding import AT_PLACE
 from ..picture import CUT, SIDE, UNUSED, drawn_line, quoted
 from ..quantity import POINT, plain_text
@@ -124,7 +123,7 @@ class Picture:
     def _degrees(self) -> Counter[int]:
         """How many arcs each place has, open or closed, of those that a picture can show. The arcs of the file are counted once."""
         desk = self._desk
-        given = given_arcs(desk)
+        given = desk.first_count
         if self._given is None:
             numbers = (number for number in range(1, given + 1) if not desk.folding.has_roles or not desk.role(number))
             self._given = Counter(node for number in numbers for node in self._ends(desk.lines[number - 1]))

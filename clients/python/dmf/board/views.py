@@ -6,7 +6,6 @@ from __future__ import annotations
 import os
 
 from ..desk import Desk
-from ..desk_where import given_arcs
 from ..quantity import plain_text
 from .answers import Json
 
@@ -28,7 +27,7 @@ def state_view(desk: Desk) -> Json:
         "value": plain_text(desk.value),
         "arcs": len(desk.pictured()),
         # The numbers of arcs after these are given anew after an undo.
-        "given": given_arcs(desk),
+        "given": desk.first_count,
         "places": len(names.places),
         "kept_in": os.path.basename(desk.kept_in),
         "at": desk.at - 1,

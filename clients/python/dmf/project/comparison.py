@@ -123,11 +123,11 @@ class _Seen:
 
 def _known(desk: ProjectDesk) -> Iterator[tuple[Known, int]]:
     """The arcs of a desk by what they are known by. One that was closed and opened again is the one that it was."""
-    again, count = desk.opened_again(), Counter[tuple[int, int, str]]()
+    count = Counter[tuple[int, int, str]]()
     known: dict[int, Known] = {}
     for number, line in enumerate(desk.lines, 1):
-        if number in again:
-            known[number] = known[again[number]]
+        if line.first:
+            known[number] = known[line.first]
         elif number <= desk.first_count:
             known[number] = number
         else:
