@@ -59,7 +59,7 @@ def test_closures(page: Board) -> None:
         answer = json.loads(page.post("sweep", arcs=left)[1])
         trials, left = trials + answer["trials"], answer["left"]
     assert {trial["name"] for trial in trials} == names
-    assert {trial["name"]: trial["closed"] for trial in trials} == {name: told(town.wanted(name).value) for name in names}
+    assert {trial["name"]: trial["without"] for trial in trials} == {name: told(town.wanted(name).value) for name in names}
 
 
 def test_a_change(page: Board) -> None:
