@@ -5,6 +5,7 @@ from __future__ import annotations
 import contextlib
 import fcntl
 import os
+import re
 import signal
 import subprocess
 import termios
@@ -131,3 +132,8 @@ def end_session(of: int | None = None) -> None:
 def without(*names: str) -> int:
     """The greatest value of the water story without these pipes."""
     return greatest([pipe for pipe in water() if pipe.name not in names])
+
+
+def values(text: str) -> list[int]:
+    """The values that solves of dmf-plan told."""
+    return [int(it) for it in re.findall("^value ([0-9]+).*, the greatest$", text, re.MULTILINE)]

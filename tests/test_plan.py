@@ -1,18 +1,17 @@
-"""Tests the planner's desk and tools/dmf-plan: steps, names, sweeps, scripts, and a person at a terminal."""
+"""Tests the planner's desk: steps, names, sweeps, and a session that ends."""
 
 from __future__ import annotations
 
 import random
 import re
 import subprocess
-import tempfile
 from collections.abc import Callable
 from decimal import Decimal
 from pathlib import Path
 from typing import Any, cast
 
 import pytest
-from desk_shared import ODD, PIPES, ROOT, Pipe, SCRIPT, SECONDS, STORY, desk_of, end_session, greatest, run, swept, water, water_problem, without
+from desk_shared import PIPES, ROOT, Pipe, SECONDS, desk_of, end_session, greatest, run, swept, values, water, water_problem, without
 from built import BUILT
 from dmf import Network
 from dmf.desk_network import Held
@@ -280,163 +279,3 @@ def test_names() -> None:
     mill.open_place(place)
     assert mill.steps[-1].value == mill.steps[-3].value, f"opened again: {mill.value}"
     mill.end()
-
-
-# Lines that are refused before a solve, and what is said of each.
-LINES = {
-    "close Mil Lane": "no arc is called 'Mil Lane'; is it 'Mill Lane'",
-    "shut mill": "no place is called 'mill'; is it 'Mill'",
-    "sovle": "no command is called 'sovle'; is it 'solve'",
-    'close "Mill Lane': 'a quote (") is not closed',
-    "cap Mill Lane ten": "'ten' is no number",
-    "cap Mill Lane 1,200": "'1,200' may be 1.2 or 1200",
-    "cap Mill Lane -45.5": "'-45.5' makes -0.5 of 45, which is below 0",
-    "cap Mill Lane 10 %": "'10 %' is a share: write it with + or - before it, or the whole amount",
-    "add Mill Station +5": "'+5' changes an amount, and here is none yet",
-    "add Mill Station 1 200": "this can mean several things",
-    "undo 1.5": "'1.5' is no number of steps",
-    "cap": "wanted is: cap ARC NUMBER",
-    "undo": "there is no step to undo",
-    "redo": "there is no step to redo",
-    "drop": "there is no trial; `try` begins one",
-    "cut": "the flow is not greatest",
-    "add Mill Statoin 5": "no place is called 'Statoin'; is it 'Station'",
-    "cap Mill-Market 99999999999999999999": "is past 18446744073709551615",
-    "cap Mill-Market 18446744073709551615": "the capacities would be together past 18446744073709551615",
-    "save x.txt": "the name of the file ends with one of .csv, .max",
-    f"save {PIPES}": "is there already",
-    "what-if solve": "wanted is: what-if",
-    "open": "nothing is closed",
-}
-
-
-def values(text: str) -> list[int]:
-    return [int(it) for it in re.findall("^value ([0-9]+).*, the greatest$", text, re.MULTILINE)]
-
-
-def test_scripts() -> None:
-    ran = run("dmf-plan", PIPES, typed=SCRIPT)
-    solved = [found for line, found in zip(SCRIPT.splitlines(), re.findall("value ([0-9]+)", ran.stdout)) if line == "solve"]
-    assert (list(map(int, solved)), ran.returncode) == (STORY, 0), f"the story: {solved}, {ran}"
-    ran = run("dmf-plan", PIPES, typed="".join(f"{line}\n" for line in LINES))
-    told = [line for line in ran.stderr.splitlines() if line.startswith("dmf-plan: line")]
-    assert (ran.returncode, ran.stdout, len(told)) == (1, "", len(LINES)), f"refused lines: {ran}"
-    for number, ((line, wanted), found) in enumerate(zip(LINES.items(), told), 1):
-        assert found.startswith(f"dmf-plan: line {number}: ") and wanted in found, f"{line}: {found}"
-    ran = run("dmf-plan", PIPES, typed="solve\nwhat-if each pipe of the cut\nwhat-if close Mill Lane\nsteps\n")
-    trials = swept()
-    for name in ("North rise", "Mill Lane", "South main"):
-        row = re.search(f"^  #[0-9]+ {name}, .*: closed ([0-9]+) .*, a second one ([0-9]+)", ran.stdout, re.MULTILINE)
-        assert row and tuple(map(int, row.groups())) == trials[name], f"what-if {name}: {ran.stdout}"
-    assert "it would be 120 litres per second: 45 less" in ran.stdout, f"what-if close: {ran.stdout}"
-    assert ran.stdout.count("solve: value 165") == 1, f"what-if leaves steps: {ran.stdout}"
-
-
-def test_many() -> None:
-    """All arcs of which something is so are changed in one step, which is undone as one."""
-    rises = [pipe.name for pipe in water() if "rise" in pipe.name]
-    wider = [pipe._replace(capacity=2 * pipe.capacity) if pipe.capacity <= 30 else pipe for pipe in water()]
-    mill = [pipe for pipe in water() if pipe.head != "Mill" or pipe.capacity >= 40]
-    limit = {"North rise", "Mill Lane", "South main"}
-    more = [pipe._replace(capacity=pipe.capacity + 5) if pipe.name in limit else pipe for pipe in water()]
-    typed = "solve\nclose where name ~ RISE\nsolve\nopen where name ~ rise\nsolve\nundo 4\n"
-    typed += "cap where capacity <= 30 +100 %\nsolve\nundo 2\nclose where to ~ mill and capacity < 40\nsolve\nundo 2\ncap where limit +5\nsolve\nsteps\n"
-    ran = run("dmf-plan", PIPES, typed=typed)
-    told = [line for line in ran.stdout.splitlines() if not line.startswith("  ")]
-    assert [re.findall("^[0-9]+ [a-z]+(?=:)|^value", line)[0] for line in told] == [
-        "value", "2 closed", "value", "2 opened", "value", "value", "4 changed", "value", "value", "1 closed", "value", "value", "3 changed", "value"
-    ]  # fmt: skip
-    solved = values("".join(f"{told[at]}\n" for at in (0, 2, 4, 7, 10, 13)))
-    assert solved == [165, without(*rises), 165, greatest(wider), greatest(mill), greatest(more)]
-    assert "2   3 arcs where limit: +5: value 165" in ran.stdout
-    lines = ["close where", "close where and full", "close where name = x", "cap where full", "close where name ~ zzz", "cap where full 1,200", "open where full"]
-    ran = run("dmf-plan", PIPES, typed="solve\n" + "".join(f"{line}\n" for line in lines))
-    said = [line.partition(": ")[2].partition(": ")[2] for line in ran.stderr.splitlines()[2:]]
-    conditions = "wanted after where is: name ~ TEXT, "
-    wanted = [conditions, conditions, "'name = x' is no condition; wanted is: name", conditions, "of the 14 open arcs this is so of none"]
-    wanted += ["'1,200' may be 1.2 or 1200", "of the 0 closed arcs this is so of none"]
-    assert all(line.startswith(begin) for line, begin in zip(said, wanted)) and len(said) == len(wanted), said
-
-
-@pytest.mark.parametrize("closing", ["2>&-", "2>/dev/full"])
-def test_nowhere_to_tell(closing: str) -> None:
-    """Where a refusal cannot be told, what comes after it is carried out all the same."""
-    words = ["sh", "-c", f"exec tools/dmf-plan {PIPES} Reservoir Harbour {closing}"]
-    ran = subprocess.run(words, input="close rubbish\nsolve\n", stdout=subprocess.PIPE, text=True, timeout=SECONDS, cwd=ROOT)
-    assert (ran.returncode, values(ran.stdout)) == (1, [165]), ran
-
-
-def test_what_is_typed_otherwise() -> None:
-    """Commands in capitals, ends as they are printed, and the number that an arc had before it was opened again."""
-    typed = "SOLVE\nsolve\nadd Mill -> Station 25\nsolve\nclose #9\nopen Mill Lane\nclose #9\nclose #16\n"
-    ran = run("dmf-plan", PIPES, typed=typed)
-    told = [line.partition(": line ")[2] for line in ran.stderr.splitlines() if ": line " in line]
-    assert told == [
-        "1: no command is called 'SOLVE'; is it 'solve' or 'save'?",
-        "7: Mill Lane was closed as #9 and opened again as #16",
-    ]
-    # With the new pipe, 180 litres are the greatest value.
-    assert (ran.returncode, values(ran.stdout)[1], len(ran.stdout.splitlines())) == (1, STORY[2], 6)
-
-
-def test_page() -> None:
-    """The session on the page of documents is one."""
-    lines = [line[4:] for line in (ROOT / "docs/PLAN.md").read_text().splitlines() if line.startswith("    ")]
-    typed = [line.partition("> ")[2] for line in lines if re.match("[0-9]+, .*greatest> ", line)]
-    ran = run("dmf-plan", PIPES, typed="".join(f"{line}\n" for line in typed))
-    told = [line for line in lines if line.startswith(("value ", "  #"))]
-    assert (ran.stdout.splitlines(), ran.returncode, len(typed)) == (told, 0, 5), f"the session of docs/PLAN.md: {ran}"
-
-
-def test_files() -> None:
-    """What is saved is a problem, a table and a picture; and which files are refused."""
-    with tempfile.TemporaryDirectory() as folder:
-        table = Path(folder, "odd.csv")
-        table.write_text(f'from,to,litres,pipe\nA,"{ODD.replace(chr(34), chr(34) * 2)}",5,x\n"{ODD.replace(chr(34), chr(34) * 2)}",C,3,\n')
-        quoted = ODD.replace('"', '""')
-        typed = f'solve\nshut "{quoted}"\nopen "{quoted}"\nsolve\nsave {folder}/plan.max\nsave {folder}/plan.csv\ndraw {folder}/plan.dot\n'
-        ran = run("dmf-plan", str(table), typed=typed)
-        assert (ran.returncode, values(ran.stdout)[-1:]) == (0, [3]), f"an odd name: {ran}"
-        saved = Path(folder, "plan.max").read_bytes()
-        assert f"c node 2 {ODD}".encode() in saved, f"the names of a saved problem: {saved!r}"
-        again = run("dmf-plan", f"{folder}/plan.max", typed="solve\n")
-        assert values(again.stdout) == [3], f"a saved problem: {again}"
-        assert b"digraph" in Path(folder, "plan.dot").read_bytes()
-        rows = Path(folder, "plan.csv").read_text().splitlines()
-        assert (len(rows), rows[0]) == (3, "number,name,from,to,flow (litres),capacity (litres),full,in cut"), f"a saved table: {rows}"
-        for name, text, status, told in (
-            ("two.csv", "A,C,1\nB,C,1\n", 3, "--source \"A\", as often"),
-            ("ring.csv", "A,B,1\nB,A,1\n", 3, "there is no place that nothing leads to"),
-            ("bad.csv", "A,B,x y\nB,C,1.5\n", 3, "is no number"),
-            ("bad.max", "p max 2 1\nn 1 s\nn 2 t\na 1 2 x\n", 3, "not a number"),
-        ):
-            Path(folder, name).write_text(text)
-            ran = run("dmf-plan", f"{folder}/{name}")
-            assert ran.returncode == status and told in ran.stderr and "Traceback" not in ran.stderr, f"{name}: {ran}"
-        ran = run("dmf-plan", f"{folder}/missing.csv")
-        assert ran.returncode == 4, f"a missing file: {ran}"
-        ran = run("dmf-plan", f"{folder}/two.csv", "--source", "A", "--source", "B", typed="solve\n")
-        assert values(ran.stdout) == [2], f"two sources: {ran}"
-    assert run("dmf-plan").returncode == 2
-
-
-def test_no_other_file(tmp_path: Path, monkeypatch: pytest.MonkeyPatch) -> None:
-    """What somebody else puts at the path of a new file, after it was found to be free, stays as it is."""
-    plan = Plan(desk_of(WATER), is_typed=False, write=lambda _: None)
-    victim, path = tmp_path / "victim.max", tmp_path / "new.max"
-    victim.write_text("as it was")
-    put = plan._files.put
-
-    def late(path: str, data: bytes) -> str:
-        Path(path).symlink_to(victim)
-        return put(path, data)
-
-    monkeypatch.setattr(plan._files, "put", late)
-    plan.onecmd(f"save {path}")
-    assert (victim.read_text(), plan.refused) == ("as it was", 1)
-    monkeypatch.undo()
-    path.unlink()
-    # Its own file it writes as often as it is asked.
-    plan.run_script([f"save {path}", f"save {path}"])
-    assert (plan.refused, path.read_text().count("p max")) == (1, 1)
-    plan.desk.end()

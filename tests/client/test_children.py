@@ -1,11 +1,13 @@
 """Programs that end in odd ways, or print much: scripts that stand in for dmf."""
 
 import re
+import subprocess
+import sys
 import threading
 from collections.abc import Callable
 
 import pytest
-from client_shared import answering, dmf, pipes, script
+from client_shared import CLIENT, answering, dmf, pipes, script
 
 
 def ended(answer: str) -> str:
@@ -74,3 +76,12 @@ def test_a_long_number_in_an_answer() -> None:
     wanted = "the session was ended, since what dmf answered to `solve` was not understood"
     assert ended("echo s $(head -c 5000 /dev/zero | tr '\\0' 9)") == wanted
     assert re.search(wanted, ended(r"printf 's \377\n'"))
+
+
+@pytest.mark.parametrize("closing", ["<&-", "2>&-", "<&- 2>&-"])
+def test_closed_streams(closing: str) -> None:
+    """Where this process has a standard stream no more, no file of a network takes the place that the program's stream has."""
+    code = 'import dmf; arcs = [("a", "b", 3)]; print(dmf.Network(arcs, "a", "b").solve().value, dmf.value(arcs, "a", "b"))'
+    words = ["sh", "-c", f'cd "$1" && exec "$2" -c "$3" {closing}', "sh", CLIENT, sys.executable, code]
+    ran = subprocess.run(words, stdout=subprocess.PIPE, text=True, timeout=60)
+    assert (ran.returncode, ran.stdout) == (0, "3 3\n")

@@ -189,8 +189,7 @@ class Kept(Changes, Generic[Node]):
         self.begin_here()
         for node in source, sink:
             self.number(node)
-        self.source = source
-        self.sink = sink
+        self.source, self.sink = source, sink
 
     def begin_here(self) -> None:
         """Takes the present state as the first one."""

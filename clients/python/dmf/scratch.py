@@ -12,10 +12,22 @@ OPENED = "/proc/self/fd"
 def scratch() -> IO[bytes]:
     """An empty file that goes when it is closed, and that no other process sees unless it is passed on. Raises an OSError."""
     if hasattr(os, "memfd_create") and os.path.isdir(OPENED):
-        return open(os.memfd_create("dmf"), "w+b")
+        return open(_past_streams(os.memfd_create("dmf")), "w+b")
     import tempfile
 
     return tempfile.NamedTemporaryFile(prefix="dmf-", suffix=".max")
+
+
+def _past_streams(number: int) -> int:
+    """The number of an open file that is no number of a standard stream, since there another process has a stream of its own."""
+    if number > 2:
+        return number
+    import fcntl
+
+    try:
+        return fcntl.fcntl(number, fcntl.F_DUPFD_CLOEXEC, 3)
+    finally:
+        os.close(number)
 
 
 def path_of(file: IO[bytes]) -> str:
