@@ -247,8 +247,10 @@ def test_sweep_in_portions(tmp_path: Path) -> None:
                 again = json.loads(it.post("sweep", arcs=again["left"])[1])
             assert (again["left"][-1], it.do(what="close", arc=1)["at"], time.monotonic() - begin < 20) == (count, 1, True)
         finally:
+            # One that did not end in time was killed.
             for copy in copies:
-                os.kill(copy, signal.SIGCONT)
+                with contextlib.suppress(ProcessLookupError):
+                    os.kill(copy, signal.SIGCONT)
         until = time.monotonic() + SECONDS
         while len(it.sessions()) > 1:
             assert time.monotonic() < until, "the copies go on after a change"

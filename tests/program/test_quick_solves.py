@@ -129,7 +129,8 @@ def test_interrupt(word: str, tmp_path: Path) -> None:
     file = tmp_path / "combs.max"
     file.write_bytes(combs(TEETH))
     with file.open("rb") as problem:
-        run = subprocess.Popen([BUILT, "solve", word, "--cut"], stdin=problem, stdout=subprocess.PIPE, stderr=subprocess.PIPE)
+        words = [str(BUILT), "solve", word, "--cut"]
+        run = subprocess.Popen(words, stdin=problem, stdout=subprocess.PIPE, stderr=subprocess.PIPE, preexec_fn=built.heed_interrupts)
     time.sleep(HALF_A_SECOND)
     run.send_signal(signal.SIGINT)
     out, err = run.communicate(timeout=SECONDS)
