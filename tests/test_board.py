@@ -229,8 +229,7 @@ def test_sweep_in_portions(tmp_path: Path) -> None:
     with board(str(table)) as it:
         told = portion(it, list(range(1, count + 1)))
         assert 0 < len(told["left"]) == count - len(told["trials"])
-        copies = it.sessions()[1:]
-        assert copies
+        assert (copies := it.sessions()[1:])
         again = portion(it, told["left"])
         assert again["left"]
         assert (it.sessions()[1:], again["trials"][0]["number"]) == (copies, told["left"][0])
@@ -247,9 +246,8 @@ def test_sweep_in_portions(tmp_path: Path) -> None:
                 again = json.loads(it.post("sweep", arcs=again["left"])[1])
             assert (again["left"][-1], it.do(what="close", arc=1)["at"], time.monotonic() - begin < 20) == (count, 1, True)
         finally:
-            # One that did not end in time was killed.
             for copy in copies:
-                with contextlib.suppress(ProcessLookupError):
+                with contextlib.suppress(ProcessLookupError):  # It was killed, if it did not end in time.
                     os.kill(copy, signal.SIGCONT)
         until = time.monotonic() + SECONDS
         while len(it.sessions()) > 1:

@@ -3,10 +3,11 @@
 from __future__ import annotations
 
 import datetime
+import importlib
 import io
 import zipfile
 from pathlib import Path
-from typing import Any
+from typing import Any, Optional
 
 import pytest
 from client_shared import dmf
@@ -138,8 +139,12 @@ def test_workbooks() -> None:
 
 
 def test_missing_packages(monkeypatch: pytest.MonkeyPatch) -> None:
-    def missing(name: str) -> Any:
-        raise ImportError(name=name)
+    there = importlib.import_module
+
+    def missing(name: str, package: Optional[str] = None) -> Any:
+        if name == "openpyxl":
+            raise ImportError(name=name)
+        return there(name, package)
 
     monkeypatch.setattr("dmf.tables.workbook.importlib.import_module", missing)
     (told,) = faults(workbook(["from", "to", "cap"], ["A", "B", 3]))
