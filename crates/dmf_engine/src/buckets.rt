@@ -45,6 +45,16 @@ impl Buckets {
         read(&self.first, label, 0)
     }
 
+    /// The least label from 1 on without a node.
+    pub fn gap(&self) -> u32 {
+        for label in 1..self.last {
+            if self.first(label) == 0 {
+                return label;
+            }
+        }
+        self.last.wrapping_add(1)
+    }
+
     /// The node after a node of the same label, or 0.
     #[inline(always)]
     pub fn next(&self, node: u32) -> u32 {

@@ -116,6 +116,18 @@ impl Engine {
         }
     }
 
+    /// For each node whether it is on the source's side of a cut. Once no more can come to the goal, this is a minimum cut: no excess leaves the
+    /// nodes above a label that none has, and giving back goes among these alone. Takes memory for a mark a node.
+    pub fn cut(&self, alloc: Global) -> Result<Vec<bool>, NoMemory> {
+        let gap = self.buckets.gap();
+        let mut marks = vec![in alloc; false; self.nodes as usize + 1]?;
+        for node in 1..self.nodes.wrapping_add(1) {
+            let is_near_base = self.label(node) >= gap;
+            write(&mut marks, node, is_near_base != self.direction.is_reversed);
+        }
+        Ok(marks)
+    }
+
     /// Pushes over each link of the base as much as it takes.
     fn saturate(&mut self) {
         let base = self.direction.base;

@@ -14,7 +14,7 @@
 //! sum wraps: neither happens where all ends of arcs are nodes and the capacities' sum fits 64 bits.
 #![tactic(auto)]
 
-pub use likely::likely_greatest;
+pub use likely::{Likely, likely_greatest};
 
 mod buckets;
 mod direction;

@@ -4,6 +4,7 @@ ghost use Rattle.dmf_path.specs.Path.{HasNoPath};
 ghost use Rattle.dmf_state.specs.Arc.{no_arc};
 ghost use Rattle.dmf_state.specs.NetworkState.{IsState};
 ghost use Rattle.dmf_solver.specs.Enclosed.{has_mark, StaysIn};
+ghost use Rattle.dmf_solver.specs.Greatest.{IsGreatest};
 ghost use Rattle.dmf_solver.specs.Residual.{residual_steps};
 
 use dmf_state::{Arc, State};
@@ -31,6 +32,18 @@ pub fn is_enclosed(alloc: Global, state: &State) -> Result<bool, AllocError>
     let mut marks = vec![in alloc; false; state.nodes() as usize + 1]?;
     marks[state.source() as usize] = true;
     Ok(is_mended(state, &mut marks, true))
+}
+
+/// Whether these marks, one for each node from index 1 on, are the source's side of a cut that the state's flow saturates: the source is marked, the
+/// sink is not, and no residual step leads out of the marked nodes. Then no flow has a larger value, wherever the marks come from. Looks at
+/// each arc once, and takes no memory.
+pub fn is_saturated_cut(state: &State, marks: &[bool]) -> bool
+    ensures { result ≡ true → IsGreatest state.now.network state.now.flows }
+{
+    if marks.len() != state.nodes() as usize + 1 {
+        return false;
+    }
+    parts_source_and_sink(state, marks)
 }
 
 /// Whether a few passes give a set that no residual step leaves. A pass puts nodes into the set if `mark` is set, else it takes them out.

@@ -1,6 +1,7 @@
 //! Plans of changes of a network with a flow, solving among them: the solver of `dmf`.
 #![tactic(auto)]
 
+pub use enclosed::is_saturated_cut;
 pub use fault::{CutFault, PlanFault};
 pub use laws::{
     change_has_one_outcome, change_has_outcome, flow_is_greatest_or_surpassed, greatest_is_optimal,

@@ -1,8 +1,9 @@
 //! Solving by any greatest flow: for the value and the cut alone, which all greatest flows share, or for a solution that may be any of them.
 //!
-//! An engine finds a flow that is likely greatest, sooner than the search of a plan does. Nothing is known of this flow. So it is judged: where
-//! it is a flow of the network, a solve begins at it, and finds no augmenting path if it is greatest. Where it is none, or where the engine
-//! gave none, the solve begins at the state's own flow.
+//! An engine finds a flow that is likely greatest, sooner than the search of a plan does, and a cut that likely shows this. Nothing is known of
+//! either. So both are judged. Where the flow is one of the network, a solve begins at it, and finds no augmenting path if it is greatest. Where
+//! it also saturates the cut, it is greatest, and a solve would change nothing. Where it is none, or where the engine gave none, the solve begins
+//! at the state's own flow.
 ghost use Rattle.std.specs.Prelude.{◌≡◌, length, IfOk, IfSome};
 ghost use Rattle.dmf_solver.specs.Greatest.{IsGreatest};
 ghost use Rattle.dmf_solver.specs.Planning.{IsSideWanted};
@@ -12,8 +13,8 @@ ghost use Rattle.dmf_solving.specs.SolveRun.{RunsAny, RunsBrief};
 use crate::laws::any_is_optimal;
 use crate::solve::{Solved, solve};
 use crate::solved::{write_brief, write_solved};
-use dmf_engine::likely_greatest;
-use dmf_solver::Watch;
+use dmf_engine::{Likely, likely_greatest};
+use dmf_solver::{Watch, is_saturated_cut};
 use dmf_state::{NoMemory, State};
 use dmf_streams::{EngineFault, Status, flush, read_state};
 use dmf_text::{Sink, Source, accepted_is_state};
@@ -77,13 +78,13 @@ fn solve_any<V: Watch>(
     ensures greatest { IfOk result (λ solved. IsGreatest solved.state.network solved.state.flows) }
     ensures side { IfOk result (λ solved. IsSideWanted want_cut solved.state.network solved.side) }
 {
-    let flows = likely_flows(alloc, &state);
-    solve_from(alloc, state, flows, want_cut, watch)
+    let likely = likely_flow(alloc, &state);
+    solve_from(alloc, state, likely, want_cut, watch)
 }
 
-/// The flows that the engine finds. `None` if it gives up or memory is refused.
-fn likely_flows(alloc: Global, state: &State) -> Option<Vec<u64>>
-    ensures { IfSome result (λ flows. length flows.items ≡ length state.now.network.arcs) }
+/// The flow and the cut that the engine finds. `None` if it gives up or memory is refused.
+fn likely_flow(alloc: Global, state: &State) -> Option<Likely>
+    ensures { IfSome result (λ likely. length likely.flows.items ≡ length state.now.network.arcs) }
 {
     let arcs = state.arcs();
     let Ok(found) = likely_greatest(alloc, state.nodes(), state.source(), state.sink(), arcs) else {
@@ -92,35 +93,42 @@ fn likely_flows(alloc: Global, state: &State) -> Option<Vec<u64>>
     found
 }
 
-/// Finds some greatest flow of a state's network, and the smallest side of this if it is wanted. Begins at these flows where they are a flow
-/// of the network, else at the state's own flow. Drops the state if memory is refused.
+/// Finds some greatest flow of a state's network, and the smallest side of this if it is wanted. Begins at the likely flow where this is a flow of
+/// the network, else at the state's own. Drops the state if memory is refused.
 ///
-/// Reports to the watch the state from which the solve begins, and each augmenting path: none if the flow of this state is greatest.
+/// Reports to the watch the state from which the solve begins, and each augmenting path: none if the flow of this state is greatest. Without a
+/// side it makes no links where the flow saturates the likely cut.
 pub fn solve_from<V: Watch>(
     alloc: Global,
     state: State,
-    flows: Option<Vec<u64>>,
+    likely: Option<Likely>,
     want_cut: bool,
     watch: &mut V,
 ) -> Result<Solved, NoMemory>
-    requires { IfSome flows (λ flows. length flows.items ≡ length state.network.arcs) }
+    requires { IfSome likely (λ likely. length likely.flows.items ≡ length state.network.arcs) }
     ensures network { IfOk result (λ solved. solved.state.network ≡ state.network) }
     ensures greatest { IfOk result (λ solved. IsGreatest solved.state.network solved.state.flows) }
     ensures side { IfOk result (λ solved. IsSideWanted want_cut solved.state.network solved.side) }
 {
+    let Some(Likely { flows, marks }) = likely else {
+        return solve(alloc, state, want_cut, watch);
+    };
     let begun = begun_with(alloc, state, flows);
+    if !want_cut && is_saturated_cut(&begun, &marks) {
+        watch.begun(&begun);
+        return Ok(Solved {
+            state: begun,
+            side: None,
+        });
+    }
     solve(alloc, begun, want_cut, watch)
 }
 
-/// The state with these flows in place of its own. The state itself where there are none, or where they are no flow of the network, or where
-/// memory is refused.
-fn begun_with(alloc: Global, state: State, flows: Option<Vec<u64>>) -> State
-    requires { IfSome flows (λ flows. length flows.items ≡ length state.network.arcs) }
+/// The state with these flows in place of its own. The state itself where they are no flow of the network, or where memory is refused.
+fn begun_with(alloc: Global, state: State, flows: Vec<u64>) -> State
+    requires { length flows.items ≡ length state.network.arcs }
     ensures { result.network ≡ state.network }
 {
-    let Some(flows) = flows else {
-        return state;
-    };
     match state.with_flows(alloc, flows) {
         Ok(begun) => begun,
         Err(_) => state,

@@ -1,7 +1,7 @@
 ghost use Rattle.std.specs.Prelude.{◌<◌, ◌≡◌, length, IfOk, IfSome};
 
-use dmf_engine::likely_greatest;
-use dmf_solver::{Turn, Unwatched, Watch, plan_solve_watched};
+use dmf_engine::{Likely, likely_greatest};
+use dmf_solver::{Turn, Unwatched, Watch, is_saturated_cut, plan_solve_watched};
 use dmf_solving::{Solved, solve_from};
 use dmf_state::{Arc, Side, State};
 use std::alloc::Global;
@@ -43,27 +43,31 @@ impl Watch for Paths {
     fn lowered(&mut self, _turn: Turn, _amount: u64) {}
 }
 
-/// What a solve finds: the value and the smallest side, and how many augmenting paths it takes.
+/// What a solve finds: the value, the smallest side if it is wanted, and how many augmenting paths it takes.
 #[derive(Drop)]
 struct Found {
     value: u64,
-    side: Side,
+    side: Option<Side>,
     paths: u64,
 }
 
-/// What a solve finds that may begin at these flows.
-fn found_from(alloc: Global, state: &State, flows: Option<Vec<u64>>) -> Result<Found, Fail>
-    requires { IfSome flows (λ flows. length flows.items ≡ length state.now.network.arcs) }
+/// What a solve finds that may begin at a flow.
+fn found_from(
+    alloc: Global,
+    state: &State,
+    likely: Option<Likely>,
+    want_cut: bool,
+) -> Result<Found, Fail>
+    requires { IfSome likely (λ likely. length likely.flows.items ≡ length state.now.network.arcs) }
 {
     let mut watch = Paths(0);
-    let solved = solve_from(alloc, state.copy(alloc)?, flows, true, &mut watch)?;
-    let Solved {
-        state,
-        side: Some(side),
-    } = solved
-    else {
-        return Err(Fail::from("no side was found"));
-    };
+    let Solved { state, side } = solve_from(
+        alloc,
+        state.copy(alloc)?,
+        likely,
+        want_cut,
+        &mut watch,
+    )?;
     Ok(Found {
         value: state.value(),
         side,
@@ -73,27 +77,44 @@ fn found_from(alloc: Global, state: &State, flows: Option<Vec<u64>>) -> Result<F
 
 /// Whether the value and the side are those of an ordinary solve.
 fn is_right(alloc: Global, state: &State, found: &Found) -> Result<bool, Fail> {
-    let (edit, side) = plan_solve_watched(alloc, state, true, &mut Unwatched)?;
+    let want_cut = found.side.is_some();
+    let (edit, side) = plan_solve_watched(alloc, state, want_cut, &mut Unwatched)?;
     let mut solved = state.copy(alloc)?;
     solved.apply(&edit)?;
-    let is_same_side = match &side {
-        Some(side) => found.side == *side,
-        None => false,
+    let is_same_side = match (&found.side, &side) {
+        (Some(side), Some(other)) => *side == *other,
+        (None, None) => true,
+        _ => false,
     };
     Ok(found.value == solved.value() && is_same_side)
 }
 
-/// Value and side are right, and the ordinary search finds no path after the engine.
+/// What the engine finds.
+fn likely_of(alloc: Global, state: &State) -> Result<Likely, Fail>
+    ensures { IfOk result (λ likely. length likely.flows.items ≡ length state.now.network.arcs) }
+{
+    let (source, sink) = (state.source(), state.sink());
+    match likely_greatest(alloc, state.nodes(), source, sink, state.arcs())? {
+        Some(likely) => Ok(likely),
+        None => Err(Fail::from("the engine gave up")),
+    }
+}
+
+/// The engine's flow saturates its cut, so a solve without a side makes no search. With one it is right, and the search finds no path.
 #[test]
 fn engine_finds_greatest_flows(rt: HostRuntime) -> Result<(), Fail> {
     for seed in 0..100_000 {
         let state = network(rt.alloc(), seed)?;
-        let (source, sink) = (state.source(), state.sink());
-        let flows = likely_greatest(rt.alloc(), state.nodes(), source, sink, state.arcs())?;
-        assert!(rt; flows.is_some());
-        let found = found_from(rt.alloc(), &state, flows)?;
-        assert!(rt; found.paths == 0);
-        assert!(rt; is_right(rt.alloc(), &state, &found)?);
+        let Likely { flows, marks } = likely_of(rt.alloc(), &state)?;
+        let begun = state.with_flows(rt.alloc(), flows)?;
+        assert!(rt; is_saturated_cut(&begun, &marks));
+        for want_cut in [false, true] {
+            let likely = likely_of(rt.alloc(), &state)?;
+            let found = found_from(rt.alloc(), &state, Some(likely), want_cut)?;
+            assert!(rt; found.side.is_some() == want_cut);
+            assert!(rt; found.paths == 0);
+            assert!(rt; is_right(rt.alloc(), &state, &found)?);
+        }
     }
     Ok(())
 }
@@ -107,9 +128,42 @@ enum Wrong {
     GaveUp,
 }
 
+/// Which nodes a cut that may be wrong marks.
+#[derive(Clone, Copy)]
+enum Marked {
+    Nobody,
+    Source,
+    Everybody,
+    TooFew,
+}
+
+/// Marks of the nodes that are wrong, or may be.
+fn wrong_marks(alloc: Global, state: &State, marked: Marked) -> Result<Vec<bool>, Fail> {
+    let nodes = state.nodes() as usize;
+    let marks = match marked {
+        Marked::Nobody => vec![in alloc; false; nodes + 1]?,
+        Marked::Everybody => vec![in alloc; true; nodes + 1]?,
+        Marked::TooFew => vec![in alloc; true; 1]?,
+        Marked::Source => {
+            let mut marks = vec![in alloc; false; nodes + 1]?;
+            let source = state.source() as usize;
+            if source < marks.len() {
+                marks[source] = true;
+            }
+            marks
+        }
+    };
+    Ok(marks)
+}
+
 /// What an engine may give that is wrong so.
-fn wrong_flows(alloc: Global, state: &State, wrong: Wrong) -> Result<Option<Vec<u64>>, Fail>
-    ensures { IfOk result (λ answer. IfSome answer (λ flows. length flows.items ≡ length state.now.network.arcs)) }
+fn wrong_likely(
+    alloc: Global,
+    state: &State,
+    wrong: Wrong,
+    marked: Marked,
+) -> Result<Option<Likely>, Fail>
+    ensures { IfOk result (λ answer. IfSome answer (λ likely. length likely.flows.items ≡ length state.now.network.arcs)) }
 {
     let arcs = state.arcs();
     let mut flows = vec![in alloc; 0u64; arcs.len()]?;
@@ -119,7 +173,8 @@ fn wrong_flows(alloc: Global, state: &State, wrong: Wrong) -> Result<Option<Vec<
         Wrong::NotGreatest => {}
         Wrong::GaveUp => return Ok(None),
     }
-    Ok(Some(flows))
+    let marks = wrong_marks(alloc, state, marked)?;
+    Ok(Some(Likely { flows, marks }))
 }
 
 /// Makes each flow so much more than the capacity.
@@ -140,15 +195,39 @@ fn wrong_engines_do_no_harm(rt: HostRuntime) -> Result<(), Fail> {
         Wrong::NotGreatest,
         Wrong::GaveUp,
     ] {
-        let mut paths = 0u64;
+        for marked in [
+            Marked::Nobody,
+            Marked::Source,
+            Marked::Everybody,
+            Marked::TooFew,
+        ] {
+            let mut paths = 0u64;
+            for seed in 0..80 {
+                let state = network(rt.alloc(), seed)?;
+                let likely = wrong_likely(rt.alloc(), &state, wrong, marked)?;
+                let found = found_from(rt.alloc(), &state, likely, seed % 2 == 0)?;
+                paths = paths.saturating_add(found.paths);
+                assert!(rt; is_right(rt.alloc(), &state, &found)?);
+            }
+            assert!(rt; paths > 80);
+        }
+    }
+    Ok(())
+}
+
+/// A greatest flow beside a cut that is none is found to be greatest by the search.
+#[test]
+fn wrong_cuts_do_no_harm(rt: HostRuntime) -> Result<(), Fail> {
+    for marked in [Marked::Nobody, Marked::Everybody, Marked::TooFew] {
         for seed in 0..80 {
             let state = network(rt.alloc(), seed)?;
-            let flows = wrong_flows(rt.alloc(), &state, wrong)?;
-            let found = found_from(rt.alloc(), &state, flows)?;
-            paths = paths.saturating_add(found.paths);
+            let Likely { flows, marks: _ } = likely_of(rt.alloc(), &state)?;
+            let marks = wrong_marks(rt.alloc(), &state, marked)?;
+            let likely = Some(Likely { flows, marks });
+            let found = found_from(rt.alloc(), &state, likely, false)?;
+            assert!(rt; found.paths == 0);
             assert!(rt; is_right(rt.alloc(), &state, &found)?);
         }
-        assert!(rt; paths > 80);
     }
     Ok(())
 }
