@@ -27,8 +27,6 @@ WORD = re.compile(r"[^\s(){}\[\],;.`\"]+")
 MOST_WORDS = 1_800
 MORE_WORDS = {"docs/DEFINITIONS.md": 3_800, "docs/FORMATS.md": 3_200, "docs/SEARCH.md": 2_600}
 GROWING = {"CHANGELOG.md", "docs/DECISIONS.md"}
-# Lemmas that no file names. It was not tried whether `dmf_path` checks without them; where it does, they go, and this with them.
-WAITING = {"turning-next", "first-none"}
 
 
 def headless_files() -> Iterator[str]:
@@ -182,7 +180,7 @@ def unused() -> Iterator[str]:
             continue
         near = [other for other in said if other != file and file.stem in said[other]]
         for name, line, rest in definitions(texts[file]):
-            if name not in words(rest) | WAITING and not any(name in said[other] for other in near):
+            if name not in words(rest) and not any(name in said[other] for other in near):
                 yield f"nothing uses {name} ({file}:{line})"
 
 

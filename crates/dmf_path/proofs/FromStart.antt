@@ -1,8 +1,7 @@
 -- Labels made of the distances from the start: no link with room falls by more than one, and a walk leads from the start to each node that
 -- has a distance.
-use Rattle.std.proofs.Common.{ℕ, ◌≡◌, ◌≢◌, ◌+◌, ◌-◌, ◌<◌, ◌≤◌, ◌++◌, inl, inr, List, [], ◌∷◌, length, get_or, set, zero, suc, ap, sym, refl, ◌∙◌, subst, arith}
+use Rattle.std.proofs.Common.{ℕ, ◌≡◌, ◌≢◌, ◌+◌, ◌-◌, ◌<◌, ◌≤◌, inl, inr, List, [], ◌∷◌, length, get_or, zero, suc, ap, sym, refl, ◌∙◌, subst, arith}
 use Rattle.std.proofs.lemmas.Bool.{cases_eq}
-use Rattle.std.proofs.lemmas.List.{length-set, length_push}
 use Rattle.dmf_node.specs.Node.{IsNode}
 use Rattle.dmf_links.specs.Links.{Links, AreLinks, tail_of}
 use Rattle.dmf_path.specs.Labels.{no_label, AreLabels, AreQueued}
@@ -10,10 +9,8 @@ use Rattle.dmf_path.specs.Walk.{IsWalk, AreValid}
 use Rattle.dmf_path.specs.BothEnds.{AreTurned, AreWhole, IsLabelled}
 use Rattle.dmf_links.proofs.LinkPlaces.{lies-within}
 use Rattle.dmf_links.proofs.Flags.{room-of_flag, flag-of_room}
-use Rattle.dmf_path.proofs.Joining.{queued-next}
 use Rattle.dmf_path.proofs.Labelled.{sound-below, sound-whole}
 use Rattle.dmf_path.proofs.Reaching.{AreOpen}
-use Rattle.dmf_path.proofs.Spreading.{cases-set}
 
 -- The nodes before `node` have their labels.
 pub record AreTurning (nodes : ℕ) (from_start labels queue : List ℕ) (node : ℕ) : Type 0 where
@@ -21,22 +18,6 @@ pub record AreTurning (nodes : ℕ) (from_start labels queue : List ℕ) (node :
   pub each : (v : ℕ) → IsNode nodes v → v < node → get_or labels v 0 ≡ nodes - get_or from_start v 0
   pub queued : AreQueued labels queue
   pub count : length queue + 1 ≡ node
-
--- The next node gets its label.
-pub turning-next : {nodes : ℕ} {from_start labels queue : List ℕ} {node : ℕ} → node ≤ nodes → AreTurning nodes from_start labels queue node
-    → AreTurning nodes from_start (set labels node (nodes - get_or from_start node 0)) (queue ++ node ∷ []) (node + 1)
-turning-next {nodes = nodes} {from_start = from_start} {labels = labels} {queue = queue} {node = node} within so_far =
-    let label : ℕ = nodes - get_or from_start node 0 in
-    let inside : node < length labels = omega (arith, within, so_far.one_each) in
-    record {
-      one_each = length-set labels node label ∙ so_far.one_each;
-      each = λ v is before. elim (cases-set labels node v label inside) [
-        | inl here ↦ here.1 ∙ ap (λ u. nodes - get_or from_start u 0) (sym here.0)
-        | inr other ↦ other.1 ∙ so_far.each v is (omega (arith, before, other.0))
-      ];
-      queued = queued-next labels queue node label so_far.queued inside;
-      count = omega (arith, length_push queue node, so_far.count);
-    }
 
 module _ {l : Links} (rooms opens : List ℕ) {labels : List ℕ} {start : ℕ} {s : List ℕ} (links : AreLinks l) (opened : AreOpen l rooms opens)
     (labelled : AreLabels l opens start 0 s) (turned : AreTurned l.nodes s labels) where

@@ -118,6 +118,7 @@ module _ {own : Own} {made new : NewPair} {pair : Pair} {n : Links} {after : Lis
         flags = AreFlags-grown l places k new.gap old.links are.gap n are.table own.rooms.items own.flags.items rooms.items flags.items new.low_room
             new.high_room old.rooms.0 old.flags given told;
         begun = subst (λ nodes. HasBegun nodes own.levels own.trail) (sym are.table.nodes) old.begun;
+        tidy = old.tidy;
         same = (λ i. record {
           nodes = are.table.nodes i;
           pairs = pairs i;

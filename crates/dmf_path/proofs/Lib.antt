@@ -12,6 +12,9 @@ pub mod SettledSent
 pub mod Lasting
 pub mod Redirected
 pub mod NearGoal
+pub mod InsideBall
+pub mod Going
+pub mod InBall
 pub mod FromStart
 pub mod Asides
 mod Leaving
@@ -49,6 +52,7 @@ pub mod Searching
 mod Untouched
 mod TouchedIndices
 pub mod Lowered
+pub mod LoweredLabels
 pub mod RoomsSet
 pub mod Released
 pub mod ApartPairs

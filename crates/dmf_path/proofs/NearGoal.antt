@@ -1,23 +1,23 @@
--- The first link of a node that leads to the goal, found among the goal's links.
-use Rattle.std.proofs.Common.{ℕ, ◌≡◌, ◌≢◌, ◌+◌, ◌<◌, ◌≤◌, ◌⊎◌, inl, inr, List, length, get_or, ap, sym, refl, ◌∙◌, arith}
+-- The first link of a node that leads to another node, the head, found among the links of the head.
+use Rattle.std.proofs.Common.{ℕ, ◌≡◌, ◌≢◌, ◌+◌, ◌<◌, ◌≤◌, ◌⊎◌, inl, inr, List, length, get_or, ap, sym, ◌∙◌, arith}
 use Rattle.std.proofs.lemmas.Bool.{cases_eq}
 use Rattle.dmf_node.specs.Node.{IsNode}
-use Rattle.dmf_links.specs.Links.{Links, LiesAt, AreLinks, AreFlags, open_flag}
+use Rattle.dmf_links.specs.Links.{Links, LiesAt, AreLinks, AreFlags}
 use Rattle.dmf_links.proofs.LinkPlaces.{lies-within}
 use Rattle.dmf_links.proofs.Flags.{room-of_flag}
-use Rattle.dmf_path.proofs.Labelled.{LeadsTo, opposite}
+use Rattle.dmf_path.proofs.Labelled.{opposite}
 
--- Among the goal's links before `place`, no opposite one from the node is at `from` or after it, and before `first`.
-pub record IsFirst (l : Links) (rooms flags : List ℕ) (goal node from end place first : ℕ) : Type 0 where
+-- Among the head's links before `place`, no opposite one from the node is at `from` or after it, and before `first`.
+pub record IsFirst (l : Links) (rooms flags : List ℕ) (head node from end place first : ℕ) : Type 0 where
   pub from_is : from ≤ first
   pub to : first ≤ end
-  pub found : first < end → (0 < get_or rooms first 0) × (get_or l.heads first 0 ≡ goal)
-  pub least : (q : ℕ) → LiesAt l goal q → q < place → get_or flags q 0 ≡ 1 → get_or l.heads q 0 ≡ node → from ≤ get_or l.partners q 0
+  pub found : first < end → (0 < get_or rooms first 0) × (get_or l.heads first 0 ≡ head)
+  pub least : (q : ℕ) → LiesAt l head q → q < place → get_or flags q 0 ≡ 1 → get_or l.heads q 0 ≡ node → from ≤ get_or l.partners q 0
       → first ≤ get_or l.partners q 0
 
-module _ {l : Links} {rooms flags : List ℕ} {goal node from end place first : ℕ} (so_far : IsFirst l rooms flags goal node from end place first) where
+module _ {l : Links} {rooms flags : List ℕ} {head node from end place first : ℕ} (so_far : IsFirst l rooms flags head node from end place first) where
   -- The next one is not open, or leads to another node.
-  pub first-kept : (get_or flags place 0 ≡ 1 → get_or l.heads place 0 ≢ node) → IsFirst l rooms flags goal node from end (place + 1) first
+  pub first-kept : (get_or flags place 0 ≡ 1 → get_or l.heads place 0 ≢ node) → IsFirst l rooms flags head node from end (place + 1) first
   first-kept other = record {
     from_is = so_far.from_is;
     to = so_far.to;
@@ -29,15 +29,15 @@ module _ {l : Links} {rooms flags : List ℕ} {goal node from end place first : 
   }
 
   -- It is looked at.
-  pub first-set : {new : ℕ} → AreLinks l → AreFlags l rooms flags → IsNode l.nodes goal → LiesAt l goal place → get_or flags place 0 ≡ 1 → new ≤ first
+  pub first-set : {new : ℕ} → AreLinks l → AreFlags l rooms flags → IsNode l.nodes head → LiesAt l head place → get_or flags place 0 ≡ 1 → new ≤ first
       → (from ≤ get_or l.partners place 0 → new ≤ get_or l.partners place 0)
       → (new ≡ first) ⊎ ((new ≡ get_or l.partners place 0) × (from ≤ get_or l.partners place 0))
-      → IsFirst l rooms flags goal node from end (place + 1) new
-  first-set {new = new} links flagged goal_is lies flag low lower one =
-      let within : place < length l.heads = lies-within l goal place links goal_is lies in
+      → IsFirst l rooms flags head node from end (place + 1) new
+  first-set {new = new} links flagged head_is lies flag low lower one =
+      let within : place < length l.heads = lies-within l head place links head_is lies in
       let room : 0 < get_or rooms (get_or l.partners place 0) 0 =
       room-of_flag (get_or rooms (get_or l.partners place 0) 0) (sym (flagged.1 place within) ∙ flag) in
-      let leads : get_or l.heads (get_or l.partners place 0) 0 ≡ goal = links.at_tail goal place goal_is lies in
+      let leads : get_or l.heads (get_or l.partners place 0) 0 ≡ head = links.at_tail head place head_is lies in
       record {
         from_is = omega (arith, one, so_far.from_is);
         to = omega (arith, low, so_far.to);
@@ -51,9 +51,9 @@ module _ {l : Links} {rooms flags : List ℕ} {goal node from end place first : 
         ];
       }
 
-  -- At the last one no link of the node before the one found leads to the goal.
-  pub first-last : AreLinks l → AreFlags l rooms flags → IsNode l.nodes node → get_or l.first (goal + 1) 0 ≤ place → get_or l.first node 0 ≤ from
-      → end ≤ get_or l.first (node + 1) 0 → (p : ℕ) → from ≤ p → p < first → 0 < get_or rooms p 0 → get_or l.heads p 0 ≢ goal
+  -- At the last one no link of the node before the one found leads to the head.
+  pub first-last : AreLinks l → AreFlags l rooms flags → IsNode l.nodes node → get_or l.first (head + 1) 0 ≤ place → get_or l.first node 0 ≤ from
+      → end ≤ get_or l.first (node + 1) 0 → (p : ℕ) → from ≤ p → p < first → 0 < get_or rooms p 0 → get_or l.heads p 0 ≢ head
   first-last links flagged node_is all low high p later before room leads =
       let o = opposite rooms flags links flagged (record {
         is_node = node_is;
@@ -62,13 +62,3 @@ module _ {l : Links} {rooms flags : List ℕ} {goal node from end place first : 
         room = room;
       }) in
       omega (arith, before, o.back, so_far.least (get_or l.partners p 0) o.lies (omega (arith, o.lies.below, all)) o.flag o.head (omega (arith, later, o.back)))
-
--- Before the first look nothing is found.
-pub first-none : (l : Links) (rooms flags : List ℕ) (goal node from end : ℕ) → from ≤ end
-    → IsFirst l rooms flags goal node from end (get_or l.first goal 0) end
-first-none l rooms flags goal node from end range = record {
-  from_is = range;
-  to = omega arith;
-  found = λ below. absurd (omega (arith, below));
-  least = λ q lies before flag leads later. absurd (omega (arith, lies.from, before));
-}

@@ -71,6 +71,7 @@ apart-without {own} {gap} {n} {after} rooms flags h links places_are roomy flagg
       rooms = rw roomy (rooms-without old.links old.places_are h.shrunk index own.rooms.items old.rooms);
       flags = rw (roomy, flagged) (flags-without old.links old.places_are h.shrunk index own.rooms.items own.flags.items old.rooms.0 old.flags);
       begun = subst (λ m. HasBegun m own.levels own.trail) h.shrunk.table.nodes old.begun;
+      tidy = old.tidy;
       same = (λ i. record {
         nodes = nodes i;
         pairs = pairs i;

@@ -1,5 +1,5 @@
--- One turn of a walk: it takes the first admissible link of its node, or steps back if there is none.
-use Rattle.std.proofs.Common.{ℕ, ◌≡◌, ◌≢◌, ◌+◌, ◌-◌, ◌*◌, ◌<◌, ◌≤◌, ◌⊎◌, List, [], ◌∷◌, ◌++◌, length, set, take, get_or, sum_by, ap, sym, subst, ◌∙◌}
+-- One turn of a walk: it takes an admissible link of its node, or steps back if there is none to take.
+use Rattle.std.proofs.Common.{ℕ, ◌≡◌, ◌≢◌, ◌+◌, ◌-◌, ◌*◌, ◌<◌, ◌≤◌, List, [], ◌∷◌, ◌++◌, length, set, take, get_or, sum_by, ap, sym, subst, ◌∙◌}
 use Rattle.std.proofs.Common.{arith, inl, inr}
 use Rattle.std.proofs.Math.Nat.{mul-le-mul_right}
 use Rattle.std.proofs.lemmas.Bool.{cases_lt}
@@ -9,12 +9,17 @@ use Rattle.std.proofs.lemmas.List.Elements.{All-push, Contains-append_left, Cont
 use Rattle.std.proofs.lemmas.List.Sums.{sum_by-set}
 use Rattle.dmf_node.specs.Node.{IsNode}
 use Rattle.dmf_links.specs.Links.{Links, LiesAt, AreLinks, AreRooms, tail_of}
+use Rattle.dmf_path.specs.declared.ball.Ball.{Ball}
+use Rattle.dmf_path.specs.Astray.{IsAstray}
+use Rattle.dmf_path.specs.Ball.{AreNear}
 use Rattle.dmf_path.specs.Walk.{IsTrail, IsWalk, end_of}
 use Rattle.dmf_path.specs.Held.{Way, places_of, walked_slots, slot_at, stepped_back}
 use Rattle.dmf_path.specs.Residual.{Residual, put_on}
 use Rattle.dmf_path.specs.Searching.{AreNoted, IsNoted}
 use Rattle.dmf_links.proofs.LinkPlaces.{lies-within}
+use Rattle.dmf_path.proofs.InBall.{near-path}
 use Rattle.dmf_path.proofs.LeastTrail.{walk-path}
+use Rattle.dmf_path.proofs.OpenPaths.{head-node}
 use Rattle.dmf_path.proofs.Spreading.{cases-set}
 use Rattle.dmf_path.proofs.Walking.{label-trail, IsTrail-split, end_of-append, end-node, dead-end, walking-set, come-back}
 use Rattle.dmf_path.proofs.UnderWay.{goal-joint, is-free, free-room}
@@ -40,7 +45,7 @@ noted-step {l = l} {current = current} {noted = noted} v q inside stands tail wi
   ];
 }
 
--- The walk's last node, its first admissible link from the current one on by the rooms, and the place where its links end.
+-- The walk's last node, the place of the link that it takes, or where the node's links end, and that of the first admissible link passed.
 pub record Turn : Type 0 where
   pub r : Residual
   pub labels : List ℕ
@@ -48,19 +53,25 @@ pub record Turn : Type 0 where
   pub aim : Residual
   pub w : Way
   pub node : ℕ
+  pub skip : ℕ
   pub place : ℕ
   pub end : ℕ
+  pub ball : Ball
   pub links : AreLinks r.links
   pub start_is : IsNode r.links.nodes w.start
   pub on : IsOnWay r labels current aim w node
   pub other : node ≢ w.joint
   pub end_read : end ≡ get_or r.links.first (node + 1) end
+  pub near : 0 < ball.radius → AreNear aim.links aim.rooms w.goal ball.radius ball.around.labels.items
   pub from : get_or current node 0 ≤ place
+  pub skipped : get_or current node 0 ≤ skip
+  pub order : skip ≤ place
   pub to : place ≤ end
-  pub first : get_or labels w.goal 0 + 1 < get_or labels node 0 → (p : ℕ) → get_or current node 0 ≤ p → p < place → 0 < get_or r.rooms p 0
+  pub first : (p : ℕ) → get_or current node 0 ≤ p → p < skip → 0 < get_or r.rooms p 0
       → get_or labels (get_or r.links.heads p 0) 0 + 1 ≢ get_or labels node 0
-  pub only : get_or labels w.goal 0 + 1 ≡ get_or labels node 0 → (p : ℕ) → get_or current node 0 ≤ p → p < place → 0 < get_or r.rooms p 0
-      → get_or r.links.heads p 0 ≢ w.goal
+  pub only : get_or labels w.goal 0 < get_or labels node 0 → (p : ℕ) → get_or current node 0 ≤ p → p < place → 0 < get_or r.rooms p 0
+      → get_or labels (get_or r.links.heads p 0) 0 + 1 ≡ get_or labels node 0
+      → IsAstray ball w.goal (get_or labels node 0 - get_or labels w.goal 0 - 1) (get_or r.links.heads p 0)
 
 -- the current links once that of the node has moved on
 abbrev pub moved : Turn → List ℕ
@@ -105,23 +116,30 @@ module _ (t : Turn) where
     below = omega (arith, before, t.to, where-ends);
   }
 
-  -- and it is not admissible by the settled rooms, unless the node is at most one level above the goal.
-  first-told : get_or t.labels t.w.goal 0 + 1 < get_or t.labels t.node 0 → (p : ℕ) → get_or t.current t.node 0 ≤ p → p < t.place
-      → 0 < get_or t.aim.rooms p 0 → get_or t.labels (get_or t.r.links.heads p 0) 0 + 1 ≢ get_or t.labels t.node 0
-  first-told high p later before room falls =
-      t.first high p later before (omega (arith, room, told-room (lies-before p later before) falls)) falls
+  -- and if it lies before the first one passed, it is not admissible by the settled rooms.
+  first-told : (p : ℕ) → get_or t.current t.node 0 ≤ p → p < t.skip → 0 < get_or t.aim.rooms p 0
+      → get_or t.labels (get_or t.r.links.heads p 0) 0 + 1 ≢ get_or t.labels t.node 0
+  first-told p later before room falls =
+      t.first p later before (omega (arith, room, told-room (lies-before p later (omega (arith, before, t.order))) falls)) falls
 
-  -- No walk begins with it.
+  -- what is known of the nodes near the goal
+  near-told : 0 < t.ball.radius → AreNear t.r.links t.aim.rooms t.w.goal t.ball.radius t.ball.around.labels.items
+  near-told some = subst (λ (x : Residual). AreNear x.links t.aim.rooms t.w.goal t.ball.radius t.ball.around.labels.items) (sym t.on.same) (t.near some)
+
+  -- No walk begins with it: the goal is not so near.
   none-told : (p : ℕ) (ps : List ℕ) → get_or t.current t.node 0 ≤ p → p < t.place → ¬ IsWalk t.r.links t.labels t.aim.rooms t.w.goal t.node (p ∷ ps)
   none-told p ps later before walk =
-      let long = (walk-path t.r.links t.aim.rooms t.labels t.w.goal t.node (p ∷ ps) walk).1 in
+      let path = walk-path t.r.links t.aim.rooms t.labels t.w.goal t.node (p ∷ ps) walk in
       let room : 0 < get_or t.r.rooms p 0 = omega (arith, walk.0.room, told-room (lies-before p later before) walk.0.falls) in
-      elim (cases_lt (get_or t.labels t.w.goal 0 + 1) (get_or t.labels t.node 0)) [
-        | inl high ↦ first-told high p later before walk.0.room walk.0.falls
-        | inr low ↦
-            let last : ps ≡ [] = nil_from_length ps (omega (arith, long, low)) in
-            let leads = subst (λ qs. IsWalk t.r.links t.labels t.aim.rooms t.w.goal (get_or t.r.links.heads p 0) qs) last walk.1 in
-            t.only (omega (arith, long, low)) p later before room leads
+      elim (t.only (omega (arith, path.1)) p later before room walk.0.falls) [
+        | inl none ↦
+            let last : ps ≡ [] = nil_from_length ps (omega (arith, path.1, none.0)) in
+            none.1 (subst (λ qs. IsWalk t.r.links t.labels t.aim.rooms t.w.goal (get_or t.r.links.heads p 0) qs) last walk.1)
+        | inr far ↦
+            let head_is = head-node t.r.links t.node p t.links t.on.come.is_node walk.0.lies in
+            let long : length ps ≤ t.ball.radius = omega (arith, path.1, far.1) in
+            let most = near-path t.links (near-told (omega (arith, far.0, far.1))) (get_or t.r.links.heads p 0) ps head_is path.0.2 long in
+            omega (arith, most, far.2, path.1)
       ]
 
   -- The node has a current link.
@@ -135,8 +153,7 @@ module _ (t : Turn) where
   -- Each admissible link that is passed in this way is noted, if one is that is not after it.
   noted-turned : {noted more : List ℕ} → AreNoted t.aim.links t.labels t.aim.rooms t.current noted → All (λ q. q < length t.aim.links.heads) more
       → ((v p : ℕ) → IsNoted t.aim.links noted v p → IsNoted t.aim.links more v p)
-      → ((p : ℕ) → get_or t.labels t.node 0 ≤ get_or t.labels t.w.goal 0 + 1 → get_or t.current t.node 0 ≤ p → p < t.place
-      → IsNoted t.aim.links more t.node p)
+      → ((p : ℕ) → t.skip ≤ p → p < t.place → IsNoted t.aim.links more t.node p)
       → AreNoted t.aim.links t.labels t.aim.rooms (moved t) more
   noted-turned {more = more} are within kept passed = record {
     within = within;
@@ -144,33 +161,32 @@ module _ (t : Turn) where
       | inr other ↦ kept v p (are.each v p node lies (omega (arith, before, other.1)) admissible)
       | inl here ↦ elim (cases_lt p (get_or t.current t.node 0)) [
         | inl early ↦ kept v p (are.each v p node lies (omega (arith, early, ap (λ u. get_or t.current u 0) here.0)) admissible)
-        | inr later ↦ elim (cases_lt (get_or t.labels t.w.goal 0 + 1) (get_or t.labels t.node 0)) [
-          | inl high ↦ absurd (first-told high p later (omega (arith, before, here.1)) admissible.room
+        | inr later ↦ elim (cases_lt p t.skip) [
+          | inl less ↦ absurd (first-told p later less admissible.room
               (subst (λ (x : Residual). get_or t.labels (get_or x.links.heads p 0) 0 + 1 ≡ get_or t.labels t.node 0) (sym t.on.same)
               (admissible.falls ∙ ap (λ u. get_or t.labels u 0) here.0)))
-          | inr low ↦ subst (λ u. IsNoted t.aim.links more u p) (sym here.0) (passed p (omega (arith, low)) later (omega (arith, before, here.1)))
+          | inr more_on ↦ subst (λ u. IsNoted t.aim.links more u p) (sym here.0) (passed p more_on (omega (arith, before, here.1)))
         ]
       ]
     ];
   }
 
-  -- So the place from which the walk looked on may be noted,
-  pub noted-from : {noted more : List ℕ} → AreNoted t.aim.links t.labels t.aim.rooms t.current noted → more ≡ noted ++ get_or t.current t.node 0 ∷ []
-      → get_or t.current t.node 0 < t.place → AreNoted t.aim.links t.labels t.aim.rooms (moved t) more
+  -- So the first link passed may be noted,
+  pub noted-from : {noted more : List ℕ} → AreNoted t.aim.links t.labels t.aim.rooms t.current noted → more ≡ noted ++ t.skip ∷ []
+      → t.skip < t.place → AreNoted t.aim.links t.labels t.aim.rooms (moved t) more
   noted-from {noted = noted} are is moves =
-      let from : ℕ = get_or t.current t.node 0 in
-      let lies = lies-before from (omega arith) moves in
-      let tail : tail_of t.aim.links from ≡ t.node =
-      subst (λ (x : Residual). tail_of x.links from ≡ t.node) t.on.same (t.links.at_tail t.node from t.on.come.is_node lies) in
-      let within : from < length t.aim.links.heads =
-      subst (λ (x : Residual). from < length x.links.heads) t.on.same (lies-within t.r.links t.node from t.links t.on.come.is_node lies) in
-      rw is (noted-turned are (All-push (λ q. q < length t.aim.links.heads) noted from are.within within) (noted-more t.aim.links noted from)
-      (λ p low later before. record { place = from; noted_is = Contains-push noted from; tail = tail; before = later }))
+      let lies = lies-before t.skip t.skipped moves in
+      let tail : tail_of t.aim.links t.skip ≡ t.node =
+      subst (λ (x : Residual). tail_of x.links t.skip ≡ t.node) t.on.same (t.links.at_tail t.node t.skip t.on.come.is_node lies) in
+      let within : t.skip < length t.aim.links.heads =
+      subst (λ (x : Residual). t.skip < length x.links.heads) t.on.same (lies-within t.r.links t.node t.skip t.links t.on.come.is_node lies) in
+      rw is (noted-turned are (All-push (λ q. q < length t.aim.links.heads) noted t.skip are.within within) (noted-more t.aim.links noted t.skip)
+      (λ p later before. record { place = t.skip; noted_is = Contains-push noted t.skip; tail = tail; before = later }))
 
-  -- and none need be, if the node is higher or the walk does not look on.
-  pub noted-same : {noted : List ℕ} → (get_or t.labels t.w.goal 0 + 1 < get_or t.labels t.node 0) ⊎ (t.place ≤ get_or t.current t.node 0)
-      → AreNoted t.aim.links t.labels t.aim.rooms t.current noted → AreNoted t.aim.links t.labels t.aim.rooms (moved t) noted
-  noted-same which are = noted-turned are are.within (λ v p is. is) (λ p low later before. absurd (omega (arith, which, low, later, before)))
+  -- and none need be, if none is passed.
+  pub noted-same : {noted : List ℕ} → t.place ≤ t.skip → AreNoted t.aim.links t.labels t.aim.rooms t.current noted
+      → AreNoted t.aim.links t.labels t.aim.rooms (moved t) noted
+  noted-same none are = noted-turned are are.within (λ v p is. is) (λ p later before. absurd (omega (arith, none, later, before)))
 
   -- all links of the node are passed
   all-passed : t.end ≤ t.place → get_or t.r.links.first (t.node + 1) 0 ≤ get_or (moved t) t.node 0

@@ -10,6 +10,7 @@ use Rattle.dmf_path.specs.declared.search.apart.Own.{Own}
 use Rattle.dmf_path.specs.declared.search.apart.Shared.{Shared}
 use Rattle.dmf_path.specs.declared.trail.Trail.{Trail}
 use Rattle.dmf_links.specs.Grown.{AreGrown, HasEndsOf}
+use Rattle.dmf_path.specs.Ball.{IsTidy}
 use Rattle.dmf_path.specs.Held.{way_of}
 use Rattle.dmf_links.specs.Links.{Links, AreFlags, AreLinks, ArePlaces, AreRooms, pairs_at}
 use Rattle.dmf_links.specs.LinkTable.{links_of}
@@ -50,6 +51,7 @@ with_values own rooms flags = record {
   rooms = rooms;
   flags = flags;
   levels = own.levels;
+  ball = own.ball;
   asides = own.asides;
   trail = own.trail;
 }
@@ -61,6 +63,7 @@ pub record IsApart (l : Links) (places : List ℕ) (own : Own) (search : Searche
   pub rooms : AreRooms l own.rooms.items
   pub flags : AreFlags l own.rooms.items own.flags.items
   pub begun : HasBegun l.nodes own.levels own.trail
+  pub tidy : IsTidy own.ball
   pub same : seen l places own ≡ search
 
 -- The links of a search have become these: with those of a pair before the last one, between the nodes of this pair.

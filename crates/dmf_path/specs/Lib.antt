@@ -9,6 +9,9 @@ pub mod Residual
 pub mod Search
 pub mod Touched
 pub mod Searching
+pub mod Ball
+pub mod Going
+pub mod Astray
 pub mod BothEnds
 pub mod Frontier
 pub mod Touching

@@ -32,6 +32,7 @@ impl Frontier {
         requires { nodes < 2 ^ 31 }
         ensures clean { IfOk result (IsClean nodes) }
         ensures empty { IfOk result (λ frontier. frontier.queue.items ≡ []) }
+        ensures done { IfOk result (λ frontier. frontier.done ≡ 0) }
     {
         let mut frontier = Frontier::idle(alloc, nodes)?;
         make_ready(&mut frontier, nodes);
@@ -43,6 +44,7 @@ impl Frontier {
         requires { nodes < 2 ^ 31 }
         ensures idle { IfOk result (IsIdle nodes) }
         ensures empty { IfOk result (λ frontier. frontier.queue.items ≡ []) }
+        ensures done { IfOk result (λ frontier. frontier.done ≡ 0) }
     {
         Ok(Frontier {
             root: 0,
@@ -59,6 +61,7 @@ pub fn make_ready(frontier: &mut Frontier, nodes: u32)
     requires { IsIdle nodes frontier.old }
     ensures clean { IsClean nodes frontier.new }
     ensures queue { frontier.new.queue ≡ frontier.old.queue }
+    ensures done { frontier.new.done ≡ frontier.old.done }
 {
     frontier
         .labels

@@ -6,9 +6,12 @@ pub use search::{AugmentingPath, Search};
 pub use touched::{Indices, Touched};
 
 mod aside;
+mod ball;
 mod frontier;
 mod label;
 mod levels;
+mod look;
+mod lower;
 mod meet;
 mod noted;
 mod open;

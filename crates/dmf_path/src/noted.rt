@@ -1,5 +1,5 @@
 //! The admissible links that walks have passed.
-ghost use Rattle.std.specs.Prelude.{◌≡◌, ◌+◌, ◌<◌, ◌≤◌, ◌⊎◌, ◌++◌, ◌∷◌, [], true, false, IfOk};
+ghost use Rattle.std.specs.Prelude.{◌≡◌, ◌<◌, ◌≤◌, ◌⊎◌, ◌++◌, ◌∷◌, [], true, false, IfOk};
 
 use std::alloc::{AllocError, Global};
 
@@ -44,14 +44,13 @@ impl Noted {
         }
     }
 
-    /// Notes the link at `from`, if a walk looks on from there and may pass admissible links: at a node at most one level above the goal,
-    /// which has the label `low`.
-    pub fn pass(&mut self, from: u32, place: u32, label: u32, low: u32)
+    /// Notes the link at `from`, if a walk goes on at another one.
+    pub fn pass(&mut self, from: u32, place: u32)
         ensures { self.new.lost ≡ false → (self.old.lost ≡ false)
-            × ((((low + 1 < label) ⊎ (place ≤ from)) × (self.new.places.items ≡ self.old.places.items))
+            × (((place ≤ from) × (self.new.places.items ≡ self.old.places.items))
             ⊎ ((from < place) × (self.new.places.items ≡ self.old.places.items ++ from ∷ []))) }
     {
-        if from < place && u64::from(label) <= u64::from(low) + 1 {
+        if from < place {
             self.note(from);
         }
     }

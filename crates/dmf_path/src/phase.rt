@@ -1,7 +1,9 @@
 //! The search for the next path: the walk goes on, or the nodes get new labels and it begins again.
-ghost use Rattle.std.specs.Prelude.{◌≡◌, ◌≢◌, ℕ, List, true, false, []};
+ghost use Rattle.std.specs.Prelude.{◌≡◌, ◌≢◌, ◌⊎◌, ℕ, List, true, false, []};
 ghost use Rattle.dmf_node.specs.Node.{IsNode};
 ghost use Rattle.dmf_links.specs.LinkTable.{links_of};
+ghost use Rattle.dmf_path.specs.Ball.{IsAround, IsFit};
+ghost use Rattle.dmf_path.specs.Going.{Goes};
 ghost use Rattle.dmf_path.specs.Walk.{IsWalk};
 ghost use Rattle.dmf_path.specs.Held.{way_of, with_slots};
 ghost use Rattle.dmf_path.specs.Residual.{residual_of, told};
@@ -9,55 +11,115 @@ ghost use Rattle.dmf_path.specs.Searching.{labelling_of, sought, AreReady, IsSea
 ghost use Rattle.dmf_path.specs.Searching.{AreAside, AreKept, IsMarked, MayLast};
 
 use crate::aside::{Aside, Ends, take_up};
+use crate::ball::Ball;
 use crate::frontier::unlabel;
 use crate::levels::{Levels, set_current};
 use crate::push::Links;
-use crate::redirect::redirect;
+use crate::redirect::{redirect, refit};
 use crate::relabel::label_anew;
 use crate::trail::Trail;
 use crate::walk::walk;
 use dmf_links::LinkTable;
 
-/// Finds the least path from the start to the goal: goes on with the walk, and if none is left, labels the nodes anew and walks again.
-pub fn find(links: &mut Links, levels: &mut Levels, trail: &mut Trail) -> bool
+/// Finds the least path from the start to the goal: goes on with the walk, and if none is left, lowers labels near the goal or labels the
+/// nodes anew, and walks again.
+pub fn find(links: &mut Links, levels: &mut Levels, ball: &mut Ball, trail: &mut Trail) -> bool
     requires searching { IsSearching (residual_of links.old) (labelling_of levels.old) (way_of trail.old) }
     requires ready { AreReady levels.old }
     requires lasting { MayLast levels.old (told (residual_of links.old) (way_of trail.old)) }
+    requires fit { IsFit ball.old (told (residual_of links.old) (way_of trail.old)) }
     ensures searching { IsSearching (residual_of links.new) (labelling_of levels.new) (way_of trail.new) }
     ensures ready { AreReady levels.new }
     ensures lasting { MayLast levels.new (told (residual_of links.new) (way_of trail.new)) }
+    ensures fit { IsFit ball.new (told (residual_of links.new) (way_of trail.new)) }
     ensures same { sought (residual_of links.new) (way_of trail.new) ≡ sought (residual_of links.old) (way_of trail.old) }
     ensures found { result ≡ true → IsFound (residual_of links.new) (way_of trail.new) }
     ensures none { result ≡ false → IsSeparated (links_of links.old.table.value)
         (told (residual_of links.old) (way_of trail.old)).rooms trail.old.start trail.old.goal }
 {
-    if walk(
+    ball.keep_for(trail.goal);
+    if go_on(links, levels, ball, trail) {
+        return true;
+    }
+    if go_on_mended(links, levels, ball, trail) {
+        return true;
+    }
+    go_on_anew(links, levels, ball, trail)
+}
+
+/// Lowers labels near the goal, and walks again if this helps. Whether the walk comes to the goal.
+fn go_on_mended(links: &mut Links, levels: &mut Levels, ball: &mut Ball, trail: &mut Trail) -> bool
+    requires goes { Goes links.old levels.old ball.old trail.old }
+    ensures goes { Goes links.new levels.new ball.new trail.new }
+    ensures same { sought (residual_of links.new) (way_of trail.new) ≡ sought (residual_of links.old) (way_of trail.old) }
+    ensures found { result ≡ true → IsFound (residual_of links.new) (way_of trail.new) }
+{
+    trail.settle(links);
+    mend(links, levels, ball, trail) && go_on(links, levels, ball, trail)
+}
+
+/// Labels the nodes anew, and walks again. Whether the walk comes to the goal; if not, no path is left.
+fn go_on_anew(links: &mut Links, levels: &mut Levels, ball: &mut Ball, trail: &mut Trail) -> bool
+    requires goes { Goes links.old levels.old ball.old trail.old }
+    ensures goes { Goes links.new levels.new ball.new trail.new }
+    ensures same { sought (residual_of links.new) (way_of trail.new) ≡ sought (residual_of links.old) (way_of trail.old) }
+    ensures found { result ≡ true → IsFound (residual_of links.new) (way_of trail.new) }
+    ensures none { result ≡ false → IsSeparated (links_of links.old.table.value)
+        (told (residual_of links.old) (way_of trail.old)).rooms trail.old.start trail.old.goal }
+{
+    trail.settle(links);
+    relabel(links, levels, ball, trail) && go_on(links, levels, ball, trail)
+}
+
+/// Goes on with the walk. Returns whether it comes to the goal.
+fn go_on(links: &mut Links, levels: &mut Levels, ball: &Ball, trail: &mut Trail) -> bool
+    requires goes { Goes links.old levels.old ball.now trail.old }
+    ensures goes { Goes links.new levels.new ball.now trail.new }
+    ensures same { sought (residual_of links.new) (way_of trail.new) ≡ sought (residual_of links.old) (way_of trail.old) }
+    ensures found { result ≡ true → IsFound (residual_of links.new) (way_of trail.new) }
+    ensures none { result ≡ false → (ps : List ℕ) → ¬ IsWalk (residual_of links.old).links levels.old.near.labels.items
+        (told (residual_of links.old) (way_of trail.old)).rooms trail.old.goal trail.old.start ps }
+{
+    walk(
         links,
         &levels.near.labels,
         &mut levels.current,
+        ball,
         trail,
         &mut levels.noted,
-    ) {
-        return true;
+    )
+}
+
+/// Lowers labels near the goal, where all nodes have labels from the start, and frees the slots; no push is held. Returns whether that of
+/// the goal fell, so that a longer walk may lead there.
+fn mend(links: &Links, levels: &mut Levels, ball: &mut Ball, trail: &mut Trail) -> bool
+    requires goes { Goes links.now levels.old ball.old trail.old }
+    requires settled { told (residual_of links.now) (way_of trail.old) ≡ residual_of links.now }
+    ensures goes { Goes links.now levels.new ball.new trail.new }
+    ensures same { sought (residual_of links.now) (way_of trail.new) ≡ sought (residual_of links.now) (way_of trail.old) }
+{
+    if !levels.all || !levels.from_start || levels.noted.lost {
+        return false;
     }
-    trail.settle(links);
-    relabel(links, levels, trail)
-        && walk(
-            links,
-            &levels.near.labels,
-            &mut levels.current,
-            trail,
-            &mut levels.noted,
-        )
+    let before = levels.near.labels[trail.goal as usize];
+    refit(links, levels, ball, trail.start, trail.goal);
+    let start_label = levels.near.labels[trail.start as usize];
+    let goal_label = levels.near.labels[trail.goal as usize];
+    trail.free(start_label - goal_label);
+    goal_label < before
 }
 
 /// Labels the nodes anew, and frees the slots; no push is held. Returns whether the start has a label, so that a path is left.
-fn relabel(links: &Links, levels: &mut Levels, trail: &mut Trail) -> bool
+fn relabel(links: &Links, levels: &mut Levels, ball: &mut Ball, trail: &mut Trail) -> bool
     requires searching { IsSearching (residual_of links.now) (labelling_of levels.old) (way_of trail.old) }
     requires ready { AreReady levels.old }
+    requires fit { IsFit ball.old (residual_of links.now) }
+    requires around { IsAround ball.old trail.old.goal }
     ensures searching { IsSearching (residual_of links.now) (labelling_of levels.new) (way_of trail.new) }
     ensures ready { AreReady levels.new }
     ensures lasting { MayLast levels.new (residual_of links.now) }
+    ensures fit { IsFit ball.new (residual_of links.now) }
+    ensures around { IsAround ball.new trail.new.goal }
     ensures way { way_of trail.new ≡ with_slots (way_of trail.old) trail.new.slots.items }
     ensures labelled { result ≡ true → (ps : List ℕ) × IsWalk (links_of links.now.table.value) levels.new.near.labels.items links.now.rooms.items
         trail.old.goal trail.old.start ps }
@@ -70,6 +132,7 @@ fn relabel(links: &Links, levels: &mut Levels, trail: &mut Trail) -> bool
     }
     set_current(&links.table, &levels.near.queue, &mut levels.current);
     levels.noted.clear();
+    ball.renew(links, trail.goal, levels.all && levels.from_start);
     let start_label = levels.near.labels[trail.start as usize];
     let goal_label = levels.near.labels[trail.goal as usize];
     trail.free(start_label - goal_label);
@@ -98,6 +161,7 @@ pub fn aim(
     links: &mut Links,
     levels: &mut Levels,
     asides: &mut [Aside],
+    ball: &mut Ball,
     trail: &mut Trail,
     ends: Ends,
 ) -> bool
@@ -105,6 +169,7 @@ pub fn aim(
     requires ready { AreReady levels.old }
     requires lasting { MayLast levels.old (told (residual_of links.old) (way_of trail.old)) }
     requires asides { AreAside asides.old (told (residual_of links.old) (way_of trail.old)) }
+    requires fit { IsFit ball.old (told (residual_of links.old) (way_of trail.old)) }
     requires start { IsNode links.old.table.value.nodes ends.start }
     requires goal { IsNode links.old.table.value.nodes ends.goal }
     requires apart { ends.start ≢ ends.goal }
@@ -112,6 +177,7 @@ pub fn aim(
     ensures ready { AreReady levels.new }
     ensures kept { AreKept levels.new result (told (residual_of links.new) (way_of trail.new)) }
     ensures asides { AreAside asides.new (told (residual_of links.new) (way_of trail.new)) }
+    ensures fit { IsFit ball.new (told (residual_of links.new) (way_of trail.new)) }
     ensures marked { IsMarked (links_of links.new.table.value) levels.new.near.labels.items trail.new.start result }
     ensures same { sought (residual_of links.new) (way_of trail.new)
         ≡ record { residual = told (residual_of links.old) (way_of trail.old); start = ends.start; goal = ends.goal } }
@@ -126,7 +192,7 @@ pub fn aim(
     levels.from_start = used.start == ends.start;
     trail.start = ends.start;
     trail.goal = ends.goal;
-    if redirect(links, levels, used.goal, ends.start, ends.goal) {
+    if redirect(links, levels, ball, used.goal, ends.start, ends.goal) {
         let start_label = levels.near.labels[ends.start as usize];
         let goal_label = levels.near.labels[ends.goal as usize];
         trail.free(start_label - goal_label);

@@ -8,6 +8,7 @@ ghost use Rattle.dmf_path.specs.Search.{aimed, lowered_along, with_rooms, with_p
 ghost use Rattle.dmf_path.specs.Touched.{AreBelow, Touches};
 
 use crate::aside::{Aside, Ends};
+use crate::ball::Ball;
 use crate::levels::Levels;
 use crate::noted::Noted;
 use crate::phase::{aim, begin_anew, find};
@@ -47,6 +48,8 @@ pub struct Search {
     /// For each link the index of its pair, once the links are numbered. Searches over the same links share the numbers.
     numbers: Option<Rc<Vec<u32>>>,
     levels: Levels,
+    /// The nodes near the goal.
+    ball: Ball,
     /// Other labels, if the search keeps two sets. It takes nothing back then, so that they stay valid while others are in use.
     asides: Vec<Aside>,
     trail: Trail,
@@ -55,6 +58,7 @@ pub struct Search {
 }
 
 impl Model for Search {
+    ghost use Rattle.dmf_path.specs.Ball.{IsFit};
     ghost use Rattle.dmf_path.specs.Held.{way_of};
     ghost use Rattle.dmf_links.specs.LinkTable.{links_of};
     ghost use Rattle.dmf_path.specs.Residual.{residual_of, told};
@@ -68,7 +72,8 @@ impl Model for Search {
 
     ghost invariant = { λ a. (AreReady a.levels × MayBeNumbered (links_of a.links.table.value) a.places.value a.numbers
         × AreKept a.levels a.is_fresh (told (residual_of a.links) (way_of a.trail))
-        × AreAside a.asides.items (told (residual_of a.links) (way_of a.trail)))
+        × AreAside a.asides.items (told (residual_of a.links) (way_of a.trail))
+        × IsFit a.ball (told (residual_of a.links) (way_of a.trail)))
         × IsSearch (residual_of a.links) a.places.value (labelling_of a.levels) (way_of a.trail) a.is_fresh };
 }
 
@@ -83,7 +88,12 @@ impl Search {
         ensures touched { Touches touched.old touched.new self.old.pairs self.new.pairs }
     {
         self.is_fresh = false;
-        if !find(&mut self.links, &mut self.levels, &mut self.trail) {
+        if !find(
+            &mut self.links,
+            &mut self.levels,
+            &mut self.ball,
+            &mut self.trail,
+        ) {
             return None;
         }
         let amount = self.trail.bottleneck(limit);
@@ -190,12 +200,14 @@ impl Search {
         let mut levels = Levels::new(alloc, &links.table)?;
         levels.noted = Noted::new(alloc, nodes)?;
         let noted = Noted::new(alloc, nodes)?;
+        let ball = Ball::new(alloc, links.table.nodes)?;
         let ends = Ends {
             start: self.trail.start,
             goal: self.trail.goal,
         };
         self.asides.push(Aside { levels, ends })?;
         self.levels.noted = noted;
+        self.ball = ball;
         Ok(())
     }
 
@@ -219,6 +231,7 @@ impl Search {
             &mut self.links,
             &mut self.levels,
             &mut self.asides,
+            &mut self.ball,
             &mut self.trail,
             Ends { start, goal },
         );
@@ -233,6 +246,7 @@ impl Search {
         ensures { self.new ≡ with_pairs self.old (with_rooms self.old.pairs k along against) }
     {
         self.asides.clear();
+        self.ball.forget();
         if !self.is_fresh {
             begin_anew(&mut self.links, &mut self.levels, &mut self.trail);
             self.is_fresh = true;

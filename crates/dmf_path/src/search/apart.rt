@@ -5,6 +5,7 @@ ghost use Rattle.dmf_links.specs.LinkTable.{links_of};
 ghost use Rattle.dmf_path.specs.Search.{Searched};
 
 use crate::aside::Aside;
+use crate::ball::Ball;
 use crate::levels::Levels;
 use crate::phase::begin_anew;
 use crate::push::Links;
@@ -35,6 +36,8 @@ pub struct Own {
     pub flags: Vec<u8>,
     /// Its labels and current links.
     pub levels: Levels,
+    /// The nodes near its goal.
+    pub ball: Ball,
     /// Other labels, which do not stay.
     pub asides: Vec<Aside>,
     /// Its trail.
@@ -59,6 +62,7 @@ impl Search {
             rooms: links.rooms,
             flags: links.flags,
             levels: self.levels,
+            ball: self.ball,
             asides: self.asides,
             trail: self.trail,
         };
@@ -103,6 +107,7 @@ impl Own {
         ensures { (s : Searched) → IsApart (links_of shared.table.value) shared.places.value self s → result ≡ s }
     {
         self.asides.clear();
+        self.ball.forget();
         let levels = self.levels.over(&shared.table);
         let links = Links {
             table: shared.table,
@@ -115,6 +120,7 @@ impl Own {
             places: shared.places,
             numbers: shared.numbers,
             levels,
+            ball: self.ball,
             asides: self.asides,
             trail: self.trail,
             is_fresh: true,

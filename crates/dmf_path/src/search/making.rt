@@ -6,6 +6,7 @@ ghost use Rattle.dmf_links.specs.Links.{AreBuilt, ArePlaces, AreRooms, pairs_at}
 ghost use Rattle.dmf_links.specs.LinkTable.{links_of};
 
 use crate::aside::Ends;
+use crate::ball::Ball;
 use crate::levels::Levels;
 use crate::phase::make_fresh;
 use crate::push::Links;
@@ -124,6 +125,7 @@ impl Linked {
             places: self.places,
             numbers: None,
             levels,
+            ball: Ball::none(alloc),
             asides: Vec::new(alloc),
             trail,
             is_fresh: true,

@@ -4,6 +4,7 @@ use Rattle.std.proofs.lemmas.List.{get_or_default}
 use Rattle.dmf_node.specs.Node.{IsNode}
 use Rattle.dmf_path.specs.declared.levels.Levels.{Levels}
 use Rattle.dmf_path.specs.Labels.{no_label}
+use Rattle.dmf_path.specs.Ball.{IsFit}
 use Rattle.dmf_path.specs.Walk.{AreCurrent, ArePassed}
 use Rattle.dmf_path.specs.Held.{way_of}
 use Rattle.dmf_path.specs.Residual.{Residual, residual_of}
@@ -61,6 +62,7 @@ redirect-requires c =
     record {
       ready = usable.ready;
       kept = usable.kept;
+      fit = subst (IsFit c.args.ball.now) (sym c.settle.ensures.links) c.requires.fit;
       start = node at c.args.ends.start c.requires.start;
       goal = node at c.args.ends.goal c.requires.goal;
     }
@@ -141,6 +143,7 @@ returns-then-redirect c =
       kept = λ all. (refl, subst (AreLasting v levels.noted) (sym (ap (λ (s : Sought). s.residual) same)) k.lasting);
       asides = subst (AreAside c.take_up-used.new.asides) (sym (ap (λ (x : Sought). x.residual) same))
           (taken (goal.at.returns-then-redirect c).After-take_up-used).1;
+      fit = subst (IsFit c.redirect.new.ball) (sym (ap (λ (x : Sought). x.residual) same)) c.redirect.ensures.fit;
       marked = begun refl;
       same = same ∙ ap (λ (x : Residual). record { residual = x; start = c.args.ends.start; goal = c.args.ends.goal }) e.links;
     }
@@ -170,6 +173,7 @@ returns c =
       ready = (c.settle.new.links.table.value.nodes, m.ready);
       kept = λ all. let no = m.all in absurd (cc);
       asides = subst (AreAside c.take_up-used.new.asides) (sym (ap (λ (x : Sought). x.residual) same)) up.1;
+      fit = subst (IsFit c.redirect.new.ball) (sym (ap (λ (x : Sought). x.residual) same)) c.redirect.ensures.fit;
       marked = fresh anew.1;
       same = same
           ∙ ap (λ (x : Residual). record { residual = x; start = c.args.ends.start; goal = c.args.ends.goal }) c.settle.ensures.links;

@@ -50,6 +50,8 @@ returns-then-not-label_anew c =
       searching = anew.0;
       ready = (c.args.links.now.table.value.nodes, m.ready);
       lasting = λ e. let no = m.all in absurd (cc);
+      fit = c.requires.fit;
+      around = λ some. c.requires.around some ∙ sym (ap (λ (u : Way). u.goal) m.way);
       way = m.way ∙ ap (with_slots w) (sym (ap (λ (u : Way). u.slots) m.way));
       labelled = λ e. absurd (cc);
       none = λ e. c.label_anew.ensures.none c.if-not-label_anew.true;
@@ -127,7 +129,12 @@ returns c =
         skipped = λ known. rw (current, c.clear.ensures.none)
             (record { within = λ i x none. absurd (omega (arith, none)); each = λ v p node lies before can. absurd (skipped v p node lies before can) });
       };
+      fit = c.renew.ensures.fit;
+      around = λ some. c.renew.ensures.around some ∙ sym (ap (λ (u : Way). u.goal) c.free.ensures.way);
       way = c.free.ensures.way;
       labelled = λ yes. labelled.walk;
       none = λ e. absurd (cc);
     }
+
+pub renew-requires : goal.renew-requires
+renew-requires c = record { fit = c.requires.fit; around = c.requires.around; goal = c.requires.searching.aimed.goal_is }

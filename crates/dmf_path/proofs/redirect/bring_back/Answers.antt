@@ -1,8 +1,6 @@
 -- Each noted link is looked at.
-use Rattle.std.proofs.Common.{◌≡◌, ◌<◌, get_or, length, ap, sym, ◌∙◌, arith}
-use Rattle.std.proofs.lemmas.List.{get_or_default}
+use Rattle.std.proofs.Common.{◌<◌, get_or, length, ap, arith}
 use Rattle.std.proofs.lemmas.List.Elements.{All-get_or}
-use Rattle.dmf_links.specs.Links.{tail_of}
 use Rattle.dmf_links.specs.LinkTable.{links_of}
 use Rattle.dmf_path.proofs.Redirected.{back-kept, back-set}
 use Rattle.dmf_path.proofs.redirect.bring_back.Goals as goal

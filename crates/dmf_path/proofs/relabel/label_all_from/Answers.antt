@@ -1,6 +1,6 @@
 -- The labels are made of the distances from the start.
-use Rattle.std.proofs.Common.{◌≡◌, ◌≢◌, map, replicate, length, get_or, refl, ap, sym, ◌∙◌, arith}
-use Rattle.std.proofs.lemmas.List.{get_or_default, length-replicate, with_items_is}
+use Rattle.std.proofs.Common.{◌≡◌, map, get_or, refl, sym, ◌∙◌, arith}
+use Rattle.std.proofs.lemmas.List.{get_or_default, with_items_is}
 use Rattle.dmf_links.specs.Links.{open_flag}
 use Rattle.dmf_links.specs.LinkTable.{links_of}
 use Rattle.dmf_path.specs.Labels.{AreLabels, no_label}

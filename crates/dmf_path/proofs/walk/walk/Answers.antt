@@ -8,18 +8,17 @@ use Rattle.dmf_path.specs.Held.{Way, way_of}
 use Rattle.dmf_path.specs.Residual.{Residual, residual_of, told}
 use Rattle.dmf_path.specs.Walk.{IsWalk}
 use Rattle.dmf_path.specs.Searching.{AreNoted, MaySkip}
-use Rattle.dmf_links.proofs.LinkPlaces.{end-within}
 use Rattle.dmf_path.proofs.WayStart.{last-link_within, on-start, searching-on}
 use Rattle.dmf_path.proofs.WayTurn.{last-leaves, made-aim}
 use Rattle.dmf_path.proofs.WalkingTurn.{Turn, last, moved, work_left, on-turned, noted-from, noted-same, noted-back, no-walk, back-within, back-tail, back-last, back-tail_within}
 use Rattle.dmf_path.proofs.WalkingTurn.{less-back, on-stepped, IsSpent, within-spent, on-spent, less-spent, noted-spent}
 use Rattle.dmf_path.proofs.WayWalk.{IsFound, slot-found, slot-first, found-within, less-found, is-made, on-found}
 use Rattle.dmf_path.proofs.walk.walk.Goals as goal
-use Rattle.dmf_path.proofs.walk.walk.Goals.{After-first_leading-place, After-pass, After-is_spent, After-end_node-node-else-place-end}
+use Rattle.dmf_path.proofs.walk.walk.Goals.{After-first_leading-look, After-pass, After-is_spent, After-end_node-node-else-place-end}
 
 pub end_node-node-requires : goal.end_node-node-requires
 end_node-node-requires c =
-    let is = c.requires in
+    let is = c.requires.searching in
     let way = is.under_way in
     record {
       last = rw c.deref.ensures (last-link_within c.args.labels.now (told (residual_of c.args.links.now) (way_of c.args.trail.now)).rooms c.args.current.now
@@ -28,21 +27,21 @@ end_node-node-requires c =
 
 pub loop-node-init : goal.loop-node-init
 loop-node-init c = record {
-  on = on-start c.end_node-node.result c.requires c.end_node-node.ensures.first (rw c.deref.ensures at c.end_node-node.ensures.last);
+  on = on-start c.end_node-node.result c.requires.searching c.end_node-node.ensures.first (rw c.deref.ensures at c.end_node-node.ensures.last);
   skipped = λ was. was;
   start = refl;
   goal = refl;
   capacity = refl;
 }
 
-pub first_leading-place-requires-clause-one_label_each : goal.first_leading-place-requires-clause-one_label_each
-first_leading-place-requires-clause-one_label_each c =
-    subst (λ (x : Residual). length c.args.labels.now ≡ x.links.nodes + 1) (sym c.loop-node.invariant.on.same) c.requires.aimed.one_label_each
+pub first_leading-look-requires-clause-one_label_each : goal.first_leading-look-requires-clause-one_label_each
+first_leading-look-requires-clause-one_label_each c =
+    subst (λ (x : Residual). length c.args.labels.now ≡ x.links.nodes + 1) (sym c.loop-node.invariant.on.same) c.requires.searching.aimed.one_label_each
 
 -- the turn
-abbrev turn : (c : After-first_leading-place) → Turn
+abbrev turn : (c : After-first_leading-look) → Turn
 turn c =
-    let found = c.first_leading-place.ensures in
+    let found = c.first_leading-look.ensures in
     let on = c.loop-node.invariant.on in
     record {
       r = residual_of c.loop-node.links;
@@ -51,44 +50,49 @@ turn c =
       aim = told (residual_of c.args.links.now) (way_of c.args.trail.now);
       w = way_of c.loop-node.trail;
       node = c.loop-node.node;
-      place = c.first_leading-place.result;
+      skip = c.first_leading-look.result.skipped;
+      place = c.first_leading-look.result.place;
       end = c.index-end.result.now;
+      ball = c.args.ball.now;
       links = c.loop-node.links.table.value.are;
       start_is = subst (IsNode c.loop-node.links.table.value.nodes) (sym c.loop-node.invariant.start)
-          (subst (λ (x : Residual). IsNode x.links.nodes c.args.trail.now.start) (sym on.same) c.requires.aimed.start_is);
+          (subst (λ (x : Residual). IsNode x.links.nodes c.args.trail.now.start) (sym on.same) c.requires.searching.aimed.start_is);
       on = on;
       other = c.loop-node-test.true;
       end_read = rw c.deref-in-loop-node.ensures at c.index-end.ensures;
-      from = found.from;
+      near = λ some.
+          let known = c.requires.fit.known some in
+          let is : c.args.ball.now.around.root ≡ c.loop-node.trail.goal = c.requires.around some ∙ sym c.loop-node.invariant.goal in
+          rw is at known.near;
+      from = omega (arith, found.from, found.order);
+      skipped = found.from;
+      order = found.order;
       to = found.to;
       first = found.first;
       only = found.only;
     }
 
 -- what it finds
-found : (c : After-first_leading-place) → c.first_leading-place.result < c.index-end.result.now → IsFound (turn c)
+found : (c : After-first_leading-look) → c.first_leading-look.result.place < c.index-end.result.now → IsFound (turn c)
 found c below =
-    let e = c.first_leading-place.ensures in
+    let e = c.first_leading-look.ensures in
     record { found = below; room = e.room below; falls = e.falls below; above = e.above below }
 
 -- what is noted once it has looked on
 passed : (c : After-pass) → MaySkip c.args.noted.now (told (residual_of c.args.links.now) (way_of c.args.trail.now)) c.args.labels.now c.args.current.now
     → c.pass.new.self.lost ≡ false → AreNoted (links_of c.args.links.now.table.value) c.args.labels.now
-    (told (residual_of c.args.links.now) (way_of c.args.trail.now)).rooms (moved (turn (goal.at.After-pass c).After-first_leading-place)) c.pass.new.self.places.items
+    (told (residual_of c.args.links.now) (way_of c.args.trail.now)).rooms (moved (turn (goal.at.After-pass c).After-first_leading-look)) c.pass.new.self.places.items
 passed c was known =
-    let t = turn (goal.at.After-pass c).After-first_leading-place in
+    let t = turn (goal.at.After-pass c).After-first_leading-look in
     let e = c.pass.ensures known in
     let are = c.loop-node.invariant.skipped was e.0 in
     elim e.1 [
-      | inl same ↦ rw same.1 (noted-same t (elim same.0 [
-        | inl high ↦ inl (omega (arith, high, ap (λ g. get_or c.args.labels.now g 0) c.loop-node.invariant.goal))
-        | inr still ↦ inr still
-      ]) are)
-      | inr more ↦ noted-from t are more.1 (omega (arith, more.0))
+      | inl same ↦ rw same.1 (noted-same t same.0 are)
+      | inr more ↦ noted-from t are more.1 more.0
     ]
 
 -- The link found leads to a node above the goal whose links are all passed.
-spent : (c : After-is_spent) → c.is_spent.result ≡ true → c.first_leading-place.result < c.index-end.result.now → IsSpent (turn (goal.at.After-is_spent c).After-first_leading-place)
+spent : (c : After-is_spent) → c.is_spent.result ≡ true → c.first_leading-look.result.place < c.index-end.result.now → IsSpent (turn (goal.at.After-is_spent c).After-first_leading-look)
 spent c is below = record {
   found = below;
   above = omega (arith, c.is_spent.ensures.above is, ap (λ g. get_or c.args.labels.now g 0) c.loop-node.invariant.goal);
@@ -96,16 +100,16 @@ spent c is below = record {
 }
 
 pub is_spent-requires-clause-place : goal.is_spent-requires-clause-place
-is_spent-requires-clause-place c = within-spent (turn (goal.at.is_spent-requires-clause-place c).After-first_leading-place) c.if-place-end.true
+is_spent-requires-clause-place c = within-spent (turn (goal.at.is_spent-requires-clause-place c).After-first_leading-look) c.if-place-end.true
 
 pub overflow_add-current : goal.overflow_add-current
 overflow_add-current c =
-    let t = turn (goal.at.overflow_add-current c).After-first_leading-place in
+    let t = turn (goal.at.overflow_add-current c).After-first_leading-look in
     omega (arith, within-spent t c.if-place-end.true, t.links.at_most)
 
 pub loop-node-smaller-then-is_spent : goal.loop-node-smaller-then-is_spent
 loop-node-smaller-then-is_spent c =
-    let t = turn (goal.at.loop-node-smaller-then-is_spent c).After-first_leading-place in
+    let t = turn (goal.at.loop-node-smaller-then-is_spent c).After-first_leading-look in
     let is = spent (goal.at.loop-node-smaller-then-is_spent c).After-is_spent c.if-is_spent.true c.if-place-end.true in
     subst (λ s. work_left t.aim.links t.labels s (set (moved t) c.loop-node.node (t.place + 1)) c.loop-node.node
     < work_left t.aim.links t.labels s t.current t.node) c.loop-node.invariant.start (less-spent is)
@@ -125,37 +129,37 @@ loop-node-preserved-then-is_spent c =
     }
 
 pub make_way-requires-clause-within : goal.make_way-requires-clause-within
-make_way-requires-clause-within c = slot-found (found (goal.at.make_way-requires-clause-within c).After-first_leading-place c.if-place-end.true)
+make_way-requires-clause-within c = slot-found (found (goal.at.make_way-requires-clause-within c).After-first_leading-look c.if-place-end.true)
 
 pub make_way-requires-clause-slot : goal.make_way-requires-clause-slot
-make_way-requires-clause-slot c = slot-first (found (goal.at.make_way-requires-clause-slot c).After-first_leading-place c.if-place-end.true)
+make_way-requires-clause-slot c = slot-first (found (goal.at.make_way-requires-clause-slot c).After-first_leading-look c.if-place-end.true)
 
 pub index-room-requires : goal.index-room-requires
 index-room-requires c =
-    let within = found-within (found (goal.at.index-room-requires c).After-first_leading-place c.if-place-end.true) c.make_way.ensures in
+    let within = found-within (found (goal.at.index-room-requires c).After-first_leading-look c.if-place-end.true) c.make_way.ensures in
     omega (arith, within, c.make_way.new.links.rooms_are.0)
 
 pub enter-requires : goal.enter-requires
 enter-requires c =
-    let f = found (goal.at.enter-requires c).After-first_leading-place c.if-place-end.true in
+    let f = found (goal.at.enter-requires c).After-first_leading-look c.if-place-end.true in
     record { free = (is-made f c.make_way.ensures c.make_way.new.links.rooms_are).next }
 
 pub index-node-requires : goal.index-node-requires
 index-node-requires c =
-    let within = found-within (found (goal.at.index-node-requires c).After-first_leading-place c.if-place-end.true) c.make_way.ensures in
+    let within = found-within (found (goal.at.index-node-requires c).After-first_leading-look c.if-place-end.true) c.make_way.ensures in
     rw c.deref-then-place-end.ensures (omega (arith, within, c.make_way.new.links.table.value.heads.ok.0))
 
 pub loop-node-smaller-then-place-end : goal.loop-node-smaller-then-place-end
 loop-node-smaller-then-place-end c =
-    let t = turn (goal.at.loop-node-smaller-then-place-end c).After-first_leading-place in
-    let f = found (goal.at.loop-node-smaller-then-place-end c).After-first_leading-place c.if-place-end.true in
+    let t = turn (goal.at.loop-node-smaller-then-place-end c).After-first_leading-look in
+    let f = found (goal.at.loop-node-smaller-then-place-end c).After-first_leading-look c.if-place-end.true in
     subst (λ s. work_left t.aim.links t.labels s (moved t) c.index-node.result.now < work_left t.aim.links t.labels s t.current t.node)
     c.loop-node.invariant.start (less-found f c.make_way.ensures (rw c.deref-then-place-end.ensures at c.index-node.ensures))
 
 pub loop-node-preserved-then-place-end : goal.loop-node-preserved-then-place-end
 loop-node-preserved-then-place-end c =
-    let t = turn (goal.at.loop-node-preserved-then-place-end c).After-first_leading-place in
-    let f = found (goal.at.loop-node-preserved-then-place-end c).After-first_leading-place c.if-place-end.true in
+    let t = turn (goal.at.loop-node-preserved-then-place-end c).After-first_leading-look in
+    let f = found (goal.at.loop-node-preserved-then-place-end c).After-first_leading-look c.if-place-end.true in
     let made = c.make_way.ensures in
     let rooms = c.make_way.new.links.rooms_are in
     let kept = made-aim made in
@@ -172,7 +176,7 @@ loop-node-preserved-then-place-end c =
 pub returns-then-trail-eq0-clause-searching : goal.returns-then-trail-eq0-clause-searching
 returns-then-trail-eq0-clause-searching c =
     let i = c.loop-node.invariant in
-    searching-on c.requires (on-turned (turn (goal.at.returns-then-trail-eq0-clause-searching c).After-first_leading-place)) i.start i.goal i.capacity
+    searching-on c.requires.searching (on-turned (turn (goal.at.returns-then-trail-eq0-clause-searching c).After-first_leading-look)) i.start i.goal i.capacity
 
 pub returns-then-trail-eq0-clause-same : goal.returns-then-trail-eq0-clause-same
 returns-then-trail-eq0-clause-same c =
@@ -181,7 +185,7 @@ returns-then-trail-eq0-clause-same c =
 
 pub returns-then-trail-eq0-clause-none : goal.returns-then-trail-eq0-clause-none
 returns-then-trail-eq0-clause-none c =
-    let t = turn (goal.at.returns-then-trail-eq0-clause-none c).After-first_leading-place in
+    let t = turn (goal.at.returns-then-trail-eq0-clause-none c).After-first_leading-look in
     let is = c.loop-node.invariant in
     λ is_false ps.
     let none = subst (λ (x : Residual). ¬ IsWalk x.links t.labels t.aim.rooms t.w.goal t.w.start ps) is.on.same
@@ -194,12 +198,12 @@ returns-then-trail-eq0-clause-skipped c = passed (goal.at.returns-then-trail-eq0
 
 pub step_back-back-requires-clause-slot : goal.step_back-back-requires-clause-slot
 step_back-back-requires-clause-slot c =
-    let t = turn (goal.at.step_back-back-requires-clause-slot c).After-first_leading-place in
+    let t = turn (goal.at.step_back-back-requires-clause-slot c).After-first_leading-look in
     (last-leaves t.on t.links t.start_is (omega (arith, c.if-trail-eq0.false))).slot
 
 pub end_node-node-requires-else-place-end : goal.end_node-node-requires-else-place-end
 end_node-node-requires-else-place-end c =
-    let t = turn (goal.at.end_node-node-requires-else-place-end c).After-first_leading-place in
+    let t = turn (goal.at.end_node-node-requires-else-place-end c).After-first_leading-look in
     let back = c.step_back-back.ensures in
     record {
       last = rw (c.deref-else-place-end.ensures, ap (λ (x : Residual). x.links.heads) back.links) (back-last t (omega (arith, c.if-trail-eq0.false)) back.way);
@@ -207,28 +211,28 @@ end_node-node-requires-else-place-end c =
 
 pub overflow_add-current-else-place-end : goal.overflow_add-current-else-place-end
 overflow_add-current-else-place-end c =
-    let t = turn (goal.at.overflow_add-current-else-place-end c).After-first_leading-place in
+    let t = turn (goal.at.overflow_add-current-else-place-end c).After-first_leading-look in
     let within = back-within t (omega (arith, c.if-trail-eq0.false)) in
     omega (arith, within, c.step_back-back.ensures.place, t.links.at_most)
 
 -- a turn steps back to the tail of the last link
 back_to : (c : After-end_node-node-else-place-end)
     → c.end_node-node-else-place-end.result
-    ≡ tail_of (residual_of c.loop-node.links).links (last (turn (goal.at.After-end_node-node-else-place-end c).After-first_leading-place))
+    ≡ tail_of (residual_of c.loop-node.links).links (last (turn (goal.at.After-end_node-node-else-place-end c).After-first_leading-look))
 back_to c =
-    let t = turn (goal.at.After-end_node-node-else-place-end c).After-first_leading-place in
+    let t = turn (goal.at.After-end_node-node-else-place-end c).After-first_leading-look in
     let led = rw (c.deref-else-place-end.ensures, ap (λ (x : Residual). x.links.heads) c.step_back-back.ensures.links)
     at c.end_node-node-else-place-end.ensures in
     back-tail t (omega (arith, c.if-trail-eq0.false)) c.end_node-node-else-place-end.result c.step_back-back.ensures.way led.first led.last
 
 pub bounds-current-node-else-place-end : goal.bounds-current-node-else-place-end
 bounds-current-node-else-place-end c =
-    let t = turn (goal.at.bounds-current-node-else-place-end c).After-first_leading-place in
+    let t = turn (goal.at.bounds-current-node-else-place-end c).After-first_leading-look in
     back-tail_within t (omega (arith, c.if-trail-eq0.false)) (back_to (goal.at.bounds-current-node-else-place-end c).After-end_node-node-else-place-end)
 
 pub loop-node-smaller : goal.loop-node-smaller
 loop-node-smaller c =
-    let t = turn (goal.at.loop-node-smaller c).After-first_leading-place in
+    let t = turn (goal.at.loop-node-smaller c).After-first_leading-look in
     let tail = back_to (goal.at.loop-node-smaller c).After-end_node-node-else-place-end in
     let node = c.end_node-node-else-place-end.result in
     subst (λ s. work_left t.aim.links t.labels s (set (moved t) node (c.step_back-back.result + 1)) node < work_left t.aim.links t.labels s t.current t.node)
@@ -236,7 +240,7 @@ loop-node-smaller c =
 
 pub loop-node-preserved : goal.loop-node-preserved
 loop-node-preserved c =
-    let t = turn (goal.at.loop-node-preserved c).After-first_leading-place in
+    let t = turn (goal.at.loop-node-preserved c).After-first_leading-look in
     let tail = back_to (goal.at.loop-node-preserved c).After-end_node-node-else-place-end in
     let back = c.step_back-back.ensures in
     let i = c.loop-node.invariant in
@@ -251,7 +255,7 @@ loop-node-preserved c =
     }
 
 pub returns-clause-searching : goal.returns-clause-searching
-returns-clause-searching c = let i = c.loop-node.invariant in searching-on c.requires i.on i.start i.goal i.capacity
+returns-clause-searching c = let i = c.loop-node.invariant in searching-on c.requires.searching i.on i.start i.goal i.capacity
 
 pub returns-clause-same : goal.returns-clause-same
 returns-clause-same c = let is = c.loop-node.invariant in λ i. record { residual = is.on.same i; start = is.start i; goal = is.goal i }

@@ -23,11 +23,11 @@ loop-place-preserved c =
           (rw w.deref-then-index-node.ensures at w.index-then-index-node.ensures)
           ∙ sym (get_or_default l.partners place 0 _ (omega (arith, inside, table.are.partners_long))) in
           let e = rw partner at w.nearer-first.ensures in
-          let lies : LiesAt l c.args.goal place = record {
+          let lies : LiesAt l c.args.head place = record {
             from = omega (arith, rw c.deref.ensures at c.places_at-places.ensures.start, c.loop-place.auto.place);
             below = omega (arith, rw c.deref.ensures at c.places_at-places.ensures.end, c.loop-place-test.true);
           } in
-          rw w.first-is (first-set c.loop-place.invariant table.are c.args.self.now.flags_are c.requires.goal lies (sym flag ∙ w.if-index-eq1.true)
+          rw w.first-is (first-set c.loop-place.invariant table.are c.args.self.now.flags_are c.requires.head lies (sym flag ∙ w.if-index-eq1.true)
           e.low e.lower e.one)
       | else-index-eq1 w ↦ rw w.first-is (first-kept c.loop-place.invariant (elim w.else-index-eq1.branch [
         | else-index-eq1-via-then-index-eq1+else-index-node x ↦
@@ -42,7 +42,7 @@ pub returns-clause-first : goal.returns-clause-first
 returns-clause-first c =
     let l = links_of c.args.self.now.table.value in
     let are = c.args.self.now.table.value.are in
-    let end : c.places_at-places.result.end ≡ get_or l.first (c.args.goal + 1) 0 =
+    let end : c.places_at-places.result.end ≡ get_or l.first (c.args.head + 1) 0 =
     (rw c.deref.ensures at c.places_at-places.ensures.end) in
     first-last c.loop-place.invariant c.args.self.now.table.value.are c.args.self.now.flags_are c.requires.node
     (omega (arith, end, c.loop-place-test.false)) c.requires.from (omega (arith, c.requires.end))

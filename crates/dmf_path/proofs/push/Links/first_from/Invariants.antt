@@ -3,4 +3,4 @@ use Rattle.dmf_path.proofs.NearGoal.{IsFirst}
 use Rattle.dmf_path.proofs.push.Links.first_from.Given as goal
 
 abbrev pub invariant-loop-place : goal.invariant-loop-place
-invariant-loop-place l = IsFirst (links_of l.self.table.value) l.self.rooms.items l.self.flags.items l.goal l.node l.from l.end l.place l.first
+invariant-loop-place l = IsFirst (links_of l.self.table.value) l.self.rooms.items l.self.flags.items l.head l.node l.from l.end l.place l.first

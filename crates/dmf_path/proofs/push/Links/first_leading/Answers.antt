@@ -3,7 +3,7 @@ use Rattle.dmf_links.specs.LinkTable.{links_of}
 use Rattle.dmf_links.proofs.LinkPlaces.{last-within}
 use Rattle.dmf_path.proofs.push.Links.first_leading.Goals as goal
 
-pub first_admissible-requires-clause-links : goal.first_admissible-requires-clause-links
-first_admissible-requires-clause-links c =
+pub first_admissible-place-requires-clause-links : goal.first_admissible-place-requires-clause-links
+first_admissible-place-requires-clause-links c =
     let are = c.args.self.now.table.value.are in
     omega (arith, c.requires.end, last-within (links_of c.args.self.now.table.value) c.args.node are c.requires.node.to_last)

@@ -12,6 +12,7 @@ aim-self-inside-requires c = record {
   ready = c.self.invariant.0.0;
   lasting = λ all. (c.self.invariant.0.2 all).1;
   asides = rw c.deref_mut.ensures.value c.self.invariant.0.3;
+  fit = c.self.invariant.0.4;
   start = rw (← c.self.view_is) at c.requires.start;
   goal = rw (← c.self.view_is) at c.requires.goal;
   apart = c.requires.apart;
@@ -23,7 +24,7 @@ invariant_of-self c =
     let asides = with_items_is of.asides c.aim-self-inside.new.asides (c.aim-self-inside.auto.asides ∙ c.deref_mut.ensures.len) in
     let e = c.aim-self-inside.ensures in
     let links = ap (λ (s : Sought). s.residual.links) e.same in (
-      (e.ready, subst (λ l. MayBeNumbered l of.places.value of.numbers) (sym links) c.self.invariant.0.1, e.kept, rw asides e.asides),
+      (e.ready, subst (λ l. MayBeNumbered l of.places.value of.numbers) (sym links) c.self.invariant.0.1, e.kept, rw asides e.asides, e.fit),
       search-next c.self.invariant.1 links e.searching e.marked,
     )
 

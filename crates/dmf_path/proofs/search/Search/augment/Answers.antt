@@ -5,6 +5,8 @@ use Rattle.std.proofs.lemmas.Option.{IfSome_then}
 use Rattle.dmf_path.specs.declared.search.AugmentingPath.{AugmentingPath}
 use Rattle.dmf_links.specs.declared.pair.Pair.{Pair}
 use Rattle.dmf_links.specs.Links.{ArePlaces, pair_at, pairs_at}
+use Rattle.dmf_path.specs.Ball.{IsFit}
+use Rattle.dmf_path.proofs.InsideBall.{fit-falls}
 use Rattle.dmf_path.specs.Held.{way_of, settled}
 use Rattle.dmf_path.specs.Residual.{residual_of, told}
 use Rattle.dmf_path.specs.Search.{Searched, Augments}
@@ -25,7 +27,7 @@ use Rattle.dmf_path.proofs.search.Search.augment.Goals as goal
 use Rattle.dmf_path.proofs.search.Search.augment.Goals.{After-bottleneck-amount, After-split}
 
 pub find-requires : goal.find-requires
-find-requires c = record { searching = c.self.invariant.1.searching; ready = c.self.invariant.0.0; lasting = λ e. (c.self.invariant.0.2 e).1 }
+find-requires c = record { searching = c.self.invariant.1.searching; ready = c.self.invariant.0.0; lasting = λ e. (c.self.invariant.0.2 e).1; fit = c.self.invariant.0.4 }
 
 pub invariant_of-self : goal.invariant_of-self
 invariant_of-self c =
@@ -37,6 +39,7 @@ invariant_of-self c =
         subst (λ (s : Sought). MayBeNumbered s.residual.links of.places.value of.numbers) (sym e.same) i.0.1,
         λ all. (refl, e.lasting all),
         subst (λ (s : Sought). AreAside of.asides.items s.residual) (sym e.same) i.0.3,
+        e.fit,
       ),
       search-next i.1 (ap (λ (s : Sought). s.residual.links) e.same) e.searching (begun refl),
     )
@@ -122,6 +125,7 @@ invariant_of-self-2 c =
               (lasting-opens (labelling_of levels) levels.noted before sent can.opens (e.lasting all)),
         ),
         subst (λ (s : Sought). AreAside of.asides.items s.residual) (sym on.same) aside,
+        subst (λ (s : Sought). IsFit c.find.new.ball s.residual) (sym on.same) (fit-falls c.find.new.ball before sent can.none e.fit),
       ),
       search-next i.1 links on.searching (begun refl),
     )

@@ -35,4 +35,4 @@ invariant_of-self-2 c =
     let kept : AreKept (record of.levels { noted = c.in_ok-noted.noted }) of.is_fresh r = λ all.
     let was = c.self.invariant.0.2 all in
     (was.0, record { whole = was.1.whole; skipped = λ known. let no = c.in_ok-noted.ensures in absurd (cc) }) in
-    ((c.self.invariant.0.0, c.self.invariant.0.1, kept, asides), c.self.invariant.1)
+    ((c.self.invariant.0.0, c.self.invariant.0.1, kept, asides, c.in_ok-ball.ensures r), c.self.invariant.1)

@@ -1,5 +1,7 @@
 -- The link is released, and its room lowered.
 use Rattle.std.proofs.Common.{◌≡◌, get_or, ap, sym, ◌∙◌, subst, arith}
+use Rattle.dmf_path.specs.Ball.{IsFit}
+use Rattle.dmf_path.proofs.InsideBall.{fit-falls}
 use Rattle.dmf_path.specs.Held.{way_of}
 use Rattle.dmf_path.specs.Residual.{Residual, residual_of, told}
 use Rattle.dmf_links.specs.Links.{Links, pairs_at, ArePlaces}
@@ -87,8 +89,10 @@ invariant_of-self c =
     ) in
     let aside = subst (AreAside of.asides.items) (sym low.told_is) (aside-falls of.asides.items before low.rooms e.searching.aimed.links (λ never. low.none)
     (subst (λ (s : Sought). AreAside of.asides.items s.residual) (sym e.same) i.0.3)) in
+    let fit = subst (IsFit of.ball) (sym low.told_is) (fit-falls of.ball before low.rooms (λ never. low.none)
+    (subst (λ (s : Sought). IsFit of.ball s.residual) (sym e.same) i.0.4)) in
     let marked = subst (λ (s : Sought). IsMarked s.residual.links v.labels s.start of.is_fresh) (sym e.same) i.1.marked in (
-      (i.0.0, subst (λ l. MayBeNumbered l of.places.value of.numbers) (sym links) i.0.1, kept, aside),
+      (i.0.0, subst (λ l. MayBeNumbered l of.places.value of.numbers) (sym links) i.0.1, kept, aside, fit),
       search-next i.1 links low.searching (subst (λ (l : Links). IsMarked l v.labels c.release.new.trail.start of.is_fresh) (sym same) marked),
     )
 

@@ -3,6 +3,7 @@ use Rattle.std.proofs.Common.{◌≡◌, ◌<◌, true, [], length, refl, ap, sy
 use Rattle.std.proofs.lemmas.List.{length-map}
 use Rattle.dmf_path.specs.declared.search.Search.TheInside.{Inside}
 use Rattle.dmf_links.specs.Links.{Links, IsPlaceOf, pair_at}
+use Rattle.dmf_path.specs.Ball.{IsFit}
 use Rattle.dmf_path.specs.Held.{way_of}
 use Rattle.dmf_path.specs.Residual.{Residual, residual_of, told}
 use Rattle.dmf_path.specs.Search.{Searched, with_pairs, with_rooms}
@@ -26,6 +27,7 @@ record IsAnew (x : Inside) (before : Searched) : Type 0 where
   is : IsSearch (residual_of x.links) x.places.value (labelling_of x.levels) (way_of x.trail) true
   kept : AreKept x.levels x.is_fresh (told (residual_of x.links) (way_of x.trail))
   none : x.asides.items ≡ []
+  fit : (r : Residual) → IsFit x.ball r
   marked : x.is_fresh ≡ true
   same : searched (plainly (residual_of x.links) (way_of x.trail)) x.places.value ≡ before
 
@@ -44,6 +46,7 @@ anew c =
             is = is;
             kept = λ all. let no = e.all in absurd (cc);
             none = c.clear.ensures.items;
+            fit = c.forget.ensures.fit;
             marked = refl;
             same = rw (← c.self.view_is) (ap (λ (x : Residual). searched (plainly x (way_of v.begin_anew.new.trail)) of.places.value) (sym none)
                 ∙ ap (λ (s : Sought). searched s of.places.value) e.same);
@@ -58,6 +61,7 @@ anew c =
             is = is;
             kept = c.self.invariant.0.2;
             none = c.clear.ensures.items;
+            fit = c.forget.ensures.fit;
             marked = is_fresh;
             same = rw (← c.self.view_is) (ap (λ (x : Residual). searched (plainly x (way_of of.trail)) of.places.value) (sym none));
           })
@@ -73,7 +77,7 @@ index c =
 pub invariant_of-self : goal.invariant_of-self
 invariant_of-self c =
     let a = anew (goal.at.invariant_of-self c).Joined-not-self in
-    rw a.marked ((a.ready, a.numbered, rw a.marked at a.kept, aside-none _ _ a.none), a.is)
+    rw a.marked ((a.ready, a.numbered, rw a.marked at a.kept, aside-none _ _ a.none, a.fit _), a.is)
 
 pub returns-in_default : goal.returns-in_default
 returns-in_default c =
@@ -108,6 +112,7 @@ invariant_of-self-2 c =
         subst (λ l. MayBeNumbered l x.places.value x.numbers) (sym links) a.numbered,
         λ all. let was = (a.kept all).0 in let is = a.marked in absurd (cc),
         aside-none x.asides.items (told next (way_of x.trail)) a.none,
+        a.fit (told next (way_of x.trail)),
       ),
       search-next a.is links over.0 (fresh over.1),
     )

@@ -1,5 +1,6 @@
 -- All links leave, and the settled rooms stay.
 use Rattle.std.proofs.Common.{ap, sym, subst}
+use Rattle.dmf_path.specs.Ball.{IsFit}
 use Rattle.dmf_path.specs.Held.{way_of}
 use Rattle.dmf_path.specs.Residual.{Residual, residual_of}
 use Rattle.dmf_path.specs.Searching.{Sought, searched, labelling_of, AreAside, AreKept, IsMarked}
@@ -22,6 +23,7 @@ invariant_of-self c =
         subst (λ (s : Sought). MayBeNumbered s.residual.links of.places.value of.numbers) same i.0.1,
         subst (λ (s : Sought). AreKept of.levels of.is_fresh s.residual) same i.0.2,
         subst (λ (s : Sought). AreAside of.asides.items s.residual) same i.0.3,
+        subst (λ (s : Sought). IsFit of.ball s.residual) same i.0.4,
       ),
       search-next i.1 (ap (λ (x : Residual). x.links) e.links) (searching-settled i.1.searching e.links e.way)
           (subst (λ (s : Sought). IsMarked s.residual.links (labelling_of of.levels).labels s.start of.is_fresh) same i.1.marked),

@@ -15,4 +15,4 @@ invariant_of-self c =
     let shared : AreNumbers (links_of of.links.table.value) of.places.value numbers =
     subst (λ (l : Links). AreNumbers l of.places.value numbers) (sym links)
     (subst (λ (ps : List ℕ). AreNumbers (links_of other.links.table.value) ps numbers) (sym places) known) in
-    ((c.self.invariant.0.0, rw c.in_ok-clone.ensures.cases shared, c.self.invariant.0.2, c.self.invariant.0.3), c.self.invariant.1)
+    ((c.self.invariant.0.0, rw c.in_ok-clone.ensures.cases shared, c.self.invariant.0.2, c.self.invariant.0.3, c.self.invariant.0.4), c.self.invariant.1)

@@ -28,6 +28,7 @@ invariant_of-result c =
         c.requires.shared.numbers,
         λ all. let no = o.all ∙ b.none_last in absurd (cc),
         aside-none _ _ c.clear.ensures.items,
+        c.forget.ensures.fit _,
       ),
       subst (λ (labels : List ℕ). IsSearch next places (record { labels = labels; current = current }) (way_of own.trail) true)
           (ap (λ near. near.labels.items) (sym o.near)) (record { places_are = c.requires.shared.places; searching = found.0; marked = fresh found.1 }),

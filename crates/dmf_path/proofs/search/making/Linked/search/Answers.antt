@@ -41,7 +41,7 @@ invariant_of-result c =
     subst (AreCurrent l) (sym (ap (λ v. v.items) m.current)) (rw c.deref-3.ensures at c.in_ok-levels.ensures.current) in
     let new = searching-new {r = residual at} (labelling_of c.make_fresh.new.levels) (way at) table.are c.requires.rooms (omega arith) c.requires.start
     c.requires.goal c.requires.apart (omega (arith, rw c.deref-4.ensures at c.in_ok-slots.ensures.capacity)) m.labels current m.way in (
-      ((table.nodes, m.ready), tt, λ e. let no = m.all in absurd (cc), aside-none _ _ c.new-2.ensures.items),
+      ((table.nodes, m.ready), tt, λ e. let no = m.all in absurd (cc), aside-none _ _ c.new-2.ensures.items, c.none.ensures _),
       record { places_are = c.requires.places; searching = new.0; marked = fresh new.1 },
     )
 

@@ -1,0 +1,25 @@
+-- What a search has while it looks for the next path, once all links have left.
+use Rattle.std.proofs.Common.{◌≡◌, ap, sym, subst, ◌∙◌}
+use Rattle.dmf_path.specs.declared.ball.Ball.{Ball}
+use Rattle.dmf_path.specs.declared.levels.Levels.{Levels}
+use Rattle.dmf_path.specs.declared.push.Links.{Links as Roomy}
+use Rattle.dmf_path.specs.declared.trail.Trail.{Trail}
+use Rattle.dmf_path.specs.Ball.{IsFit}
+use Rattle.dmf_path.specs.Going.{Goes}
+use Rattle.dmf_path.specs.Held.{Way, emptied, way_of}
+use Rattle.dmf_path.specs.Residual.{residual_of, told}
+use Rattle.dmf_path.specs.Searching.{labelling_of, AreLasting}
+use Rattle.dmf_path.proofs.SearchTurns.{searching-settled, told-settled}
+
+-- After all links have left, the search goes on in the same way.
+pub goes-settled : {links next : Roomy} {levels : Levels} {ball : Ball} {trail new : Trail} → Goes links levels ball trail
+    → residual_of next ≡ told (residual_of links) (way_of trail) → way_of new ≡ emptied (way_of trail) → Goes next levels ball new
+goes-settled {links = links} {next = next} {levels = levels} {ball = ball} {trail = trail} {new = new} is rooms way =
+    let same = told-settled (way_of trail) (residual_of next) way ∙ rooms in
+    record {
+      searching = searching-settled is.searching rooms way;
+      ready = is.ready;
+      lasting = λ all. subst (AreLasting (labelling_of levels) levels.noted) (sym same) (is.lasting all);
+      fit = subst (IsFit ball) (sym same) is.fit;
+      around = λ some. is.around some ∙ sym (ap (λ (w : Way). w.goal) way);
+    }

@@ -1,0 +1,9 @@
+use Rattle.std.proofs.Common.{arith}
+use Rattle.dmf_links.specs.LinkTable.{links_of}
+use Rattle.dmf_links.proofs.LinkPlaces.{last-within}
+use Rattle.dmf_path.proofs.push.Links.first_near.Goals as goal
+
+pub look-look-requires-clause-links : goal.look-look-requires-clause-links
+look-look-requires-clause-links c =
+    let are = c.args.self.now.table.value.are in
+    omega (arith, c.few-few.ensures.to, c.requires.end, last-within (links_of c.args.self.now.table.value) c.args.node are c.requires.node.to_last)

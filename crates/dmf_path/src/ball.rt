@@ -1,0 +1,137 @@
+//! The nodes near a goal.
+ghost use Rattle.std.specs.Prelude.{◌≡◌, ◌≤◌, ◌<◌, ◌^◌, length, slice_index, vec_capacity, IfOk};
+ghost use Rattle.dmf_node.specs.Node.{IsNode};
+ghost use Rattle.dmf_links.specs.LinkTable.{links_of};
+ghost use Rattle.dmf_path.specs.Ball.{AreInside, AreNear, AreNodes, IsAround, IsFit, IsTidy};
+ghost use Rattle.dmf_path.specs.Frontier.{IsClean};
+ghost use Rattle.dmf_path.specs.Labels.{AreQueued};
+ghost use Rattle.dmf_path.specs.Residual.{Residual, residual_of};
+
+use crate::frontier::{Frontier, begin, expand, unlabel};
+use crate::label::NO_LABEL;
+use crate::open::Flagged;
+use crate::push::Links;
+use dmf_links::LinkTable;
+use std::alloc::{AllocError, Global};
+
+/// At most so many links are looked at for one goal, or those of the goal, if these are more.
+const MOST: u64 = 4096;
+
+/// The nodes near a goal: those that a breadth-first search finds from it, backwards over few links. They tell a walk which links lead to
+/// the goal.
+#[derive(Drop)]
+pub struct Ball {
+    /// The search, whose root is the goal.
+    pub around: Frontier,
+    /// The level that the search has not looked through: each node with a lower label is known, and so are all links that lead to it. 0 if
+    /// nothing is known.
+    pub radius: u32,
+}
+
+impl Ball {
+    /// No node is known to be near a goal, nor will any be. Takes no memory.
+    pub fn none(alloc: Global) -> Ball
+        ensures { (r : Residual) → IsFit result r }
+    {
+        Ball {
+            around: Frontier {
+                root: 0,
+                labels: Vec::new(alloc),
+                queue: Vec::new(alloc),
+                done: 0,
+                looked: 0,
+            },
+            radius: 0,
+        }
+    }
+
+    /// The same until [`surround`](Ball::surround) is called. Takes memory for two numbers a node.
+    pub fn new(alloc: Global, nodes: u32) -> Result<Ball, AllocError>
+        requires { nodes < 2 ^ 31 }
+        ensures { IfOk result (λ ball. (r : Residual) → IsFit ball r) }
+    {
+        Ok(Ball {
+            around: Frontier::new(alloc, nodes)?,
+            radius: 0,
+        })
+    }
+
+    /// Looks for the nodes near this goal, if there is memory for them, and no push is taken back.
+    pub fn surround(&mut self, links: &Links, goal: u32)
+        requires tidy { IsTidy self.old }
+        requires goal { IsNode links.now.table.value.nodes goal }
+        ensures fit { IsFit self.new (residual_of links.now) }
+        ensures around { IsAround self.new goal }
+    {
+        unlabel(&mut self.around);
+        self.around.done = 0;
+        self.radius = 0;
+        if links.takes_back || self.around.labels.len() != links.table.nodes as usize + 1 {
+            return;
+        }
+        self.radius = look_around(links, &mut self.around, goal);
+    }
+
+    /// Looks for them anew, if that is wanted.
+    pub fn renew(&mut self, links: &Links, goal: u32, is_wanted: bool)
+        requires fit { IsFit self.old (residual_of links.now) }
+        requires around { IsAround self.old goal }
+        requires goal { IsNode links.now.table.value.nodes goal }
+        ensures fit { IsFit self.new (residual_of links.now) }
+        ensures around { IsAround self.new goal }
+    {
+        if is_wanted {
+            self.surround(links, goal);
+        }
+    }
+
+    /// Forgets what is known, if it is about another goal.
+    pub fn keep_for(&mut self, goal: u32)
+        ensures fit { (r : Residual) → IsFit self.old r → IsFit self.new r }
+        ensures around { IsAround self.new goal }
+    {
+        if self.around.root != goal {
+            self.radius = 0;
+        }
+    }
+
+    /// Forgets what is known.
+    pub fn forget(&mut self)
+        requires tidy { IsTidy self.old }
+        ensures fit { (r : Residual) → IsFit self.new r }
+    {
+        self.radius = 0;
+    }
+}
+
+/// Searches from the goal, backwards. Returns the level that the search has not looked through.
+fn look_around(links: &Links, around: &mut Frontier, goal: u32) -> u32
+    requires goal { IsNode links.now.table.value.nodes goal }
+    requires clean { IsClean links.now.table.value.nodes around.old }
+    ensures near { AreNear (links_of links.now.table.value) links.now.rooms.items goal result around.new.labels.items }
+    ensures root { around.new.root ≡ goal }
+    ensures queued { AreQueued around.new.labels.items around.new.queue.items }
+    ensures come { around.new.done ≤ length around.new.queue.items }
+    ensures inside { AreInside around.new.labels.items around.new.queue.items around.new.done result }
+    ensures nodes { AreNodes links.now.table.value.nodes around.new.queue.items around.new.done }
+    ensures capacity { vec_capacity around.new.queue ≡ vec_capacity around.old.queue }
+{
+    begin(around, goal);
+    while around.done < around.queue.len() && is_close(&links.table, around) {
+        expand(&links.table, &Flagged(&links.flags), around);
+    }
+    if around.done < around.queue.len() {
+        return around.labels[around.queue[around.done] as usize];
+    }
+    NO_LABEL
+}
+
+/// Whether the search may look at the links of the next node.
+fn is_close(table: &LinkTable, around: &Frontier) -> bool
+    requires ahead { around.now.done < length around.now.queue.items }
+    requires node { slice_index around.now.queue.items around.now.done ≤ table.now.nodes }
+{
+    let places = table.places_at(around.queue[around.done]);
+    let count = (places.end - places.start) as u64;
+    around.done == 0 || around.looked.saturating_add(count) <= MOST
+}

@@ -1,0 +1,135 @@
+"""Counts the instructions of single commands by valgrind, so that none takes minutes where it should take a second: of a shut of a node that
+many carrying arcs enter or leave. Counts do not depend on the machine's load. A shut that looked through all links again for each arc
+would take ten times the budget and more."""
+
+from __future__ import annotations
+
+import re
+import shutil
+import subprocess
+from collections.abc import Callable
+from pathlib import Path
+from random import Random
+from typing import NamedTuple
+
+import pytest
+from conftest import BUILT, ROOT
+
+ARCS = 40_000
+# The most instructions of a shut for each arc of the network: at 1,000,000 arcs 1 s, of hubs 3 s, by some 3,000,000,000 a second.
+BUDGET, HUBS_BUDGET = 3_000, 9_000
+COLLECTED = re.compile(rb"Collected : ([0-9]+)")
+
+
+class Network(NamedTuple):
+    """A network, the node that is shut, and the most instructions for each arc."""
+
+    problem: str
+    node: int
+    budget: int = BUDGET
+
+
+def problem(nodes: int, source: int, sink: int, arcs: list[tuple[int, int, int]]) -> str:
+    return "\n".join([f"p max {nodes} {len(arcs)}", f"n {source} s", f"n {sink} t", *(f"a {tail} {head} {cap}" for tail, head, cap in arcs), ""])
+
+
+def hubs(random: Random, suppliers: int, depots: int) -> tuple[int, int, list[tuple[int, int, int]]]:
+    """Suppliers, depots and as many customers as suppliers: the source, the sink and the arcs."""
+    source, sink = 2 * suppliers + depots + 1, 2 * suppliers + depots + 2
+    arcs = [(source, supplier, random.randint(1, 9)) for supplier in range(1, suppliers + 1)]
+    arcs += [(suppliers + depots + customer, sink, random.randint(1, 9)) for customer in range(1, suppliers + 1)]
+    half = (ARCS - len(arcs)) // 2
+    arcs += [(random.randint(1, suppliers), suppliers + random.randint(1, depots), random.randint(1, 4)) for _ in range(half)]
+    arcs += [(suppliers + random.randint(1, depots), suppliers + depots + random.randint(1, suppliers), random.randint(1, 4)) for _ in range(half)]
+    return source, sink, arcs
+
+
+def hubs_in(random: Random) -> Network:
+    source, sink, arcs = hubs(random, ARCS // 10, 20)
+    return Network(problem(sink, source, sink, arcs), sink, HUBS_BUDGET)
+
+
+def hubs_out(random: Random) -> Network:
+    source, sink, arcs = hubs(random, ARCS // 10, 20)
+    return Network(problem(sink, source, sink, arcs), source, HUBS_BUDGET)
+
+
+def depots(random: Random) -> Network:
+    source, sink, arcs = hubs(random, ARCS // 10, 20)
+    return Network(problem(sink, source, sink, arcs), ARCS // 10 + 1, HUBS_BUDGET)
+
+
+def chains(random: Random) -> Network:
+    """Chains of 20 arcs from the source to the sink."""
+    count, length = ARCS // 20, 20
+    source, sink = count * (length - 1) + 1, count * (length - 1) + 2
+    arcs = []
+    for chain in range(count):
+        inner = [chain * (length - 1) + place for place in range(1, length)]
+        arcs += [(tail, head, random.randint(1, 9)) for tail, head in zip([source, *inner], [*inner, sink], strict=True)]
+    return Network(problem(sink, source, sink, arcs), sink)
+
+
+def stars(random: Random) -> Network:
+    """All flow goes through one node."""
+    count = ARCS // 4
+    middle, source, sink = 2 * count + 1, 2 * count + 2, 2 * count + 3
+    arcs = []
+    for leaf in range(1, count + 1):
+        arcs += [(source, leaf, 3), (leaf, middle, random.randint(1, 3)), (middle, count + leaf, random.randint(1, 3)), (count + leaf, sink, 3)]
+    return Network(problem(sink, source, sink, arcs), middle)
+
+
+MADE: dict[str, Callable[[Random], Network]] = {
+    "hubs, into the sink": hubs_in, "hubs, out of the source": hubs_out, "a depot": depots, "chains": chains, "a star": stars,
+}  # fmt: skip
+FAMILIES = "grid", "random", "bip", "ac", "road"
+
+
+def instructions(folder: Path, text: str, commands: str) -> int:
+    """How many instructions a session takes for these commands."""
+    file = folder / "problem.max"
+    file.write_text(text)
+    words = ["valgrind", "--tool=callgrind", "--callgrind-out-file=/dev/null", BUILT, "session", "--brief", file]
+    run = subprocess.run(words, input=commands.encode(), capture_output=True, check=True)
+    assert run.stdout.count(b"c solve value") == 1, run.stdout
+    found = COLLECTED.search(run.stderr)
+    assert found, run.stderr
+    return int(found[1])
+
+
+def shut_instructions(folder: Path, network: Network) -> float:
+    """The instructions of a shut for each arc of the network."""
+    arcs = network.problem.count("\na ")
+    before, after = (instructions(folder, network.problem, f"solve\n{then}") for then in ("", f"shut {network.node}\n"))
+    return (after - before) / arcs
+
+
+@pytest.fixture(scope="module")
+def maker(tmp_path_factory: pytest.TempPathFactory) -> Path:
+    """The program that makes the families of the benchmark."""
+    if not shutil.which("g++"):
+        pytest.skip("the families of the benchmark, since g++ is not there")
+    made = tmp_path_factory.mktemp("maker") / "generate"
+    subprocess.run(["g++", "-O1", "-std=c++17", "-o", made, ROOT / "bench" / "generate.cpp"], check=True)
+    return made
+
+
+needs_valgrind = pytest.mark.skipif(not shutil.which("valgrind"), reason="counts of instructions, since valgrind is not there")
+
+
+@needs_valgrind
+@pytest.mark.seconds(6)
+@pytest.mark.parametrize("name", MADE)
+def test_shuts(name: str, tmp_path: Path) -> None:
+    network = MADE[name](Random(f"budget of {name}"))
+    assert 0 < shut_instructions(tmp_path, network) < network.budget
+
+
+@needs_valgrind
+@pytest.mark.seconds(6)
+@pytest.mark.parametrize("family", FAMILIES)
+def test_sinks_of_families(family: str, maker: Path, tmp_path: Path) -> None:
+    text = subprocess.run([maker, family, str(ARCS), "1990"], capture_output=True, check=True, text=True).stdout
+    (sink,) = re.findall(r"^n ([0-9]+) t$", text, re.MULTILINE)
+    assert 0 < shut_instructions(tmp_path, Network(text, int(sink))) < BUDGET
