@@ -31,22 +31,6 @@ SECONDS = 60
 # Longer than reading is silent after its first report, in seconds.
 PAUSE = 0.4
 CHAIN = b"p max 3 2\nn 1 s\nn 3 t\na 1 2 7\na 2 3 4\n"
-# Networks of textbooks and of other solvers' tests, with the greatest value that stands there.
-PUBLISHED = {
-    "Cormen and others, Introduction to Algorithms, figure 26.1": (
-        "p max 6 9 / n 1 s / n 6 t / a 1 2 16 / a 1 3 13 / a 3 2 4 / a 2 4 12 / a 4 3 9 / a 3 5 14 / a 5 4 7 / a 4 6 20 / a 5 6 4",
-        23,
-    ),
-    "Wikipedia, Edmonds-Karp algorithm, in networkx too": (
-        "p max 7 11 / n 1 s / n 7 t / a 1 4 3 / a 1 2 3 / a 2 3 4 / a 3 1 3 / a 3 4 1 / a 3 5 2 / a 4 5 2 / a 4 6 6 / a 5 2 1"
-        " / a 5 7 1 / a 6 7 9",
-        5,
-    ),
-    "a bridge of 1 between two ways of 1000, in networkx too": (
-        "p max 4 5 / n 1 s / n 4 t / a 1 2 1000 / a 1 3 1000 / a 2 3 1 / a 2 4 1000 / a 3 4 1000",
-        2000,
-    ),
-}
 # Two combs of so many teeth take the engine 15 s, and the signal comes long before.
 TEETH, HALF_A_SECOND = 15_000, 0.5
 
@@ -100,14 +84,6 @@ def test_examples(file: Path) -> None:
 def test_named_networks(name: str) -> None:
     network, _ = NETWORKS[name]
     assert difference(network if isinstance(network, bytes) else text(network)) is None
-
-
-@pytest.mark.parametrize("name", PUBLISHED)
-def test_published_networks(name: str) -> None:
-    network, value = PUBLISHED[name]
-    assert solved(text(network), b"--brief") == b"c solve value %d\n" % value
-    assert solved(text(network), b"--any").startswith(b"s %d\n" % value)
-    assert difference(text(network)) is None
 
 
 def combs(teeth: int) -> bytes:
