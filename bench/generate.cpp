@@ -185,6 +185,70 @@ Network levels(uint64_t width, uint64_t count, Random &random) {
     return network;
 }
 
+// Streets of a town, each both ways, from all crossings on one side of it to all on the other.
+Network street(uint64_t arcs, Random &random) {
+    const uint64_t width = root(arcs / 4.0, 0.5), ample = 1000000;
+    Network network = with_terminals(width * width);
+    const auto join = [&](Node one, Node other) {
+        network.add(one, other, random.between(1, 100));
+        network.add(other, one, random.between(1, 100));
+    };
+    for (uint64_t y = 0; y < width; ++y) {
+        const Node first = static_cast<Node>(y * width + 1), last = first + static_cast<Node>(width - 1);
+        network.add(network.source, first, ample);
+        network.add(last, network.sink, ample);
+        for (Node crossing = first; crossing <= last; ++crossing) {
+            if (crossing < last) join(crossing, crossing + 1);
+            if (y + 1 < width) join(crossing, crossing + static_cast<Node>(width));
+        }
+    }
+    return network;
+}
+
+// Cherkassky and Goldberg's networks (`ak`), in which a phase of Dinic's algorithm finds at most three paths: two halves side by side,
+// with paths of every length. In the first, each node of a chain has a way out to the first node of another chain. The second is a
+// ladder: down one chain, over a rung, and back along the other. With 4 k + 6 nodes and 6 k + 7 arcs, the value is 2 k + 3.
+Network ladders(uint64_t arcs) {
+    const auto k = static_cast<Node>(std::max<uint64_t>(1, (arcs - std::min<uint64_t>(arcs, 7)) / 6));
+    Network network = with_terminals(4 * static_cast<uint64_t>(k) + 4);
+    // Four chains of k + 1 nodes: the falling one and the level one, and the two of the ladder.
+    const auto chain = [k](Node number) { return [=](Node i) { return number * (k + 1) + i + 1; }; };
+    const auto a = chain(0), b = chain(1), c = chain(2), d = chain(3);
+    network.add(network.source, a(0), k + 2);
+    for (Node i = 0; i < k; ++i) {
+        network.add(a(i), a(i + 1), k + 1 - i);
+        network.add(a(i), b(0), 1);
+        network.add(b(i), b(i + 1), k + 1);
+    }
+    network.add(a(k), b(0), 1);
+    network.add(a(k), b(k), 1);
+    network.add(b(k), network.sink, k + 2);
+    network.add(network.source, c(0), k + 1);
+    for (Node i = 0; i < k; ++i) {
+        network.add(c(i), c(i + 1), k);
+        network.add(d(i + 1), d(i), k);
+    }
+    for (Node i = 0; i <= k; ++i) network.add(c(i), d(i), 1);
+    network.add(d(0), network.sink, k + 1);
+    return network;
+}
+
+// Two combs: chains whose nodes are joined by teeth of capacity 1, two from each node of the first to any of the second. So paths of
+// every length lead through the one arc behind the source and the one before the sink.
+Network combs(uint64_t arcs, Random &random) {
+    const uint64_t length = std::max<uint64_t>(2, arcs / 4), ample = 2 * length;
+    Network network = with_terminals(2 * length);
+    network.add(network.source, 1, ample);
+    for (uint64_t i = 1; i < length; ++i) {
+        network.add(i, i + 1, ample);
+        network.add(length + i, length + i + 1, ample);
+    }
+    for (uint64_t i = 1; i <= length; ++i)
+        for (int k = 0; k < 2; ++k) network.add(i, length + random.between(1, length), 1);
+    network.add(2 * length, network.sink, ample);
+    return network;
+}
+
 // Much to read and nothing to solve: arcs with any ends, and a source with one arc, of capacity 1, to the sink.
 Network easy(uint64_t arcs, Random &random) {
     const uint64_t inner = std::max<uint64_t>(2, arcs / 5);
@@ -236,6 +300,9 @@ Network made(const std::string &family, uint64_t arcs, Random &random) {
     if (family == "road") return road(arcs, random);
     if (family == "bip") return bipartite(arcs, random);
     if (family == "ac") return all_pairs(arcs, random);
+    if (family == "street") return street(arcs, random);
+    if (family == "ak") return ladders(arcs);
+    if (family == "combs") return combs(arcs, random);
     if (family == "easy") return easy(arcs, random);
     if (family == "depots") return depots(arcs, random);
     if (family == "hub") return hub(arcs, random);

@@ -1,6 +1,6 @@
 """The commands of a session, once. What the tests need of all commands comes from here: the random lines, the odd lines and the refused
-calls, and the words of the tests in crates, whose files `generated` writes. tests/test_commands.py compares the table with what else
-lists commands."""
+calls. So do the lists of commands in other files: those that `GENERATED` makes, and by command_pages.py those on pages.
+tests/test_commands.py compares the table with what else lists commands."""
 
 from __future__ import annotations
 
@@ -10,8 +10,12 @@ from typing import NamedTuple
 # What a command's fields stand for, by their names in the documents. What stands in brackets may be left out.
 ARC, NODE, CAPACITY, STEPS, WHAT = "arc", "node", "capacity", "steps", "what"
 KINDS = {"I": ARC, "V": NODE, "W": NODE, "U": CAPACITY, "[K]": STEPS, "WHAT": WHAT}
-# What can be printed.
-PRINTED = "problem", "flow", "cut"
+# What can be printed, and what that is on the pages.
+PRINTED = {
+    "problem": "the problem of the open arcs",
+    "flow": "the present flow, as a solution",
+    "cut": "the smallest minimum cut, if the present flow is greatest",
+}
 
 
 class Command(NamedTuple):
@@ -31,6 +35,10 @@ class Command(NamedTuple):
     weight: float
     # What it may be refused for, beyond what each line may be.
     refusals: tuple[str, ...] = ()
+    # What it does, on the pages; what the manual page says besides; and its whole reply where the first line does not tell it.
+    does: str = ""
+    manual: str = ""
+    told: str = ""
 
     @property
     def kinds(self) -> list[str]:
@@ -61,21 +69,61 @@ PAST = "capacities past 64 bits"
 COMMANDS = {
     command.word: command
     for command in [
-        Command("cap", ("I", "U"), "c cap value VALUE", True, True, "cap 5 1", "Cap {{ arc: {}, cap: {} }}", 5, (*NO_ARC, PAST)),
+        Command(
+            "cap", ("I", "U"), "c cap value VALUE", True, True, "cap 5 1", "Cap {{ arc: {}, cap: {} }}", 5, (*NO_ARC, PAST),
+            "gives arc I the capacity U",
+        ),
         Command(
             "add", ("V", "W", "U"), "c add I value VALUE", True, True, "add 1 4 7", "Add {{ tail: {}, head: {}, cap: {} }}", 3,
-            ("no such node", PAST),
+            ("no such node", "too many arcs", PAST),
+            "adds an arc from node V to node W of capacity U, with the next number", told="`c add I value VALUE`, I the arc's number",
         ),
-        Command("close", ("I",), "c close value VALUE", True, True, "close 2", "Close {{ arc: {} }}", 1, NO_ARC),
-        Command("shut", ("V",), "c shut value VALUE", True, True, "shut 3", "Shut {{ node: {} }}", 0.5, ("no such node",)),
-        Command("solve", (), "s VALUE", True, True, "solve", "Solve", 4),
-        Command("undo", ("[K]",), "c undo value VALUE", False, False, "undo 2", "Undo({})", 2, ("nothing to undo",)),
-        Command("redo", ("[K]",), "c redo value VALUE", False, True, "redo", "Redo({})", 2, ("nothing to redo",)),
+        Command(
+            "close", ("I",), "c close value VALUE", True, True, "close 2", "Close {{ arc: {} }}", 1, NO_ARC,
+            "closes arc I: nothing may flow on it, and answers leave it out",
+            "It keeps its number, and only `undo` opens it again.",
+        ),
+        Command(
+            "shut", ("V",), "c shut value VALUE", True, True, "shut 3", "Shut {{ node: {} }}", 0.5, ("no such node",),
+            "closes each open arc that leaves node V or enters it, in the order of their numbers, all as one change",
+        ),
+        Command(
+            "solve", (), "s VALUE", True, True, "solve", "Solve", 4, (),
+            "goes on from the present flow to a greatest one",
+            told="the solution, or with `--brief` `c solve value VALUE`; with `--cut` the smallest minimum cut after it",
+        ),
+        Command(
+            "undo", ("[K]",), "c undo value VALUE", False, False, "undo 2", "Undo({})", 2, ("nothing to undo",),
+            "takes back the last K changes, all of them or none; without K one",
+            "Flows, too, are as they were.",
+        ),
+        Command(
+            "redo", ("[K]",), "c redo value VALUE", False, True, "redo", "Redo({})", 2, ("nothing to redo",),
+            "makes the last K undone changes again, all of them or none; without K one",
+            "After a new change nothing is left to redo.",
+        ),
         Command("print", ("WHAT",), "", False, True, "print cut", "Print{}", 2, ("flow is not greatest",)),
     ]
 }  # fmt: skip
 # The refusals that any line may have.
 OF_FORM = "line too long", "unknown command", "wrong number of fields", "not a number", "number too large"
+# When each refusal comes, on the pages, in their order. Where {} stands, the commands follow that have it.
+REFUSALS = {
+    "line too long": "the line has more than 4,096 bytes before its line feed or its end, a carriage return counted; the rest is skipped",
+    "unknown command": "the first field is no command, or the one field after `print` is nothing that is printed",
+    "wrong number of fields": "there are too few fields, or too many",
+    "not a number": "the first wrong number from the left has a byte that is no digit",
+    "number too large": "the first wrong number from the left is past 18446744073709551615",
+    "no such arc": "the arc of {} is 0 or past the last one",
+    "arc is closed": "the arc of {} was closed",
+    "no such node": "an end of `add` or the node of `shut` is 0 or past the last node",
+    "too many arcs": "{} would pass 134,217,728 arcs, closed ones counted",
+    PAST: "the sum of all capacities after {} would be past 18446744073709551615",
+    "nothing to undo": "fewer than K changes stand before the present state, or some were forgotten; nothing is undone",
+    "nothing to redo": "fewer than K changes were undone; nothing is redone",
+    "flow is not greatest": "{} where some flow has a larger value; `solve` comes first",
+    "no memory": "a request for memory was refused during the command, which could not do without; the session goes on",
+}
 # A command line as the documents list them: what is printed stands out.
 LISTED = [command.form for command in COMMANDS.values() if command.word != "print"]
 LISTED_PRINTS = [f"print {what}" for what in PRINTED]

@@ -1,5 +1,5 @@
-"""Compares the table of commands with what else lists commands: the second implementation, docs/FORMATS.md, the manual page, the help, what
-a terminal is told, the client and its tools, and the tests in crates; and tries each row."""
+"""Compares the table of commands with what else lists commands: the files and pages that it makes, the second implementation, the help, what
+a terminal is told, the client and its tools; and tries each row."""
 
 from __future__ import annotations
 
@@ -7,7 +7,8 @@ import re
 import subprocess
 
 import pytest
-from commands import COMMANDS, GENERATED, LISTED, LISTED_PRINTS, OF_FORM, PRINTED, Command
+from command_pages import PAGES
+from commands import COMMANDS, GENERATED, LISTED, LISTED_PRINTS, OF_FORM, PRINTED, REFUSALS, Command
 from conftest import BUILT, ROOT
 from dmf import Network, errors
 from dmf import commands as client
@@ -15,7 +16,7 @@ from oracle import session
 from oracle.network import Arc, State
 from oracle.session import Session, SolveReply, command_of
 
-FORMATS = (ROOT / "docs" / "FORMATS.md").read_text()
+MAKERS = {**GENERATED, **PAGES}
 STATE = State(4, 1, 4, (Arc(1, 2, 3), Arc(1, 3, 2), Arc(2, 3, 5), Arc(2, 4, 2), Arc(3, 4, 3)), (0,) * 5)
 COUNTS = {it.word: it.counts() for it in COMMANDS.values()}
 CHANGES = {it.word for it in COMMANDS.values() if it.changes}
@@ -41,20 +42,6 @@ def test_client() -> None:
     assert {it.decode() for it in client.CHANGES} == told_by_value
 
 
-def test_formats() -> None:
-    """The commands' table in docs/FORMATS.md has these lines with these replies and no others, and the refusals' has each refusal."""
-    table = FORMATS.partition("| Line | What | Reply |\n|---|---|---|\n")[2].partition("\n\n")[0]
-    told = {line: reply for line, reply in re.findall(r"^\| (`.*?`(?:, `.*?`)?) \|.*\| (.*?) \|$", table, re.MULTILINE)}
-    lines = [told_forms(form) for form in [*LISTED, *LISTED_PRINTS]]
-    assert [*told] == [", ".join(f"`{form}`" for form in forms) for forms in lines]
-    for command in COMMANDS.values():
-        if command.reply.startswith("c "):
-            assert told[", ".join(f"`{form}`" for form in told_forms(command.form))].startswith(f"`{command.reply}`")
-    refusals = FORMATS.partition("| TEXT | When |")[2]
-    for text in {*OF_FORM, *(text for it in COMMANDS.values() for text in it.refusals)}:
-        assert re.search(rf"\b{text}\b", refusals), text
-
-
 # What the help calls the fields of a command.
 HELP_NAMES = {"ARC": "I", "CAP": "U", "FROM": "V", "TO": "W", "NODE": "V"}
 
@@ -71,14 +58,8 @@ def test_help() -> None:
     assert all(told.startswith(it.reply) for told, it in zip(replies_told, COMMANDS.values()))
 
 
-def test_manual() -> None:
-    """The section on commands of the manual page has these lines, and then each refusal."""
-    section = (ROOT / "docs" / "dmf.1").read_text().partition("\n.SH COMMANDS\n")[2].partition("\n.SH ")[0]
-    entries = re.findall(r"^\.T[PQ]\n\.[BIR]+ (.*)$", section, re.MULTILINE)
-    found = [" ".join(re.sub(r'"|\\f.', "", entry).split()) for entry in entries]
-    lines = [*LISTED, *LISTED_PRINTS]
-    assert found[: len(lines)] == lines
-    assert {*OF_FORM, *(text for it in COMMANDS.values() for text in it.refusals)} <= {*found[len(lines) :]}
+def test_refusals() -> None:
+    assert {*OF_FORM, *(text for it in COMMANDS.values() for text in it.refusals), "no memory"} == {*REFUSALS}
 
 
 def test_errors() -> None:
@@ -86,11 +67,11 @@ def test_errors() -> None:
     assert {text for it in COMMANDS.values() for text in it.refusals} <= {*errors.Refused.kinds}
 
 
-@pytest.mark.parametrize("path", GENERATED)
+@pytest.mark.parametrize("path", MAKERS)
 def test_generated(writes: bool, path: str) -> None:
     """The files that the table makes."""
     file = ROOT / path
-    made = GENERATED[path](file.read_text() if file.exists() else "")
+    made = MAKERS[path](file.read_text() if file.exists() else "")
     if writes:
         file.write_text(made)
     assert file.read_text() == made, "--write makes it anew"

@@ -5,6 +5,7 @@
 - each link between pages leads to a file, and to a heading of it where it names one;
 - each name of code and of a file that a page has in backquotes stands in the repository;
 - no page has more words than its bound, and each names its reader in its first lines;
+- each crate with code has a page that says what is proved, and the page of the Python package names each module;
 - the pictures of docs/SEARCH.md are those of their sources;
 - each definition and lemma is named by the rest of its file, or by a file that names its file."""
 
@@ -127,6 +128,19 @@ def long_pages() -> Iterator[str]:
 
 def test_length() -> None:
     assert not [*long_pages()]
+
+
+def test_crates() -> None:
+    """Each crate with code has a page that says what is proved."""
+    folders = [it for it in Path("crates").glob("[!t]*") if any("fn " in file.read_text() for file in it.glob("src/**/*.rt"))]
+    assert len(folders) > 10
+    assert not [it for it in folders if not (it / "README.md").exists() or "proved" not in (it / "README.md").read_text().lower()]
+
+
+def test_modules() -> None:
+    """The page of the Python package names each of its modules."""
+    package = Path("clients/python")
+    assert {it.stem for it in (package / "dmf").glob("[!_]*.py")} - {*names(package / "README.md")} == set()
 
 
 def test_readers() -> None:

@@ -8,7 +8,7 @@ import shutil
 import signal
 import subprocess
 import time
-from collections.abc import Iterator
+from collections.abc import Callable, Iterator
 from pathlib import Path
 from random import Random
 
@@ -24,31 +24,16 @@ from program.test_named_networks import NETWORKS
 from random_cases import fitting, network, plain_text, problem_lines
 from worked_forms import text
 
-FAMILIES = "grid", "random", "road", "bip", "ac", "rmf-wide", "rmf-long", "wash-wide", "wash-long"
+FAMILIES = "grid", "random", "road", "street", "bip", "ac", "rmf-wide", "rmf-long", "wash-wide", "wash-long", "ak", "combs"
 ARCS = 3000
 FEW, MANY = 200, 100_000
+Generate = Callable[[str, int], bytes]
 SECONDS = 60
 # Longer than reading is silent after its first report, in seconds.
 PAUSE = 0.4
 CHAIN = b"p max 3 2\nn 1 s\nn 3 t\na 1 2 7\na 2 3 4\n"
-# Networks of textbooks and of other solvers' tests, with the greatest value that stands there.
-PUBLISHED = {
-    "Cormen and others, Introduction to Algorithms, figure 26.1": (
-        "p max 6 9 / n 1 s / n 6 t / a 1 2 16 / a 1 3 13 / a 3 2 4 / a 2 4 12 / a 4 3 9 / a 3 5 14 / a 5 4 7 / a 4 6 20 / a 5 6 4",
-        23,
-    ),
-    "Wikipedia, Edmonds-Karp algorithm, in networkx too": (
-        "p max 7 11 / n 1 s / n 7 t / a 1 4 3 / a 1 2 3 / a 2 3 4 / a 3 1 3 / a 3 4 1 / a 3 5 2 / a 4 5 2 / a 4 6 6 / a 5 2 1"
-        " / a 5 7 1 / a 6 7 9",
-        5,
-    ),
-    "a bridge of 1 between two ways of 1000, in networkx too": (
-        "p max 4 5 / n 1 s / n 4 t / a 1 2 1000 / a 1 3 1000 / a 2 3 1 / a 2 4 1000 / a 3 4 1000",
-        2000,
-    ),
-}
-# Two combs of so many teeth take the engine 15 s, and the signal comes long before.
-TEETH, HALF_A_SECOND = 15_000, 0.5
+# Combs of so many arcs take the engine some 8 s, and the signal comes long before.
+COMBED, HALF_A_SECOND = 60_000, 0.5
 
 
 def solved(problem: bytes, *words: bytes) -> bytes:
@@ -76,19 +61,32 @@ def difference(problem: bytes) -> str | None:
 
 
 @pytest.fixture(scope="module")
-def generated(tmp_path_factory: pytest.TempPathFactory) -> dict[str, bytes]:
-    """A network of each family by its name."""
+def generate(tmp_path_factory: pytest.TempPathFactory) -> Generate:
+    """What makes a network of a family with so many arcs."""
     if not shutil.which("g++"):
         pytest.skip("the families of the benchmark, since g++ is not there")
     maker = tmp_path_factory.mktemp("families") / "generate"
     subprocess.run(["g++", "-O1", "-std=c++17", "-o", maker, ROOT / "bench" / "generate.cpp"], check=True)
-    made = {family: subprocess.run([maker, family, str(ARCS), "1990"], capture_output=True, check=True).stdout for family in FAMILIES}
-    return {**made, "levels": problem_of(32, 30, 3, 100, 7).encode()}
+    return lambda family, arcs: subprocess.run([maker, family, str(arcs), "1990"], capture_output=True, check=True).stdout
+
+
+@pytest.fixture(scope="module")
+def generated(generate: Generate) -> dict[str, bytes]:
+    """A network of each family by its name."""
+    return {**{family: generate(family, ARCS) for family in FAMILIES}, "levels": problem_of(32, 30, 3, 100, 7).encode()}
 
 
 @pytest.mark.seconds(5)
 def test_families(generated: dict[str, bytes]) -> None:
     assert {family: difference(problem) for family, problem in generated.items()} == dict.fromkeys(generated)
+
+
+@pytest.mark.parametrize("length", [1, 2, 7, 100])
+def test_value_of_ak(generate: Generate, length: int) -> None:
+    """Its ways out and its rungs carry 1 each, and are the only ways through."""
+    problem = generate("ak", 6 * length + 7)
+    assert problem.startswith(b"p max %d %d\n" % (4 * length + 6, 6 * length + 7))
+    assert solved(problem, b"--brief") == b"c solve value %d\n" % (2 * length + 3)
 
 
 @pytest.mark.parametrize("file", [pytest.param(it, id=it.name) for it in sorted((ROOT / "examples").glob("*.max"))])
@@ -102,32 +100,12 @@ def test_named_networks(name: str) -> None:
     assert difference(network if isinstance(network, bytes) else text(network)) is None
 
 
-@pytest.mark.parametrize("name", PUBLISHED)
-def test_published_networks(name: str) -> None:
-    network, value = PUBLISHED[name]
-    assert solved(text(network), b"--brief") == b"c solve value %d\n" % value
-    assert solved(text(network), b"--any").startswith(b"s %d\n" % value)
-    assert difference(text(network)) is None
-
-
-def combs(teeth: int) -> bytes:
-    """Two combs joined by their teeth: paths of every length lead from one to the other."""
-    random, wide = Random(3), 2 * teeth
-    arcs = [(wide + 1, 1, wide), (wide, wide + 2, wide)]
-    for node in range(1, teeth):
-        arcs += [(node, node + 1, wide), (teeth + node, teeth + node + 1, wide)]
-    for node in range(1, teeth + 1):
-        arcs += [(node, teeth + random.randint(1, teeth), 1) for _ in range(2)]
-    lines = [f"p max {wide + 2} {len(arcs)}", f"n {wide + 1} s", f"n {wide + 2} t", *(f"a {tail} {head} {cap}" for tail, head, cap in arcs)]
-    return "".join(f"{line}\n" for line in lines).encode()
-
-
 @pytest.mark.seconds(2)
 @pytest.mark.parametrize("word", ["--brief", "--any"])
-def test_interrupt(word: str, tmp_path: Path) -> None:
+def test_interrupt(generate: Generate, word: str, tmp_path: Path) -> None:
     """The signal comes while the engine works, and ends the run before it has written anything."""
     file = tmp_path / "combs.max"
-    file.write_bytes(combs(TEETH))
+    file.write_bytes(generate("combs", COMBED))
     with file.open("rb") as problem:
         words = [str(BUILT), "solve", word, "--cut"]
         run = subprocess.Popen(words, stdin=problem, stdout=subprocess.PIPE, stderr=subprocess.PIPE, preexec_fn=built.heed_interrupts)
