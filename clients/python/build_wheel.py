@@ -43,7 +43,7 @@ def metadata() -> bytes:
     """What the package is."""
     lines = ["Metadata-Version: 2.1", "Name: dmf", f"Version: {version()}", "License: MIT", "License-File: LICENSE"]
     lines += ["Summary: Maximum flows and what-if sessions, by the program dmf", "Requires-Python: >=3.9"]
-    lines += ["Provides-Extra: tables", *(f"Requires-Dist: {name}; extra == 'tables'" for name in ("openpyxl", "odfpy", "charset-normalizer"))]
+    lines += ["Provides-Extra: tables", *(f"Requires-Dist: {name}; extra == 'tables'" for name in ("odfpy", "charset-normalizer"))]
     return "".join(f"{line}\n" for line in lines).encode()
 
 

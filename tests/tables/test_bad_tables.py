@@ -10,6 +10,7 @@ from pathlib import Path
 from typing import Any, Optional
 
 import pytest
+import town_table as town
 from client_shared import dmf
 from dmf.tables.opening import Wanted, plan_of
 
@@ -138,17 +139,18 @@ def test_workbooks() -> None:
     assert faults(workbook(head), "t#Rohre") == ["t: no sheet is called 'Rohre'; the sheets are 'Arcs'"]
 
 
-def test_missing_packages(monkeypatch: pytest.MonkeyPatch) -> None:
+def test_missing_packages(tmp_path: Path, monkeypatch: pytest.MonkeyPatch) -> None:
     there = importlib.import_module
 
     def missing(name: str, package: Optional[str] = None) -> Any:
-        if name == "openpyxl":
+        if name.startswith("odf"):
             raise ImportError(name=name)
         return there(name, package)
 
     monkeypatch.setattr("dmf.tables.workbook.importlib.import_module", missing)
-    (told,) = faults(workbook(["from", "to", "cap"], ["A", "B", 3]))
-    assert told.startswith("a workbook (.xlsx) needs the package openpyxl, which is not there (pip install openpyxl, or apt install python3-openpyxl)")
+    town.save_ods(tmp_path / "net.ods")
+    (told,) = faults((tmp_path / "net.ods").read_bytes())
+    assert told.startswith("a workbook (.ods) needs the package odfpy, which is not there (pip install odfpy, or apt install python3-odf)")
 
 
 def test_a_path_that_is_not_there(tmp_path: Path) -> None:

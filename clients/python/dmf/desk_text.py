@@ -30,15 +30,19 @@ def table(desk: Desk) -> str:
         for number, line in enumerate(desk.lines, 1) if not line.is_closed
     ]  # fmt: skip
     ends = desk.source, desk.sink
-    rows = {number: line.first for number, line in enumerate(desk.lines, 1) if line.first}
     names = desk.names
-    told = Told(desk.folding, names.node, names.arc_name, ends, desk.subject.extra, lambda number: rows.get(number, number), desk.limited())
+    told = Told(desk.folding, names.node, names.arc_name, ends, desk.subject.extra, lambda number: row_of(desk, number), desk.limited())
     return plan_text(arcs, told, desk.measure, raw_names=desk.subject.raw_names)
 
 
+def row_of(desk: Desk, number: int) -> int:
+    """The number that an arc had before it was opened again, by which its row has other columns."""
+    return desk.line(number).first or number
+
+
 def problem(desk: Desk) -> str:
-    """The problem of the open arcs, with what comments say of its table and the names of places and arcs; what cannot be written of a
-    name is escaped. It needs no session, so that it can be had where that has ended."""
+    """The problem of the open arcs, with what comments say of its table and its columns and the names of places and arcs; what cannot be
+    written of a name is escaped. It needs no session, so that it can be had where that has ended."""
     names = desk.names
     opened = {number: line for number, line in enumerate(desk.lines, 1) if not line.is_closed}
     labels = ((number, names.given_node(number)) for number in range(1, len(names.nodes) + 1))
@@ -49,7 +53,8 @@ def problem(desk: Desk) -> str:
     whole = desk.measure.whole
     lines = "".join(f"a {line.tail} {line.head} {whole(line.capacity)}\n" for line in opened.values())
     said = renumbered(desk.subject.described, ((line.tail, line.head) for line in opened.values()), desk.limited())
-    return comments(said) + nodes + arcs + head + lines
+    columns = desk.subject.extra.comments(row_of(desk, number) for number in opened)
+    return comments(said) + nodes + arcs + columns + head + lines
 
 
 def drawing(desk: Desk) -> Drawing:

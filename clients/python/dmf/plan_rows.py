@@ -3,14 +3,15 @@ what each place gives, takes or lets through, as the readers of tables read it."
 
 from __future__ import annotations
 
-from collections import defaultdict
+from collections import Counter, defaultdict
 from collections.abc import Callable, Collection, Iterator, Sequence
-from dataclasses import dataclass
+from dataclasses import dataclass, replace
 from typing import NamedTuple
 
 from .folding import Folding
 from .quantity import Measure, Quantity
 from .spreadsheet import ArcRow, PlaceRow, plan_table
+from .tables.cells import cleaned
 from .tables.comments import DEMAND, LIMIT, SUPPLY
 from .tables.ends import ends_alone
 from .tables.extra import Extra
@@ -45,8 +46,26 @@ class Told:
 def plan_text(arcs: Sequence[Carried], told: Told, measure: Measure, *, raw_names: bool) -> str:
     """The table of the open arcs of a plan. Where these alone tell which places are the source and the sink, and no place has more to
     be told, there are no rows of places."""
+    told = replace(told, node=_told_apart(arcs, told))
     rows, places = _arc_rows(arcs, told), _place_rows(arcs, told)
     return plan_table(rows, measure, raw_names=raw_names, places=places, others=told.extra.titles)
+
+
+def _told_apart(arcs: Sequence[Carried], told: Told) -> Callable[[int], str]:
+    """The names of nodes in a table, in which a place is known by its name alone: of several places with one name each gets its number, as in
+    `Mill (node 4)`."""
+    nodes = {told.folding.place(node) for arc in arcs for node in (arc.tail, arc.head) if not told.folding.is_joint(node)}
+    names = {node: told.node(node) for node in sorted(nodes)}
+    used = Counter(map(cleaned, names.values()))
+    if len(used) == len(names):
+        return told.node
+    for node, name in names.items():
+        if used[cleaned(name)] > 1:
+            told_apart = f"{name} (node {node})"
+            while cleaned(told_apart) in used:
+                told_apart += f" (node {node})"
+            names[node] = told_apart
+    return lambda node: names.get(told.folding.place(node)) or told.node(node)
 
 
 def _arc_rows(arcs: Sequence[Carried], told: Told) -> Iterator[ArcRow]:

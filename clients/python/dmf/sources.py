@@ -15,7 +15,7 @@ from .kept import Kept, Whole, whole
 from .network import Network
 from .numbering import AMOUNTS, NODES
 from .session import FilePath, Program, Session, bound
-from .tables.comments import Described, described
+from .tables.comments import Described, described, tells_columns
 from .text import ARC, NODE, names_in, naming_pieces
 from .ways import chosen, started_on
 
@@ -34,7 +34,7 @@ def read(path: FilePath, *, program: Program = None, history: int | None = None)
         text = file.read()
     problem = _opened(text, program, most)
     said = described(problem.text).within(problem.node_count, len(problem.tails))
-    if said == Described():
+    if said == Described() and not tells_columns(problem.text):
         return _whole(problem)
     from .tables.folded import network_of_problem
 

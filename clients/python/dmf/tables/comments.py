@@ -16,7 +16,7 @@ node 4. An arc carries what a source gives, what a sink takes, or what a place l
 carries as much as the arcs at the place.
 
 Each stands before the problem line and begins its line, with one blank between its words; the scale may stand anywhere. Of two that say
-the same thing the first counts.
+the same thing the first counts. `extra` has the comments of the table's other columns.
 """
 
 from __future__ import annotations
@@ -33,6 +33,9 @@ SUPPLY, DEMAND, LIMIT = "supply", "demand", "limit"
 # A comment that tells the scale of all numbers of a problem.
 SCALE_WORDS = "c capacities are those of the table times"
 UNIT_WORDS, TABLE_WORDS, SIGN_WORDS, INNER_WORDS = "c unit ", "c table ", "c decimal sign ", "c inner "
+
+# How the comment begins that tells the title of another column.
+COLUMN_WORDS = b"c column "
 
 _SCALE = re.compile(rf"[ \t]*{SCALE_WORDS} ([0-9]+(?:\.[0-9]+)?)[ \t]*\r?(?:\n|\Z)".encode())
 _SAID = {words: re.compile(rf"^{words}([^\n]*?)[ \t]*\r?$", re.MULTILINE) for words in (UNIT_WORDS, TABLE_WORDS, SIGN_WORDS)}
@@ -88,7 +91,7 @@ def described(text: bytes) -> Described:
     joints: dict[int, str] = {}
     halves: dict[int, int] = {}
     roles: dict[int, Role] = {}
-    for node, joined, first, arc, kind, place, unlimited in _INNER.findall(_between(head, INNER_WORDS)):
+    for node, joined, first, arc, kind, place, unlimited in _INNER.findall(between(head, INNER_WORDS.encode()).decode(errors="replace")):
         if joined:
             joints.setdefault(int(node), joined)
         elif node:
@@ -98,18 +101,22 @@ def described(text: bytes) -> Described:
     return Described(measure, joints, halves, roles)
 
 
-def _between(head: bytes, words: str) -> str:
+def tells_columns(text: bytes) -> bool:
+    """Whether a problem's text may have comments of other columns of its table, as `extra` reads them."""
+    return text.startswith(COLUMN_WORDS) or b"\n" + COLUMN_WORDS in text
+
+
+def between(text: bytes, words: bytes) -> bytes:
     """The lines of a text from the first of these words to the last: to look for words is many times as fast as to look for a pattern."""
-    sought = words.encode()
-    begin = head.find(sought)
+    begin = text.find(words)
     if begin < 0:
-        return ""
-    end = head.find(b"\n", head.rfind(sought))
-    return head[head.rfind(b"\n", 0, begin) + 1 : end if end >= 0 else len(head)].decode(errors="replace")
+        return b""
+    end = text.find(b"\n", text.rfind(words))
+    return text[text.rfind(b"\n", 0, begin) + 1 : end if end >= 0 else len(text)]
 
 
 def _said(head: bytes, words: str) -> str:
-    found = _SAID[words].search(_between(head, words))
+    found = _SAID[words].search(between(head, words.encode()).decode(errors="replace"))
     return found[1] if found else ""
 
 

@@ -1,36 +1,107 @@
-"""The columns of a table that are read for nothing, such as cost, length or remark: they are kept, and stand again in what is exported."""
+"""The columns of a table that are read for nothing, such as cost, length or remark: they are kept, and stand again in what is exported. A
+problem text has them in comments, the number of the arc and then that of the column before each cell that is not empty:
+
+    c column 1 length (m)
+    c column 2 remark
+    c cell 5 1 120
+    c cell 5 2 by the school
+
+A text that cannot stand there as it is, is one of JSON: `"two\\nlines"`. Where the cells take more than `MOST_TOLD` bytes, none is there, and
+a comment says so: `c columns left out: length (m), remark`.
+"""
 
 from __future__ import annotations
 
-from collections.abc import Sequence
+import json
+import re
+from collections.abc import Iterable, Iterator, Mapping, Sequence
 from dataclasses import dataclass
 
 from ..spreadsheet import PLAN_TITLES, text_in
 from .columns import PLACE_COLUMNS, Layout
+from .comments import COLUMN_WORDS, between
 from .rows import Table
+
+# The most bytes of cells in a problem text, of which `dmf` takes 2^30 at most.
+MOST_TOLD = 1 << 26
+CELL_WORDS, LEFT_OUT = b"c cell ", "c columns left out: "
+_COLUMN = re.compile(rb"^c column ([1-9][0-9]{0,8}) ([^\n]*?)\r?$", re.MULTILINE)
+_CELL = re.compile(rb"^c cell ([1-9][0-9]{0,8}) ([1-9][0-9]{0,8}) ([^\n]*?)\r?$", re.MULTILINE)
 
 
 @dataclass(frozen=True)
 class Extra:
-    """The titles of these columns, and for each its cells by row, as texts. Each row of the table is so many arcs: `ways`."""
+    """The titles of these columns, and for each its cells by row, as texts, perhaps only those that are not empty. Each row of the table is so
+    many arcs: `ways`."""
 
     titles: Sequence[str] = ()
-    columns: Sequence[Sequence[str]] = ()
+    columns: Sequence[Sequence[str] | Mapping[int, str]] = ()
     ways: int = 1
 
     def of(self, number: int) -> list[str]:
         """The cells of an arc, which are empty if it is of no row."""
-        row = (number - 1) // self.ways
-        return [column[row] if row < len(column) else "" for column in self.columns]
+        return [self._cell(column, number) for column in self.columns]
 
-    def by_title(self) -> dict[str, list[str]]:
-        """The cells by the titles; of two columns with one title the second gets a number."""
+    def _cell(self, column: Mapping[int, str] | Sequence[str], number: int) -> str:
+        row = (number - 1) // self.ways
+        if isinstance(column, Mapping):
+            return column.get(row, "")
+        return column[row] if row < len(column) else ""
+
+    def by_title(self, numbers: Sequence[int]) -> dict[str, list[str]]:
+        """The cells of these arcs by the titles; of two columns with one title the second gets a number."""
         found: dict[str, list[str]] = {}
         for title, column in zip(self.titles, self.columns):
             title = title or "without title"
             names = (title, *(f"{title} {count}" for count in range(2, len(found) + 3)))
-            found[next(name for name in names if name not in found)] = list(column)
+            found[next(name for name in names if name not in found)] = [self._cell(column, number) for number in numbers]
         return found
+
+    def comments(self, numbers: Iterable[int]) -> str:
+        """The comments that tell the columns in the text of a problem whose arcs have these numbers here."""
+        if not self.titles:
+            return ""
+        lines = [f"c column {column} {_said(title)}\n" for column, title in enumerate(self.titles, 1)]
+        size = 0
+        for line in self._cell_lines(numbers):
+            size += len(line.encode())
+            if size > MOST_TOLD:
+                return f"{LEFT_OUT}{', '.join(map(_said, self.titles))}\n"
+            lines.append(line)
+        return "".join(lines)
+
+    def _cell_lines(self, numbers: Iterable[int]) -> Iterator[str]:
+        for place, number in enumerate(numbers, 1):
+            for column, cell in enumerate(self.of(number), 1):
+                if cell:
+                    yield f"c cell {place} {column} {_said(cell)}\n"
+
+
+def _said(text: str) -> str:
+    """A text as a comment has it."""
+    is_plain = text.isprintable() and text.strip() == text and text[:1] not in ("", '"')
+    return text if is_plain else json.dumps(text)
+
+
+def _read(written: bytes) -> str:
+    text = written.decode(errors="replace")
+    try:
+        found = json.loads(text) if text[:1] == '"' else text
+    except ValueError:
+        return text
+    return str(found)
+
+
+def extra_in(text: bytes) -> Extra:
+    """The columns that the comments of a problem's text tell. Of two that say the same thing the first counts. Raises nothing."""
+    titles: dict[int, str] = {}
+    for number, written in _COLUMN.findall(between(text, COLUMN_WORDS)):
+        titles.setdefault(int(number), _read(written))
+    columns: dict[int, dict[int, str]] = {number: {} for number in sorted(titles)}
+    for arc, number, written in _CELL.findall(between(text, CELL_WORDS)):
+        if int(number) in columns:
+            columns[int(number)].setdefault(int(arc) - 1, _read(written))
+    return Extra([titles[number] for number in columns], [*columns.values()])
 
 
 def extra_of(table: Table, ways: int = 1) -> Extra:
@@ -40,7 +111,7 @@ def extra_of(table: Table, ways: int = 1) -> Extra:
     layout, is_raw = table.layout, table.is_raw
     # A column without a title, or with one of places, counts if it has something.
     doubtful = [*_of_places(layout), *(place for place, title in enumerate(layout.titles) if not title.text and place not in layout.at.values())]
-    titles = {place: text_in(layout.titles[place].text, is_raw=is_raw) for place in (*layout.others(), *doubtful)}
+    titles = {place: text_in(layout.titles[place].text, is_raw=is_raw) for place in (*layout.others(), *doubtful)} | dict.fromkeys(table.others, "")
     for place in _written(layout):
         del titles[place]
     columns: dict[int, list[str]] = {place: [] for place in sorted(titles)}

@@ -12,10 +12,11 @@ import io
 import re
 from collections.abc import Callable, Iterator, Sequence
 from dataclasses import dataclass
+from decimal import Context
 from itertools import islice, zip_longest
 from typing import Any, Optional
 
-from ..quantity import readings
+from ..quantity import plain_text, readings
 from ..text import fields
 from .faults import TableFault
 
@@ -58,12 +59,19 @@ WANTED = "a table is a CSV file, or a workbook (.xlsx or .ods)"
 _MARKUP = re.compile(rb"\s*(?:<\?xml|<!doctype|<html|\{\s*\"|\[\s*[\[{])", re.IGNORECASE)
 _SEPARATOR = re.compile(rb"(?:\xef\xbb\xbf)?sep=([,;\t|])\r?\n", re.IGNORECASE)
 _LINE_END = re.compile("\r\n|\r|\n")
+_SHOWN = Context(prec=15)
 
 
 class Exact(str):
     """A cell that a workbook has as a number: digits, and a point if it needs one."""
 
     __slots__ = ()
+
+
+def shown_number(text: str) -> str:
+    """The cell of a number with the 15 digits that a workbook shows. What is no number stays a text."""
+    number = _SHOWN.create_decimal(text)
+    return Exact(plain_text(number)) if number.is_finite() else text
 
 
 class Rows:

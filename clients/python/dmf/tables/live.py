@@ -2,7 +2,7 @@
 
 from __future__ import annotations
 
-from collections.abc import Callable, Hashable, Mapping
+from collections.abc import Callable, Hashable, Mapping, Sequence
 from dataclasses import replace
 from functools import cached_property
 from typing import Any, Optional, cast
@@ -22,6 +22,7 @@ from ..text import ARC, NODE
 from .answers import TableCut, TableSolution, whole_of
 from .columns import DEMAND, LIMIT, SUPPLY
 from .comments import Role, comments
+from .extra import Extra
 from .folded import FoldedColumns, Inner
 from .places import Term
 
@@ -36,8 +37,9 @@ class TableNetwork(Network[str]):
     for no limit. A place with a limit is shut by shutting what enters it."""
 
     notes: list[str] = []
-    # What reads the other columns, when somebody asks for them.
-    _load: Callable[[], dict[str, list[str]]] = dict
+    # What reads the other columns, when somebody asks for them; and the first arc of each row of the table.
+    _load: Callable[[], Extra] = Extra
+    _rows: Sequence[int] = ()
 
     def _begin(self, session: Session, kept: Kept[Any]) -> None:
         self._measure = kept.described.measure
@@ -129,9 +131,13 @@ class TableNetwork(Network[str]):
         return [arc for arc in self._kept.opened() if arc.number not in self._roles]
 
     @cached_property
+    def _extra(self) -> Extra:
+        return self._load()
+
+    @cached_property
     def extra(self) -> dict[str, list[str]]:
         """The columns of the table that were read for nothing: by their titles a cell for each row of an arc."""
-        return self._load()
+        return self._extra.by_title(self._rows)
 
     def capacity(self, arc: Any) -> Any:
         """The capacity of an open arc."""
@@ -197,8 +203,8 @@ class TableNetwork(Network[str]):
 
     @alone
     def problem(self, *, names: bool = True, escapes: bool = False) -> str:
-        """The problem as the program has it, with comments that say what its whole numbers stand for and what is not of the table. A
-        name that no comment can have is escaped."""
+        """The problem as the program has it, with comments that say what its whole numbers stand for and what is not of the table. With
+        `names` they tell the other columns of the table too. A name that no comment can have is escaped."""
         opened, columns = self._kept.opened(), self._columns
         places = {number: place for place, number in enumerate(opened.numbers(), 1)}
         roles = {places[number]: role for number, role in self._roles.items() if number in places}
@@ -208,7 +214,15 @@ class TableNetwork(Network[str]):
             before += "".join(f"c node {number} {written(NODE, number, str(name))}\n" for number, name in labels if name != number)
             keys = {place: self._name(number) for number, place in places.items()}
             before += "".join(f"c arc {place} {written(ARC, place, key)}\n" for place, key in keys.items() if key.strip(" \t"))
+            before += self._extra.comments(map(self._row, places))
         return before + self._without_room(self._session.problem().decode(), places)
+
+    def _row(self, number: int) -> int:
+        """The number that an arc had before it was closed and opened again, by which its row is found."""
+        kept, at = self._kept, number - len(self._columns.tails) - 1
+        while at >= 0 and (first := kept.replaced[at]):
+            number, at = first, first - len(self._columns.tails) - 1
+        return number
 
     def _name(self, number: int) -> str:
         """The name of an arc, as a problem has it."""
@@ -253,7 +267,7 @@ class TableNetwork(Network[str]):
     def copy(self) -> TableNetwork:
         """As `Network.copy`."""
         made = cast(TableNetwork, super().copy())
-        made.notes, made._load = self.notes, self._load
+        made.notes, made._load, made._rows = self.notes, self._load, self._rows
         return made
 
     def __enter__(self) -> TableNetwork:

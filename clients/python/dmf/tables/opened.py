@@ -43,7 +43,7 @@ def network_of_plan(plan: Plan, program: Program, history: Optional[int]) -> Tab
     kept: Kept[Any] = Kept(columns, with_room(net.capacities, net.described), nodes[net.source - 1], nodes[net.sink - 1], bound(history))
     made = cast(TableNetwork, TableNetwork._of(kept, chosen(program)))
     made._session.program = program
-    made.notes, made._load = notes, lambda: extra_of(plan.arcs).by_title()
+    made.notes, made._load, made._rows = notes, lambda: extra_of(plan.arcs, net.ways), range(1, net.row_count + 1, net.ways)
     return made
 
 

@@ -85,6 +85,8 @@ def _told(table: Table) -> Iterator[str]:
         yield table.layout.told() + (f"; the decimal sign is {sign}" if sign == "," else "")
     elif sign == ",":
         yield "the decimal sign is a comma"
+    if table.others:
+        yield f"there are no titles; kept, without any: {', '.join(f'column {place + 1}' for place in sorted(table.others))}"
     yield from table.notes
 
 

@@ -6,18 +6,19 @@ from collections.abc import Iterator
 from itertools import chain
 
 from .comments import comments
+from .extra import Extra
 from .network import Net
 
 # How many lines are made at once.
 PIECE = 1 << 11
 
 
-def problem_text(net: Net) -> str:
-    """The problem, with what it is and its names in comments."""
+def problem_text(net: Net, extra: Extra = Extra()) -> str:
+    """The problem, with what it is, its names and these columns in comments."""
     names = (f"c node {number} {name}\n" for number, name in enumerate(net.node_names, 1))
     arc_names = (f"c arc {number} {name}\n" for named in (net.row_names(), net.inner_names) for number, name in named.items())
     head = f"p max {len(net.node_names)} {len(net.tails)}\nn {net.source} s\nn {net.sink} t\n"
-    return "".join(chain([comments(net.described)], names, arc_names, [head], _arc_lines(net)))
+    return "".join(chain([comments(net.described)], names, arc_names, [extra.comments(range(1, net.row_count + 1)), head], _arc_lines(net)))
 
 
 def _arc_lines(net: Net) -> Iterator[str]:

@@ -6,7 +6,7 @@ from __future__ import annotations
 import unicodedata
 from array import array
 from collections import defaultdict
-from collections.abc import Mapping
+from collections.abc import Mapping, Sequence
 from dataclasses import dataclass, field
 from itertools import count, islice
 from typing import NamedTuple, Union
@@ -46,7 +46,8 @@ class Table:
     """The rows of a table of arcs: `places` has the number of each place, from 1 on, `tails` and `heads` those of each row, `labels`
     the names of the rows, if there are any, and `lines` the lines in which they begin. `said` has the rows of places. `heading` is the
     first row if it was read as titles although nobody named any, and `begins_bare` says that it was not. `respelled` has for each name
-    that the table also writes with other spaces one of these other ways. `is_raw` says that no apostrophe protects a name."""
+    that the table also writes with other spaces one of these other ways. `is_raw` says that no apostrophe protects a name. `others` are
+    the columns that are read for nothing and have something, if there are no titles."""
 
     sheet: Sheet
     layout: Layout
@@ -61,6 +62,7 @@ class Table:
     begins_bare: bool = False
     respelled: dict[str, str] = field(default_factory=dict)
     is_raw: bool = False
+    others: set[int] = field(default_factory=set)
     notes: list[str] = field(default_factory=list)
 
     @property
@@ -256,7 +258,14 @@ class _ArcReader(Reader):
         self.table.heads.extend(array(NODES, ends[1::2]))
         self.table.add_lines(lines)
         self.table.amounts.add(list(amounts))
+        self._keep(columns)
         return True
+
+    def _keep(self, columns: Sequence[Sequence[str]]) -> None:
+        """Notes which of these columns of a table without titles are read for nothing, and have something."""
+        if self.width is None:
+            known = {*self.layout.at.values(), *self.table.others}
+            self.table.others |= {place for place, column in enumerate(columns) if place not in known and any(map(str.strip, column))}
 
     def _put_labels(self, labels: list[str]) -> None:
         if any(labels) or self.table.labels:
@@ -285,6 +294,7 @@ class _ArcReader(Reader):
         self.table.heads.append(numbers[1])
         self.table.add_lines(range(line, line + 1))
         self.table.amounts.add([amount if isinstance(amount, Exact) else amount.strip()])
+        self._keep([[cell] for cell in row])
 
     def _is_of_place(self, line: int, row: list[str]) -> bool:
         """Whether a row is of a place, which has no head and no capacity. If so, takes it."""

@@ -15,7 +15,7 @@ from .cells import MOST_TOLD, shown
 from .columns import DEMAND, NAME, PLACE_COLUMNS, SUPPLY, spoken
 from .comments import Described, described
 from .ends import ends_alone
-from .extra import Extra, extra_of
+from .extra import Extra, extra_in, extra_of
 from .faults import TableFault
 from .network import KINDS, Plan, net_of
 from .opening import Wanted, data_of, plan_of, split_path
@@ -60,7 +60,7 @@ class Subject:
     @cached_property
     def extra(self) -> Extra:
         """The columns of the table that were read for nothing."""
-        return extra_of(self.plan.arcs, 1 + self.plan.both_ways) if self.plan else Extra()
+        return extra_of(self.plan.arcs, 1 + self.plan.both_ways) if self.plan else extra_in(self.text)
 
 
 def add_words(parser: argparse.ArgumentParser, form: str = "FILE [SOURCE SINK]", what: str = "a table of arcs, or a problem's file") -> None:

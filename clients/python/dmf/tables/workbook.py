@@ -1,19 +1,21 @@
-"""Sheets of workbooks: `.xlsx` by openpyxl, and `.ods` by odfpy. A cell that has a number is a number, with the 15 digits that a workbook
+"""Sheets of workbooks: `.xlsx` by `xlsx`, and `.ods` by odfpy. A cell that has a number is a number, with the 15 digits that a workbook
 shows; a formula counts as what it gave when the workbook was saved."""
 
 from __future__ import annotations
 
+import contextlib
 import datetime
 import importlib
 import io
 import zipfile
-from collections.abc import Iterator
+from collections.abc import Callable, Iterator
 from functools import partial
 from decimal import Context, Decimal
 from typing import Any
 
 from .faults import TableFault
-from .file import PIECE, Exact, Rows, Sheet
+from .file import PIECE, Exact, Rows, Sheet, is_blank, shown_number
+from .xlsx import Workbook
 
 # The most bytes that a workbook may unpack to.
 LARGEST = 1 << 30
@@ -30,17 +32,20 @@ def workbook_sheets(data: bytes, path: str) -> list[Sheet]:
     """The sheets of a workbook that have cells; the path of each ends with its name. Raises a `TableFault`."""
     kind = _kind(data)
     try:
-        sheets = _xlsx(data, path) if kind == XLSX else _ods(data, path)
-    except (TableFault, MemoryError):
-        raise
-    except ImportError as error:
-        package = {"openpyxl": "openpyxl", "odf": "odfpy"}.get(str(error.name).partition(".")[0], str(error.name))
-        debian = {"openpyxl": "python3-openpyxl", "odfpy": "python3-odf"}.get(package, package)
-        how = f"pip install {package}, or apt install {debian}"
-        raise TableFault(f"a workbook (.{kind}) needs the package {package}, which is not there ({how}); or save the sheet as CSV") from None
-    except Exception as error:
-        raise TableFault(f"the workbook (.{kind}) is damaged: {str(error)[:200]}") from None
-    return [sheet for sheet in sheets if sheet.sample(1).cells]
+        with _judging(kind):
+            sheets = _xlsx(data, path) if kind == XLSX else _ods(data, path)
+    except ImportError:
+        how = "pip install odfpy, or apt install python3-odf"
+        raise TableFault(f"a workbook (.{kind}) needs the package odfpy, which is not there ({how}); or save the sheet as CSV") from None
+    return [sheet for sheet in sheets if _has_cells(sheet)]
+
+
+def _has_cells(sheet: Sheet) -> bool:
+    """Whether a sheet has cells, or what is wrong with it has to be told."""
+    try:
+        return any(not is_blank(row) for rows in sheet.read() for row in rows.cells)
+    except TableFault:
+        return True
 
 
 def _kind(data: bytes) -> str:
@@ -80,22 +85,24 @@ def cell_text(value: Any) -> str:
 
 
 def _xlsx(data: bytes, path: str) -> list[Sheet]:
-    openpyxl = importlib.import_module("openpyxl")
-    book = openpyxl.load_workbook(io.BytesIO(data), read_only=True, data_only=True)
-    return [Sheet(f"{path}#{sheet.title}", partial(_xlsx_rows, sheet)) for sheet in book.worksheets]
+    book = Workbook.opened(zipfile.ZipFile(io.BytesIO(data)))
+    return [Sheet(f"{path}#{name}", partial(_whole, XLSX, partial(book.rows, name))) for name in book.sheets]
 
 
-def _xlsx_rows(sheet: Any) -> Iterator[Rows]:
-    """The rows of a sheet, some thousands at once."""
-    # What a workbook says of its size may be wrong.
-    sheet.reset_dimensions()
-    line, cells = 1, []
-    for row in sheet.iter_rows(values_only=True):
-        cells.append([value if type(value) is str else cell_text(value) for value in row])
-        if len(cells) == PIECE:
-            yield Rows(range(line, line + len(cells)), cells)
-            line, cells = line + len(cells), []
-    yield Rows(range(line, line + len(cells)), cells)
+def _whole(kind: str, read: Callable[[], Iterator[Rows]]) -> Iterator[Rows]:
+    """The rows that are read. Raises a `TableFault` where the workbook is damaged."""
+    with _judging(kind):
+        yield from read()
+
+
+@contextlib.contextmanager
+def _judging(kind: str) -> Iterator[None]:
+    try:
+        yield
+    except (TableFault, MemoryError, GeneratorExit, ImportError):
+        raise
+    except Exception as error:
+        raise TableFault(f"the workbook (.{kind}) is damaged: {str(error)[:200]}") from None
 
 
 def _ods(data: bytes, path: str) -> list[Sheet]:
@@ -103,7 +110,7 @@ def _ods(data: bytes, path: str) -> list[Sheet]:
     book = opendocument.load(io.BytesIO(data))
     sheets = []
     for sheet in book.spreadsheet.getElementsByType(table.Table):
-        sheets.append(Sheet(f"{path}#{sheet.getAttribute('name')}", partial(_ods_rows, sheet, table)))
+        sheets.append(Sheet(f"{path}#{sheet.getAttribute('name')}", partial(_whole, ODS, partial(_ods_rows, sheet, table))))
     return sheets
 
 
@@ -128,7 +135,7 @@ def _ods_text(cell: Any) -> str:
     """What a cell has, as a text."""
     kind = cell.getAttribute("valuetype")
     if kind in ("float", "currency", "percentage"):
-        return Exact(f"{_SHOWN.create_decimal(cell.getAttribute('value')):f}")
+        return shown_number(cell.getAttribute("value"))
     if kind == "date":
         return str(cell.getAttribute("datevalue"))
     teletype = importlib.import_module("odf.teletype")
