@@ -129,7 +129,7 @@ def test_random_arrays() -> None:
         amounts = [random.choice([0, 1, 7, 12345, 2**40]) for _ in range(count)]
         kind = random.choice([numpy.int64, numpy.uint64 if low >= 0 else numpy.int64])
         capacity = numpy.array(amounts, random.choice([numpy.int64, numpy.uint64, numpy.float64]))
-        same(numpy.array(ends[0], kind), numpy.array(ends[1], kind), capacity, nodes=random.choice([[], [0, most]]))
+        same(numpy.array(ends[0], kind), numpy.array(ends[1], kind), capacity, nodes=random.choice([[], [0, most], range(60), range(2, 9)]))
 
 
 @needs(numpy, "python3-numpy", "no network was made from arrays and no flow was an array")

@@ -71,7 +71,7 @@ def test_lines() -> None:
     }
     with pipes() as network:
         for kind, line in lines.items():
-            refuse(kind, network._session.step, line)
+            refuse(kind, network._session.step, tuple(line.split(" ")))
         assert network.solve().value == 5
 
 

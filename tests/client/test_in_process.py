@@ -59,7 +59,7 @@ sys.addaudithook(lambda event, _: begun.append(event) if event in ("subprocess.P
 import dmf
 network = dmf.Network([("a", "b", 3), ("b", "c", 2)], "a", "c")
 print(network.solve().value, dmf.value({"a": {"b": 3}, "b": {"c": 2}}, "a", "c"), begun)
-print("subprocess" in sys.modules, "tempfile" in sys.modules)
+print({"dataclasses", "decimal", "inspect", "numpy", "queue", "subprocess", "tempfile", "threading"} & {*sys.modules})
 """
 
 
@@ -127,8 +127,9 @@ def test_one_that_is_found_and_cannot_be_used(tmp_path: Path) -> None:
 
 
 def test_no_process_is_begun() -> None:
+    """Nor is loaded what other calls need, which takes longer than all else together."""
     ran = subprocess.run([sys.executable, "-c", SILENT], env=environment(), capture_output=True, text=True, timeout=SECONDS)
-    assert (ran.stdout, ran.stderr) == ("2 2 []\nFalse False\n", "")
+    assert (ran.stdout, ran.stderr) == ("2 2 []\nset()\n", "")
 
 
 @pytest.fixture(params=[0, 10**9], ids=["beside", "at once"])
@@ -281,6 +282,55 @@ def test_another_thread_breaks_it_off(monkeypatch: pytest.MonkeyPatch, bound: in
         assert network.begin_again() == network.value
 
 
+def test_one_thread_runs_call_after_call(monkeypatch: pytest.MonkeyPatch) -> None:
+    """Another one begins only while a call was left and goes on; and a forked process has its own."""
+    monkeypatch.setattr(loaded, "MOST_AT_ONCE", 0)
+    loaded._threads.cache_clear()
+    begun: list[object] = []
+    begin = loaded._thread.start_new_thread
+
+    def noted(*words: Any) -> int:
+        begun.append(words)
+        return begin(*words)
+
+    monkeypatch.setattr(loaded._thread, "start_new_thread", noted)
+    with prepared() as network, prepared(program=BUILT) as other:
+        for _ in range(20):
+            assert all_told(network) == all_told(other)
+        assert len(begun) == 1
+        with slow_solve(monkeypatch) as (is_begun, _):
+            with pytest.raises(KeyboardInterrupt), interrupted_soon(0.3):
+                network.solve()
+            assert is_begun.is_set() and all_told(network) == all_told(other)
+        assert len(begun) == 2
+        child = os.fork()
+        if child == 0:
+            with contextlib.suppress(BaseException), pipes() as own:
+                os._exit(0 if own.solve().value == 5 and len(begun) == 3 else 1)
+            os._exit(2)
+        assert os.waitpid(child, 0)[1] == 0
+
+
+def test_few_threads_are_kept() -> None:
+    threads, until = loaded._Threads(), threading.Event()
+    done: list[int] = []
+
+    def work(_: object, number: int) -> None:
+        until.wait(SECONDS)
+        done.append(number)
+
+    for turn in range(3):
+        until.clear()
+        for number in range(turn * 50, turn * 50 + 50):
+            threads.begin(loaded._Job(work, loaded._Held(int, 0), (number,)))
+        until.set()
+        end = time.monotonic() + SECONDS
+        while len(done) < turn * 50 + 50 or len(threads._waiting) > loaded.MOST_THREADS:
+            assert time.monotonic() < end
+            time.sleep(0.01)
+    assert sorted(done) == list(range(150))
+
+
 def test_a_forked_process_leaves_it_alone(monkeypatch: pytest.MonkeyPatch) -> None:
     with pipes() as network:
         child = os.fork()
@@ -374,7 +424,7 @@ def test_cases_that_go_wrong_in_the_middle(monkeypatch: pytest.MonkeyPatch) -> N
         short(monkeypatch, "close", 3)
         found: list[int] = []
         with pytest.raises(dmf.SessionEnded, match="was not understood"):
-            network._try_cases([["close 1"], ["close 2"], ["close 3"], ["close 4"]], found)
+            network._try_cases([[("close", 1)], [("close", 2)], [("close", 3)], [("close", 4)]], found)
         assert found == [2, 3]
         assert network.begin_again() == 5
 

@@ -5,13 +5,16 @@ from __future__ import annotations
 
 from collections.abc import Iterator
 from concurrent.futures import ThreadPoolExecutor
-from contextlib import contextmanager
+from contextlib import AbstractContextManager, contextmanager
 from pathlib import Path
 from typing import Any
 
 import pytest
 from client_shared import BUILT, dmf, script
 from dmf.copies import Copy
+from dmf.lexical import LARGEST, MOST_NODES
+from dmf.process import Child
+from dmf.session import MOST_COMMANDS, case_lines
 
 ARCS = 24
 CLOSED: list[Any] = [[("close", number)] for number in range(1, ARCS + 1)]
@@ -69,17 +72,37 @@ def test_answers_that_are_not_understood(odd: str) -> None:
         assert told[6] in (dmf.SessionEnded, 293)
 
 
-def test_what_is_sent_together_is_short() -> None:
+def test_what_is_sent_together_is_short(monkeypatch: pytest.MonkeyPatch) -> None:
     """However many commands the cases have: a pipe may have room for a page alone, which is as much as all of these."""
     cases: list[Any] = [[("close", number) for number in range(1, ARCS + 1) if number != left] for left in range(1, ARCS + 1)]
+    sent: list[int] = []
+    exchange = Child.exchange
+
+    def noted(child: Child, lines: str) -> AbstractContextManager[None]:
+        sent.append(len(lines) + 1)
+        return exchange(child, lines)
+
     with beside(BUILT) as network:
-        assert swept(network, cases * 20) == list(range(1, ARCS + 1)) * 20
-        sent = Copy(network._kept.copy(), BUILT)._together(cases * 20)
-        lines = ["\n".join([*commands, "solve", f"undo {len(commands) + 1}"]) for commands in sent]
-        # Each has 23 commands of 7 or 8 letters, a solve and `undo 24`, with their ends.
-        letters = 9 * 8 + 14 * 9 + len("solve\nundo 24\n")
-        assert [len(it) + 1 for it in lines[9:]] == [letters] * (len(lines) - 9)
-        assert 4_096 - letters < sum(len(it) + 1 for it in lines) <= 4_096
+        copy = Copy(network._kept.copy(), BUILT)
+        assert [answer.value for answer in copy.answers(cases[:1], False)] == [1]
+        monkeypatch.setattr(Child, "exchange", noted)
+        assert [answer.value for answer in copy.answers(cases * 20, False)] == list(range(1, ARCS + 1)) * 20
+        copy.end()
+    # Each has 23 commands of 7 or 8 letters, a solve and `undo 24`, with their ends.
+    sizes = [8 * 8 + 15 * 9 + len("solve\nundo 24\n")] * 9 + [9 * 8 + 14 * 9 + len("solve\nundo 24\n")] * 15
+    assert sum(sent) == 20 * sum(sizes)
+    assert all(4_096 - max(sizes) < size <= 4_096 for size in sent[:-1]) and sent[-1] <= 4_096
+
+
+def test_a_case_of_many_commands_goes_alone() -> None:
+    """So each of those that go together fits, however long its numbers are."""
+    longest = "add", MOST_NODES, MOST_NODES, LARGEST
+    assert sum(len(line) + 1 for line in case_lines([longest] * MOST_COMMANDS)) <= 4_096
+    with beside(BUILT) as network:
+        copy = Copy(network._kept.copy(), BUILT)
+        many: list[Any] = [("add", "a", "b", 1)] * MOST_COMMANDS
+        assert copy._commands(many) == [("add", 1, 2, 1)] * MOST_COMMANDS and copy._commands([*many, many[0]]) == []
+        assert swept(network, [many, [*many, many[0]], CLOSED[0]]) == [300 + MOST_COMMANDS, 301 + MOST_COMMANDS, 299]
 
 
 def test_a_function_makes_nothing_again_that_another_case_did() -> None:

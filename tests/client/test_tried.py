@@ -92,8 +92,8 @@ def test_a_bounded_history() -> None:
             network.solve()
         network.flow()
         # Of a change that cannot be undone the command alone is kept.
-        assert [change if isinstance(change, str) else change.command for change in network._kept._changes] == ["solve"] * 51
-        assert [isinstance(change, str) for change in network._kept._changes] == [True] * 49 + [False] * 2
+        assert [change if isinstance(change, tuple) else change.command for change in network._kept._changes] == [("solve",)] * 51
+        assert [isinstance(change, tuple) for change in network._kept._changes] == [True] * 49 + [False] * 2
 
 
 def test_the_session_ends_inside() -> None:

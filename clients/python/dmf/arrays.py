@@ -15,7 +15,8 @@ from typing import Any
 from .arcs import Columns, Node, OpenArcs
 from .errors import NoCapacity, NotAnArc, NumberTooLarge, shown
 from .kept import LARGEST_NODE, columns_of, is_missing, is_unordered, refuse_node, whole
-from .numbering import AMOUNTS, NODES, WholeNodes
+from .lexical import MOST_NODES
+from .numbering import AMOUNTS, NO_NODE, NODES, NUMBERS, WholeNodes
 from .session import Problem
 
 # How many lines of a text are made or read at once, and how many are made without numpy, with an object for each number.
@@ -252,54 +253,77 @@ def _of_numbers(
     np: Any, tail: Any, head: Any, capacity: Any, nodes: Iterable[Node], infinite: int | None
 ) -> tuple[Columns[Node], array[int]]:
     """The columns of arrays of whole numbers."""
-    ends = np.empty(2 * len(tail), np.int64)
     for column in tail, head:
         if column.dtype.kind == "u" and column.size and int(column.max()) >> 63:
             raise NumberTooLarge(f"the node {int(column.max())} of an array: a node that is a number lies below 2^63")
-    ends[0::2], ends[1::2] = tail, head
-    names, places = _numbered(np, ends)
-    known, numbers = _known_nodes(np, list(nodes), names, places)
-    tails, heads, capacities = array(NODES), array(NODES), array(AMOUNTS)
-    tails.frombytes(numbers[0::2].tobytes())
-    heads.frombytes(numbers[1::2].tobytes())
-    capacities.frombytes(_amounts(np, tail, head, capacity, infinite).tobytes())
-    return Columns(known, tails, heads, {}), capacities
+    known, tails, heads = _numbered(np, tail.astype(np.int64, copy=False), head.astype(np.int64, copy=False), nodes)
+    capacities = _column(np, AMOUNTS, _amounts(np, tail, head, capacity, infinite))
+    return Columns(known, _column(np, NODES, tails), _column(np, NODES, heads), {}), capacities
 
 
-def _known_nodes(np: Any, given: list[Any], names: list[int], places: Any) -> tuple[Mapping[Any, int], Any]:
-    """The numbers of the given nodes and then of these names; and an array of such numbers, from places among the names."""
-    if not given and 0 <= min(names, default=0) and max(names, default=0) < LARGEST_NODE * places.size:
-        return WholeNodes.of(names), places.astype(np.uint32)
+def _column(np: Any, kind: str, numbers: Any) -> array[int]:
+    """A column of an array's numbers."""
+    column = array(kind, [0]) * len(numbers)
+    np.frombuffer(column, kind)[...] = numbers
+    return column
+
+
+def _numbered(np: Any, tail: Any, head: Any, nodes: Iterable[Any]) -> tuple[Mapping[Any, int], Any, Any]:
+    """The numbers of the given nodes, and then of the ends of arcs in the order in which they first come, from 1 on; and the arrays of the
+    numbers of the tails and of the heads."""
+    low, high = (min(int(tail.min()), int(head.min())), max(int(tail.max()), int(head.max()))) if tail.size else (0, -1)
+    if isinstance(nodes, range) and nodes == range(len(nodes)) and 0 <= low and high < len(nodes) <= MOST_NODES:
+        return _whole_nodes(np, np.arange(len(nodes))), tail + 1, head + 1
+    names, width = None, high + 1 - low
+    if width > 8 * tail.size:
+        names, places = np.unique(np.concatenate([tail, head]), return_inverse=True)
+        tail, head = np.split(places.reshape(-1), 2)
+        width = names.size
+    elif low:
+        tail, head = tail - low, head - low
+    order = _in_order(np, tail, head, width)
+    known, numbers = _known_nodes(np, list(nodes), order + low if names is None else names[order], LARGEST_NODE * 2 * tail.size)
+    number_of = np.zeros(width, np.uint32)
+    number_of[order] = numbers
+    return known, number_of[tail], number_of[head]
+
+
+def _in_order(np: Any, tail: Any, head: Any, width: int) -> Any:
+    """The different ends of arcs, numbers from 0 on and below the width, in the order in which they first come."""
+    count = tail.size
+    backward = np.arange(count - 1, -1, -1, dtype=np.int64 if count >> 30 else np.int32)
+    places = []
+    for column in tail, head:
+        first = np.full(width, count, backward.dtype)
+        # If several are put at one place, the last counts, which is here the first of the column.
+        first[column[::-1]] = backward
+        places.append(first)
+    is_first = np.zeros(2 * count + 2, bool)
+    is_first[np.minimum(2 * places[0], 2 * places[1] + 1)] = True
+    found = np.flatnonzero(is_first[: 2 * count])
+    return np.where(found & 1, head[found >> 1], tail[found >> 1])
+
+
+def _known_nodes(np: Any, given: list[Any], names: Any, limit: int) -> tuple[Mapping[Any, int], Any]:
+    """The numbers of the given nodes and then of these names; and an array of the numbers of the names. `limit` bounds the whole numbers
+    for which no dictionary is made."""
+    if not given and 0 <= int(names.min(initial=0)) and int(names.max(initial=0)) < limit:
+        return _whole_nodes(np, names), np.arange(1, names.size + 1)
     known: dict[Any, int] = {}
     for node in given:
         known.setdefault(node, len(known) + 1)
-    return known, np.array([0, *(known.setdefault(name, len(known) + 1) for name in names)], np.uint32)[places]
+    return known, np.array([known.setdefault(name, len(known) + 1) for name in names.tolist()], np.uint32)
 
 
-def _numbered(np: Any, ends: Any) -> tuple[list[int], Any]:
-    """The different numbers of an array in the order in which they come first, and for each entry of the array its place among them,
-    from 1 on."""
-    if not ends.size:
-        return [], ends
-    low, width = int(ends.min()), int(ends.max()) - int(ends.min()) + 1
-    if width <= 4 * ends.size:
-        # If several are put at one place, the last counts, which is here the first of the array.
-        first = np.full(width, ends.size)
-        first[ends[::-1] - low] = np.arange(ends.size)[::-1]
-        used = np.flatnonzero(first < ends.size)
-        order = used[np.argsort(first[used])]
-        place = np.zeros(width, np.int64)
-        place[order] = np.arange(1, order.size + 1)
-        return (order + low).tolist(), place[ends - low]
-    names, first, inverse = np.unique(ends, return_index=True, return_inverse=True)
-    order = np.argsort(first)
-    place = np.empty(order.size, np.int64)
-    place[order] = np.arange(1, order.size + 1)
-    return names[order].tolist(), place[inverse.reshape(-1)]
+def _whole_nodes(np: Any, names: Any) -> WholeNodes:
+    """Different whole numbers from 0 on as nodes, in their order."""
+    numbers = np.full(int(names.max(initial=-1)) + 1, NO_NODE, np.int32)
+    numbers[names] = np.arange(1, names.size + 1)
+    return WholeNodes(_column(np, NODES, names), _column(np, NUMBERS, numbers))
 
 
 def _amounts(np: Any, tail: Any, head: Any, capacity: Any, infinite: int | None) -> Any:
-    """An array of capacities in 64 bits without a sign. The first that is none is told with its arc."""
+    """An array of capacities, whole numbers from 0 on. The first that is none is told with its arc."""
     if capacity.dtype.kind == "f":
         missing = np.isnan(capacity) | (capacity == np.inf)
         if infinite is not None and missing.any():
@@ -309,6 +333,8 @@ def _amounts(np: Any, tail: Any, head: Any, capacity: Any, infinite: int | None)
             amounts[missing] = infinite
             return amounts
         wrong = ~np.isfinite(capacity) | (capacity != np.floor(capacity)) | (capacity < 0) | (capacity >= 2.0**64)
+    elif capacity.dtype.kind == "u" or int(capacity.min(initial=0)) >= 0:
+        return capacity
     else:
         wrong = capacity < 0
     if wrong.any():

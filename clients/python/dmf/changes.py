@@ -7,6 +7,7 @@ from typing import Any
 
 from .arcs import Arc
 from .errors import HistoryOutOfRange, NothingToRedo, NothingToUndo
+from .session import Command
 
 
 class Change:
@@ -16,7 +17,7 @@ class Change:
     __slots__ = "command", "capacities", "added"
 
     def __init__(
-        self, command: str, capacities: Sequence[tuple[int, int | None, int | None]] = (), added: tuple[Arc[Any], int, int | None] | None = None
+        self, command: Command, capacities: Sequence[tuple[int, int | None, int | None]] = (), added: tuple[Arc[Any], int, int | None] | None = None
     ) -> None:
         self.command = command
         self.capacities = capacities
@@ -42,7 +43,7 @@ class _Back:
     __slots__ = "now", "made", "unmade", "dropped"
 
     def __init__(
-        self, now: _Now, made: Sequence[Change] = (), unmade: Sequence[Change] = (), dropped: Sequence[Change | str] | None = None
+        self, now: _Now, made: Sequence[Change] = (), unmade: Sequence[Change] = (), dropped: Sequence[Change | Command] | None = None
     ) -> None:
         self.now = now
         self.made = made
@@ -59,7 +60,7 @@ class Changes:
         self.most = most
         # How many changes may not be undone now.
         self.floor: int | None = None
-        self._changes: list[Change | str] = []
+        self._changes: list[Change | Command] = []
         self._now = _Now()
 
     @property
@@ -72,18 +73,18 @@ class Changes:
         """The value of the present flow."""
         return self._now.value
 
-    def commands(self) -> list[str]:
+    def commands(self) -> list[Command]:
         """The commands that lead from the first state to the present one, by way of all that was undone."""
-        commands = [change if isinstance(change, str) else change.command for change in self._changes]
+        commands = [change.command if isinstance(change, Change) else change for change in self._changes]
         undone = len(commands) - self.place
-        return [*commands, f"undo {undone}"] if undone else commands
+        return [*commands, ("undo", undone)] if undone else commands
 
     def begin_call(self) -> None:
         """Takes the present state as that to which `roll_back` leads, and forgets what the change past the bound did."""
         place = self._now.place
         if self._now.back is not None:
             self._now = _Now(place, self._now.value)
-        oldest = self._changes[place - self.most - 1] if place > self.most else ""
+        oldest = self._changes[place - self.most - 1] if place > self.most else None
         if isinstance(oldest, Change):
             self._changes[place - self.most - 1] = oldest.command
 

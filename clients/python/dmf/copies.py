@@ -5,16 +5,16 @@ from __future__ import annotations
 import threading
 import time
 from collections.abc import Callable
-from dataclasses import dataclass
 from itertools import takewhile
-from typing import Any, Tuple, Union
+from typing import Any, NamedTuple, Tuple, Union
 
 from .arcs import Arc
 from .errors import Error, NoProgram, SessionEnded
 from .kept import Kept, whole
 from .network import Network
 from .lexical import LARGEST, MOST_ARCS
-from .session import MOST_TEXT, Way, case_lines
+from .session import MOST_COMMANDS, Way
+from .session import Command as Numbered
 
 # A command of a case: ("cap", arc, capacity), ("close", arc), ("open", arc), ("shut", node) or ("add", tail, head, capacity).
 Command = Tuple[Any, ...]
@@ -24,8 +24,7 @@ Plain = Union["list[Command]", Callable[[Network[Any]], object]]
 TRIES = 2
 
 
-@dataclass(frozen=True)
-class Answer:
+class Answer(NamedTuple):
     """What a copy tells of a case: its value and the arcs of its cut, by their numbers or, where they were added, as they are."""
 
     value: int = 0
@@ -55,7 +54,7 @@ def _try(network: Network[Any], case: Plain, want_cut: bool) -> Answer:
         return Answer(value, tuple(arc.number if arc.number <= known else arc for arc in network.cut().arcs))
 
 
-def _try_together(network: Network[Any], cases: list[list[str]], answers: list[Answer]) -> None:
+def _try_together(network: Network[Any], cases: list[list[Numbered]], answers: list[Answer]) -> None:
     """Tries cases at once, and adds what comes of each. Raises `SessionEnded` if one is refused."""
     values: list[int] = []
     try:
@@ -86,7 +85,9 @@ class Copy:
         it ends at one of these, tries that once more."""
         answers: list[Answer] = []
         while len(answers) < len(cases):
-            together = [] if want_cut else self._together(cases[len(answers) :])
+            together: list[list[Numbered]] = []
+            if not want_cut:
+                together.extend(takewhile(bool, map(self._commands, cases[len(answers) :])))
             tries = TRIES
             if len(together) > 1:
                 try:
@@ -115,35 +116,29 @@ class Copy:
                 return Answer(refusal=error)
         raise AssertionError
 
-    def _together(self, cases: list[Plain | Error]) -> list[list[str]]:
-        """The commands of the first cases, as many as may go together."""
-        found, size = [], 0
-        for commands in takewhile(lambda it: it is not None, map(self._commands, cases)):
-            assert commands is not None
-            size += sum(len(line) + 1 for line in case_lines(commands))
-            if size > MOST_TEXT:
-                break
-            found.append(commands)
-        return found
-
-    def _commands(self, case: Plain | Error) -> list[str] | None:
-        """The commands of a case that a session can refuse for want of memory alone, and nothing for another case."""
-        if isinstance(case, Error) or callable(case):
-            return None
+    def _commands(self, case: Plain | Error) -> list[Numbered]:
+        """The commands of a case that a session can refuse for want of memory alone, and none for another case."""
+        if not isinstance(case, list) or len(case) > MOST_COMMANDS:
+            return []
+        changed: set[int] = set()
+        amount = added = 0
         try:
-            commands = [self._in_numbers(*command) for command in case]
+            commands = [command if command[0] == "close" else self._in_numbers(*command) for command in case]
         except Error:
-            return None
-        words = [word for word, *_ in commands]
-        amount = sum(command[-1] for command in commands if command[0] in ("cap", "add"))
-        changed = [command[1] for command in commands if command[0] in ("cap", "close")]
-        is_known = "open" not in words and ("shut" not in words or len(words) == 1)
-        is_open = len(set(changed)) == len(changed) and self._kept.closed.isdisjoint(changed)
-        if not (is_known and is_open and amount <= self._room and self._kept.arc_count + words.count("add") <= MOST_ARCS):
-            return None
-        return [" ".join(map(str, command)) for command in commands]
+            return []
+        for word, number, *rest in commands:
+            if word in ("close", "cap"):
+                if number in changed or number in self._kept.closed:
+                    return []
+                changed.add(number)
+            elif word != "add" and (word != "shut" or len(commands) > 1):
+                return []
+            else:
+                added += word == "add"
+            amount += rest[-1] if rest else 0
+        return commands if amount <= self._room and self._kept.arc_count + added <= MOST_ARCS else []
 
-    def _in_numbers(self, word: str, *rest: Any) -> tuple[Any, ...]:
+    def _in_numbers(self, word: str, *rest: Any) -> Numbered:
         """A command with its nodes by number, too. Raises a `Refused` if something in it is no node or no capacity."""
         if word == "add":
             tail, head, capacity = rest

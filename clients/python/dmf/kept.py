@@ -15,6 +15,7 @@ from .changes import Change, Changes
 from .errors import ArcIsClosed, CountOutOfRange, NoSuchArc, NotAnArc, NotANumber, NumberTooLarge, shown
 from .lexical import LARGEST, MOST_NODES
 from .numbering import AMOUNTS, NODES, WholeNodes
+from .session import Command
 
 if TYPE_CHECKING:
     from .tables.comments import Described
@@ -248,9 +249,9 @@ class Kept(Changes, Generic[Node]):
             capacities[number - 1] = 0
         return capacities
 
-    def commands(self) -> list[str]:
+    def commands(self) -> list[Command]:
         """The commands that lead from the problem of the first capacities to the present state."""
-        return [f"close {number}" for number in sorted(self._first_closed)] + super().commands()
+        return [*(("close", number) for number in sorted(self._first_closed)), *super().commands()]
 
     def opened(self) -> OpenArcs[Node]:
         """The open arcs as they are now."""
@@ -312,7 +313,7 @@ class Kept(Changes, Generic[Node]):
             raise ArcIsClosed(repr(arc))
         return self.capacities[arc.number - 1]
 
-    def note_capacities(self, command: str, arcs: Iterable[Arc[Node]], after: int | None, value: int) -> None:
+    def note_capacities(self, command: Command, arcs: Iterable[Arc[Node]], after: int | None, value: int) -> None:
         """Notes a change that gave these open arcs this capacity, or closed them. The flow has this value then."""
         self.note(Change(command, [(arc.number, self.capacities[arc.number - 1], after) for arc in arcs]), value)
 
@@ -326,7 +327,8 @@ class Kept(Changes, Generic[Node]):
             self.capacities[arc.number - 1 :] = array(AMOUNTS, [capacity])
             if self._added_index is not None:
                 self._added_index.put(arc)
-        self._put((number, after) for number, _, after in change.capacities)
+        for number, _, after in change.capacities:
+            self._put(number, after)
         self._opened = None
 
     def _unmake(self, change: Change) -> None:
@@ -334,7 +336,8 @@ class Kept(Changes, Generic[Node]):
             number = change.added[0].number
             self._drop_added(number - len(self.columns) - 1)
             del self.capacities[number - 1 :]
-        self._put((number, before) for number, before, _ in change.capacities)
+        for number, before, _ in change.capacities:
+            self._put(number, before)
         self._opened = None
 
     def _drop_added(self, place: int) -> None:
@@ -344,20 +347,20 @@ class Kept(Changes, Generic[Node]):
                 self._added_index.drop(arc)
         del self.added[place:], self.replaced[place:]
 
-    def _put(self, capacities: Iterable[tuple[int, int | None]]) -> None:
-        for number, capacity in capacities:
-            if capacity is None:
-                self.closed.add(number)
-                continue
-            self.closed.discard(number)
-            if number > len(self.capacities):
-                # A call was broken off before the arc was added.
-                continue
-            if number <= self.first_count:
-                self._first.setdefault(number, self.capacities[number - 1])
-            self.capacities[number - 1] = capacity
-            if self._first.get(number) == capacity:
-                del self._first[number]
+    def _put(self, number: int, capacity: int | None) -> None:
+        """Gives an arc a capacity, or closes it."""
+        if capacity is None:
+            self.closed.add(number)
+            return
+        self.closed.discard(number)
+        # Where a call was broken off before the arc was added, it has none.
+        if number > len(self.capacities) or self.capacities[number - 1] == capacity:
+            return
+        if number <= self.first_count:
+            self._first.setdefault(number, self.capacities[number - 1])
+        self.capacities[number - 1] = capacity
+        if self._first.get(number) == capacity:
+            del self._first[number]
 
     def roll_back(self) -> None:
         """Goes back to the state before the present call, whatever of the call was done."""

@@ -17,11 +17,14 @@ from .arrays import problem_pieces
 from .errors import NoProgram, Refused
 from .lexical import display
 from .numbering import AMOUNTS
-from .session import Problem, Session, judged, refused, refused_line
+from .session import Command, Problem, Session, judged, line_of, refused, refused_line
 
-# The largest network whose calls run in the thread of their caller, in arcs. There Ctrl-C waits for the call to end, which takes
-# milliseconds. The calls of a larger one run in a thread beside, which Ctrl-C leaves alone.
-MOST_AT_ONCE = 20_000
+# The largest network of which all calls run in the thread of their caller, in arcs. There Ctrl-C waits for the call to end, which takes
+# milliseconds. The calls of a larger one run in a thread beside, which Ctrl-C leaves alone, but for steps over so many states at most,
+# each of which looks at each arc a few times at most.
+MOST_AT_ONCE, MOST_STEPS = 20_000, 4
+# How many threads that run calls are kept for later ones.
+MOST_THREADS = 8
 OK, NO_MEMORY, NOT_GREATEST, BAD_LENGTH, BAD_TEXT = 0, 1, 9, 10, 12
 # The reasons of a session, by their numbers in dmf.h, in the program's words.
 REASONS = {
@@ -58,6 +61,7 @@ FAULTS = (
 )
 # The calls by which a session takes a command, by its word, with how many numbers follow that.
 COMMANDS = {"cap": 2, "add": 3, "close": 1, "shut": 1, "solve": 0, "undo": 1, "redo": 1}
+STEPS = "undo", "redo"
 _POINTER, _WORD, _LONG, _SIZE = ctypes.c_void_p, ctypes.c_uint32, ctypes.c_uint64, ctypes.c_size_t
 Given = TypeVar("Given")
 
@@ -145,12 +149,59 @@ def _free(free: Callable[[int], int], address: int, owner: int) -> None:
         free(address)
 
 
-class _Job(Generic[Given]):
-    """Calls at a session in a thread of their own, for a thread that waits for what they give, and may cease to wait."""
+class _Threads:
+    """The threads that run calls beside those of their callers. Each takes one call after another."""
 
-    def __init__(self, work: Callable[[_Held], Given], held: _Held) -> None:
+    def __init__(self) -> None:
+        # Only large networks need it.
+        from queue import SimpleQueue
+
+        self._jobs: SimpleQueue[_Job[Any]] = SimpleQueue()
+        # One entry for each thread that waits for a job, or is about to. Ctrl-C may leave one too few, and then one thread more begins.
+        self._waiting: list[None] = []
+
+    def begin(self, job: _Job[Any]) -> None:
+        """Begins a job at once."""
+        if not self._take_one():
+            _thread.start_new_thread(self._run, ())
+        self._jobs.put(job)
+
+    def _take_one(self) -> bool:
+        """Takes a thread that waits out of those. Returns whether there was one."""
+        try:
+            self._waiting.pop()
+        except IndexError:
+            return False
+        return True
+
+    def _run(self) -> None:
+        is_kept = True
+        while is_kept:
+            job = self._jobs.get()
+            job.run()
+            self._waiting.append(None)
+            job.leave()
+            # Nothing of it is held while the thread waits.
+            del job
+            is_kept = len(self._waiting) <= MOST_THREADS or not self._take_one()
+
+
+@functools.cache
+def _threads() -> _Threads:
+    return _Threads()
+
+
+# A process that was forked off has none of them.
+os.register_at_fork(after_in_child=_threads.cache_clear)
+
+
+class _Job(Generic[Given]):
+    """Calls at a session in a thread beside that of their caller, which waits for what they give, and may cease to wait."""
+
+    def __init__(self, work: Callable[..., Given], held: _Held, words: tuple[Any, ...]) -> None:
         self._work = work
         self._held = held
+        self._words = words
         self._given: list[Given] = []
         self._error: BaseException | None = None
         # Who waits for this lock waits for the work.
@@ -159,7 +210,7 @@ class _Job(Generic[Given]):
 
     def wait(self) -> None:
         """Begins the work, and waits until it is done, or until `leave` is called. Ctrl-C breaks off the waiting alone."""
-        _thread.start_new_thread(self._run, ())
+        _threads().begin(self)
         self._is_going_on.acquire()
 
     def leave(self) -> None:
@@ -167,12 +218,12 @@ class _Job(Generic[Given]):
         with contextlib.suppress(RuntimeError):
             self._is_going_on.release()
 
-    def _run(self) -> None:
+    def run(self) -> None:
+        """Does the work."""
         try:
-            self._given.append(self._work(self._held))
+            self._given.append(self._work(self._held, *self._words))
         except BaseException as error:
             self._error = error
-        self.leave()
 
     def given(self) -> Given:
         """What the work gave. Raises what it raised."""
@@ -209,8 +260,8 @@ class InProcess(Session):
             self.why_ended = why
             self.end()
 
-    def _do(self, work: Callable[[_Held], Given]) -> Given:
-        """What calls at the session's address give."""
+    def _do(self, work: Callable[..., Given], *words: Any, is_short: bool = False) -> Given:
+        """What calls at the session's address give. `is_short` says that they end soon, however large the network is."""
         if self._why_broken:
             self.kill(self._why_broken)
         held = next(iter(self._held), None)
@@ -218,7 +269,8 @@ class InProcess(Session):
             raise self.ended()
         self.asked_count += 1
         try:
-            given = work(held) if self._arc_count <= MOST_AT_ONCE else self._do_beside(work, held)
+            is_beside = self._arc_count > MOST_AT_ONCE and not is_short
+            given = self._do_beside(work, held, words) if is_beside else work(held, *words)
         except ValueError as error:
             self.kill("the session was ended, since what dmf answered was not understood")
             raise self.ended() from error
@@ -229,8 +281,8 @@ class InProcess(Session):
             raise self.ended()
         return given
 
-    def _do_beside(self, work: Callable[[_Held], Given], held: _Held) -> Given:
-        job = _Job(work, held)
+    def _do_beside(self, work: Callable[..., Given], held: _Held, words: tuple[Any, ...]) -> Given:
+        job = _Job(work, held, words)
         self._job = job
         try:
             if not self._why_broken:
@@ -242,40 +294,37 @@ class InProcess(Session):
         finally:
             self._job = None
 
-    def _taken(self, held: _Held, command: str) -> int:
-        """The status with which the library answers a command."""
-        word, *numbers = command.split()
-        return self._library.commands[word](held.address, *map(int, numbers))
-
-    def _carried_out(self, held: _Held, command: str, at: object = None) -> int:
-        status = self._taken(held, command)
+    def _carried_out(self, held: _Held, command: Command, at: object = None) -> int:
+        word, *numbers = command
+        status = self._library.commands[word](held.address, *numbers)
         if status != OK:
-            raise refused(REASONS[status], command, at)
+            raise refused(REASONS[status], line_of(command), at)
         return self._library.value(held.address)
 
-    def step(self, command: str, at: object = None) -> int:
-        return self._do(lambda held: self._carried_out(held, command, at))
+    def step(self, command: Command, at: object = None) -> int:
+        is_short = command[0] in STEPS and command[1] <= MOST_STEPS
+        return self._do(self._carried_out, command, at, is_short=is_short)
 
-    def carry_out(self, commands: Sequence[str]) -> int:
-        def work(held: _Held) -> int:
-            value = 0
-            for command in commands:
-                if self._why_broken:
-                    break
-                try:
-                    value = self._carried_out(held, command)
-                except Refused as error:
-                    self._why_broken = f"the session could not begin anew: `{command}` was refused: {error.text}"
-            return value
+    def carry_out(self, commands: Sequence[Command]) -> int:
+        return self._do(self._carried_on, commands) if commands else 0
 
-        return self._do(work) if commands else 0
+    def _carried_on(self, held: _Held, commands: Sequence[Command]) -> int:
+        value = 0
+        for command in commands:
+            if self._why_broken:
+                break
+            try:
+                value = self._carried_out(held, command)
+            except Refused as error:
+                self._why_broken = f"the session could not begin anew: `{line_of(command)}` was refused: {error.text}"
+        return value
 
     def flows(self, value: int, open_count: int) -> array[int]:
-        return self._do(lambda held: self._flows(held, value))
+        return self._do(self._flows, value, is_short=True)
 
     def _flows(self, held: _Held, value: int) -> array[int]:
         judged(self._library.value(held.address), value)
-        flows = array(AMOUNTS, bytes(8 * self._library.arcs(held.address)))
+        flows = array(AMOUNTS, [0]) * self._library.arcs(held.address)
         judged(self._library.flows(held.address, _place(flows), len(flows)), OK)
         return flows
 
@@ -304,24 +353,23 @@ class InProcess(Session):
                 raise refused(REASONS[status], "print problem", None)
             text = array("B", bytes(length.value))
 
-    def try_cases(self, cases: Sequence[Sequence[str]], value: int, found: list[int]) -> None:
-        def work(held: _Held) -> None:
-            for commands in cases:
-                if self._why_broken:
-                    return
-                found.append(self._tried(held, commands, value))
+    def try_cases(self, cases: Sequence[Sequence[Command]], value: int, found: list[int]) -> None:
+        self._do(self._tried, cases, value, found)
 
-        self._do(work)
-
-    def _tried(self, held: _Held, commands: Sequence[str], value: int) -> int:
-        """The value of a case. Raises a ValueError if something in it is refused."""
-        for command in commands:
-            judged(self._taken(held, command), OK)
-        judged(self._library.commands["solve"](held.address), OK)
-        solved = self._library.value(held.address)
-        judged(self._library.commands["undo"](held.address, len(commands) + 1), OK)
-        judged(self._library.value(held.address), value)
-        return solved
+    def _tried(self, held: _Held, cases: Sequence[Sequence[Command]], value: int, found: list[int]) -> None:
+        """Raises a ValueError if something in a case is refused."""
+        address, calls, value_of = held.address, self._library.commands, self._library.value
+        solve, undo = calls["solve"], calls["undo"]
+        for commands in cases:
+            if self._why_broken:
+                return
+            for word, *numbers in commands:
+                judged(calls[word](address, *numbers), OK)
+            judged(solve(address), OK)
+            solved = value_of(address)
+            judged(undo(address, len(commands) + 1), OK)
+            judged(value_of(address), value)
+            found.append(solved)
 
 
 def _place(column: array[int]) -> int:

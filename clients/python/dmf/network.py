@@ -21,6 +21,7 @@ from .ways import chosen, started
 
 # An arc as the caller gives it: its tail, its head, its capacity and, if it has one, its key.
 Row = Union[Tuple[Node, Node, Whole], Tuple[Node, Node, Whole, Hashable]]
+SOLVE = ("solve",)
 
 
 class Network(Showing[Node]):
@@ -182,7 +183,7 @@ class Network(Showing[Node]):
         Raises `ArcIsClosed`, `CapacitiesPast64Bits`, `NotANumber`, `NumberTooLarge`, and what `arc` raises."""
         found = self._kept.arc(arc)
         room = self._whole(capacity, found)
-        command = f"cap {found.number} {room}"
+        command = "cap", found.number, room
         value = self._changed(command, found)
         self._kept.note_capacities(command, [found], room, value)
         return value
@@ -192,7 +193,7 @@ class Network(Showing[Node]):
         """Closes an arc: it carries nothing any more, and only `undo` opens it again; `open` adds another one in its place. Returns
         the value of the remaining flow. Raises `ArcIsClosed`, and what `arc` raises."""
         found = self._kept.arc(arc)
-        command = f"close {found.number}"
+        command = "close", found.number
         value = self._changed(command, found)
         self._kept.note_capacities(command, [found], None, value)
         return value
@@ -200,7 +201,7 @@ class Network(Showing[Node]):
     @alone
     def shut(self, node: Node) -> int:
         """Closes every open arc at a node, as one change. Returns the value of the remaining flow. Raises `NoSuchNode`."""
-        command = f"shut {self._kept.number(node)}"
+        command = "shut", self._kept.number(node)
         value = self._changed(command, node)
         self._kept.note_capacities(command, self._kept.at(node), None, value)
         return value
@@ -234,7 +235,7 @@ class Network(Showing[Node]):
         return self._add(found.tail, found.head, self._kept.capacities[found.number - 1], found.given_key, found.number)
 
     def _add(self, tail: Node, head: Node, room: int, key: Hashable, replaced: int | None) -> Arc[Node]:
-        command = f"add {self._kept.columns.outlet(tail)} {self._kept.number(head)} {room}"
+        command = "add", self._kept.columns.outlet(tail), self._kept.number(head), room
         value = self._changed(command, (tail, head))
         arc = Arc(self._kept.arc_count + 1, tail, head, key, weakref.ref(self))
         self._kept.note(Change(command, added=(arc, room, replaced)), value)
@@ -243,7 +244,7 @@ class Network(Showing[Node]):
     @alone
     def solve(self) -> Solution[Node]:
         """Makes the flow a maximum flow, going on from the present flow, and returns it. That is a change, which `undo` reverts."""
-        self._kept.note(Change("solve"), self._changed("solve"))
+        self._kept.note(Change(SOLVE), self._changed(SOLVE))
         return Solution(self._flows())
 
     def undo(self, count: int = 1) -> int:
@@ -261,7 +262,7 @@ class Network(Showing[Node]):
         steps in what is kept, to a flow of a value."""
         steps = whole(count, word)
         judge(steps)
-        value = self._stepped(f"{word} {steps}")
+        value = self._stepped((word, steps))
         follow(steps, value)
         return value
 

@@ -10,19 +10,18 @@ from typing import Any
 
 # The types of the columns: numbers of nodes, and capacities and flows.
 NODES, AMOUNTS = "I", "Q"
-# The number that stands for no node: no column of nodes accepts it.
-NO_NODE = -1
+# The type of a column whose entry may be the number that stands for no node, which no column of nodes accepts.
+NUMBERS, NO_NODE = "i", -1
 
 
 class WholeNodes(Mapping[Any, int]):
     """Nodes that are whole numbers from 0 on, each with its number: from 1 on, in the order in which they came. It works as a
     dictionary does, in a tenth of the memory and time."""
 
-    def __init__(self) -> None:
-        # The nodes in the order of their numbers.
-        self.names = array(NODES)
-        # The number of each node, at the place that is the node.
-        self._numbers = array("i")
+    def __init__(self, names: array[int] | None = None, numbers: array[int] | None = None) -> None:
+        """`names` are the nodes in the order of their numbers, and `numbers` has the number of each node at the place that is the node."""
+        self.names = array(NODES) if names is None else names
+        self._numbers = array(NUMBERS) if numbers is None else numbers
 
     @classmethod
     def of(cls, names: list[int]) -> WholeNodes:
@@ -56,7 +55,7 @@ class WholeNodes(Mapping[Any, int]):
         """Makes room for nodes up to this one, and for as many again, so that it is seldom called."""
         room = len(self._numbers)
         if highest >= room:
-            self._numbers.extend(array("i", [NO_NODE]) * (max(highest + 1, 2 * room) - room))
+            self._numbers.extend(array(NUMBERS, [NO_NODE]) * (max(highest + 1, 2 * room) - room))
 
     @functools.cached_property
     def _dictionary(self) -> dict[Any, int]:

@@ -15,7 +15,6 @@ from .kept import Kept, Whole, columns_of, whole
 from .running import Running
 from .scratch import scratch
 from .session import PROGRAM, FilePath, Program, Told, where
-from .sources import rows_of_graph
 from .ways import chosen, problem_of
 
 if TYPE_CHECKING:
@@ -136,7 +135,7 @@ def _given(graph: Any, source: Hashable, sink: Hashable, capacity: str, infinite
         entries = graph.tocoo()
         columns = columns_of_arrays(entries.row, entries.col, entries.data, None, range(max(graph.shape)), infinite)
     elif isinstance(graph, Mapping) or _is_graph(graph):
-        rows = rows_of_graph(graph, capacity, may_lack=True) if _is_graph(graph) else _rows_of_dictionaries(graph, capacity)
+        rows = _rows_of_graph(graph, capacity) if _is_graph(graph) else _rows_of_dictionaries(graph, capacity)
         rows, unbounded = _filled(rows, infinite)
         columns = columns_of(rows, graph)
     elif hasattr(graph, "columns"):
@@ -150,6 +149,13 @@ def _given(graph: Any, source: Hashable, sink: Hashable, capacity: str, infinite
         rows = graph if infinite is None else (arrays.with_infinite(tuple(row), whole(infinite, "infinite")) for row in graph)
         columns = columns_of(rows, ())
     return _Given(Kept(*columns, source, sink, 0), unbounded)
+
+
+def _rows_of_graph(graph: Any, capacity: str) -> list[tuple[Any, ...]]:
+    # It takes as long as all else together, and only graphs of networkx need it.
+    from .sources import rows_of_graph
+
+    return rows_of_graph(graph, capacity, may_lack=True)
 
 
 def _rows_of_dictionaries(graph: Mapping[Any, Mapping[Any, Any]], capacity: str) -> list[tuple[Any, ...]]:
@@ -191,7 +197,7 @@ def _solved(given: _Given, words: list[str], program: Program) -> _Solved:
 def _by_library(given: _Given, words: list[str], library: Library) -> _Solved:
     session = library.begin(problem_of(given.kept), 0)
     try:
-        value = session.step("solve")
+        value = session.step(("solve",))
         if words == CUT:
             return _Solved(value, side=session.cut()[1])
         return _Solved(value, session.flows(value, len(given.kept.columns)) if words == FLOW else b"")

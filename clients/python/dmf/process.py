@@ -6,14 +6,16 @@ import contextlib
 import os
 import re
 import subprocess
-from collections.abc import Iterator, Sequence
+from collections.abc import Iterable, Iterator, Sequence
+from itertools import chain
 from typing import IO, Any
 
 from . import executable
 from .errors import Error, Refused, SessionEnded
 from .lexical import display
 from .scratch import passed_on, scratch
-from .session import MOST_KEPT, MOST_TEXT, FilePath, Session, case_lines, judged, refused, refused_line
+from .session import MOST_KEPT, MOST_TEXT, Command, FilePath, Session, case_lines, judged, line_of, refused, refused_line
+
 # How long the program may take to end after its input has ended, in seconds.
 SECONDS = 2
 # How much of the program's standard error is shown, in bytes.
@@ -82,28 +84,25 @@ class Child(Session):
     def is_full_after(self, most: int) -> bool:
         return self.asked_count > most
 
-    def step(self, command: str, at: object = None) -> int:
-        with self.exchange(command):
-            return int(_begun(self.line(), command, [b"c", command.split()[0].encode()], at)[-1])
+    def step(self, command: Command, at: object = None) -> int:
+        line = line_of(command)
+        with self.exchange(line):
+            return int(_begun(self.line(), line, [b"c", command[0].encode()], at)[-1])
 
-    def carry_out(self, commands: Sequence[str]) -> int:
+    def carry_out(self, commands: Sequence[Command]) -> int:
         """Sends some at once."""
-        value = begin = 0
-        while begin < len(commands):
-            end, size = begin, 0
-            while end < len(commands) and size + len(commands[end]) < MOST_TEXT:
-                size += len(commands[end]) + 1
-                end += 1
-            with self.exchange("\n".join(commands[begin:end])):
-                for command, reply in zip(commands[begin:end], self.lines(end - begin).splitlines()):
+        value = 0
+        for piece in _pieces([line_of(command)] for command in commands):
+            lines = list(chain.from_iterable(piece))
+            with self.exchange("\n".join(lines)):
+                for line, reply in zip(lines, self.lines(len(lines)).splitlines()):
                     fields = reply.split()
                     if fields[:2] == [b"c", b"refused"]:
-                        self.kill(f"the session could not begin anew: `{command}` was refused: {display(b' '.join(fields[3:]).decode())}")
+                        self.kill(f"the session could not begin anew: `{line}` was refused: {display(b' '.join(fields[3:]).decode())}")
                         raise self.ended()
-                    if fields[:2] != [b"c", command.split()[0].encode()]:
+                    if fields[:2] != [b"c", line.split()[0].encode()]:
                         raise ValueError
                     value = int(fields[-1])
-            begin = end
         return value
 
     def flows(self, value: int, open_count: int) -> bytes:
@@ -129,17 +128,17 @@ class Child(Session):
             fields = _begun(begin.split(), "print problem", [b"p"])
             return begin + self.lines(int(fields[3]) + 2)
 
-    def try_cases(self, cases: Sequence[Sequence[str]], value: int, found: list[int]) -> None:
-        """Sends all at once, so that the program need not wait for the next one."""
-        lines = list(map(case_lines, cases))
-        with self.exchange("\n".join("\n".join(case) for case in lines)):
-            for case in lines:
-                *changed, solved, undone = (line.split() for line in self.lines(len(case)).splitlines())
-                if any(fields[1] == b"refused" for fields in changed) or solved[:3] != [b"c", b"solve", b"value"]:
-                    raise ValueError
-                if undone != [b"c", b"undo", b"value", b"%d" % value]:
-                    raise ValueError
-                found.append(int(solved[3]))
+    def try_cases(self, cases: Sequence[Sequence[Command]], value: int, found: list[int]) -> None:
+        """Sends many at once, so that the program need not wait for the next one."""
+        for piece in _pieces(map(case_lines, cases)):
+            with self.exchange("\n".join(chain.from_iterable(piece))):
+                for case in piece:
+                    *changed, solved, undone = (line.split() for line in self.lines(len(case)).splitlines())
+                    if any(fields[1] == b"refused" for fields in changed) or solved[:3] != [b"c", b"solve", b"value"]:
+                        raise ValueError
+                    if undone != [b"c", b"undo", b"value", b"%d" % value]:
+                        raise ValueError
+                    found.append(int(solved[3]))
 
     def line(self) -> list[bytes]:
         """The fields of the next line of the answer. Raises an EOFError if none comes."""
@@ -216,6 +215,21 @@ class Child(Session):
             self.process.kill()
             self.process.wait()
             return None
+
+
+def _pieces(groups: Iterable[list[str]]) -> Iterator[list[list[str]]]:
+    """Groups of lines, as many together as are sent at once."""
+    piece: list[list[str]] = []
+    size = 0
+    for lines in groups:
+        length = sum(map(len, lines)) + len(lines)
+        if piece and size + length > MOST_TEXT:
+            yield piece
+            piece, size = [], 0
+        piece.append(lines)
+        size += length
+    if piece:
+        yield piece
 
 
 def _shown(told: str) -> str:

@@ -3,9 +3,10 @@
 from __future__ import annotations
 
 import functools
+import os
 import sys
-import threading
 import weakref
+from _thread import get_ident
 from array import array
 from collections.abc import Callable, Sequence
 from types import CodeType, FrameType
@@ -14,7 +15,7 @@ from typing import TYPE_CHECKING, Any, Generic, TypeVar, cast
 from .arcs import Arc, Node, Owner
 from .errors import Error, NoSuchArc, SessionEnded, UsedByTwoProcesses, UsedByTwoThreads
 from .kept import Kept, whole
-from .session import Session, Told
+from .session import Command, Session, Told
 from .solution import Flows, Solution
 from .ways import started
 
@@ -35,9 +36,9 @@ def alone(method: Method) -> Method:
 
     @functools.wraps(method)
     def called(self: Running[Any], *words: Any, **named: Any) -> Any:
-        if not self._session.is_owned:
+        if self._session.owner != os.getpid():
             raise UsedByTwoProcesses("used by two processes at once: a process that was forked off needs a network of its own")
-        user = [threading.get_ident()]
+        user = [get_ident()]
         if self._taken.setdefault(0, user) is not user:
             self._judge_use(called.__code__)
         try:
@@ -98,7 +99,7 @@ class Running(Generic[Node]):
         """Raises `UsedByTwoThreads`, unless this thread has the session and is in no call: before Python 3.11 an error may come just when a
         call begins or ends, and it does not give the session back."""
         frame: FrameType | None = sys._getframe(2)
-        is_in_call = self._taken.get(0) != [threading.get_ident()]
+        is_in_call = self._taken.get(0) != [get_ident()]
         while frame and not is_in_call:
             is_in_call = frame.f_code is call and frame.f_locals.get("self") is self
             frame = frame.f_back
@@ -111,7 +112,7 @@ class Running(Generic[Node]):
         """Raises what each call raises where the session cannot be asked."""
 
     @alone
-    def _try_cases(self, cases: Sequence[Sequence[str]], found: list[int]) -> None:
+    def _try_cases(self, cases: Sequence[Sequence[Command]], found: list[int]) -> None:
         """Carries out cases, each of commands, and adds the greatest value of each to what is found. The network is as it was then."""
         self._session.try_cases(cases, self._kept.value, found)
 
@@ -173,17 +174,17 @@ class Running(Generic[Node]):
         """Whether the session is there, in the state that is kept."""
         return self._session.end.alive and not self._is_broken
 
-    def _stepped(self, line: str, at: object = None) -> int:
+    def _stepped(self, command: Command, at: object = None) -> int:
         """The value in the reply to a command that changes the network. Reads the flows that somebody has before the change."""
         self._part()
-        value = self._session.step(line, at)
+        value = self._session.step(command, at)
         self._present = self._told = None
         return value
 
-    def _changed(self, line: str, at: object = None) -> int:
+    def _changed(self, command: Command, at: object = None) -> int:
         """As `_stepped`, for a new change."""
         self._kept.judge_change()
-        return self._stepped(line, at)
+        return self._stepped(command, at)
 
     def _asked_flow(self) -> Told:
         """The present flow: its text, or the flow on each open arc."""

@@ -7,7 +7,7 @@ import os
 import weakref
 from array import array
 from collections.abc import Callable, Sequence
-from typing import TYPE_CHECKING, NamedTuple, Optional, Union
+from typing import TYPE_CHECKING, Any, NamedTuple, Optional, Tuple, Union
 
 from .errors import HistoryOutOfRange, Refused, SessionEnded, shown
 
@@ -21,9 +21,13 @@ MOST_KEPT = 1_000_000
 # How much text is sent to a program at once, in bytes: every pipe has room for it, so that the program never waits for a reader of its
 # replies while it has lines to take.
 MOST_TEXT = 4_096
+# How many commands of a case go with those of other cases: their lines, of at most 42 bytes each, are no longer than that.
+MOST_COMMANDS = 90
 # What runs a session: a program, by its path, or the library.
 Way = Union[FilePath, "Library"]
 PROGRAM = str, bytes, os.PathLike
+# A command of a session: its word and its numbers, as ("cap", 3, 5).
+Command = Tuple[Any, ...]
 # The flow on each arc: the text of the open arcs, as the program writes it, or an array of all arcs, closed ones too.
 Told = Union[bytes, "array[int]"]
 
@@ -45,9 +49,9 @@ class Problem(NamedTuple):
 
 
 class Session:
-    """A running session. It has one user at a time, but for `break_off`. A command is a line of a session, as `cap 3 5`. Each call that
-    asks something raises `SessionEnded` where the session has ended, and a `Refused` that names the line, or the thing `at` that it
-    was about. Whatever else breaks a call off leaves the session in a state that nobody knows: whoever made it then has to `kill` it."""
+    """A running session. It has one user at a time, but for `break_off`. Each call that asks something raises `SessionEnded` where the
+    session has ended, and a `Refused` that names the command, or the thing `at` that it was about. Whatever else breaks a call off leaves
+    the session in a state that nobody knows: whoever made it then has to `kill` it."""
 
     # The program, if the caller named it.
     program: Program = None
@@ -57,7 +61,8 @@ class Session:
         self.end = weakref.finalize(self, free, *held)
         self.why_ended = "the session was ended"
         self._why_broken = ""
-        self._owner = os.getpid()
+        # The process that began the session.
+        self.owner = os.getpid()
         # How many commands it was given.
         self.asked_count = 0
 
@@ -69,7 +74,7 @@ class Session:
     @property
     def is_owned(self) -> bool:
         """Whether this process began the session, rather than its parent process."""
-        return os.getpid() == self._owner
+        return os.getpid() == self.owner
 
     def ended(self) -> SessionEnded:
         """Why the session can answer nothing any more."""
@@ -87,11 +92,11 @@ class Session:
         """Ends the session at once, if it has not ended before."""
         raise NotImplementedError
 
-    def step(self, command: str, at: object = None) -> int:
+    def step(self, command: Command, at: object = None) -> int:
         """Carries out a command that changes the network or steps, and returns the value."""
         raise NotImplementedError
 
-    def carry_out(self, commands: Sequence[str]) -> int:
+    def carry_out(self, commands: Sequence[Command]) -> int:
         """Carries out commands that a session has carried out before, and returns the value after the last; 0 if there are none. Raises
         `SessionEnded` if one is refused now."""
         raise NotImplementedError
@@ -108,7 +113,7 @@ class Session:
         """The text of the problem of the open arcs."""
         raise NotImplementedError
 
-    def try_cases(self, cases: Sequence[Sequence[str]], value: int, found: list[int]) -> None:
+    def try_cases(self, cases: Sequence[Sequence[Command]], value: int, found: list[int]) -> None:
         """Carries out cases one after another, of which each is commands, `solve`, and the `undo` of all that, and adds the value of each
         to what is found. The value is the given one before and after each. Raises `SessionEnded` if one is refused, since the answers
         after it are of another network."""
@@ -128,14 +133,19 @@ def bound(history: int | None) -> int:
     return kept
 
 
-def case_lines(commands: Sequence[str]) -> list[str]:
+def line_of(command: Command) -> str:
+    """A command as a line of a session."""
+    return " ".join(map(str, command))
+
+
+def case_lines(commands: Sequence[Command]) -> list[str]:
     """The lines that try a case of commands: these, a solve, and the steps back."""
-    return [*commands, "solve", f"undo {len(commands) + 1}"]
+    return [*map(line_of, commands), "solve", f"undo {len(commands) + 1}"]
 
 
-def refused(text: str, command: str, at: object) -> Refused:
-    """The exception for a command that is refused, which names the command, or the thing that it was about."""
-    return Refused.of(text, command if at is None else shown(at))
+def refused(text: str, line: str, at: object) -> Refused:
+    """The exception for a command that is refused, which names its line, or the thing that it was about."""
+    return Refused.of(text, line if at is None else shown(at))
 
 
 def refused_line(text: str, line: int | None) -> Refused:

@@ -174,7 +174,7 @@ class _Swept(Generic[Node]):
         if callable(case):
             return case
         try:
-            if is_unordered(case):
+            if type(case) is not list and is_unordered(case):
                 raise TypeError
             return [self._plain_command(command) for command in case]
         except TypeError:
