@@ -2,7 +2,9 @@
 
 from __future__ import annotations
 
+import os
 import subprocess
+import time
 from pathlib import Path
 from typing import cast
 
@@ -14,12 +16,20 @@ from .names import written
 from .picture import Drawing, nearest, picture
 from .plan_rows import Carried, Told, plan_text
 from .tables.comments import comments
-from .text import ARC, NODE, Problem
+from .text import ARC, NODE, Problem, display
 
 MOST_DRAWN = 300
 # How long Graphviz may take, in seconds.
 PATIENCE = 60
 DRAWN = {".svg": "svg", ".png": "png", ".pdf": "pdf"}
+
+
+def said_of(desk: Desk) -> list[str]:
+    """What is said of a plan that is taken along: of which network it is, its value, its scenario, and the day."""
+    ends = f"from {desk.names.terminal(desk.source)} to {desk.names.terminal(desk.sink)}"
+    most = "at most " * desk.is_greatest
+    said = f"{display(os.path.basename(desk.subject.path))}: {most}{desk.told(desk.value)} {ends}"
+    return [said, f"{f'scenario {display(desk.scenario_name)}, ' * bool(desk.scenario_name)}{time.strftime('%Y-%m-%d')}"]
 
 
 def table(desk: Desk) -> str:

@@ -65,7 +65,7 @@ COMMANDS = {
     "report": Help("report FILE", "Writes a page to hand on, whose name ends with .html: values, limits, steps, pictures, and what is worst to lose."),
     "notes": Help("notes [TEXT]", "Shows the notes of a project, or puts others in their place. Its report begins with them: with the question."),
     "help": Help("help [COMMAND]", "Lists the commands, or says what one does.", COMMAND),
-    "quit": Help("quit", "Ends, and saves nothing."),
+    "quit": Help("quit", "Ends; only a project keeps what was done."),
 }
 CHANGES = ("close", "open", "cap", "add", "shut")
 # These need no session.
