@@ -5,6 +5,7 @@ from __future__ import annotations
 from collections.abc import Callable
 from decimal import Decimal
 from pathlib import Path
+from typing import Any
 
 import dmf
 import pytest
@@ -12,6 +13,7 @@ from desk_shared import run
 from dmf.desk_text import problem
 from dmf.project.comparison import CLOSED, compare
 from dmf.project.desk import ProjectDesk
+from dmf.project.form import project_of
 from dmf.project.opening import project_desk
 from dmf.text import read_problem
 from project_played import played, state
@@ -116,6 +118,35 @@ def test_python(tmp_path: Path) -> None:
         assert [name.partition(",")[0] for name in project.limit] == ["North rise", "Mill pipe", "Canal pipe", "South rise"]
     with pytest.raises(FileNotFoundError):
         dmf.open_project(tmp_path / "none.dmf.json")
+
+
+def test_made_in_python(tmp_path: Path) -> None:
+    """A project that Python makes is the one that the tools make: of her table with sources and sinks, kept at each step, opened by both, and
+    never written over another one."""
+    desk = supply_project(tmp_path)
+    desk.end()
+    tables: dict[str, Any] = {"sources": tmp_path / "stock.csv", "sinks": tmp_path / "orders.csv"}
+    path = tmp_path / "routes.dmf.json"
+    with dmf.new_project(tmp_path / "routes.csv", **tables) as project:
+        assert (project.path, project.scenarios, project.value, project.steps) == (str(path), ["first"], 150, [])
+        assert project.shut("East Depot") == 126
+        told = run("dmf-plan", str(path), typed="cut\n")
+        assert "read alone" in told.stderr and told.stdout.startswith("limit 126 pallets")
+    made, other = project_of(path.read_bytes()), project_of(Path(desk.file.path).read_bytes())
+    assert (made.table, made.network, made.scenarios[0].steps[0].requests) == (other.table, other.network, (("shut", "East Depot"),))
+    with pytest.raises(dmf.ProjectFault, match="there already"):
+        dmf.new_project(tmp_path / "routes.csv", **tables)
+    (tmp_path / "bad.csv").write_text("from,to,capacity\nA,B,many\nA,C,-1\n")
+    with pytest.raises(dmf.ProjectFault, match="line 2(.|\n)*line 3"):
+        dmf.new_project(tmp_path / "bad.csv", source="A", sink="B")
+    with pytest.raises(FileNotFoundError):
+        dmf.new_project(tmp_path / "none.csv")
+    with pytest.raises(dmf.ProjectFault, match="ends with .dmf.json"):
+        dmf.new_project(tmp_path / "routes.csv", tmp_path / "plan.json", **tables)
+    assert not (tmp_path / "bad.dmf.json").exists() and path.read_bytes() and not list(tmp_path.glob("*.journal"))
+    with dmf.new_project(tmp_path / "routes.csv", tmp_path / "other.dmf.json", source="East Depot=20", sink=["Dock", "Ferry=3"]) as project:
+        # East Depot has 25 to Dock and 20 to Ferry.
+        assert project.value == 20 and project.close("East Depot-Dock") == 3
 
 
 def test_what_is_saved_is_read_back(tmp_path: Path) -> None:

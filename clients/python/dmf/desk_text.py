@@ -5,6 +5,7 @@ from __future__ import annotations
 import os
 import subprocess
 import time
+from dataclasses import dataclass
 from pathlib import Path
 from typing import cast
 
@@ -16,12 +17,16 @@ from .names import written
 from .picture import Drawing, nearest, picture
 from .plan_rows import Carried, Told, plan_text
 from .tables.comments import comments
+from .tables.extra import Extra
 from .text import ARC, NODE, Problem, display
 
 MOST_DRAWN = 300
 # How long Graphviz may take, in seconds.
 PATIENCE = 60
 DRAWN = {".svg": "svg", ".png": "png", ".pdf": "pdf"}
+# How a picture is read, and the title of the column that says of which plan a table is.
+LEGEND = "45/60: 45 flow where 60 fit; thick: full; red: the limit; grey: nothing flows; dashed: closed; blue places: before the limit"
+SAID = "said of the plan"
 
 
 def said_of(desk: Desk) -> list[str]:
@@ -32,8 +37,30 @@ def said_of(desk: Desk) -> list[str]:
     return [said, f"{f'scenario {display(desk.scenario_name)}, ' * bool(desk.scenario_name)}{time.strftime('%Y-%m-%d')}"]
 
 
+@dataclass(frozen=True)
+class _Said(Extra):
+    """Columns of a table that are kept, and one more that says of which plan it is, in the row of this arc."""
+
+    text: str = ""
+    row: int = 0
+
+    def of(self, number: int) -> list[str]:
+        return [*super().of(number), self.text * (number == self.row)]
+
+
+def _columns(desk: Desk, row: int) -> Extra:
+    """The other columns of a plan's table. One of a project has one more, in place of that which an older plan had."""
+    extra = desk.subject.extra
+    if not desk.scenario_name:
+        return extra
+    kept = [at for at, title in enumerate(extra.titles) if title != SAID]
+    titles = [*(extra.titles[at] for at in kept), SAID]
+    return _Said(titles, [extra.columns[at] for at in kept], extra.ways, "; ".join(said_of(desk)), row)
+
+
 def table(desk: Desk) -> str:
-    """The open arcs as the table that `dmf-names --csv` writes. If the flow is not greatest, the column of the cut is empty."""
+    """The open arcs as the table that `dmf-names --csv` writes; that of a project says in one more column of which plan it is. If the flow is
+    not greatest, the column of the cut is empty."""
     crossing = desk.cut_arcs() if desk.is_greatest else None
     arcs = [
         Carried(number, line.tail, line.head, line.capacity, desk.flow(number), None if crossing is None else number in crossing)
@@ -42,7 +69,9 @@ def table(desk: Desk) -> str:
     ends = desk.source, desk.sink
     rows = {number: line.first for number, line in enumerate(desk.lines, 1) if line.first}
     names = desk.names
-    told = Told(desk.folding, names.node, names.arc_name, ends, desk.subject.extra, lambda number: rows.get(number, number), desk.limited())
+    first = next((arc.number for arc in arcs if not desk.role(arc.number)), 0)
+    extra = _columns(desk, rows.get(first, first))
+    told = Told(desk.folding, names.node, names.arc_name, ends, extra, lambda number: rows.get(number, number), desk.limited())
     return plan_text(arcs, told, desk.measure, raw_names=desk.subject.raw_names)
 
 
@@ -59,7 +88,8 @@ def problem(desk: Desk) -> str:
     whole = desk.measure.whole
     lines = "".join(f"a {line.tail} {line.head} {whole(line.capacity)}\n" for line in opened.values())
     said = renumbered(desk.subject.described, ((line.tail, line.head) for line in opened.values()), desk.limited())
-    return comments(said) + nodes + arcs + head + lines
+    plan = "".join(f"c plan {line}\n" for line in said_of(desk)) if desk.scenario_name else ""
+    return comments(said) + plan + nodes + arcs + head + lines
 
 
 def drawing(desk: Desk) -> Drawing:
@@ -72,7 +102,8 @@ def drawing(desk: Desk) -> Drawing:
     flows = [None if desk.lines[number - 1].is_closed else desk.flow(number) for number in numbers]
     side = desk.side() if desk.is_greatest else set()
     lines = arcs_of([desk.lines[number - 1] for number in numbers])
-    return Drawing(drawn, lines, flows, side, set(desk.shut_nodes), has_quantities=True, limited=desk.limited())
+    notes = [*said_of(desk), LEGEND] if desk.scenario_name else []
+    return Drawing(drawn, lines, flows, side, set(desk.shut_nodes), notes, has_quantities=True, limited=desk.limited())
 
 
 def arcs_of(lines: list[Line]) -> list[timeline.Arc]:

@@ -12,7 +12,7 @@ from xml.etree import ElementTree
 
 from ..desk import Desk
 from ..desk_steps import Line
-from ..desk_text import said_of
+from ..desk_text import LEGEND, said_of
 from ..folding import AT_PLACE
 from ..picture import CUT, SIDE, UNUSED, drawn_line, quoted
 from ..quantity import POINT, plain_text
@@ -27,7 +27,6 @@ MOST_ROUTED = 20
 WIDEST, CLOSED = "8", "closed"
 # How large the letters below a picture are that is taken along, and how wide a letter and how high a line is for that size.
 CAPTION, WIDE, LINE = 11.0, 0.6, 1.4
-LEGEND = "45/60: 45 flow where 60 fit; thick: full; red: the limit; grey: nothing flows; dashed: closed; blue places: before the limit"
 STYLE = f"""
 text {{ font-family: Helvetica, Arial, sans-serif; }}
 .full path {{ stroke-width: 2.5; }}
