@@ -311,3 +311,14 @@ def test_read_alone(driver: Any, tmp_path: Path) -> None:
     again = project_desk(desk.file.path)
     assert again.scenario.name == "dry"
     again.end()
+
+
+def test_report(water: Board, tmp_path: Path) -> None:
+    """The report of the page is that of the terminal; it needs the present turn, and leaves the desk where it was."""
+    before = water.state()
+    status, sent, page = water.ask(f"{water.root}report.html?turn={before['turn']}")
+    assert status == 200 and "attachment" in sent["Content-Disposition"] and water.state() == before
+    assert water.ask(f"{water.root}report.html?turn=0")[0] == 409
+    water.end()
+    ran = run("dmf-plan", f"{tmp_path}/kept.dmf.json", typed=f"report {tmp_path}/report.html\n")
+    assert ran.returncode == 0 and (tmp_path / "report.html").read_bytes() == page

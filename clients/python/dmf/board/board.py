@@ -16,6 +16,7 @@ from ..desk_amounts import amount
 from ..desk_steps import DeskFault, unforeseen
 from ..desk_text import near as near_arcs
 from ..desk_text import problem, table
+from ..project.report import report
 from ..quantity import plain_text
 from .answers import Answer, Json, Made, WrongForm, answer, judge_arcs, judge_fields, judge_words, whole
 from .many import change_many, many_view
@@ -27,6 +28,8 @@ from .sweeps import Sweeps
 from .views import arc_view, opened_view, place_view, state_view
 
 MOST_SWEPT = 5_000
+# What takes the desk to other scenarios, and can be stopped.
+LONG = ("comparison", "difference", "difference.svg", "report.html")
 CHANGED = "the network has changed in another tab: look again"
 STOPPED = "it was stopped"
 
@@ -65,13 +68,14 @@ class Board:
             "picture.svg": (self._picture_file, ("near", "turn")),
             "plan.csv": (self._table_file, ("turn",)),
             "problem.max": (self._problem_file, ("turn",)),
+            "report.html": (self._report_file, ("turn",)),
         }
         if path not in forms:
             return answer({"error": "there is no such page"}, 404)
         serve, wanted = forms[path]
         judge_words(words, wanted)
         # What can be stopped is not tried again.
-        return self._judged(lambda: serve(**words), tries=1 if "one" in wanted else 2)
+        return self._judged(lambda: serve(**words), tries=1 if path in LONG else 2)
 
     def post(self, path: str, content: Json) -> Answer:
         """The answer to a request that changes something, or tries it."""
@@ -176,7 +180,7 @@ class Board:
         return {"numbers": self._rows_of_all.numbers(words["filter"], words["sort"])[first : first + count]}
 
     def _beside(self, make: Callable[[], Made]) -> Made:
-        """What is made of two scenarios, which takes the desk to both and back."""
+        """What is made of several scenarios, which takes the desk to each and back."""
         self._sweeps.end()
         with self._stoppable():
             return make()
@@ -187,6 +191,10 @@ class Board:
     def _difference_file(self, one: str, two: str, turn: str) -> Made:
         self._judge_turn(whole(turn, "turn"))
         return self._beside(lambda: Answer(200, "image/svg+xml", self._comparisons.file(one, two), "difference.svg"))
+
+    def _report_file(self, turn: str) -> Made:
+        self._judge_turn(whole(turn, "turn"))
+        return self._beside(lambda: Answer(200, "text/html; charset=utf-8", report(self.desk).encode(), "report.html"))
 
     def _near(self, near: str) -> tuple[int, ...]:
         return self.desk.names.place_of(whole(near, "near")) if near else ()

@@ -28,7 +28,7 @@ function tell(state) {
   at("places").replaceChildren(...state.names.map((name) => make("option", [], { value: name })));
   at("kept").textContent = state.why_not ? `Nothing is kept, since ${state.why_not}: what is done here changes nothing.` : state.kept_in
     ? `Each step is kept in ${state.kept_in}.` : "Nothing is saved of itself: the steps end with this page.";
-  for (const [id, file] of [["take-csv", "plan.csv"], ["take-max", "problem.max"]]) {
+  for (const [id, file] of [["take-csv", "plan.csv"], ["take-max", "problem.max"], ["take-report", "report.html"]]) {
     at(id).setAttribute("href", `${file}?turn=${state.turn}`);
   }
 }
