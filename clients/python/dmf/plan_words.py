@@ -51,6 +51,14 @@ COMMANDS = {
         EACH,
         "what-if each arc ..",
     ),
+    "cost": Help(
+        "cost [COLUMN] [of seconds] [to NUMBER]",
+        "Tells what each unit more costs at each arc of the limit, by the column of the table called cost or by another one, and a cheap way to "
+        "twice the value or to NUMBER. The way is found greedily: a cheaper one may exist. With `of seconds` the column is what a second arc "
+        "costs. Nothing changes.",
+        "",
+        "cost ..",
+    ),
     "draw": Help("draw FILE", "Draws the network: FILE ends with .svg, .png or .pdf, or with .dot for the text alone."),
     "save": Help("save FILE", "Writes the plan as a table where FILE ends with .csv, or the problem where it ends with .max."),
     "scenario": Help(

@@ -9,6 +9,7 @@ from collections.abc import Iterable, Iterator, Mapping
 from decimal import Decimal
 from typing import NamedTuple, Union
 
+from ..costs import cheapest, prices
 from ..desk import Desk
 from ..desk_amounts import amount
 from ..desk_steps import DeskFault
@@ -32,6 +33,16 @@ class Made(NamedTuple):
     """A step that was made: what was done, in words, and the greatest value after it."""
 
     text: str
+    value: Quantity
+
+
+class Purchase(NamedTuple):
+    """What is bought at once on a way to a greater value: by how much each arc gets wider, what that costs, what all costs so far, and the
+    greatest value then."""
+
+    wider: dict[str, Quantity]
+    cost: Decimal
+    total: Decimal
     value: Quantity
 
 
@@ -199,6 +210,14 @@ class OpenProject:
         """Gives the present scenario a note."""
         with _refusing():
             self._desk.note(text)
+
+    def cheapest(self, to: Amount | None = None, column: str = "", *, of_seconds: bool = False) -> list[Purchase]:
+        """A cheap way to a greater value, by default to twice the present one, by what a column of the table says each unit more costs, or
+        a second arc. It is found greedily: a cheaper one may exist. Nothing changes. Takes a few solves for each purchase."""
+        with _refusing():
+            desk, name = self._desk, self._desk.names.arc
+            way = cheapest(desk, prices(desk, column, is_second=of_seconds), None if to is None else self._amount(to))
+            return [Purchase({name(number): by for number, by in it.wider}, it.cost, it.total, it.value) for it in way.bought]
 
     def compare(self, first: str, second: str) -> Comparison:
         """Two scenarios beside each other, of which one may be `base`, the network of the table. Takes as long as their steps take."""
