@@ -2,67 +2,22 @@
 
 from __future__ import annotations
 
-import subprocess
-import sys
 from collections.abc import Callable
 from decimal import Decimal
 from pathlib import Path
-from typing import NamedTuple
+from typing import Any
 
 import dmf
 import pytest
-from desk_shared import ROOT, SECONDS, run
+from desk_shared import run
 from dmf.desk_text import problem
-from dmf.project.comparison import CLOSED, OPEN, ArcState, compare
+from dmf.project.comparison import CLOSED, compare
 from dmf.project.desk import ProjectDesk
+from dmf.project.form import project_of
 from dmf.project.opening import project_desk
 from dmf.text import read_problem
+from project_played import played, state
 from project_shared import named, supply_project, water_project
-
-
-class Played(NamedTuple):
-    """What the second implementation has after commands: the value, the arcs of the smallest minimum cut, and what each open arc carries."""
-
-    value: int
-    cut: set[int]
-    flows: dict[int, tuple[int, int]]
-
-
-def played(folder: Path, text: str, commands: str) -> Played:
-    """A session of the second implementation on a problem. No arc is closed in it but by `close` and `shut`."""
-    (folder / "base.max").write_text(text)
-    said = f"solve\n{commands}solve\nprint problem\nprint cut\nprint flow\n"
-    words = [sys.executable, f"{ROOT}/tests/oracle", "session", f"{folder}/base.max"]
-    lines = subprocess.run(words, input=said, capture_output=True, text=True, timeout=SECONDS, check=True).stdout.splitlines()
-    begin = len(lines) - lines[::-1].index(next(it for it in reversed(lines) if it.startswith("p max")))
-    arcs = [[*map(int, it.split()[1:])] for it in lines[begin:] if it.startswith("a ")]
-    side = {int(it.split()[2]) for it in lines[begin:] if it.startswith("c side")}
-    flows = [int(it.split()[3]) for it in lines if it.startswith("f ")][-len(arcs) :]
-    value = next(int(it.split()[1]) for it in reversed(lines) if it.startswith("s "))
-    closed = closed_by(text, commands)
-    numbers = [it for it in range(1, len(arcs) + len(closed) + 1) if it not in closed]
-    cut = {number for number, (tail, head, _) in zip(numbers, arcs) if tail in side and head not in side}
-    return Played(value, cut, {number: (most, flow) for number, (_, _, most), flow in zip(numbers, arcs, flows)})
-
-
-def closed_by(text: str, commands: str) -> set[int]:
-    """The arcs that commands close."""
-    arcs = [it[:2] for it in read_problem(text.encode()).arcs]
-    closed: set[int] = set()
-    for line in commands.splitlines():
-        word, *numbers = line.split()[0], *map(int, line.split()[1:])
-        if word == "close":
-            closed.add(numbers[0])
-        elif word == "shut":
-            closed |= {number for number, ends in enumerate(arcs, 1) if numbers[0] in ends}
-    return closed
-
-
-def state(seen: Played, number: int) -> ArcState | None:
-    if number in seen.flows:
-        most, flow = seen.flows[number]
-        return ArcState(OPEN, most, flow, number in seen.cut)
-    return None
 
 
 def judge(desk: ProjectDesk, folder: Path, first: tuple[str, str], second: tuple[str, str]) -> None:
@@ -163,6 +118,35 @@ def test_python(tmp_path: Path) -> None:
         assert [name.partition(",")[0] for name in project.limit] == ["North rise", "Mill pipe", "Canal pipe", "South rise"]
     with pytest.raises(FileNotFoundError):
         dmf.open_project(tmp_path / "none.dmf.json")
+
+
+def test_made_in_python(tmp_path: Path) -> None:
+    """A project that Python makes is the one that the tools make: of her table with sources and sinks, kept at each step, opened by both, and
+    never written over another one."""
+    desk = supply_project(tmp_path)
+    desk.end()
+    tables: dict[str, Any] = {"sources": tmp_path / "stock.csv", "sinks": tmp_path / "orders.csv"}
+    path = tmp_path / "routes.dmf.json"
+    with dmf.new_project(tmp_path / "routes.csv", **tables) as project:
+        assert (project.path, project.scenarios, project.value, project.steps) == (str(path), ["first"], 150, [])
+        assert project.shut("East Depot") == 126
+        told = run("dmf-plan", str(path), typed="cut\n")
+        assert "read alone" in told.stderr and told.stdout.startswith("limit 126 pallets")
+    made, other = project_of(path.read_bytes()), project_of(Path(desk.file.path).read_bytes())
+    assert (made.table, made.network, made.scenarios[0].steps[0].requests) == (other.table, other.network, (("shut", "East Depot"),))
+    with pytest.raises(dmf.ProjectFault, match="there already"):
+        dmf.new_project(tmp_path / "routes.csv", **tables)
+    (tmp_path / "bad.csv").write_text("from,to,capacity\nA,B,many\nA,C,-1\n")
+    with pytest.raises(dmf.ProjectFault, match="line 2(.|\n)*line 3"):
+        dmf.new_project(tmp_path / "bad.csv", source="A", sink="B")
+    with pytest.raises(FileNotFoundError):
+        dmf.new_project(tmp_path / "none.csv")
+    with pytest.raises(dmf.ProjectFault, match="ends with .dmf.json"):
+        dmf.new_project(tmp_path / "routes.csv", tmp_path / "plan.json", **tables)
+    assert not (tmp_path / "bad.dmf.json").exists() and path.read_bytes() and not list(tmp_path.glob("*.journal"))
+    with dmf.new_project(tmp_path / "routes.csv", tmp_path / "other.dmf.json", source="East Depot=20", sink=["Dock", "Ferry=3"]) as project:
+        # East Depot has 25 to Dock and 20 to Ferry.
+        assert project.value == 20 and project.close("East Depot-Dock") == 3
 
 
 def test_what_is_saved_is_read_back(tmp_path: Path) -> None:

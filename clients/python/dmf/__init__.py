@@ -77,7 +77,7 @@ if TYPE_CHECKING:
     from .once import MatrixFlow as MatrixFlow, maximum_flow as maximum_flow, minimum_cut as minimum_cut, value as value
     from .project.comparison import Comparison as Comparison
     from .project.form import ProjectFault as ProjectFault
-    from .project.live import OpenProject as OpenProject, open_project as open_project
+    from .project.live import OpenProject as OpenProject, new_project as new_project, open_project as open_project
     from .solution import Cut as Cut, Solution as Solution
     from .sources import from_networkx as from_networkx, from_scipy as from_scipy, read as read
     from .sweeping import (
@@ -101,7 +101,7 @@ _NAMES = {
     "once": ["MatrixFlow", "maximum_flow", "minimum_cut", "value"],
     "project.comparison": ["Comparison"],
     "project.form": ["ProjectFault"],
-    "project.live": ["OpenProject", "open_project"],
+    "project.live": ["OpenProject", "new_project", "open_project"],
     "solution": ["Cut", "Solution"],
     "sources": ["from_networkx", "from_scipy", "read"],
     "tables.faults": ["TableFault"],

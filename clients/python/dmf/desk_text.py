@@ -2,7 +2,10 @@
 
 from __future__ import annotations
 
+import os
 import subprocess
+import time
+from dataclasses import dataclass
 from pathlib import Path
 from typing import cast
 
@@ -14,16 +17,50 @@ from .names import written
 from .picture import Drawing, nearest, picture
 from .plan_rows import Carried, Told, plan_text
 from .tables.comments import comments
-from .text import ARC, NODE, Problem
+from .tables.extra import Extra
+from .text import ARC, NODE, Problem, display
 
 MOST_DRAWN = 300
 # How long Graphviz may take, in seconds.
 PATIENCE = 60
 DRAWN = {".svg": "svg", ".png": "png", ".pdf": "pdf"}
+# How a picture is read, and the title of the column that says of which plan a table is.
+LEGEND = "45/60: 45 flow where 60 fit; thick: full; red: the limit; grey: nothing flows; dashed: closed; blue places: before the limit"
+SAID = "said of the plan"
+
+
+def said_of(desk: Desk) -> list[str]:
+    """What is said of a plan that is taken along: of which network it is, its value, its scenario, and the day."""
+    ends = f"from {desk.names.terminal(desk.source)} to {desk.names.terminal(desk.sink)}"
+    most = "at most " * desk.is_greatest
+    said = f"{display(os.path.basename(desk.subject.path))}: {most}{desk.told(desk.value)} {ends}"
+    return [said, f"{f'scenario {display(desk.scenario_name)}, ' * bool(desk.scenario_name)}{time.strftime('%Y-%m-%d')}"]
+
+
+@dataclass(frozen=True)
+class _Said(Extra):
+    """Columns of a table that are kept, and one more that says of which plan it is, in the row of this arc."""
+
+    text: str = ""
+    row: int = 0
+
+    def of(self, number: int) -> list[str]:
+        return [*super().of(number), self.text * (number == self.row)]
+
+
+def _columns(desk: Desk, row: int) -> Extra:
+    """The other columns of a plan's table. One of a project has one more, in place of that which an older plan had."""
+    extra = desk.subject.extra
+    if not desk.scenario_name:
+        return extra
+    kept = [at for at, title in enumerate(extra.titles) if title != SAID]
+    titles = [*(extra.titles[at] for at in kept), SAID]
+    return _Said(titles, [extra.columns[at] for at in kept], extra.ways, "; ".join(said_of(desk)), row)
 
 
 def table(desk: Desk) -> str:
-    """The open arcs as the table that `dmf-names --csv` writes. If the flow is not greatest, the column of the cut is empty."""
+    """The open arcs as the table that `dmf-names --csv` writes; that of a project says in one more column of which plan it is. If the flow is
+    not greatest, the column of the cut is empty."""
     crossing = desk.cut_arcs() if desk.is_greatest else None
     arcs = [
         Carried(number, line.tail, line.head, line.capacity, desk.flow(number), None if crossing is None else number in crossing)
@@ -31,7 +68,9 @@ def table(desk: Desk) -> str:
     ]  # fmt: skip
     ends = desk.source, desk.sink
     names = desk.names
-    told = Told(desk.folding, names.node, names.arc_name, ends, desk.subject.extra, lambda number: row_of(desk, number), desk.limited())
+    first = next((arc.number for arc in arcs if not desk.role(arc.number)), 0)
+    extra = _columns(desk, row_of(desk, first) if first else 0)
+    told = Told(desk.folding, names.node, names.arc_name, ends, extra, lambda number: row_of(desk, number), desk.limited())
     return plan_text(arcs, told, desk.measure, raw_names=desk.subject.raw_names)
 
 
@@ -54,7 +93,8 @@ def problem(desk: Desk) -> str:
     lines = "".join(f"a {line.tail} {line.head} {whole(line.capacity)}\n" for line in opened.values())
     said = renumbered(desk.subject.described, ((line.tail, line.head) for line in opened.values()), desk.limited())
     columns = desk.subject.extra.comments(row_of(desk, number) for number in opened)
-    return comments(said) + nodes + arcs + columns + head + lines
+    plan = "".join(f"c plan {line}\n" for line in said_of(desk)) if desk.scenario_name else ""
+    return comments(said) + plan + nodes + arcs + columns + head + lines
 
 
 def drawing(desk: Desk) -> Drawing:
@@ -67,7 +107,8 @@ def drawing(desk: Desk) -> Drawing:
     flows = [None if desk.lines[number - 1].is_closed else desk.flow(number) for number in numbers]
     side = desk.side() if desk.is_greatest else set()
     lines = arcs_of([desk.lines[number - 1] for number in numbers])
-    return Drawing(drawn, lines, flows, side, set(desk.shut_nodes), has_quantities=True, limited=desk.limited())
+    notes = [*said_of(desk), LEGEND] if desk.scenario_name else []
+    return Drawing(drawn, lines, flows, side, set(desk.shut_nodes), notes, has_quantities=True, limited=desk.limited())
 
 
 def arcs_of(lines: list[Line]) -> list[timeline.Arc]:

@@ -17,7 +17,7 @@ from .tables.subject import Subject
 @dataclass
 class Timeline:
     """The steps that were made, those that were undone, the last undone at the end, and how many steps each trial that is open began
-    with. `turn` counts the steps that were made and undone."""
+    with. `turn` counts what was done: each step that was made or undone, and what a project was told."""
 
     done: list[Step] = field(default_factory=list)
     undone: list[Step] = field(default_factory=list)
@@ -37,6 +37,11 @@ class DeskView:
         self.with_solve = with_solve
         # What is to be said beside the next answer.
         self.news: list[str] = []
+
+    @property
+    def scenario_name(self) -> str:
+        """The scenario of a project that is shown; empty if there is none."""
+        return ""
 
     @property
     def has_ended(self) -> bool:

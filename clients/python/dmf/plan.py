@@ -15,6 +15,7 @@ from .desk_steps import DeskFault, unforeseen
 from .desk_text import DRAWN, drawn, problem, table
 from .errors import Error
 from .plan_completion import history, matches, typed_line
+from .plan_costs import costs_told
 from .plan_files import Files
 from .plan_meaning import WHERE, arcs_named, arcs_to_try, arcs_told, arcs_where, capped, capped_where, last_closed, new_arc
 from .plan_scenarios import compared, project_of, scenario
@@ -50,7 +51,7 @@ class Plan(cmd.Cmd):
         self._do: dict[str, Callable[[list[str]], object]] = {
             "solve": self._solve, "cut": self._cut, "flow": self._flow, "close": self._close, "open": self._open, "cap": self._cap,
             "add": self._add, "shut": self._shut, "undo": self._undo, "redo": self._redo, "steps": self._steps, "try": self._try,
-            "keep": self._keep, "drop": self._drop, "what-if": self._what_if, "draw": self._draw, "save": self._save,
+            "keep": self._keep, "drop": self._drop, "what-if": self._what_if, "cost": self._cost, "draw": self._draw, "save": self._save,
             "scenario": self._scenario, "compare": self._compare, "report": self._report, "notes": self._notes,
             "help": self._help, "quit": self._quit,
         }  # fmt: skip
@@ -320,6 +321,9 @@ class Plan(cmd.Cmd):
 
     def _sweep(self, words: list[str]) -> None:
         self.tell(*swept(self.desk, tried(self.desk, arcs_to_try(self.desk, words), is_shown=self.is_typed)))
+
+    def _cost(self, words: list[str]) -> None:
+        self.tell(*costs_told(self.desk, words))
 
     def _draw(self, words: list[str]) -> None:
         path = self._files.new(one_name(words, "draw"), [*DRAWN, ".dot"])

@@ -9,7 +9,6 @@ from .desk_steps import DeskFault
 from .plan_words import COMMANDS, quoted
 from .project.comparison import Comparison, compare
 from .project.desk import BASE, ProjectDesk
-from .quantity import plain_text
 from .tables.cells import cleaned, shown
 from .text import display
 
@@ -56,15 +55,12 @@ def _told(desk: ProjectDesk) -> str:
 def _listed(desk: ProjectDesk) -> list[str]:
     """The scenarios, each with the value that it was kept with."""
     lines = []
-    base = desk.steps[0].value
     for it in desk.project.scenarios:
         mark = "*" if it is desk.scenario else " "
-        made = it.steps[: it.at]
-        value = made[-1].value if made else plain_text(base)
         begun = f", from {shown(it.begun_from)}" if it.begun_from else ""
         left = f"; {len(it.left_out)} left out when the table had changed" if it.left_out else ""
         note = f"; {display(it.note)}" if it.note else ""
-        lines.append(f"  {mark} {display(it.name)}{begun}: {it.at} of {len(it.steps)} steps, value {value}{left}{note}")
+        lines.append(f"  {mark} {display(it.name)}{begun}: {it.at} of {len(it.steps)} steps, value {desk.kept_value(it)}{left}{note}")
     return lines
 
 

@@ -51,6 +51,14 @@ COMMANDS = {
         EACH,
         "what-if each arc ..",
     ),
+    "cost": Help(
+        "cost [COLUMN] [of seconds] [to NUMBER]",
+        "Tells what each unit more costs at each arc of the limit, by the column of the table called cost or by another one, and a cheap way to "
+        "twice the value or to NUMBER. The way is found greedily: a cheaper one may exist. With `of seconds` the column is what a second arc "
+        "costs. Nothing changes.",
+        "",
+        "cost ..",
+    ),
     "draw": Help("draw FILE", "Draws the network: FILE ends with .svg, .png or .pdf, or with .dot for the text alone."),
     "save": Help("save FILE", "Writes the plan as a table where FILE ends with .csv, or the problem where it ends with .max."),
     "scenario": Help(
@@ -65,7 +73,7 @@ COMMANDS = {
     "report": Help("report FILE", "Writes a page to hand on, whose name ends with .html: values, limits, steps, pictures, and what is worst to lose."),
     "notes": Help("notes [TEXT]", "Shows the notes of a project, or puts others in their place. Its report begins with them: with the question."),
     "help": Help("help [COMMAND]", "Lists the commands, or says what one does.", COMMAND),
-    "quit": Help("quit", "Ends, and saves nothing."),
+    "quit": Help("quit", "Ends; only a project keeps what was done."),
 }
 CHANGES = ("close", "open", "cap", "add", "shut")
 # These need no session.

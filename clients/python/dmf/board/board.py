@@ -16,16 +16,20 @@ from ..desk_amounts import amount
 from ..desk_steps import DeskFault, unforeseen
 from ..desk_text import near as near_arcs
 from ..desk_text import problem, table
+from ..project.report import report
 from ..quantity import plain_text
 from .answers import Answer, Json, Made, WrongForm, answer, judge_arcs, judge_fields, judge_words, whole
 from .many import change_many, many_view
 from .picture import NoPicture, Picture
 from .places import Spot
 from .rows import Rows
+from .scenarios import SCENARIO_FORMS, Comparisons, change_scenario, scenarios_view
 from .sweeps import Sweeps
 from .views import arc_view, opened_view, place_view, state_view
 
 MOST_SWEPT = 5_000
+# What takes the desk to other scenarios, and can be stopped.
+LONG = ("comparison", "difference", "difference.svg", "report.html")
 CHANGED = "the network has changed in another tab: look again"
 STOPPED = "it was stopped"
 
@@ -40,6 +44,7 @@ class Board:
         self.picture.places.spots.update(spots or {})
         self._rows_of_all = Rows(desk)
         self._sweeps = Sweeps(desk)
+        self._comparisons = Comparisons(desk, self.picture.places)
         # Whether something is being done that can be stopped.
         self._is_busy = False
         self._busy_lock = threading.Lock()
@@ -56,15 +61,21 @@ class Board:
             "opened": (lambda: opened_view(self.desk), ()),
             "rows": (self._rows, ("filter", "sort", "first", "count")),
             "numbers": (self._numbers, ("filter", "sort", "first", "count")),
+            "scenarios": (lambda: scenarios_view(self.desk), ()),
+            "comparison": (self._compared, ("one", "two", "first", "count")),
+            "difference": (lambda one, two: self._beside(lambda: self._comparisons.picture(one, two)), ("one", "two")),
+            "difference.svg": (self._difference_file, ("one", "two", "turn")),
             "picture.svg": (self._picture_file, ("near", "turn")),
             "plan.csv": (self._table_file, ("turn",)),
             "problem.max": (self._problem_file, ("turn",)),
+            "report.html": (self._report_file, ("turn",)),
         }
         if path not in forms:
             return answer({"error": "there is no such page"}, 404)
         serve, wanted = forms[path]
         judge_words(words, wanted)
-        return self._judged(lambda: serve(**words), tries=2)
+        # What can be stopped is not tried again.
+        return self._judged(lambda: serve(**words), tries=1 if path in LONG else 2)
 
     def post(self, path: str, content: Json) -> Answer:
         """The answer to a request that changes something, or tries it."""
@@ -124,7 +135,8 @@ class Board:
         self._sweeps.end()
         with self._stoppable():
             self._do(what, content)
-            return state_view(self.desk)
+            news, self.desk.news = self.desk.news, []
+            return {**state_view(self.desk), "told": "; ".join(news)}
 
     @contextlib.contextmanager
     def _stoppable(self) -> Iterator[None]:
@@ -144,6 +156,8 @@ class Board:
         elif what in ("close", "open", "double"):
             calls: dict[str, Callable[[int], object]] = {"close": desk.close, "open": desk.open, "double": desk.double}
             calls[what](content["arc"])
+        elif what in SCENARIO_FORMS:
+            change_scenario(desk, what, content)
         elif what in MANY:
             change_many(desk, what, content["arcs"], content.get("capacity", ""))
         elif what == "cap":
@@ -164,6 +178,23 @@ class Board:
     def _numbers(self, **words: str) -> Json:
         first, count = whole(words["first"], "first"), whole(words["count"], "count")
         return {"numbers": self._rows_of_all.numbers(words["filter"], words["sort"])[first : first + count]}
+
+    def _beside(self, make: Callable[[], Made]) -> Made:
+        """What is made of several scenarios, which takes the desk to each and back."""
+        self._sweeps.end()
+        with self._stoppable():
+            return make()
+
+    def _compared(self, one: str, two: str, first: str, count: str) -> Made:
+        return self._beside(lambda: self._comparisons.view(one, two, whole(first, "first"), whole(count, "count")))
+
+    def _difference_file(self, one: str, two: str, turn: str) -> Made:
+        self._judge_turn(whole(turn, "turn"))
+        return self._beside(lambda: Answer(200, "image/svg+xml", self._comparisons.file(one, two), "difference.svg"))
+
+    def _report_file(self, turn: str) -> Made:
+        self._judge_turn(whole(turn, "turn"))
+        return self._beside(lambda: Answer(200, "text/html; charset=utf-8", report(self.desk).encode(), "report.html"))
 
     def _near(self, near: str) -> tuple[int, ...]:
         return self.desk.names.place_of(whole(near, "near")) if near else ()
@@ -215,5 +246,6 @@ FORMS: dict[str, dict[str, type]] = {
     "cap-all": {"arcs": list, "capacity": str},
     "go": {"step": int},
     "again": {},
+    **SCENARIO_FORMS,
 }
 MANY = ("close-all", "open-all", "double-all", "cap-all")

@@ -5,13 +5,14 @@ from __future__ import annotations
 
 import re
 from collections import Counter
-from collections.abc import Iterator
+from collections.abc import Iterable, Iterator, Sequence
 from dataclasses import dataclass
 from typing import NamedTuple
 from xml.etree import ElementTree
 
 from ..desk import Desk
 from ..desk_steps import Line
+from ..desk_text import LEGEND, said_of
 from ..folding import AT_PLACE
 from ..picture import CUT, SIDE, UNUSED, drawn_line, quoted
 from ..quantity import POINT, plain_text
@@ -24,6 +25,8 @@ SVG = "http://www.w3.org/2000/svg"
 MOST_ROUTED = 20
 # A text as wide as any digit of a number, and what stands in place of the numbers of a closed arc.
 WIDEST, CLOSED = "8", "closed"
+# How large the letters below a picture are that is taken along, and how wide a letter and how high a line is for that size.
+CAPTION, WIDE, LINE = 11.0, 0.6, 1.4
 STYLE = f"""
 text {{ font-family: Helvetica, Arial, sans-serif; }}
 .full path {{ stroke-width: 2.5; }}
@@ -42,7 +45,7 @@ text {{ font-family: Helvetica, Arial, sans-serif; }}
 _NO_XML = re.compile("[\ufffe\uffff]")
 
 
-class _Arc(NamedTuple):
+class DrawnArc(NamedTuple):
     """What a layout depends on of an arc; `widest` is the widest text that its numbers may have."""
 
     number: int
@@ -52,7 +55,7 @@ class _Arc(NamedTuple):
     widest: str
 
 
-class _Node(NamedTuple):
+class DrawnNode(NamedTuple):
     """What a layout depends on of a place. Its roles are the arcs that stand for what it gives, takes or lets through, each with its
     words there and the widest text of its numbers."""
 
@@ -64,11 +67,11 @@ class _Node(NamedTuple):
 
 
 @dataclass(frozen=True)
-class _Shape:
+class Shape:
     """What a layout depends on: the arcs, and the places."""
 
-    arcs: tuple[_Arc, ...]
-    nodes: tuple[_Node, ...]
+    arcs: tuple[DrawnArc, ...]
+    nodes: tuple[DrawnNode, ...]
 
     def ways(self) -> dict[int, Way]:
         """The way of each arc, by its number."""
@@ -95,13 +98,19 @@ class Picture:
         self._desk = desk
         self.places = Places()
         self._given: Counter[int] | None = None
-        self._shape: _Shape | None = None
+        self._shape: Shape | None = None
         self._layout = ""
 
     def svg(self, nodes: tuple[int, ...], arcs: list[int], *, to_take: bool = False) -> str:
         """The picture of these arcs, and of these nodes even if they have none. A picture to take along has its style in it. Raises
         `NoPicture`."""
         shape = self._shape_of(arcs, nodes)
+        root = self.laid_out(shape)
+        self._fill(root, shape)
+        return written(root, STYLE, caption(self._desk, LEGEND)) if to_take else written(root)
+
+    def laid_out(self, shape: Shape) -> ElementTree.Element:
+        """The layout of a shape, without numbers. Raises `NoPicture`."""
         if shape != self._shape:
             ways = shape.ways()
             self.places.put((it.node for it in shape.nodes), ways.values(), _text(self._lines(shape, ways)))
@@ -109,12 +118,7 @@ class Picture:
             self._shape = shape
         root = ElementTree.fromstring(self._layout)
         _seen(root)
-        self._fill(root, shape)
-        if to_take:
-            style = ElementTree.Element(f"{{{SVG}}}style")
-            style.text = STYLE
-            root.insert(0, style)
-        return ElementTree.tostring(root, encoding="unicode")
+        return root
 
     def _ends(self, line: Line) -> tuple[int, int]:
         """The places at the ends of an arc."""
@@ -132,7 +136,7 @@ class Picture:
         degrees.subtract(node for line in desk.lines if line.is_replaced for node in self._ends(line))
         return degrees
 
-    def _shape_of(self, arcs: list[int], chosen: tuple[int, ...]) -> _Shape:
+    def _shape_of(self, arcs: list[int], chosen: tuple[int, ...]) -> Shape:
         desk, names, place = self._desk, self._desk.names, self._desk.folding.place
 
         def ends(number: int) -> tuple[int, int]:
@@ -150,15 +154,15 @@ class Picture:
             at_node = () if node in desk.shut_nodes else roles.get(node, ())
             return tuple((number, AT_PLACE[kind], _widest(desk, number)) for number, kind in at_node)
 
-        return _Shape(
-            tuple(_Arc(number, *ends(number), names.arc_name(number), _widest(desk, number)) for number in arcs),
+        return Shape(
+            tuple(DrawnArc(number, *ends(number), names.arc_name(number), _widest(desk, number)) for number in arcs),
             tuple(
-                _Node(node, names.node(node), told(node), drawn[node] == degrees[node], node in desk.shut_nodes)
+                DrawnNode(node, names.node(node), told(node), drawn[node] == degrees[node], node in desk.shut_nodes)
                 for node in sorted(drawn)
             ),
         )
 
-    def _lines(self, shape: _Shape, ways: dict[int, Way], *, is_put: bool = False) -> Iterator[str]:
+    def _lines(self, shape: Shape, ways: dict[int, Way], *, is_put: bool = False) -> Iterator[str]:
         """A picture for Graphviz, with the spots and routes that are known if it is put."""
         splines = "line" if is_put and len(shape.nodes) > MOST_ROUTED else "true"
         yield f"digraph dmf {{\n  rankdir=LR; bgcolor=transparent; ranksep=0.2; splines={splines}; notranslate=true"
@@ -182,7 +186,7 @@ class Picture:
             yield drawn_line(f"{arc.tail} -> {arc.head}", looks)
         yield "}"
 
-    def _fill(self, root: ElementTree.Element, shape: _Shape) -> None:
+    def _fill(self, root: ElementTree.Element, shape: Shape) -> None:
         """Puts numbers and classes into a layout."""
         desk = self._desk
         cut = desk.cut_arcs() if desk.is_greatest else {}
@@ -237,10 +241,40 @@ def spoken(desk: Desk, number: int) -> str:
 
 
 def _mark(group: ElementTree.Element, kind: str, looks: dict[str, bool], label: str) -> None:
-    group.set("class", " ".join([kind, *(name for name, is_so in looks.items() if is_so)]))
+    marked(group, [kind, *(name for name, is_so in looks.items() if is_so)], label)
+
+
+def marked(group: ElementTree.Element, classes: Iterable[str], label: str) -> None:
+    """Gives a part of a picture its classes and its title."""
+    group.set("class", " ".join(classes))
     title = ElementTree.Element(f"{{{SVG}}}title")
     title.text = _label(label)
     group.insert(0, title)
+
+
+def caption(desk: Desk, legend: str) -> list[str]:
+    """What a picture to take along says below it: of what it is, of which day, and how it is read. The unit stands in it."""
+    return [*said_of(desk), legend]
+
+
+def written(root: ElementTree.Element, style: str = "", below: Sequence[str] = ()) -> str:
+    """The text of a picture, with a style in it, and lines below it."""
+    if style:
+        left, top, width, height = map(float, (root.get("viewBox") or "0 0 1 1").split())
+        wide = max([width, *(len(line) * CAPTION * WIDE for line in below)])
+        root.set("viewBox", f"{left:.2f} {top:.2f} {wide:.2f} {height + len(below) * CAPTION * LINE + CAPTION:.2f}")
+        for name in "width", "height":
+            root.attrib.pop(name, None)
+        made = ElementTree.Element(f"{{{SVG}}}style")
+        made.text = style
+        root.insert(0, ElementTree.Element(f"{{{SVG}}}rect", x=f"{left:.2f}", y=f"{top:.2f}", width="100%", height="100%", fill="#ffffff"))
+        root.insert(0, made)
+        for at, line in enumerate(below, 1):
+            text = ElementTree.SubElement(root, f"{{{SVG}}}text", x=f"{left + CAPTION:.2f}", y=f"{top + height + at * CAPTION * LINE:.2f}")
+            text.set("font-size", f"{CAPTION:.2f}")
+            text.set("class", "caption")
+            text.text = _label(line)
+    return ElementTree.tostring(root, encoding="unicode")
 
 
 def _seen(root: ElementTree.Element) -> None:

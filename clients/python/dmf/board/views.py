@@ -3,11 +3,10 @@ their unit."""
 
 from __future__ import annotations
 
-import os
-
 from ..desk import Desk
 from ..quantity import plain_text
 from .answers import Json
+from .scenarios import kept_view
 
 MOST_LISTED, MOST_SIDE = 300, 30
 
@@ -29,7 +28,7 @@ def state_view(desk: Desk) -> Json:
         # The numbers of arcs after these are given anew after an undo.
         "given": desk.first_count,
         "places": len(names.places),
-        "kept_in": os.path.basename(desk.kept_in),
+        **kept_view(desk),
         "at": desk.at - 1,
         "steps": [{"text": step.text, "value": plain_text(step.value)} for step in desk.steps],
         "limit": [arc_view(desk, number) for number in cut[:MOST_LISTED]],

@@ -8,6 +8,7 @@ from dataclasses import dataclass
 from typing import NamedTuple, Union
 
 from ..desk_steps import Line
+from ..desk_view import DeskView
 from ..quantity import Measure, Quantity, moved, plain_text
 from ..text import display
 from .desk import ProjectDesk
@@ -58,15 +59,25 @@ class ArcDifference:
     second: ArcState
     known: Known
 
+    @property
+    def kind(self) -> str:
+        """What is other in the second scenario: the arc has `come` or `gone`, `more` or `less` flows on it, or something `else`."""
+        was, now = self.first.state == OPEN, self.second.state == OPEN
+        if was != now:
+            return "come" if now else "gone"
+        return "more" if self.second.flow > self.first.flow else "less" if self.second.flow < self.first.flow else "else"
+
 
 @dataclass(frozen=True)
 class Comparison:
-    """Two scenarios beside each other, and the arcs that differ, in the order of the table. Numbers are the table's."""
+    """Two scenarios beside each other, and the arcs that differ, in the order of the table. Numbers are the table's. `alike` are the arcs that
+    do not differ."""
 
     first: Standing
     second: Standing
     arcs: tuple[ArcDifference, ...]
     measure: Measure
+    alike: tuple[Known, ...] = ()
 
     def lines(self) -> Iterator[str]:
         """It in words, a line for each thing that differs."""
@@ -95,7 +106,7 @@ class _Seen:
         self._flows = flows
         self._lines: list[Line] = list(desk.lines)
         self._measure = desk.measure
-        self.numbers = dict(_known(desk))
+        self.numbers = dict(known_arcs(desk))
         # An arc that was added is not there in another scenario, and goes by other numbers in it.
         self._label = names.arc
         self._added = {known: names.arc(number) for known, number in self.numbers.items() if isinstance(known, tuple)}
@@ -121,7 +132,7 @@ class _Seen:
         return self._added.get(known, "") if isinstance(known, tuple) else self._label(known)
 
 
-def _known(desk: ProjectDesk) -> Iterator[tuple[Known, int]]:
+def known_arcs(desk: DeskView) -> Iterator[tuple[Known, int]]:
     """The arcs of a desk by what they are known by. One that was closed and opened again is the one that it was."""
     count = Counter[tuple[int, int, str]]()
     known: dict[int, Known] = {}
@@ -146,6 +157,6 @@ def compare(desk: ProjectDesk, first: str, second: str) -> Comparison:
     with desk.visiting(second):
         two = _Seen(desk, second)
     every = dict.fromkeys([*one.numbers, *two.numbers])
-    found = [known for known in every if one.bare(known) != two.bare(known)]
-    rows = tuple(ArcDifference(one.label(it) or two.label(it), one.state(it), two.state(it), it) for it in found)
-    return Comparison(one.standing, two.standing, rows, desk.measure)
+    found = {known for known in every if one.bare(known) != two.bare(known)}
+    rows = tuple(ArcDifference(one.label(it) or two.label(it), one.state(it), two.state(it), it) for it in every if it in found)
+    return Comparison(one.standing, two.standing, rows, desk.measure, tuple(it for it in every if it not in found))

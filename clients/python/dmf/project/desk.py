@@ -71,6 +71,8 @@ class ProjectDesk(Desk):
         self.kept_in = file.path
         # Whether what is done is kept; if not, it is only tried, or is kept already.
         self._keeps = False
+        # The scenario that is only visited.
+        self._visited = ""
         super().__init__(finest(base.subject, file.project), with_solve=True, program=program)
         self.news = [*file.news, *base.told]
         file.news.clear()
@@ -88,6 +90,10 @@ class ProjectDesk(Desk):
     def scenario(self) -> Scenario:
         """The scenario that is worked on."""
         return self._found(self.project.present)
+
+    @property
+    def scenario_name(self) -> str:
+        return self._visited or self.project.present
 
     def end(self) -> None:
         """Ends the session, and writes the project. Raises an OSError if that fails; the journal has all of it then."""
@@ -181,7 +187,16 @@ class ProjectDesk(Desk):
                 raise DeskFault(f"it was not done, since it cannot be kept in {display(self.file.path)}: {error.strerror}") from None
             raise
 
+    def _keep_word(self, word: str, text: str) -> None:
+        """Keeps what is said of the project, which leaves the network as it is."""
+        self._keep(word, text)
+        self._time.turn += 1
+
     # Scenarios.
+
+    def kept_value(self, scenario: Scenario) -> str:
+        """The greatest value of a scenario, as it was kept."""
+        return scenario.steps[scenario.at - 1].value if scenario.at else plain_text(self.steps[0].value)
 
     def _found(self, name: str) -> Scenario:
         scenario = self.project.scenario(name)
@@ -252,24 +267,24 @@ class ProjectDesk(Desk):
         """Gives the present scenario another name."""
         self._judge_writable()
         self._judge_new_name(name)
-        self._keep("name", name)
+        self._keep_word("name", name)
 
     def delete(self, name: str) -> None:
         """Deletes a scenario that is not the present one."""
         self._judge_writable()
         if self._found(name) is self.scenario:
             raise DeskFault(f"{shown(name)} is the present scenario; go to another first")
-        self._keep("delete", name)
+        self._keep_word("delete", name)
 
     def note(self, text: str) -> None:
         """Gives the present scenario a note."""
         self._judge_writable()
-        self._keep("note", text)
+        self._keep_word("note", text)
 
     def take_notes(self, text: str) -> None:
         """Gives the project notes."""
         self._judge_writable()
-        self._keep("notes", text)
+        self._keep_word("notes", text)
 
     def take_positions(self, positions: Mapping[str, tuple[float, float] | None]) -> None:
         """Keeps where places stand in a picture, by their names; None forgets it."""
@@ -289,9 +304,11 @@ class ProjectDesk(Desk):
         here = replace(self.scenario, at=self.at - 1)
         with self._unkept():
             self.news += self._follow(steps).told
+            self._visited = name
             try:
                 yield
             finally:
+                self._visited = ""
                 try:
                     self._follow(here)
                     self._time.floors, self._time.turn = before.floors, before.turn

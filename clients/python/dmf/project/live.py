@@ -1,24 +1,30 @@
-"""Projects in Python: `dmf.open_project`. Places and arcs go by the names by which dmf-plan takes them, and numbers are the table's."""
+"""Projects in Python: `dmf.open_project` and `dmf.new_project`. Places and arcs go by the names by which dmf-plan takes them, and numbers are the table's."""
 
 from __future__ import annotations
 
 import contextlib
 import os
-from collections.abc import Iterator
+from argparse import Namespace
+from collections.abc import Iterable, Iterator, Mapping
 from decimal import Decimal
 from typing import NamedTuple, Union
 
+from ..costs import cheapest, prices
+from ..desk import Desk
 from ..desk_amounts import amount
 from ..desk_steps import DeskFault
 from ..session import Program
 from ..quantity import Quantity
-from ..tool import write_file
+from ..tables.opening import split_path
+from ..tables.subject import read_subject
+from ..tool import ToolFault, write_file
 from .comparison import Comparison, compare
-from .desk import BASE
+from .desk import BASE, ProjectDesk
 from .form import ProjectFault
-from .opening import project_desk
+from .opening import beside, keep_project, project_desk
 from .report import report
 
+Path = Union[str, "os.PathLike[str]"]
 # A quantity of the table, or a text as dmf-plan takes it: `47,3`, `12 l/s`, `+10 %`.
 Amount = Union[str, int, float, Decimal]
 
@@ -27,6 +33,16 @@ class Made(NamedTuple):
     """A step that was made: what was done, in words, and the greatest value after it."""
 
     text: str
+    value: Quantity
+
+
+class Purchase(NamedTuple):
+    """What is bought at once on a way to a greater value: by how much each arc gets wider, what that costs, what all costs so far, and the
+    greatest value then."""
+
+    wider: dict[str, Quantity]
+    cost: Decimal
+    total: Decimal
     value: Quantity
 
 
@@ -44,10 +60,19 @@ class OpenProject:
 
     __module__ = __package__.rpartition(".")[0]
 
-    def __init__(self, path: Union[str, os.PathLike[str]], table: str | None = None, program: Program = None) -> None:
-        self.path = os.fspath(path)
+    def __init__(self, path: Path, table: str | None = None, program: Program = None) -> None:
         with _refusing():
-            self._desk = project_desk(self.path, table or "", program)
+            self._take(project_desk(os.fspath(path), table or "", program))
+
+    @classmethod
+    def _of(cls, desk: ProjectDesk) -> OpenProject:
+        made = cls.__new__(cls)
+        made._take(desk)
+        return made
+
+    def _take(self, desk: ProjectDesk) -> None:
+        self._desk = desk
+        self.path = desk.subject.path
 
     def __enter__(self) -> OpenProject:
         return self
@@ -186,6 +211,14 @@ class OpenProject:
         with _refusing():
             self._desk.note(text)
 
+    def cheapest(self, to: Amount | None = None, column: str = "", *, of_seconds: bool = False) -> list[Purchase]:
+        """A cheap way to a greater value, by default to twice the present one, by what a column of the table says each unit more costs, or
+        a second arc. It is found greedily: a cheaper one may exist. Nothing changes. Takes a few solves for each purchase."""
+        with _refusing():
+            desk, name = self._desk, self._desk.names.arc
+            way = cheapest(desk, prices(desk, column, is_second=of_seconds), None if to is None else self._amount(to))
+            return [Purchase({name(number): by for number, by in it.wider}, it.cost, it.total, it.value) for it in way.bought]
+
     def compare(self, first: str, second: str) -> Comparison:
         """Two scenarios beside each other, of which one may be `base`, the network of the table. Takes as long as their steps take."""
         with _refusing():
@@ -201,7 +234,7 @@ class OpenProject:
         with _refusing():
             self._desk.take_notes(text)
 
-    def report(self, path: Union[str, os.PathLike[str]]) -> None:
+    def report(self, path: Path) -> None:
         """Writes a page in HTML to hand on, with all scenarios, their limits and pictures, and what is worst to lose in the present one.
         Takes as long as all steps, a comparison of each scenario and a sweep take. Raises an OSError if the file cannot be written."""
         with _refusing():
@@ -211,15 +244,64 @@ class OpenProject:
 
 @contextlib.contextmanager
 def _refusing() -> Iterator[None]:
-    """Raises what the desk refuses as a `ProjectFault`."""
+    """Raises what the desk refuses, or a table that cannot be read, as a `ProjectFault`."""
     try:
         yield
     except DeskFault as fault:
         raise ProjectFault(str(fault)) from None
+    except ToolFault as fault:
+        raise ProjectFault("\n".join(fault.reasons)) from None
 
 
-def open_project(path: Union[str, os.PathLike[str]], *, table: str | None = None, program: Program = None) -> OpenProject:
-    """Opens a project that `dmf-plan TABLE --keep` or `dmf-board TABLE --keep` has made, in its file `NAME.dmf.json`. `table` is where its table
+def open_project(path: Path, *, table: str | None = None, program: Program = None) -> OpenProject:
+    """Opens a project that `new_project`, `dmf-plan TABLE --keep` or `dmf-board TABLE --keep` has made, in its file `NAME.dmf.json`. `table` is where its table
     is now, if that has moved. Its steps are made again on a new session, and each value is compared with the one that was kept: `news` tells
     what differs. Raises `ProjectFault`, with the place in the file, an OSError if it cannot be read, and what `Network` raises."""
     return OpenProject(path, table, program)
+
+
+def new_project(
+    table: Path,
+    path: Path | None = None,
+    *,
+    source: Union[str, Iterable[str]] = (),
+    sink: Union[str, Iterable[str]] = (),
+    sources: Path | None = None,
+    sinks: Path | None = None,
+    node_limits: Path | None = None,
+    places: Path | None = None,
+    columns: Mapping[str, str] = {},
+    decimal: str = "",
+    scale: Union[Decimal, int, None] = None,
+    both_ways: bool = False,
+    encoding: str | None = None,
+    raw_names: bool = False,
+    program: Program = None,
+) -> OpenProject:
+    """Makes a project of the table or the problem in a file, as `dmf-plan TABLE --keep` does: in a file that is not there yet, by default
+    beside the table, `pipes.dmf.json` for `pipes.csv`. It has one scenario, `first`, without a step.
+
+    `source` and `sink` are a place, or several, each perhaps with its limit, as in `Mill=12`; the other arguments are those of
+    `read_table`. Raises `ProjectFault` if the table has faults, naming each row, or if the project cannot be kept; an OSError if the table
+    cannot be read; and what `Network` raises."""
+    tables = {"sources": sources, "sinks": sinks, "node_limits": node_limits, "place_table": places}
+    words = Namespace(
+        path=os.fspath(table), titles=dict(columns), decimal=decimal, scale=None if scale is None else Decimal(scale), both_ways=both_ways,
+        source=_listed(source), sink=_listed(sink), encoding=encoding, raw_names=raw_names,
+        **{option: None if it is None else os.fspath(it) for option, it in tables.items()},
+    )  # fmt: skip
+    with open(split_path(words.path)[0], "rb"):
+        # An OSError names what cannot be read.
+        pass
+    with _refusing():
+        desk = Desk(read_subject(words), program=program)
+        try:
+            kept = keep_project(beside(words.path) if path is None else os.fspath(path), words, desk, program)
+        finally:
+            desk.end()
+    kept.news += desk.subject.notes
+    return OpenProject._of(kept)
+
+
+def _listed(ends: Union[str, Iterable[str]]) -> list[str]:
+    return [ends] if isinstance(ends, str) else list(ends)

@@ -27,9 +27,9 @@ export async function choose(what) {
 
 /**
  * A cell with an arc that a click chooses. One that stands for a limit of a place is seen at that place.
- * @param {import("./state.js").Arc} arc
+ * @param {{ number: number, node: number, label?: string }} arc
  * @param {string} text
  */
-export function pick(arc, text = arc.label) {
+export function pick(arc, text = arc.label ?? "") {
   return cell(button(text, () => choose(arc.node ? { node: arc.node } : { arc: arc.number }), "link"));
 }

@@ -71,6 +71,18 @@ export function form(fields, word, done) {
   return made;
 }
 
+/**
+ * Gives a list to choose from these values with their words, and keeps what is chosen if it is still there.
+ * @param {string} id
+ * @param {string[][]} pairs
+ * @param {string} usual
+ */
+export function offer(id, pairs, usual) {
+  const list = /** @type {HTMLSelectElement} */ (at(id)), before = list.value;
+  list.replaceChildren(...pairs.map(([value, words]) => make("option", words, { value })));
+  list.value = pairs.some(([value]) => value === before) ? before : usual;
+}
+
 /** @param {Element} host */
 const controls = (host) => [...host.querySelectorAll("button:enabled, input:enabled")];
 
@@ -111,11 +123,12 @@ export const numberCell = (text) => make("td", text, { class: "number" });
  * @param {string} caption
  * @param {string[]} heads the titles, of which all but the first are of numbers, unless they are empty
  * @param {HTMLTableCellElement[][]} rows
+ * @param {boolean} isWords that no column is of numbers
  */
-export function fill(id, caption, heads, rows) {
+export function fill(id, caption, heads, rows, isWords = false) {
   const table = tableAt(id);
   const titles = heads.map((head, place) => make("th", head || make("span", "difference", { class: "unseen" }),
-    { scope: "col", class: place && head ? "number" : "" }));
+    { scope: "col", class: place && head && !isWords ? "number" : "" }));
   table.createCaption().textContent = caption;
   table.tHead?.replaceChildren(make("tr", titles));
   replace(table.tBodies[0], rows.map((row) => make("tr", row)));

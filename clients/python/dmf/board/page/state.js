@@ -5,8 +5,9 @@
  * @typedef {{ node: number, name: string, in: string, out: string, roles: Arc[], is_source: boolean, is_sink: boolean, shut: boolean,
  *   open: boolean, side: boolean }} Place
  * @typedef {{ turn: number, title: string, unit: string, noun: string, notes: string[], source: string, sink: string, value: string,
- *   arcs: number, given: number, places: number, kept_in: string, at: number, steps: { text: string, value: string }[], limit: Arc[],
- *   limit_count: number, side: string[], side_count: number, names: string[] }} State
+ *   arcs: number, given: number, places: number, kept_in: string, scenario: string, why_not: string, floor: number, at: number,
+ *   steps: { text: string, value: string }[], limit: Arc[], limit_count: number, side: string[], side_count: number,
+ *   names: string[] }} State
  * @typedef {{ arc?: number, node?: number }} Choice
  */
 import { moved, upper } from "./amounts.js";
@@ -71,8 +72,11 @@ export async function ask(path, content, isQuiet = false) {
 }
 
 function lost() {
-  trouble("The board does not answer: it has ended. Start it again with dmf-board, and open the address that it tells.");
-  for (const it of document.querySelectorAll("button, input")) it.setAttribute("disabled", "");
+  const kept = state?.kept_in ? `Each step is in ${state.kept_in}.` : "The steps on this page are not kept: there they can still be read.";
+  trouble(`The board does not answer: it has ended. Start it again with “dmf-board ${state?.title ?? "FILE"}”, and open the address `
+    + `that it tells. ${kept} What you typed stays here.`);
+  for (const it of document.querySelectorAll("button, select")) it.setAttribute("disabled", "");
+  for (const it of document.querySelectorAll("input")) it.readOnly = true;
   life.close();
 }
 
@@ -101,9 +105,10 @@ async function show(told) {
  * not shown yet.
  * @param {object} content
  * @param {string} words
+ * @returns {Promise<boolean>} whether it was done
  */
 export async function act(content, words = "") {
-  if (acting) return;
+  if (acting) return false;
   acting = true;
   at("main").setAttribute("aria-busy", "true");
   trouble("");
@@ -117,9 +122,10 @@ export async function act(content, words = "") {
   }
   await catchUp();
   at("main").setAttribute("aria-busy", String(acting));
+  return Boolean(told);
 }
 
-export const undo = () => present().at > 0 && act({ what: "go", step: present().at - 1 }, "undone");
+export const undo = () => present().at > present().floor && act({ what: "go", step: present().at - 1 }, "undone");
 export const redo = () => present().at < present().steps.length - 1 && act({ what: "go", step: present().at + 1 }, "done again");
 
 // The board lives as long as a page holds this connection, by which it tells the turn of each newer state.

@@ -9,15 +9,17 @@ import { act, redo, undo } from "./state.js";
 /** @param {State} state */
 export function showSteps(state) {
   const held = document.activeElement;
-  field("undo").disabled = state.at === 0;
+  field("undo").disabled = state.at <= state.floor;
   field("redo").disabled = state.at === state.steps.length - 1;
-  if (held === at("undo") && state.at === 0) at("redo").focus();
+  if (held === at("undo") && state.at <= state.floor) at("redo").focus();
   if (held === at("redo") && field("redo").disabled) at("undo").focus();
   replace(at("way"), state.steps.map((step, place) => {
     const words = place ? step.text : "as in the file";
     const by = place ? ` (${moved(state.steps[place - 1].value, step.value)})` : "";
     const go = button(`${words}: ${step.value}${by}`, () => act({ what: "go", step: place }, `at the step “${words}”`));
     if (place === state.at) go.setAttribute("aria-current", "step");
+    // The steps of the scenario that this one began from stay.
+    go.disabled = place < state.floor;
     return make("li", go, { class: place > state.at ? "undone" : "" });
   }));
 }

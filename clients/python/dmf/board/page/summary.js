@@ -15,8 +15,9 @@ export function showSummary(state) {
 
 /** @param {State} state */
 function tell(state) {
-  document.title = `${state.value} ${state.title}`;
-  at("title").textContent = `${state.title}: from ${state.source} to ${state.sink}`;
+  const named = state.scenario ? `, ${state.scenario}` : "";
+  document.title = `${state.value} ${state.title}${named}`;
+  at("title").textContent = `${state.title}${named}: from ${state.source} to ${state.sink}`;
   const by = moved(state.steps[0].value, state.value);
   const since = state.at ? ` (${by} than at the beginning).`.replace("no change than", "as much as") : ".";
   at("value").replaceChildren(
@@ -25,9 +26,9 @@ function tell(state) {
   at("notes").hidden = !state.notes.length;
   at("notes").lastElementChild?.replaceChildren(...state.notes.map((note) => make("li", note)));
   at("places").replaceChildren(...state.names.map((name) => make("option", [], { value: name })));
-  at("kept").textContent = state.kept_in
+  at("kept").textContent = state.why_not ? `Nothing is kept, since ${state.why_not}: what is done here changes nothing.` : state.kept_in
     ? `Each step is kept in ${state.kept_in}.` : "Nothing is saved of itself: the steps end with this page.";
-  for (const [id, file] of [["take-csv", "plan.csv"], ["take-max", "problem.max"]]) {
+  for (const [id, file] of [["take-csv", "plan.csv"], ["take-max", "problem.max"], ["take-report", "report.html"]]) {
     at(id).setAttribute("href", `${file}?turn=${state.turn}`);
   }
 }

@@ -1,0 +1,157 @@
+/**
+ * Two scenarios beside each other: value, limit, and each arc that differs, in a table and in a picture.
+ * @typedef {import("./state.js").State} State
+ * @typedef {{ name: string, value: string, limit: string[], limit_count: number }} Standing
+ * @typedef {{ arc: string, number: number, node: number, kind: string, first: string, second: string }} Row
+ * @typedef {{ turn: number, first: Standing, second: Standing, moved: string, same_limit: boolean, total: number, rows: Row[] }} Comparison
+ */
+import { upper } from "./amounts.js";
+import { choose, pick } from "./choice.js";
+import { at, cell, field, fill, make, offer, onClick, replace } from "./elements.js";
+import { patiently } from "./messages.js";
+import { ask, noun, units } from "./state.js";
+
+const AT_ONCE = 300;
+/** What the picture's colours mean, in words. */
+const KINDS = new Map([["more", "more"], ["come", "only there"], ["less", "less"], ["gone", "gone"], ["else", "not the flow"]]);
+/** @type {Comparison | null} */
+let shown = null;
+/** @type {Row[]} */
+let rows = [];
+let asked = 0;
+/** @type {(() => unknown)[]} */
+const watchers = [];
+
+/** The names of the two scenarios that are shown beside each other, if any are. */
+export const theComparison = () => (shown ? [shown.first.name, shown.second.name] : null);
+
+/**
+ * Has each comparison told to a part of the page.
+ * @param {() => unknown} watcher
+ */
+export function watchComparison(watcher) {
+  watchers.push(watcher);
+}
+
+/**
+ * Offers the scenarios to choose two from: the network of the table beside the present one, as long as nothing else is chosen.
+ * @param {string[]} names
+ * @param {State} state
+ */
+export function offerScenarios(names, state) {
+  const pairs = names.map((name) => [name, name]);
+  offer("compare-one", pairs, names[0]);
+  offer("compare-two", pairs, state.scenario);
+  if (shown && shown.turn !== state.turn) outdated();
+}
+
+function outdated() {
+  at("compare-old").hidden = false;
+}
+
+/**
+ * Shows two scenarios beside each other.
+ * @param {string} one
+ * @param {string} two
+ */
+export async function compare(one, two) {
+  const turn = (asked += 1);
+  field("compare-one").value = one;
+  field("compare-two").value = two;
+  const words = `one=${encodeURIComponent(one)}&two=${encodeURIComponent(two)}`;
+  /** @type {Comparison | null | undefined} */
+  const told = await patiently(ask(`comparison?${words}&first=0&count=${AT_ONCE}`));
+  if (!told || turn !== asked) return;
+  shown = told;
+  rows = told.rows;
+  showTable();
+  for (const watcher of watchers) watcher();
+  const picture = await patiently(ask(`difference?${words}`));
+  if (picture && turn === asked) draw(picture);
+}
+
+/** Shows nothing beside each other any more. */
+export function closeComparison() {
+  asked += 1;
+  shown = null;
+  at("compared-shown").hidden = true;
+  for (const watcher of watchers) watcher();
+}
+
+/** @param {Standing} it */
+function limitOf(it) {
+  const left = it.limit_count - it.limit.length;
+  return (it.limit.join("; ") || "nothing") + (left ? ` and ${left} more` : "");
+}
+
+function showTable() {
+  const told = /** @type {Comparison} */ (shown), { first, second, total } = told;
+  at("compared-shown").hidden = false;
+  at("compare-old").hidden = true;
+  const words = `one=${encodeURIComponent(first.name)}&two=${encodeURIComponent(second.name)}&turn=${told.turn}`;
+  at("take-difference").setAttribute("href", `difference.svg?${words}`);
+  at("compare-values").replaceChildren(`${first.name}: `, make("strong", first.value), `${units()}. ${second.name}: `,
+    make("strong", second.value), `${units()}: ${told.moved}.`);
+  const limits = told.same_limit ? [`The limit is the same: ${limitOf(first)}.`]
+    : [first, second].map((it) => `The limit of ${it.name}: ${limitOf(it)}.`);
+  replace(at("compare-limits"), limits.map((text) => make("p", text)));
+  const some = rows.length < total ? `, of which the first ${rows.length} are listed` : "";
+  at("compare-count").textContent = total ? `${total} differ${total === 1 ? "s" : ""}${some}.` : `No ${noun()} differs.`;
+  at("compare-more").hidden = rows.length >= total;
+  at("compare-scroll").hidden = !total;
+  const heads = [upper(noun()), first.name, second.name, "in the picture"];
+  fill("compare-table", `what flows${units() && ","}${units()}`, heads, rows.map((row) => [
+    row.number ? pick(row, row.arc) : cell(row.arc), cell(row.first), cell(row.second),
+    make("td", KINDS.get(row.kind) ?? "", { class: row.kind })]), true);
+}
+
+/** Lists more of what differs. */
+async function more() {
+  const told = shown, turn = asked;
+  if (!told) return;
+  const words = `one=${encodeURIComponent(told.first.name)}&two=${encodeURIComponent(told.second.name)}`;
+  const next = await patiently(ask(`comparison?${words}&first=${rows.length}&count=${AT_ONCE}`));
+  if (!next || turn !== asked) return;
+  if (next.turn !== told.turn) {
+    outdated();
+    return;
+  }
+  rows = rows.concat(next.rows);
+  showTable();
+}
+
+/** @param {{ svg: string, reason: string }} told */
+function draw({ svg, reason }) {
+  at("compare-reason").textContent = reason ? `${upper(reason)}.` : "";
+  const host = at("compare-picture");
+  host.hidden = !svg;
+  host.replaceChildren();
+  if (!svg) return;
+  const made = document.importNode(new DOMParser().parseFromString(svg, "image/svg+xml").documentElement, true);
+  const drawn = /** @type {SVGSVGElement} */ (/** @type {unknown} */ (made)), { width, height } = drawn.viewBox.baseVal;
+  // Letters are 11 pixels high at least; what is wider than the page is moved in its frame.
+  const scale = Math.min(1.33, Math.max(1.02, (host.clientWidth - 4) / width));
+  drawn.setAttribute("width", String(width * scale));
+  drawn.setAttribute("height", String(height * scale));
+  drawn.setAttribute("role", "img");
+  drawn.setAttribute("aria-label", `${at("compare-values").textContent} ${at("compare-count").textContent} The table below has the same.`);
+  host.append(drawn);
+}
+
+export function beginComparing() {
+  at("comparing").addEventListener("submit", async (event) => {
+    event.preventDefault();
+    await compare(field("compare-one").value, field("compare-two").value);
+    if (shown) at("compared-head").focus();
+  });
+  onClick("compare-more", more);
+  onClick("compare-again", () => shown && compare(shown.first.name, shown.second.name));
+  onClick("compare-close", () => {
+    closeComparison();
+    at("compare-one").focus();
+  });
+  at("compare-picture").addEventListener("click", (event) => {
+    const part = event.target instanceof Element && event.target.closest("g[data-arc]");
+    if (part) choose({ arc: Number(part.getAttribute("data-arc")) });
+  });
+}

@@ -1,0 +1,155 @@
+"""What is taken along of a project's scenario says what it is, and is read back by the tools with the same values, of each story."""
+
+from __future__ import annotations
+
+import csv
+import io
+import json
+import re
+import subprocess
+import sys
+import time
+from collections import Counter
+from collections.abc import Callable
+from pathlib import Path
+from typing import Any
+from xml.etree import ElementTree
+
+import pytest
+from desk_shared import ROOT, run
+from dmf.board.picture import Picture
+from dmf.desk_text import near, problem, table
+from dmf.project.desk import ProjectDesk
+from dmf.quantity import plain_text
+from oracle import program
+from project_shared import named, new_project, supply_project, water_project
+
+pytestmark = pytest.mark.seconds(10)
+SVG = "{http://www.w3.org/2000/svg}"
+# The title of an arc in a picture: its name, what flows and what fits, or what it is.
+TITLE = re.compile(r"(.*): (?:([0-9.]+) of ([0-9.]+)|closed)([^:]*)", re.DOTALL)
+
+
+def water(folder: Path) -> ProjectDesk:
+    desk = water_project(folder)
+    desk.close(named(desk, "Bridge pipe"))
+    desk.add(desk.names.place("Mill"), desk.names.place("Station"), 25, "New, pipe")
+    return desk
+
+
+def supply(folder: Path) -> ProjectDesk:
+    desk = supply_project(folder)
+    desk.shut(desk.names.place("East Depot"))
+    return desk
+
+
+def rota(folder: Path) -> ProjectDesk:
+    """The rota of a ward, in which somebody falls ill."""
+    arcs = subprocess.run([sys.executable, ROOT / "examples/rota/arcs.py"], stdin=open(ROOT / "examples/rota/rota.csv"), capture_output=True, check=True).stdout
+    (folder / "rota.csv").write_bytes(arcs)
+    desk = new_project(folder, "rota.csv", "Staff", "Rota")
+    desk.shut(desk.names.place("Ida"))
+    return desk
+
+
+def town(folder: Path) -> ProjectDesk:
+    """A town of decimal numbers, of which a pipe is wider."""
+    (folder / "town.csv").write_text("von;nach;Kapazität (l/s);Rohr;Kosten\nSee;Werk;47,3;a;9\nWerk;Turm;30,25;b;8\nWerk;Ort;20;c;7\nTurm;Ort;40;d;6\n")
+    desk = new_project(folder, "town.csv", "--source", "See", "--sink", "Ort")
+    desk.cap(named(desk, "b"), 25)
+    return desk
+
+
+STORIES: dict[str, Callable[[Path], ProjectDesk]] = {"water": water, "supply": supply, "rota": rota, "town": town}
+
+
+@pytest.fixture(params=STORIES)
+def desk(request: pytest.FixtureRequest, tmp_path: Path) -> Any:
+    """A story's project, whose second scenario has what was done in it."""
+    made = STORIES[request.param](tmp_path)
+    made.new("The plan", "first")
+    yield made
+    made.end()
+
+
+def states(desk: ProjectDesk) -> dict[str, tuple[str, str]]:
+    """What flows on each open arc, and what fits, by its name."""
+    opened = [number for number in desk.pictured() if not desk.line(number).is_closed]
+    return {desk.names.arc(it): (plain_text(desk.flow(it)), plain_text(desk.line(it).capacity)) for it in opened}
+
+
+def value_of(desk: ProjectDesk) -> str:
+    """The greatest value of a scenario, by the second implementation."""
+    answer = program.run([b"solve"], problem(desk).encode()).written
+    assert isinstance(answer, bytes)
+    return desk.measure.text(int(answer.split()[1]))
+
+
+def read_back(*words: str) -> tuple[str, str, dict[str, str]]:
+    """What dmf-plan finds in a file: the greatest value and its unit, and what fits in each arc of the table."""
+    ran = run("dmf-plan", *words, "--json", typed="solve\nflow\n")
+    assert ran.returncode == 0, ran.stderr
+    solved, flows = map(json.loads, ran.stdout.splitlines())
+    arcs = [arc for arc in flows["arcs"] if not arc["role"]]
+    names = [f"{arc['name']}, " * bool(arc["name"]) + f"{arc['from']} -> {arc['to']}" for arc in arcs]
+    return solved["value"]["told"], solved["unit"], {name: arc["capacity"]["told"] for name, arc in zip(names, arcs)}
+
+
+def assert_said(desk: ProjectDesk, text: str) -> None:
+    """A text has the network's name, the scenario, the day, the value and its unit."""
+    wanted = ["kept.dmf.json", "scenario The plan", time.strftime("%Y-%m-%d"), f"at most {value_of(desk)} {desk.measure.told_unit}".rstrip()]
+    assert [it for it in wanted if it not in text] == []
+
+
+def test_problem(desk: ProjectDesk, tmp_path: Path) -> None:
+    text = problem(desk)
+    (tmp_path / "plan.max").write_text(text)
+    wanted = {name: capacity for name, (_, capacity) in states(desk).items()}
+    assert read_back(f"{tmp_path}/plan.max") == (value_of(desk), desk.measure.told_unit, wanted)
+    assert_said(desk, text)
+
+
+def test_table(desk: ProjectDesk, tmp_path: Path) -> None:
+    """The table has each flow, says once of which plan it is, and is read again by the tools, also into a project that writes it again."""
+    text = table(desk)
+    (tmp_path / "plan.csv").write_text(text)
+    wanted = states(desk)
+    value, unit, capacities = read_back(f"{tmp_path}/plan.csv")
+    assert (value, unit, capacities) == (value_of(desk), desk.measure.told_unit, {name: capacity for name, (_, capacity) in wanted.items()})
+    rows = list(csv.DictReader(io.StringIO(text), delimiter=";" if desk.measure.sign == "," else ","))
+    flows = {f"{row['name'] and row['name'] + ', '}{row['from']} -> {row['to']}": row[desk.measure.title("flow")] for row in rows if row["to"]}
+    assert flows == {name: flow.replace(".", desk.measure.sign or ".") for name, (flow, _) in wanted.items()}
+    said = [row["said of the plan"] for row in rows if row["said of the plan"]]
+    assert len(said) == 1
+    assert_said(desk, said[0])
+    again = new_project(tmp_path, "plan.csv", name="again.dmf.json")
+    titles = table(again).splitlines()[0]
+    assert titles.count("said of the plan") == 1 and "scenario first" in table(again) and "The plan" not in table(again)
+    again.end()
+
+
+def test_picture(desk: ProjectDesk) -> None:
+    """The page's picture to take along has the flow and the room of each arc, and a caption."""
+    root = ElementTree.fromstring(Picture(desk).svg((), near(desk, ()), to_take=True))
+    titles = [group.findtext(f"{SVG}title") or "" for group in root.iter(f"{SVG}g") if (group.get("class") or "").startswith("arc")]
+    found = {match[1]: (match[2], match[3]) for match in map(TITLE.fullmatch, titles) if match and match[2]}
+    assert found == states(desk)
+    texts = "\n".join(text.text or "" for text in root.iter(f"{SVG}text"))
+    assert_said(desk, texts)
+    assert "red: the limit" in texts and (not desk.measure.told_unit or f"numbers in {desk.measure.told_unit}" in texts)
+
+
+def test_drawn(desk: ProjectDesk, tmp_path: Path) -> None:
+    """What dmf-plan draws has the same numbers, and the same caption."""
+    wanted, path = states(desk), desk.file.path
+    names = [f"{tmp_path}/{name}" for name in ("plan.svg", "plan.png", "plan.dot")]
+    ran = run("dmf-plan", path, typed="solve\n" + "".join(f"draw {name}\n" for name in names))
+    assert "another desk has it open" in ran.stderr and all(Path(name).exists() for name in names), ran.stdout
+    root = ElementTree.parse(names[0]).getroot()
+    texts = [text.text or "" for text in root.iter(f"{SVG}text")]
+    drawn = Counter(text for text in texts if re.fullmatch("[0-9.]+/[0-9.]+", text))
+    assert drawn == Counter(f"{flow}/{capacity}" for flow, capacity in wanted.values())
+    for told in "\n".join(texts), Path(names[2]).read_text():
+        assert_said(desk, told)
+        assert "red: the limit" in told
+    assert Path(names[1]).read_bytes()[:4] == b"\x89PNG"
