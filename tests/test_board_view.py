@@ -144,7 +144,7 @@ def judge_labels(page: Page) -> None:
     """Labels are never too small to be read, at any size of the picture; when it is large enough all are seen."""
     count = len(page.driver.find_elements("css selector", "#picture .node text, #picture .arc text"))
     shown = []
-    for key in "0-------0++++++++++":
+    for key in "0-------0++++++++++++++":
         page.driver.find_element("id", "picture").send_keys(key)
         page.driver.execute_async_script("requestAnimationFrame(() => requestAnimationFrame(arguments[0]))")
         heights = page.driver.execute_script(HEIGHTS)

@@ -2,6 +2,7 @@
 
 from __future__ import annotations
 
+import json
 import re
 import subprocess
 import tempfile
@@ -57,6 +58,37 @@ def test_scripts() -> None:
     assert ran.stdout.count("solve: value 165") == 1, f"what-if leaves steps: {ran.stdout}"
 
 
+def test_lists() -> None:
+    """Places with what comes in and goes out, arcs by conditions and by their beginning, and the worst to lose of all."""
+    ran = run("dmf-plan", PIPES, typed="solve\nplaces\npipes\n")
+    flows = {name: int(flow) for name, flow in re.findall("^  #[0-9]+ (.*), .* -> .*: ([0-9]+) of ", ran.stdout, re.MULTILINE)}
+    assert list(flows) == [pipe.name for pipe in water()]
+    told = {name: (int(come), int(go)) for name, come, go in re.findall("^  (.*): ([0-9]+) in, ([0-9]+) out", ran.stdout, re.MULTILINE)}
+    places = {place for pipe in water() for place in pipe[:2]}
+    wanted = {
+        place: (sum(flows[it.name] for it in water() if it.head == place), sum(flows[it.name] for it in water() if it.tail == place))
+        for place in places
+    }
+    assert told == wanted and "\n  Harbour: 165 in, 0 out, a sink\n" in ran.stdout
+    ran = run("dmf-plan", PIPES, typed="close Mill Lane\nsolve\nfrom Mill\npipes where limit\npipes where capacity < 30 and from ~ m\nplaces\n")
+    assert re.findall("#[0-9]+ (.*?), Mill -> .*: ([a-z]*)", ran.stdout)[:2] == [("Mill Lane", "closed"), ("Bridge pipe", "")]
+    limit = re.findall("#[0-9]+ (.*?),.*, limit$", ran.stdout, re.MULTILINE)
+    assert sum(pipe.capacity for pipe in water() if pipe.name in limit) == without("Mill Lane") == values(ran.stdout)[-1]
+    small = [pipe.name for pipe in water() if pipe.capacity < 30 and pipe.tail[0] == "M"]
+    assert [name for name in re.findall("#[0-9]+ (.*?),", ran.stdout)][-len(small) :] == small
+    losses = sorted(swept().items(), key=lambda it: it[1][0])
+    for words, count in ("", 10), (" 3", 3), (" 99", 14):
+        ran = run("dmf-plan", PIPES, typed=f"solve\nworst{words}\n")
+        found = [(int(closed), int(second)) for closed, second in re.findall("closed ([0-9]+) .*, a second one ([0-9]+)", ran.stdout)]
+        assert [closed for closed, _ in found] == [closed for _, (closed, _) in losses[:count]]
+    for line, why in ("worst no", "'no' is no number"), ("pipes full", "wanted is: pipes"), ("from", "wanted is: from"), ("places x", "wanted is: places"):
+        assert why in run("dmf-plan", PIPES, typed=f"solve\n{line}\n").stderr
+    assert "so there is no" in run("dmf-plan", PIPES, typed="pipes where limit\n").stderr
+    objects = [json.loads(line) for line in run("dmf-plan", "--json", PIPES, typed="solve\nfrom Mill\nworst 2\npipes\n").stdout.splitlines()]
+    assert [it["event"] for it in objects] == ["change", "flow", "sweep", "flow"]
+    assert [len(objects[1]["arcs"]), len(objects[2]["trials"]), len(objects[3]["arcs"])] == [2, 2, 14]
+
+
 def test_many() -> None:
     """All arcs of which something is so are changed in one step, which is undone as one."""
     rises = [pipe.name for pipe in water() if "rise" in pipe.name]
@@ -108,9 +140,11 @@ def test_page() -> None:
     """The session on the page of documents is one."""
     lines = [line[4:] for line in (ROOT / "docs/PLAN.md").read_text().splitlines() if line.startswith("    ")]
     typed = [line.partition("> ")[2] for line in lines if re.match("[0-9]+, .*greatest> ", line)]
-    ran = run("dmf-plan", PIPES, typed="".join(f"{line}\n" for line in typed))
+    # A terminal solves at first, and a script is told so.
+    ran = run("dmf-plan", PIPES, typed="".join(f"{line}\n" for line in ["solve", *typed]))
     told = [line for line in lines if line.startswith(("value ", "  #"))]
-    assert (ran.stdout.splitlines(), ran.returncode, len(typed)) == (told, 0, 5), f"the session of docs/PLAN.md: {ran}"
+    found = ran.stdout.replace(", 165 more", "", 1).splitlines()
+    assert (found, ran.returncode, len(typed)) == (told, 0, 4), f"the session of docs/PLAN.md: {ran}"
 
 
 def test_files() -> None:

@@ -4,6 +4,7 @@ from __future__ import annotations
 
 import os
 import pty
+import re
 import select
 import signal
 import tempfile
@@ -11,7 +12,7 @@ import time
 from pathlib import Path
 
 import pytest
-from desk_shared import PIPES, ROOT, SECONDS, desk_of, end_session, sessions_of, stop_session, wait_until_asked, water_problem, without
+from desk_shared import PIPES, ROOT, SECONDS, desk_of, end_session, sessions_of, stop_session, wait_until_asked, water, water_problem, without
 from dmf import Network
 from dmf.plan import Plan
 from tool_runs import wait_until_asleep
@@ -20,15 +21,17 @@ WATER = water_problem()
 
 
 class Terminal:
-    """The tool on a terminal of its own."""
+    """The tool on a terminal of its own, of a kind: one that cannot move its cursor, if no other is named."""
 
-    def __init__(self, folder: str) -> None:
+    def __init__(self, folder: str, kind: str = "dumb", table: str = PIPES) -> None:
         self.pid, self.side = pty.fork()
         if not self.pid:
             signal.signal(signal.SIGINT, signal.SIG_DFL)
-            os.environ.update(XDG_STATE_HOME=folder, TERM="dumb", INPUTRC="/dev/null", PYTHONUNBUFFERED="1")
+            os.environ.update(XDG_STATE_HOME=folder, TERM=kind, INPUTRC="/dev/null", PYTHONUNBUFFERED="1")
+            os.environ.update(PROMPT_TOOLKIT_NO_CPR="1", PAGER="cat; echo PAGED", LINES="12", COLUMNS="120")
+            os.environ.pop("MANPAGER", None)
             os.chdir(ROOT)
-            os.execv(ROOT / "tools/dmf-plan", ["dmf-plan", PIPES])
+            os.execv(ROOT / "tools/dmf-plan", ["dmf-plan", table])
         self.seen = ""
 
     def wait(self, wanted: str) -> str:
@@ -47,6 +50,13 @@ class Terminal:
     def type(self, text: str) -> None:
         os.write(self.side, text.encode())
 
+    def answer(self, text: str) -> str:
+        """What is told after a text is typed at a prompt of prompt-toolkit, which asks for pasted text to be marked; up to the next prompt,
+        and with it."""
+        self.type(text)
+        self.wait("\x1b[?2004l")
+        return self.wait("\x1b[?2004h") + self.wait(">") + ">"
+
     def end(self) -> int:
         status = os.waitstatus_to_exitcode(os.waitpid(self.pid, 0)[1])
         os.close(self.side)
@@ -57,8 +67,8 @@ def test_broken_off() -> None:
     """Ctrl-C ends a command that comes to no end, at once, and the steps before it are there."""
     with tempfile.TemporaryDirectory() as folder:
         terminal = Terminal(folder)
-        terminal.wait("0, not greatest> ")
-        for typed, prompt in ("solve", "165, greatest> "), ("close Bridge pipe", "155, greatest> "), ("try", "try, 155, greatest> "):
+        terminal.wait("165, greatest> ")
+        for typed, prompt in ("close Bridge pipe", "155, greatest> "), ("try", "try, 155, greatest> "):
             terminal.type(f"{typed}\n")
             terminal.wait(prompt)
         (session,) = sessions_of(terminal.pid)
@@ -103,8 +113,6 @@ def test_typed_bytes(monkeypatch: pytest.MonkeyPatch) -> None:
     monkeypatch.setenv("PYTHONIOENCODING", "utf-8:strict")
     with tempfile.TemporaryDirectory() as folder:
         terminal = Terminal(folder)
-        terminal.wait("0, not greatest> ")
-        terminal.type("solve\n")
         terminal.wait("165, greatest> ")
         os.write(terminal.side, b"close \xff\xfe\n")
         terminal.wait("165, greatest> ")
@@ -116,10 +124,9 @@ def test_typed() -> None:
     """A person completes names, breaks off a line, finds yesterday's lines, and goes on where the session ended by itself."""
     with tempfile.TemporaryDirectory() as folder:
         terminal = Terminal(folder)
-        terminal.wait("0, not greatest> ")
+        terminal.wait("value 165 litres per second, the greatest")
+        terminal.wait("165, greatest> ")
         terminal.type("sol\tve\n")
-        terminal.wait("0, not greatest> ")
-        terminal.type("solve\n")
         terminal.wait("165, greatest> ")
         terminal.type("close Bri\t\n")
         told = terminal.wait("155, greatest> ")
@@ -147,8 +154,121 @@ def test_typed() -> None:
         history = Path(folder, "dmf", "plan_history").read_text()
         assert 'close "Bridge pipe"' in history, f"the history: {history}"
         again = Terminal(folder)
-        again.wait("0, not greatest> ")
+        again.wait("165, greatest> ")
         again.type("\x10")
         told = again.wait("quit")
         again.type("\n")
         assert again.end() == 0, f"yesterday's lines: {told!r}"
+
+
+def drawn(folder: Path, table: str = PIPES) -> Terminal:
+    """A session on a terminal that moves its cursor, where prompt-toolkit asks for lines."""
+    pytest.importorskip("prompt_toolkit", reason="python3-prompt-toolkit is not there, so its prompt was not tested")
+    return Terminal(str(folder), "xterm", table)
+
+
+# What is typed, which line that makes, and the value after it: the names are those of the story.
+TYPED = [
+    ("close bri\t\r", 'close "Bridge pipe" ', without("Bridge pipe")),
+    ('open "BRIDGE P\t\r', 'open "Bridge pipe" ', without()),
+    ("close bridge pipe\r", "close bridge pipe", without("Bridge pipe")),
+    ("open\r", "open", without()),
+    ('close "MILL L\t\r', 'close "Mill Lane" ', without("Mill Lane")),
+    ("undo\r", "undo", without()),
+    ("close mill-market\r", "close mill-market", without("Mill Lane")),
+    ("undo\r", "undo", without()),
+]  # fmt: skip
+
+
+def test_any_case(tmp_path: Path) -> None:
+    """Names are completed and understood without regard to case, with their spaces and quotes; the lines are there the next time."""
+    terminal = drawn(tmp_path)
+    terminal.wait("165, greatest>")
+    for typed, _, value in TYPED:
+        told = terminal.answer(typed)
+        if "not greatest" in told:
+            told = terminal.answer("solve\r")
+        assert f"{value}, greatest>" in told, (typed, told)
+    terminal.type("\x04")
+    assert terminal.end() == 0
+    kept = (tmp_path / "dmf" / "plan_history").read_text().splitlines()
+    assert [line for line in kept if line != "solve"] == [line for _, line, _ in TYPED]
+    again = drawn(tmp_path)
+    again.wait("165, greatest>")
+    assert f"{without('Mill Lane')}, greatest>" in again.answer("\x10" * 4 + "\r")
+    again.type("quit\r")
+    assert again.end() == 0
+
+
+def test_accents_and_quotes(tmp_path: Path) -> None:
+    """A name with accents, spaces and quotes is completed from its first letters, in the form in which it is understood; of several the
+    letters that they share come, and then all of them."""
+    table = tmp_path / "net.csv"
+    table.write_text('from,to,litres,pipe\nSource,Été,9,"Öst ""A"" 1"\nÉté,Sink,5,b\nSource,Sink,2,North one\nSource,Sink,4,North two\n')
+    terminal = drawn(tmp_path, str(table))
+    terminal.wait("11, greatest>")
+    assert "6, greatest>" in terminal.answer("close ost\t\r")
+    terminal.answer("undo\r")
+    assert "11, greatest>" in terminal.answer("solve\r")
+    assert "6, greatest>" in terminal.answer("shut ete\t\r")
+    terminal.type("close nor\t")
+    terminal.wait("North")
+    terminal.type("\t")
+    terminal.wait("two")
+    assert "2, greatest>" in terminal.answer("\t\t\r")
+    terminal.type("\x04")
+    assert terminal.end() == 0
+    kept = (tmp_path / "dmf" / "plan_history").read_text().splitlines()
+    assert [kept[0], *kept[3:]] == ['close "Öst ""A"" 1" ', "shut Été ", 'close "North two" ']
+
+
+def test_interrupts_of_the_prompt(tmp_path: Path) -> None:
+    """With prompt-toolkit too Ctrl-C leaves a line and breaks off a command, bytes that are no text end nothing, and the session begins
+    again by itself."""
+    terminal = drawn(tmp_path)
+    terminal.wait("165, greatest>")
+    assert "165, greatest>" in terminal.answer("close rubbish\x03")
+    os.write(terminal.side, b"close \xff\xfe")
+    assert "that line is no UTF-8" in terminal.answer("\r")
+    (session,) = sessions_of(terminal.pid)
+    stop_session(session)
+    terminal.type("close Bridge pipe\r")
+    wait_until_asked(session)
+    wait_until_asleep(terminal.pid)
+    os.kill(terminal.pid, signal.SIGINT)
+    told = terminal.answer("")
+    assert "broken off" in told and "begun again, with the steps that were made: value 165" in told, told
+    assert "155, greatest>" in terminal.answer("close Bridge pipe\r")
+    terminal.type("\x04")
+    assert terminal.end() == 0
+
+
+def test_pager(tmp_path: Path) -> None:
+    """An answer that is longer than the terminal is shown by the pager, and a short one as it is; what is pasted is several lines."""
+    terminal = drawn(tmp_path)
+    terminal.wait("165, greatest>")
+    told = terminal.answer("pipes\r")
+    assert "PAGED" in told and all(pipe.name in told for pipe in water()), told
+    told = terminal.answer("pipes where limit\r")
+    assert "PAGED" not in told and "Mill Lane" in told, told
+    told = terminal.answer("\x1b[200~close Bridge pipe\nundo\x1b[201~\r")
+    assert [*re.findall("value ([0-9]+)", told)] == ["155", "165"], told
+    terminal.type("\x04")
+    assert terminal.end() == 0
+
+
+@pytest.mark.parametrize("kind", ["dumb", "xterm"])
+def test_clean_end(tmp_path: Path, kind: str) -> None:
+    """Ctrl-D ends on a line of its own."""
+    terminal = Terminal(str(tmp_path), kind)
+    terminal.wait("165, greatest>")
+    terminal.type("\x04")
+    rest = b""
+    while select.select([terminal.side], [], [], SECONDS)[0]:
+        try:
+            piece = os.read(terminal.side, 1 << 16)
+        except OSError:
+            break
+        rest += piece
+    assert b"\n" in rest and re.sub(rb"\x1b\[[?0-9;]*[a-zA-Z]", b"", rest).rsplit(b"\n", 1)[1].strip() == b"", rest
+    assert terminal.end() == 0

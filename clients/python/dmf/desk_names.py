@@ -2,6 +2,7 @@
 
 from __future__ import annotations
 
+import unicodedata
 from collections.abc import Hashable, Iterable, Iterator, Mapping, Sequence
 from functools import cached_property
 
@@ -15,6 +16,13 @@ MOST_LISTED = 6
 ARROWS = (" -> ", "->", " - ", "-")
 
 
+def folded(text: str) -> str:
+    """A text by which it is found: without case and accents."""
+    if text.isascii():
+        return text.casefold()
+    return "".join(sign for sign in unicodedata.normalize("NFKD", text.casefold()) if not unicodedata.combining(sign))
+
+
 class Names:
     """The names of places and arcs, and which of them a text means. What is not of the table goes by what it means there: a place with
     a limit is one, and the arc that has its limit is `what Mill lets through`."""
@@ -26,6 +34,8 @@ class Names:
         self._lines = lines
         self._keys = keys
         self._folding = folding
+        # Whether a name that is only one without regard to case and accents means that one.
+        self.is_any_case = False
         self._node_names = [node_names.get(number, str(number)) for number in range(1, len(nodes) + 1)]
         self._labels = [*map(display, self._node_names)]
         self.nodes = {node: number for number, node in enumerate(nodes, 1)}
@@ -124,7 +134,7 @@ class Names:
 
     def place(self, text: str) -> Place:
         """The place with this name. Raises a `DeskFault`."""
-        name = cleaned(text)
+        name = self._place_name(cleaned(text))
         if name in self.places:
             return self.places[name]
         if name in self._several:
@@ -155,7 +165,28 @@ class Names:
         return sorted(number for number in self._between.get((tail, head), ()) if self.arc_name(number) == name)
 
     def is_place(self, text: str) -> bool:
-        return cleaned(text) in self.places
+        return self._place_name(cleaned(text)) in self.places
+
+    def _place_name(self, name: str) -> str:
+        """The name of the place that a text names, if it may be in any case, or else the text."""
+        found = self._folded_places.get(folded(name), []) if self.is_any_case and name not in self.places else []
+        return found[0] if len(found) == 1 else name
+
+    @cached_property
+    def _folded_places(self) -> dict[str, list[str]]:
+        """The names of places, by what they are without case and accents."""
+        found: dict[str, list[str]] = {}
+        for name in (*self.places, *self._several):
+            found.setdefault(folded(name), []).append(name)
+        return found
+
+    def _arc_name(self, name: str) -> str:
+        """The name of the arcs that a text names, if it may be in any case, or else the text."""
+        if not self.is_any_case or name in self._arcs:
+            return name
+        sought = folded(name)
+        found = [other for other, numbers in self._arcs.items() if numbers and folded(other) == sought]
+        return found[0] if len(found) == 1 else name
 
     @staticmethod
     def _numbered(name: str) -> int:
@@ -169,7 +200,7 @@ class Names:
         name = cleaned(text)
         number = self._numbered(name)
         found = {number: None} if 1 <= number <= len(self._lines) else {}
-        found.update(dict.fromkeys(self._arcs.get(name, ())))
+        found.update(dict.fromkeys(self._arcs.get(self._arc_name(name), ())))
         for tail, head in self._splits(name):
             found.update(dict.fromkeys(self._between.get((self.places[tail].exit, self.places[head].entry), ())))
         if not found:
@@ -181,7 +212,7 @@ class Names:
         for arrow in (*ARROWS, " "):
             at = name.find(arrow)
             while at >= 0:
-                tail, head = name[:at].strip(), name[at + len(arrow) :].strip()
+                tail, head = (self._place_name(part.strip()) for part in (name[:at], name[at + len(arrow) :]))
                 if tail in self.places and head in self.places:
                     yield tail, head
                 at = name.find(arrow, at + 1)

@@ -3,7 +3,6 @@
 from __future__ import annotations
 
 import operator
-import unicodedata
 from collections.abc import Callable
 
 from .desk import Desk
@@ -42,13 +41,6 @@ def condition(desk: Desk, words: list[str]) -> Condition | None:
         bound = amount(text, desk.measure)
         return lambda number: COMPARED[sign](numbers[what](number), bound)
     return None
-
-
-def folded(text: str) -> str:
-    """A text by which it is found: without case and accents."""
-    if text.isascii():
-        return text.casefold()
-    return "".join(sign for sign in unicodedata.normalize("NFKD", text.casefold()) if not unicodedata.combining(sign))
 
 
 def successors(desk: Desk) -> dict[int, int]:

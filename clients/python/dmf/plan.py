@@ -2,24 +2,27 @@
 
 from __future__ import annotations
 
-import cmd
 import contextlib
 import difflib
 import os
 import sys
-from collections.abc import Callable, Iterable
+from collections.abc import Callable, Iterable, Iterator
 
 from .desk import Desk
 from .desk_amounts import amount
 from .desk_steps import DeskFault, unforeseen
 from .desk_text import DRAWN, drawn, problem, table
 from .errors import Error
-from .plan_completion import history, matches, typed_line
+from .plan_completion import Completed, completed
 from .plan_costs import costs_told
 from .plan_files import Files
-from .plan_meaning import WHERE, arcs_named, arcs_to_try, arcs_told, arcs_where, capped, capped_where, last_closed, new_arc
+from .plan_listing import arc_line, arc_lines, place_lines
+from .plan_meaning import (
+    WHERE, arcs_from, arcs_listed, arcs_named, arcs_to_try, arcs_told, arcs_where, capped, capped_where, last_closed, new_arc,
+)  # fmt: skip
 from .plan_scenarios import compared, project_of, scenario
-from .plan_sweep import swept, tried
+from .plan_sweep import swept, tried, worst
+from .plan_typing import asking, show
 from .plan_words import ALWAYS, CHANGES, COMMANDS, Word, count_of, no_words, one_name, quoted, split
 from .project.desk import ProjectDesk
 from .project.report import report
@@ -33,12 +36,11 @@ MOST_SIDE = 30
 Keep = Callable[[str, Desk], ProjectDesk]
 
 
-class Plan(cmd.Cmd):
+class Plan:
     """The session. `is_typed` says that a person types, who sees a prompt and may complete names; else the lines are a script's. `keep` makes
     a project, and `offer` is a name for it."""
 
     def __init__(self, desk: Desk, *, is_typed: bool, write: Callable[[str], None], keep: Keep | None = None, offer: str = "") -> None:
-        super().__init__()
         self.desk = desk
         self.is_typed = is_typed
         self.write = write
@@ -47,9 +49,9 @@ class Plan(cmd.Cmd):
         self._keep_in = keep
         self._offer = offer
         self._files = Files()
-        self._matches: list[str] = []
         self._do: dict[str, Callable[[list[str]], object]] = {
-            "solve": self._solve, "cut": self._cut, "flow": self._flow, "close": self._close, "open": self._open, "cap": self._cap,
+            "solve": self._solve, "cut": self._cut, "flow": self._flow, "pipes": self._pipes, "places": self._places, "from": self._from,
+            "worst": self._worst, "close": self._close, "open": self._open, "cap": self._cap,
             "add": self._add, "shut": self._shut, "undo": self._undo, "redo": self._redo, "steps": self._steps, "try": self._try,
             "keep": self._keep, "drop": self._drop, "what-if": self._what_if, "cost": self._cost, "draw": self._draw, "save": self._save,
             "scenario": self._scenario, "compare": self._compare, "report": self._report, "notes": self._notes,
@@ -61,8 +63,6 @@ class Plan(cmd.Cmd):
     def onecmd(self, line: str) -> bool:
         """Carries out a line. Returns whether the session should end."""
         self.line_number += 1
-        if line == "EOF":
-            return True
         words = split(line.rstrip("\r\n"))
         if not words or words[0].text.startswith("#") or words[0].text == "c":
             return False
@@ -76,10 +76,28 @@ class Plan(cmd.Cmd):
             self.begin_again()
             if self.desk.has_ended:
                 return None
-        made = carry_out([word.text for word in words[1:]])
-        if news := self._news():
-            self.tell(*news)
+        with self._shown_at_once():
+            made = carry_out([word.text for word in words[1:]])
+            if news := self._news():
+                self.tell(*news)
         return made
+
+    @contextlib.contextmanager
+    def _shown_at_once(self) -> Iterator[None]:
+        """Shows a person what the block tells as one answer, which may be long. To a script each line goes at once."""
+        if not self.is_typed:
+            yield
+            return
+        # A person need not mind how names are written.
+        self.desk.names.is_any_case = True
+        write, told = self.write, list[str]()
+        self.write = told.append
+        try:
+            yield
+        finally:
+            self.write = write
+            if told:
+                show("".join(told), write)
 
     def _news(self) -> list[str]:
         """What is to be said beside an answer, once."""
@@ -141,16 +159,26 @@ class Plan(cmd.Cmd):
         """Takes lines from a person, to the end."""
         offer = f"`keep {quoted(display(self._offer))}` keeps what you do in a project, to go on another day."
         self.tell(self.greeting(), "`help` lists the commands, `quit` ends.", *[offer] * bool(self._offer))
-        with history():
+        if not self.desk.steps and self._guarded(self.desk.solve):
+            self.tell(self._value())
+        with asking(self.completed) as ask:
             while True:
                 try:
-                    self.postcmd(False, "")
-                    self.cmdloop()
+                    # Several lines may be pasted at once.
+                    if any(map(self.onecmd, ask(self._prompt()).splitlines())):
+                        return
+                except EOFError:
                     return
                 except KeyboardInterrupt:
                     self.tell("")
                 except UnicodeDecodeError:
                     self.refuse("that line is no UTF-8")
+
+    def completed(self, line: str) -> Completed:
+        """What may stand in place of the end of a line."""
+        with contextlib.suppress(Error, DeskFault):
+            return completed(self.desk, line)
+        return Completed(len(line), [])
 
     def run_script(self, lines: Iterable[str]) -> None:
         """Carries out the lines of a script."""
@@ -165,12 +193,10 @@ class Plan(cmd.Cmd):
         scenario = f" What is done is kept in it; the scenario is {shown(desk.scenario.name)}." if isinstance(desk, ProjectDesk) else ""
         return f"{display(desk.subject.path)}: {ends}, {len(desk.pictured())} arcs between {places} places.{scenario}"
 
-    def postcmd(self, stop: bool, line: str) -> bool:
-        if not stop:
-            self.prompt = str(self._guarded(self._prompt) or f"{plain_text(self.desk.value)}> ")
-        return stop
-
     def _prompt(self) -> str:
+        return str(self._guarded(self._told_state) or f"{plain_text(self.desk.value)}> ")
+
+    def _told_state(self) -> str:
         desk = self.desk
         state = "ended" if desk.has_ended else "greatest" if desk.is_greatest else "not greatest"
         name = f"{display(desk.scenario.name)}: " if isinstance(desk, ProjectDesk) else ""
@@ -287,14 +313,20 @@ class Plan(cmd.Cmd):
         self.tell(*(f"  #{number} {desk.names.arc(number)}: {plain_text(desk.line(number).capacity)}" for number in desk.cut_arcs()))
 
     def _flow(self, words: list[str]) -> None:
-        self.tell(*map(self._arc_line, arcs_named(self.desk, words)))
+        self.tell(*(arc_line(self.desk, number) for number in arcs_named(self.desk, words)))
 
-    def _arc_line(self, number: int) -> str:
-        line, flow = self.desk.line(number), self.desk.flow(number)
-        is_full = flow and flow == line.capacity
-        amounts = f"{plain_text(flow)} of {plain_text(line.capacity)}{', full' if is_full else ''}"
-        state = "closed" if line.is_closed else f"{plain_text(flow)}, no limit" if line.is_unlimited else amounts
-        return f"  #{number} {self.desk.names.arc(number)}: {state}"
+    def _pipes(self, words: list[str]) -> None:
+        self.tell(*arc_lines(self.desk, arcs_listed(self.desk, words)))
+
+    def _from(self, words: list[str]) -> None:
+        self.tell(*arc_lines(self.desk, arcs_from(self.desk, words)))
+
+    def _places(self, words: list[str]) -> None:
+        no_words(words, "places")
+        self.tell(*place_lines(self.desk))
+
+    def _worst(self, words: list[str]) -> None:
+        self.tell(*swept(self.desk, worst(self.desk, words, is_shown=self.is_typed)))
 
     def _what_if(self, words: list[str]) -> None:
         if words[:1] == ["each"]:
@@ -361,14 +393,6 @@ class Plan(cmd.Cmd):
     def _quit(self, words: list[str]) -> bool:
         no_words(words, "quit")
         return True
-
-    def complete(self, text: str, state: int) -> str | None:  # type: ignore[override]
-        """The match of this number for what stands before the cursor."""
-        if state == 0:
-            with contextlib.suppress(Error, DeskFault):
-                self._matches = []
-                self._matches = matches(self.desk, typed_line(), text)
-        return self._matches[state] if state < len(self._matches) else None
 
 
 def _nothing(_: str) -> None:

@@ -1,40 +1,32 @@
-"""The completion of lines of dmf-plan, and the file of those that were typed."""
+"""The completion of lines of dmf-plan."""
 
 from __future__ import annotations
 
-import contextlib
-import os
 from collections.abc import Iterator
-from pathlib import Path
+from typing import NamedTuple
 
 from .desk import Desk
+from .desk_names import folded
 from .plan_words import ARC, CHANGES, CLOSED, COMMAND, COMMANDS, FLOW, PLACE, SCENARIO, Word, split, typed_form
 from .project.desk import BASE, ProjectDesk
 
-try:
-    import readline
-except ImportError:  # A Python without it has no completion and no history.
-    readline = None  # type: ignore[assignment]
 
-MOST_REMEMBERED = 2_000
+class Completed(NamedTuple):
+    """What may stand in place of a line's end, from a place in it on."""
 
-
-def typed_line() -> str:
-    """What stands before the cursor."""
-    return readline.get_line_buffer()[: readline.get_endidx()]
+    start: int
+    texts: list[str]
 
 
-def matches(desk: Desk, line: str, text: str) -> list[str]:
-    """What may replace `text` at the end of the line: the rest of each word that begins so."""
+def completed(desk: Desk, line: str) -> Completed:
+    """Each word that may stand in place of the last one of a line, of those that begin so, without regard to case and accents."""
     words = split(line)
     if not words or words[-1].start + len(words[-1].text) < len(line) and not words[-1].is_open and line[-1] in " \t":
         words.append(Word("", len(line)))
     *before, last = words
-    begun = last.text.casefold()
-    found = dict.fromkeys(name for name in _candidates(desk, [word.text for word in before]) if name.casefold().startswith(begun))
-    # The part of the word before `text` stays, since readline replaces `text` alone.
-    typed = len(line) - len(text) - last.start
-    return sorted(f"{typed_form(name, last.is_open)} "[typed:] for name in found)
+    begun = folded(last.text)
+    found = dict.fromkeys(name for name in _candidates(desk, [word.text for word in before]) if folded(name).startswith(begun))
+    return Completed(last.start, sorted(f"{typed_form(name, last.is_open)} " for name in found))
 
 
 def _candidates(desk: Desk, before: list[str]) -> Iterator[str]:
@@ -74,23 +66,3 @@ def _scenario_words(desk: Desk, before: list[str]) -> Iterator[str]:
         yield from [BASE] * (before[1:2] not in (["go"], ["delete"]))
     elif before[1:2] == ["new"] and len(before) == 3:
         yield "from"
-
-
-@contextlib.contextmanager
-def history() -> Iterator[None]:
-    """Keeps the typed lines in a file, from one session to the next, if that can be written."""
-    if readline is None:
-        yield
-        return
-    state = os.environ.get("XDG_STATE_HOME", "")
-    folder = Path(state if os.path.isabs(state) else os.path.expanduser("~/.local/state")) / "dmf"
-    readline.set_completer_delims(" \t")
-    readline.set_history_length(MOST_REMEMBERED)
-    with contextlib.suppress(OSError):
-        readline.read_history_file(folder / "plan_history")
-    try:
-        yield
-    finally:
-        with contextlib.suppress(OSError):
-            folder.mkdir(mode=0o700, parents=True, exist_ok=True)
-            readline.write_history_file(folder / "plan_history")

@@ -6,12 +6,12 @@ from collections.abc import Callable
 from typing import Any
 
 from .desk import Desk
-from .desk_steps import DeskFault
+from .desk_steps import DeskFault, Trial
 from .events import Json, ends, line_of, number
 from .plan import Plan
-from .plan_meaning import arcs_named, arcs_to_try
+from .plan_meaning import arcs_from, arcs_listed, arcs_named, arcs_to_try
 from .plan_scenarios import compared, project_of, scenario
-from .plan_sweep import tried
+from .plan_sweep import tried, worst
 from .plan_words import CHANGES, COMMANDS, no_words
 from .project.comparison import ArcState, Comparison, Standing
 from .project.desk import ProjectDesk
@@ -28,7 +28,10 @@ class JsonPlan(Plan):
     def __init__(self, *given: Any, **named: Any) -> None:
         super().__init__(*given, **named)
         told: dict[str, Callable[[list[str]], object]] = {
-            "cut": self._tell_limit, "flow": self._tell_flow, "steps": self._tell_steps, "what-if": self._tell_what_if,
+            "cut": self._tell_limit, "flow": lambda words: self._tell_flow(arcs_named(self.desk, words)),
+            "pipes": lambda words: self._tell_flow(arcs_listed(self.desk, words)),
+            "from": lambda words: self._tell_flow(arcs_from(self.desk, words)),
+            "worst": lambda words: self._tell_trials(worst(self.desk, words)), "steps": self._tell_steps, "what-if": self._tell_what_if,
             "scenario": self._tell_scenarios, "compare": self._tell_comparison,
         }  # fmt: skip
         self._do.update({word: self._as_change(self._do[word]) for word in CHANGING}, **told)
@@ -87,8 +90,8 @@ class JsonPlan(Plan):
             raise DeskFault("the flow is not greatest, so there is no limit to tell; `solve` first")
         self._tell("limit", {**self._state(), "side": desk.names.side(desk.side()), "arcs": [*map(self._arc, desk.cut_arcs())]})
 
-    def _tell_flow(self, words: list[str]) -> None:
-        self._tell("flow", {**self._state(), "arcs": [*map(self._arc, arcs_named(self.desk, words))]})
+    def _tell_flow(self, numbers: list[int]) -> None:
+        self._tell("flow", {**self._state(), "arcs": [*map(self._arc, numbers)]})
 
     def _tell_steps(self, words: list[str]) -> None:
         no_words(words, "steps")
@@ -102,13 +105,16 @@ class JsonPlan(Plan):
             before, value = self.desk.value, self._value_after(words)
             self._tell("what-if", {**self._state(), "before": self._number(before), "value": self._number(value)})
             return
-        trials = [
+        self._tell_trials(tried(self.desk, arcs_to_try(self.desk, words[1:])))
+
+    def _tell_trials(self, trials: list[Trial]) -> None:
+        told = [
             {
                 "arc": self._arc(it.arc), "closed": self._number(it.closed), "doubled": None if it.doubled is None else self._number(it.doubled),
             }
-            for it in tried(self.desk, arcs_to_try(self.desk, words[1:]))
+            for it in trials
         ]  # fmt: skip
-        self._tell("sweep", {**self._state(), "trials": trials})
+        self._tell("sweep", {**self._state(), "trials": told})
 
     def _tell_scenarios(self, words: list[str]) -> None:
         desk = project_of(self.desk)

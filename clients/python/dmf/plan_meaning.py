@@ -10,7 +10,7 @@ from .desk import Desk
 from .desk_amounts import amount, is_amount
 from .desk_steps import DeskFault, Place
 from .desk_where import Condition, condition
-from .plan_words import COMMANDS, is_number
+from .plan_words import COMMANDS, is_number, one_name
 from .quantity import Quantity
 from .tables.cells import shown
 
@@ -113,6 +113,19 @@ def _at(desk: Desk, name: str) -> list[int]:
     """The arcs at a place."""
     place = desk.names.place(name)
     return [number for number, line in enumerate(desk.lines, 1) if {line.tail, line.head} & set(place)]
+
+
+def arcs_listed(desk: Desk, words: list[str]) -> list[int]:
+    """The arcs of the table that the words of `pipes` mean: all, or the open ones of which conditions are so."""
+    if words and words[0] != WHERE:
+        raise DeskFault(f"wanted is: {COMMANDS['pipes'].form}")
+    return arcs_where(desk, words[1:]) if words else desk.pictured()
+
+
+def arcs_from(desk: Desk, words: list[str]) -> list[int]:
+    """The arcs of the table that lead away from a place."""
+    place = desk.names.place(one_name(words, "from"))
+    return [number for number in desk.pictured() if desk.lines[number - 1].tail == place.exit]
 
 
 def arcs_where(desk: Desk, words: list[str], *, are_closed: bool = False) -> list[int]:

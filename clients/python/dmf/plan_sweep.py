@@ -6,10 +6,13 @@ import sys
 
 from .desk import Desk
 from .desk_steps import Trial
+from .plan_words import count_of
 from .quantity import moved, plain_text
 
 # From how many arcs on it is shown how far a sweep is.
 MANY = 20
+# How many arcs `worst` lists.
+MOST_WORST = 10
 
 
 def tried(desk: Desk, numbers: list[int], *, is_shown: bool = False) -> list[Trial]:
@@ -22,6 +25,13 @@ def tried(desk: Desk, numbers: list[int], *, is_shown: bool = False) -> list[Tri
     if is_shown:
         sys.stderr.write("\r\033[K")
     return sorted(trials, key=lambda trial: trial.closed)
+
+
+def worst(desk: Desk, words: list[str], *, is_shown: bool = False) -> list[Trial]:
+    """The arcs of the table that are worst to lose, the first ten or so many as the words say."""
+    most = count_of(words, "worst") if words else MOST_WORST
+    opened = [number for number in desk.pictured() if not desk.lines[number - 1].is_closed]
+    return tried(desk, opened, is_shown=is_shown)[:most]
 
 
 def swept(desk: Desk, trials: list[Trial]) -> list[str]:

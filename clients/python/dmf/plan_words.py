@@ -33,6 +33,9 @@ COMMANDS = {
     "solve": Help("solve", "Finds the greatest value that can be sent, going on from the present flow."),
     "cut": Help("cut", "Shows the limit: the arcs that hold the value where it is, and the places on the source's side of them."),
     "flow": Help("flow [ARC|PLACE]", "Shows what flows on each arc, or on one, or on those at a place.", FLOW),
+    "pipes": Help("pipes [where CONDITIONS]", "Lists the arcs of the table, or those of which conditions are so: pipes where limit."),
+    "places": Help("places", "Lists the places, with what comes in and goes out."),
+    "from": Help("from PLACE", "Shows what flows on each arc out of a place.", PLACE),
     "close": Help("close ARC", f"Closes an arc. {ARCS_SAID} {MANY_SAID}", ARC),
     "open": Help("open [ARC|PLACE]", "Opens an arc that is closed, or a place that is shut; alone, what was closed or shut last.", CLOSED),
     "cap": Help("cap ARC NUMBER", f"Gives an arc another capacity: 47.3, or +10 % or -5 of what it has. {ARCS_SAID} {MANY_SAID}", ARC),
@@ -59,6 +62,7 @@ COMMANDS = {
         "",
         "cost ..",
     ),
+    "worst": Help("worst [NUMBER]", "Tries each arc, and lists those that are worst to lose, the first ten or so many. Nothing changes."),
     "draw": Help("draw FILE", "Draws the network: FILE ends with .svg, .png or .pdf, or with .dot for the text alone."),
     "save": Help("save FILE", "Writes the plan as a table where FILE ends with .csv, or the problem where it ends with .max."),
     "scenario": Help(

@@ -19,7 +19,9 @@ from ..desk_text import problem, table
 from ..project.report import report
 from ..quantity import plain_text
 from .answers import Answer, Json, Made, WrongForm, answer, judge_arcs, judge_fields, judge_words, whole
+from .keeping import keep_spots, kept_spots
 from .many import change_many, many_view
+from .overview import Overview
 from .picture import NoPicture, Picture
 from .places import Spot
 from .rows import Rows
@@ -38,10 +40,13 @@ class Board:
     """What a board shows of a desk, and does for its page."""
 
     def __init__(self, desk: Desk, spots: Mapping[int, Spot] | None = None) -> None:
-        """`spots` is where places lie in the picture, by their nodes, if that is known."""
+        """`spots` is where places lie in the picture, by their nodes, if that is known; else a project may tell it."""
         self.desk = desk
         self.picture = Picture(desk)
-        self.picture.places.spots.update(spots or {})
+        self.picture.places.spots.update({**kept_spots(desk), **(spots or {})})
+        self._overview = Overview(desk, self.picture.places)
+        # How many places had been put when a project was asked to keep where.
+        self._put_count = -1
         self._rows_of_all = Rows(desk)
         self._sweeps = Sweeps(desk)
         self._comparisons = Comparisons(desk, self.picture.places)
@@ -55,6 +60,8 @@ class Board:
             "turn": (dict, ()),
             "state": (lambda: state_view(self.desk), ()),
             "picture": (self._picture, ("near",)),
+            "ground": (self._ground, ()),
+            "looks": (self._overview.looks, ()),
             "arc": (lambda number: arc_view(self.desk, whole(number, "number")), ("number",)),
             "place": (lambda node: place_view(self.desk, whole(node, "node")), ("node",)),
             "find": (self._rows_of_all.found, ("text",)),
@@ -206,7 +213,22 @@ class Board:
             svg = self.picture.svg(nodes, arcs)
         except NoPicture as fault:
             reason = str(fault)
-        return {"svg": svg, "reason": reason, "arcs": [arc_view(self.desk, number) for number in arcs]}
+        self._keep_places()
+        told = [arc_view(self.desk, number) for number in arcs]
+        return {"svg": svg, "reason": reason, "arcs": told, "has_ground": self._overview.is_there}
+
+    def _ground(self) -> Json:
+        made = self._overview.ground()
+        self._keep_places()
+        return made
+
+    def _keep_places(self) -> None:
+        """Has a project keep where places were put. Where that cannot be, the next step says so."""
+        spots = self.picture.places.spots
+        if len(spots) != self._put_count:
+            self._put_count = len(spots)
+            with contextlib.suppress(DeskFault):
+                keep_spots(self.desk, spots)
 
     def _picture_file(self, near: str, turn: str) -> Answer:
         self._judge_turn(whole(turn, "turn"))

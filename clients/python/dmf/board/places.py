@@ -55,7 +55,7 @@ class Places:
         if new and not known:
             self._put_apart(new, list(ways), text)
         elif new:
-            self._put_near(new, _rough(text, {node: self.spots[node] for node in known}, new))
+            self.put_near(_rough(text, {node: self.spots[node] for node in known}, new))
 
     def _put_apart(self, new: list[int], ways: list[Way], text: str) -> None:
         """Places of which none is known are put as Graphviz does best, beside all that are known."""
@@ -67,11 +67,11 @@ class Places:
         if not by:
             self.routes.update({way: route for way, route in found.routes.items() if way in set(ways)})
 
-    def _put_near(self, new: list[int], rough: Mapping[int, Spot]) -> None:
-        """Places of which others are known are put near these, where none lies yet."""
+    def put_near(self, rough: Mapping[int, Spot]) -> None:
+        """Puts each of these places near a spot, where none lies yet."""
         taken = _Taken(self.spots.values())
-        for node in new:
-            self.spots[node] = taken.free(rough[node])
+        for node, spot in rough.items():
+            self.spots[node] = taken.free(spot)
 
 
 class _Taken:

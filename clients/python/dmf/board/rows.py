@@ -8,8 +8,9 @@ from itertools import groupby
 from typing import Any
 
 from ..desk import Desk
+from ..desk_names import folded
 from ..desk_steps import DeskFault
-from ..desk_where import COMPARED, Condition, changed, condition, folded
+from ..desk_where import COMPARED, Condition, changed, condition
 from ..tables.cells import shown
 from .answers import Json, WrongForm
 from .views import arc_view

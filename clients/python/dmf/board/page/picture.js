@@ -6,13 +6,14 @@
 import { moved } from "./amounts.js";
 import { choose, theChoice } from "./choice.js";
 import { at, onClick } from "./elements.js";
+import { chooseNear, groundBox, isGround, lookAtGround, middlePlace, nextPlace, paint, setBefore } from "./ground.js";
 import { arrange, labelsOf } from "./labels.js";
 import { isPicked, pickedCount } from "./many.js";
 import { ask, noun, present, units } from "./state.js";
 import { beginView, fit, move, refresh, reveal, scale, zoom } from "./view.js";
 
-const LARGER = 1.4, STEP = 60, MOST_SAID = 10;
-let asked = 0, count = 0, pending = 0;
+const LARGER = 1.4, STEP = 60, MOST_SAID = 10, STILL = 300;
+let asked = 0, count = 0, pending = 0, moving = 0;
 /** The place that is shown with what lies near it, or nothing where that is the limit; and the one of the picture that is there. */
 let near = "", nearShown = "none";
 /** @type {Label[]} */
@@ -30,9 +31,14 @@ const partOf = (choice) => parts().find((part) => part.id === (choice?.arc ? `ar
 /** @param {import("./choice.js").Choice} choice */
 export const isShown = (choice) => Boolean(partOf(choice));
 
-/** @param {number} node */
-export function showNear(node) {
+/**
+ * Shows what lies near a place.
+ * @param {number} node
+ * @param {boolean} isMoved whether one has moved there, and sees it
+ */
+export function showNear(node, isMoved = false) {
   near = String(node);
+  if (isMoved) nearShown = near;
   return showPicture();
 }
 
@@ -40,10 +46,13 @@ export async function showPicture() {
   const turn = (asked += 1);
   const told = await ask(`picture?near=${near}`);
   if (!told || turn !== asked) return;
+  await lookAtGround(told.has_ground);
+  if (turn !== asked) return;
   count = told.arcs.length;
   const where = near && theChoice()?.node ? "the chosen place" : near ? "a place" : "the limit";
-  at("drawn-note").textContent = (told.reason || (isPart() ? `${count} of ${present().arcs}: what lies nearest to ${where}. ` : ""))
-    + `Click a ${noun()} or a place to see more, and to change it.`;
+  const part = isGround() ? `All ${present().arcs} are drawn, and as one moves in those beside with their names and numbers. `
+    : isPart() ? `${count} of ${present().arcs}: what lies nearest to ${where}. ` : "";
+  at("drawn-note").textContent = `${told.reason || part}Click a ${noun()} or a place to see more, and to change it.`;
   at("near-limit").hidden = !near;
   at("take-svg").setAttribute("href", `picture.svg?near=${near}&turn=${present().turn}`);
   draw(told.svg);
@@ -53,27 +62,27 @@ export async function showPicture() {
 function draw(text) {
   const active = document.activeElement;
   const held = active && at("picture").contains(active) ? active.id : "";
-  if (!text) {
-    at("picture").replaceChildren();
-    return;
-  }
+  at("picture").querySelector("svg")?.remove();
+  if (!text) return;
   const made = document.importNode(new DOMParser().parseFromString(text, "image/svg+xml").documentElement, true);
   const svg = /** @type {SVGSVGElement} */ (/** @type {unknown} */ (made));
   const whole = svg.viewBox.baseVal, box = { x: whole.x, y: whole.y, width: whole.width, height: whole.height };
   for (const name of ["width", "height"]) svg.removeAttribute(name);
   svg.setAttribute("aria-hidden", "false");
   for (const group of svg.querySelectorAll("g.arc, g.node")) prepare(group);
-  at("picture").replaceChildren(svg);
+  at("picture").append(svg);
   labels = labelsOf(parts());
+  setBefore(parts().map((part) => part.id));
   mark();
   if (nearShown === near) {
     refresh();
   } else {
     // The room of a picture follows its form, once, so that nothing jumps at a step.
-    at("main").classList.toggle("long", box.width > 700 && box.width > 2.5 * box.height);
-    at("picture").style.setProperty("--form", String(box.width / box.height));
+    const all = groundBox(".node, .arc") ?? box;
+    at("main").classList.toggle("long", all.width > 700 && all.width > 2.5 * all.height);
+    at("picture").style.setProperty("--form", String(all.width / Math.max(all.height, 1)));
+    fit(nearShown === "none" ? all : box);
     nearShown = near;
-    fit(box);
   }
   if (held) document.getElementById(held)?.focus();
 }
@@ -109,16 +118,22 @@ export function mark() {
 
 /** Shows what is chosen, if it is not seen. */
 export function revealChosen() {
-  const part = partOf(theChoice());
-  if (part) reveal(part.getBBox());
+  const box = partOf(theChoice())?.getBBox() ?? groundBox(".chosen");
+  if (box) reveal(box);
 }
 
-/** Arranges the labels before the page is drawn next. */
+/** Arranges the labels before the page is drawn next. Where one has moved to another part and stays there, that part gets its numbers. */
 function label() {
   pending = pending || requestAnimationFrame(() => {
     pending = 0;
     arrange(labels, scale());
+    paint();
   });
+  clearTimeout(moving);
+  moving = setTimeout(() => {
+    const node = middlePlace();
+    if (node && String(node) !== near) showNear(node, true);
+  }, STILL);
 }
 
 /**
@@ -126,7 +141,8 @@ function label() {
  * @param {string} like a selector
  */
 function fitTo(like) {
-  const boxes = parts().filter((part) => part.matches(like)).map((part) => part.getBBox());
+  const whole = groundBox(like);
+  const boxes = whole ? [whole] : parts().filter((part) => part.matches(like)).map((part) => part.getBBox());
   if (!boxes.length) return;
   const [left, top] = [Math.min(...boxes.map((box) => box.x)), Math.min(...boxes.map((box) => box.y))];
   const right = Math.max(...boxes.map((box) => box.x + box.width)), bottom = Math.max(...boxes.map((box) => box.y + box.height));
@@ -164,17 +180,27 @@ function nextPart(from, [right, down], like) {
   return best;
 }
 
+/**
+ * Goes to the nearest part in a direction, or to the first. Where a place lies there that the picture does not have, it is shown.
+ * @param {SVGGElement | undefined} from
+ * @param {[number, number]} way
+ * @param {string} like
+ */
+async function goFrom(from, way, like) {
+  const node = like === ".node" && from?.matches(like) ? nextPlace(Number(from.id.slice("node-".length)), way) : null;
+  if (node && !isShown({ node })) await showNear(node, true);
+  const next = node ? partOf({ node }) : from ? nextPart(from, way, like) : parts().find((it) => it.matches(".node"));
+  next?.focus({ preventScroll: true });
+  if (next) reveal(next.getBBox());
+}
+
 /** @param {KeyboardEvent} event */
 function goByKeys(event) {
   const part = parts().find((it) => it === document.activeElement), way = WAYS[event.key];
   if (way && event.ctrlKey) {
     move(way[0] * STEP, way[1] * STEP);
   } else if (way) {
-    const next = part ? nextPart(part, way, event.shiftKey ? ".arc" : ".node") : parts().find((it) => it.matches(".node"));
-    if (next) {
-      next.focus({ preventScroll: true });
-      reveal(next.getBBox());
-    }
+    goFrom(part, way, event.shiftKey ? ".arc" : ".node");
   } else if ("+=-".includes(event.key)) {
     zoom(event.key === "-" ? 1 / LARGER : LARGER);
   } else if (event.key === "0") {
@@ -192,6 +218,7 @@ export function beginPicture() {
   at("picture").addEventListener("click", (event) => {
     const part = event.target instanceof Element && event.target.closest("g.arc, g.node");
     if (part) choosePart(part);
+    else chooseNear(event);
   });
   at("picture").addEventListener("keydown", goByKeys);
   onClick("larger", () => zoom(LARGER));

@@ -5,7 +5,7 @@
 import { at } from "./elements.js";
 
 /** The largest number of pixels for a unit of the picture, also where that is fitted; the smallest; what a drag is, in pixels; its rim. */
-const MOST = 6, MOST_FITTED = 1.33, LEAST = 0.02, DRAG = 4, RIM = 12;
+const MOST = 6, MOST_FITTED = 1.33, LEAST = 0.004, DRAG = 4, RIM = 12;
 /** @type {Box} */
 let seen = { x: 0, y: 0, width: 1, height: 1 };
 /** @type {Map<number, { x: number, y: number }>} */
@@ -16,6 +16,9 @@ let told = () => undefined;
 
 /** The pixels for a unit of the picture. */
 export const scale = () => wide / seen.width;
+
+/** The part of the picture that is seen. */
+export const seenBox = () => seen;
 
 /**
  * Shows the part of a size about a middle, with as many pixels for a unit.

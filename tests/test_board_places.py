@@ -1,0 +1,93 @@
+"""Where places lie, kept in a project: the next board on it shows them where they were."""
+
+from __future__ import annotations
+
+import json
+import shutil
+from pathlib import Path
+from typing import Any
+
+import pytest
+from board_running import board
+from desk_shared import PIPES, ROOT
+from test_board_ground import city
+from test_board_view import spots
+
+pytestmark = pytest.mark.seconds(10)
+
+
+def kept(project: Path) -> dict[str, list[float]]:
+    """The positions in a project's file."""
+    return dict(json.loads(project.read_text())["positions"])
+
+
+def project_of(folder: Path) -> Path:
+    shutil.copy(ROOT / PIPES, folder / "pipes.csv")
+    return folder / "pipes.dmf.json"
+
+
+def test_kept(tmp_path: Path) -> None:
+    """Positions are in the file by the names of places, to the right and upwards, as the picture has them, and the next board takes them.
+    A place that was moved in the file lies there."""
+    project = project_of(tmp_path)
+    with board("--keep", str(tmp_path / "pipes.csv")) as it:
+        names = {f"node-{it.told(f'find?text={name}')['found'][0]['node']}": name for name in it.state()["names"]}
+        seen = spots(it)
+        assert it.end() == 130
+    found = kept(project)
+    told = {names[node]: [float(x), -float(y)] for node, (x, y) in seen.items()}
+    assert found.keys() == told.keys() and all(found[name] == pytest.approx(told[name], abs=0.01) for name in found)
+    content = json.loads(project.read_text())
+    content["positions"]["Mill"] = [found["Mill"][0] + 25, found["Mill"][1] - 30]
+    project.write_text(json.dumps(content))
+    with board(str(project)) as it:
+        it.do(what="close", arc=3)
+        now = spots(it)
+        moved = {node for node in now if now[node] != seen[node]}
+        assert {names[node] for node in moved} == {"Mill"}
+        mill = next(iter(moved))
+        assert [float(now[mill][axis]) - float(seen[mill][axis]) for axis in (0, 1)] == [pytest.approx(25, abs=0.02), pytest.approx(30, abs=0.02)]
+
+
+def test_map_is_kept(tmp_path: Path) -> None:
+    """A map has to be given once. All lies as on it the next day, also what the picture has no room for; another map moves it."""
+    words = city(tmp_path, 14)
+    with board("--keep", *words) as it:
+        ground = it.told("ground")
+        assert it.end() == 130
+    project = str(tmp_path / "city.dmf.json")
+    with board(project) as it:
+        again = it.told("ground")
+        assert {**again, "turn": 0} == {**ground, "turn": 0}
+        assert it.told("picture?near=")["has_ground"]
+        # Another desk, which may only read it, sees the same, and keeps nothing.
+        with board(project) as other:
+            assert other.told("ground")["right"] == ground["right"]
+    rows = (tmp_path / "map.csv").read_text().splitlines()
+    (tmp_path / "turned.csv").write_text("\n".join(["place,x,y", *(",".join([row.split(",")[0], *row.split(",")[:0:-1]]) for row in rows[1:])]))
+    with board("--map", str(tmp_path / "turned.csv"), project) as it:
+        turned = it.told("ground")
+        assert turned["right"] != ground["right"]
+        assert it.end() == 130
+    at: dict[str, Any] = dict(zip(turned["names"], zip(turned["right"], turned["down"])))
+    assert {name: (x, -y) for name, (x, y) in kept(Path(project)).items()} == at
+
+
+def test_places_that_go(tmp_path: Path) -> None:
+    """Positions of places that the table has no more mean nothing, and a new place lies near its neighbours."""
+    project = project_of(tmp_path)
+    with board("--keep", str(tmp_path / "pipes.csv")) as it:
+        seen = spots(it)
+        assert it.end() == 130
+    table = (tmp_path / "pipes.csv").read_text()
+    (tmp_path / "pipes.csv").write_text(table + "Mill,New place,12,new one\nNew place,Harbour,12,new two\n")
+    with board(str(project)) as it:
+        now = spots(it)
+        assert len(now) == len(seen) + 1
+        assert set(seen.values()) <= set(now.values())
+        assert it.end() == 130
+    (tmp_path / "pipes.csv").write_text(table)
+    with board(str(project)) as it:
+        assert set(spots(it).values()) == set(seen.values())
+        assert it.end() == 130
+    assert "New place" in kept(project)
