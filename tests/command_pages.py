@@ -20,7 +20,7 @@ def listed(words: Iterable[str], last: str) -> str:
 
 def when(refusal: str) -> str:
     """When a refusal comes, with the commands that have it."""
-    words = [f"print {[*PRINTED][-1]}" if it.word == "print" else it.word for it in COMMANDS.values() if refusal in it.refusals]
+    words = [it.word for it in COMMANDS.values() if refusal in it.refusals]
     return REFUSALS[refusal].format(listed(words, "or") if words else "")
 
 

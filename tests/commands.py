@@ -107,7 +107,7 @@ COMMANDS = {
 }  # fmt: skip
 # The refusals that any line may have.
 OF_FORM = "line too long", "unknown command", "wrong number of fields", "not a number", "number too large"
-# When each refusal comes, on the pages, in their order. Where {} stands, the commands follow that have it.
+# When each refusal comes, on the pages, in their order. In place of {} the pages have the commands that may be refused so.
 REFUSALS = {
     "line too long": "the line has more than 4,096 bytes before its line feed or its end, a carriage return counted; the rest is skipped",
     "unknown command": "the first field is no command, or the one field after `print` is nothing that is printed",
@@ -121,7 +121,7 @@ REFUSALS = {
     PAST: "the sum of all capacities after {} would be past 18446744073709551615",
     "nothing to undo": "fewer than K changes stand before the present state, or some were forgotten; nothing is undone",
     "nothing to redo": "fewer than K changes were undone; nothing is redone",
-    "flow is not greatest": "{} where some flow has a larger value; `solve` comes first",
+    "flow is not greatest": "`print cut` where some flow has a larger value; `solve` comes first",
     "no memory": "a request for memory was refused during the command, which could not do without; the session goes on",
 }
 # A command line as the documents list them: what is printed stands out.

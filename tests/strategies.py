@@ -48,7 +48,7 @@ def problem_lines(state: State) -> Lines:
 def command_line(state: State, command: Command, places: Sequence[int], capacity: int) -> list[bytes]:
     """A line of a command on a network, or on one with a few arcs more: its fields may be past these, and at fault."""
     first, second = places
-    values: dict[str, object] = {ARC: first % (len(state.arcs) + 3), CAPACITY: capacity, WHAT: PRINTED[first % len(PRINTED)]}
+    values: dict[str, object] = {ARC: first % (len(state.arcs) + 3), CAPACITY: capacity, WHAT: [*PRINTED][first % len(PRINTED)]}
     fields: list[object] = []
     for place, kind in enumerate(command.kinds):
         if kind == NODE:
