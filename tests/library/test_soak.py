@@ -8,9 +8,7 @@ import sys
 from pathlib import Path
 
 import pytest
-from c_library import library_folder
-from conftest import ROOT
-from test_callers import compiled
+from c_library import ROOT, compiled, library_folder
 
 # In the gate, and by --long.
 STEPS, MANY = 30_000, 1_000_000
