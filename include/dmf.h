@@ -1,19 +1,27 @@
 /* dmf.h: maximum flows, minimum cuts and what-if sessions, in a process of your own.
  *
  * A session is a network with a flow on it, and the states before and after the present one. Nodes are numbered from 1,
- * and so are arcs, in the order in which they came in. Capacities and flows are whole numbers. A closed arc keeps its
+ * and so are arcs, in the order in which they came in. Capacities and flows are whole numbers, in any unit. There may be
+ * several arcs between two nodes, arcs from a node to itself, into the source and out of the sink. A closed arc keeps its
  * number, and has capacity 0 and no flow.
  *
  * Who owns what.  A session is yours from the call that opens it, dmf_session_new or dmf_session_read, until you give it to
  * dmf_session_free. It is on the heap of malloc, and holds no file, thread or lock. Arrays and texts stay yours: a call
  * reads or writes the places that you lend it, and only while it runs.
- * Pointers.  No pointer may be NULL, also where a length is 0. What a call writes may not overlap anything else that the
- * same call is given. A length counts elements, and has to be true.
- * Threads.  One call at a time for a session. Calls for different sessions may run at once, if malloc may. No call waits,
- * starts a thread, or may be made from a signal handler.
- * Limits.  2 to 16,777,216 nodes, up to 134,217,728 arcs. The capacities add up to at most 2^64 - 1.
+ * Pointers.  No pointer may be NULL: not where a length is 0, and not in dmf_session_free. What a call writes may not
+ * overlap anything else that the same call is given. A length counts elements, and has to be true.
+ * Threads.  One call at a time for a session; calls that take a const session count too. It need not be the same thread each
+ * time. Calls for different sessions may run at once, if malloc may. No call waits, starts a thread, or may be made from a
+ * signal handler. After a fork each process has the session, and changes its own alone; if other threads ran, the child
+ * may make no call, since malloc may not.
+ * Time.  A solve may take long, and so may cap, close and shut where many paths carry what flows, and steps over many states.
+ * Any other call looks at each arc a few times at most. Nothing ends a call before it is done.
+ * Memory.  A session takes some 35 bytes an arc, 80 from its first solve on, and 110 from the first change on that takes flow
+ * off. Any call below may answer DMF_NO_MEMORY unless a comment says that it takes none; then free something and ask again.
+ * Limits.  2 to 16,777,216 nodes, up to 134,217,728 arcs, closed ones counted. The capacities add up to at most 2^64 - 1.
  * Refusals.  A call that returns anything but DMF_OK has left the session as it was, and so the arrays: only what the call
- * says beside it has been written. No call prints, aborts, or changes errno on purpose.
+ * says beside it has been written. No call prints, aborts, or changes errno on purpose. Each comment names what the call
+ * may answer beside DMF_OK and DMF_NO_MEMORY.
  */
 #ifndef DMF_H
 #define DMF_H
@@ -48,20 +56,43 @@ enum dmf_status {
     DMF_NEGATIVE = 15        /* more flow enters the source than leaves it */
 };
 
+/* The first fault of a problem text, as `dmf solve` tells it in words. The numbers never change. */
+enum dmf_fault {
+    DMF_FAULT_PROBLEM_LINE_EXPECTED = 1,  /* a line before the line `p max NODES ARCS`, or no such line */
+    DMF_FAULT_SECOND_PROBLEM_LINE = 2,
+    DMF_FAULT_UNKNOWN_LINE = 3,           /* a line that begins with another letter than c, p, n and a */
+    DMF_FAULT_NOT_MAX = 4,                /* a problem, but none of maximum flow */
+    DMF_FAULT_FIELD_COUNT = 5,            /* too few fields, or too many */
+    DMF_FAULT_NOT_A_NUMBER = 6,
+    DMF_FAULT_TOO_LARGE = 7,              /* a number exceeds 2^64 - 1 */
+    DMF_FAULT_COUNT_OUT_OF_RANGE = 8,     /* the number of nodes, or of arcs */
+    DMF_FAULT_NODE_OUT_OF_RANGE = 9,      /* no such node */
+    DMF_FAULT_NEITHER_SOURCE_NOR_SINK = 10,
+    DMF_FAULT_TERMINAL_NAMED_TWICE = 11,
+    DMF_FAULT_SAME_TERMINALS = 12,        /* source and sink are the same */
+    DMF_FAULT_ARC_BEFORE_TERMINALS = 13,  /* an arc before source and sink */
+    DMF_FAULT_TOO_MANY_ARCS = 14,         /* more arcs than the problem line says */
+    DMF_FAULT_TOO_FEW_ARCS = 15,
+    DMF_FAULT_TERMINAL_MISSING = 16,      /* source or sink missing */
+    DMF_FAULT_SUM_TOO_LARGE = 17          /* capacities past 64 bits */
+};
+
 /* A session. What it holds is private. */
 typedef struct dmf_session dmf_session;
 
-/* The version of the library: 10,000 times the first number, 100 times the second, and the third. */
+/* The version of the library, which may be newer than DMF_VERSION: 10,000 times the first number, 100 times the second, and
+ * the third. */
 uint32_t dmf_version(void);
 
 /* ---- To open and to free ------------------------------------------------------------------------------------------- */
 
 /* Opens a session on a network of `nodes` nodes. Arc i + 1 leaves node tails[i], enters heads[i], and has
  * capacities[i]; the flow is 0. The three lengths have to be the same, or the answer is DMF_BAD_LENGTH. The session keeps
- * up to `past` states before the present one, at most DMF_MAX_PAST.
+ * up to `past` states before the present one, from 0 to DMF_MAX_PAST. DMF_BAD_NUMBER, DMF_NO_SUCH_NODE, DMF_TOO_MANY_ARCS,
+ * DMF_SUM_TOO_LARGE.
  *
- * On DMF_OK *session is the new session. Otherwise *session is unchanged, and *bad_arc is the index of the first arc that
- * is refused, if the answer is DMF_NO_SUCH_NODE, DMF_TOO_MANY_ARCS or DMF_SUM_TOO_LARGE. Takes time and memory for the arcs. */
+ * On DMF_OK *session is the new session, and *bad_arc is unchanged. Otherwise *session is unchanged, and *bad_arc is the index
+ * of the first arc that is refused, if one of the last three is the answer; else it may be any number. */
 enum dmf_status dmf_session_new(uint32_t nodes, uint32_t source, uint32_t sink,
                                 const uint32_t *tails, size_t tail_count,
                                 const uint32_t *heads, size_t head_count,
@@ -69,35 +100,39 @@ enum dmf_status dmf_session_new(uint32_t nodes, uint32_t source, uint32_t sink,
                                 uint32_t past, dmf_session **session, size_t *bad_arc);
 
 /* Opens a session on a problem text of `length` bytes in the DIMACS format; no byte after it is read, and it needs no 0 at
- * its end. On DMF_OK *session is the new session. Otherwise *session is unchanged, and after DMF_BAD_TEXT *line is the line of
- * the first fault, counted from 1, and *fault its number, which `dmf explain` explains. */
+ * its end. `past` is as above. DMF_BAD_NUMBER, DMF_BAD_TEXT. On DMF_OK *session is the new session, otherwise it is unchanged.
+ * After DMF_BAD_TEXT *line is the line of the first fault, counted from 1, and *fault an enum dmf_fault; after any other
+ * answer both are 0. */
 enum dmf_status dmf_session_read(const uint8_t *text, size_t length, uint32_t past,
                                  dmf_session **session, uint64_t *line, uint32_t *fault);
 
-/* Frees a session. It may not be used again, and not be freed again. */
+/* Frees a session. It may not be used again, and not be freed again. Takes no memory. */
 void dmf_session_free(dmf_session *session);
 
-/* ---- Changes: each appends a state, drops the undone ones, and forgets the oldest past the bound ----------------------- */
+/* ---- Changes: each that is DMF_OK appends a state, drops the undone ones, and forgets the oldest past the bound -------- */
 
-/* Gives an arc another capacity. Takes off what flows above it. DMF_NO_SUCH_ARC, DMF_CLOSED, DMF_SUM_TOO_LARGE. */
+/* Gives an arc another capacity. Takes what flows above it off the arc, and off paths through it. DMF_NO_SUCH_ARC,
+ * DMF_CLOSED, DMF_SUM_TOO_LARGE. */
 enum dmf_status dmf_session_cap(dmf_session *session, uint64_t arc, uint64_t capacity);
 
-/* Adds an arc, whose number is then dmf_session_arcs(session). DMF_NO_SUCH_NODE, DMF_TOO_MANY_ARCS, DMF_SUM_TOO_LARGE. */
+/* Adds an arc without flow, whose number is then dmf_session_arcs(session). DMF_NO_SUCH_NODE, DMF_TOO_MANY_ARCS, DMF_SUM_TOO_LARGE. */
 enum dmf_status dmf_session_add(dmf_session *session, uint64_t tail, uint64_t head, uint64_t capacity);
 
-/* Closes an arc for good; undo opens it again. DMF_NO_SUCH_ARC, DMF_CLOSED. */
+/* Closes an arc, as if its capacity became 0; only undo opens it again. DMF_NO_SUCH_ARC, DMF_CLOSED. */
 enum dmf_status dmf_session_close(dmf_session *session, uint64_t arc);
 
 /* Closes every open arc that leaves or enters a node, as one change. DMF_NO_SUCH_NODE. */
 enum dmf_status dmf_session_shut(dmf_session *session, uint64_t node);
 
-/* Augments the present flow to a maximum flow. Refused only for want of memory. */
+/* Augments the present flow to a maximum flow. Appends a state also if it was one. Refused only for want of memory. */
 enum dmf_status dmf_session_solve(dmf_session *session);
+
+/* ---- Steps: all of them, or none; 0 steps are DMF_OK --------------------------------------------------------------------- */
 
 /* Steps so many states back: the state of then stands again, arc for arc. DMF_NOTHING_TO_UNDO. Takes no memory. */
 enum dmf_status dmf_session_undo(dmf_session *session, uint64_t steps);
 
-/* Steps so many undone states forward. DMF_NOTHING_TO_REDO. */
+/* Steps so many undone states forward. DMF_NOTHING_TO_REDO. Takes memory only where an added arc comes back. */
 enum dmf_status dmf_session_redo(dmf_session *session, uint64_t steps);
 
 /* ---- The present state: none of these changes it; all but the side, the check and the texts take no memory ---------------- */
@@ -115,19 +150,20 @@ size_t dmf_session_arcs(const dmf_session *session);     /* how many arcs there 
 enum dmf_status dmf_session_flows(const dmf_session *session, uint64_t *flows, size_t count);
 enum dmf_status dmf_session_capacities(const dmf_session *session, uint64_t *capacities, size_t count);
 
-/* The side of the smallest minimum cut: side[v - 1] becomes 1 if node v is on the source's side, else 0. The arcs that
- * leave the side are the limit. `count` is dmf_session_nodes(session), or the answer is DMF_BAD_LENGTH. DMF_NOT_GREATEST if the
- * present flow is no maximum flow: solve first. */
+/* The side of the smallest minimum cut: side[v - 1] becomes 1 if every minimum cut has node v on the source's side, else 0.
+ * The arcs that leave the side are the limit: their capacities add up to the value. `count` is dmf_session_nodes(session), or
+ * the answer is DMF_BAD_LENGTH. DMF_NOT_GREATEST if the present flow is no maximum flow: solve first. */
 enum dmf_status dmf_session_side(const dmf_session *session, uint8_t *side, size_t count);
 
-/* Judges `count` flows, one for each arc. DMF_OK: they are a maximum flow. DMF_OVER_CAPACITY: *place is the first arc with
- * too much. DMF_NOT_CONSERVED: *place is the first node at which flow is lost or made. DMF_NEGATIVE. DMF_NOT_GREATEST: they are a
- * flow, and some flow has a larger value. DMF_BAD_LENGTH. *place is 0 where none is named. */
+/* Judges `count` flows, one for each arc, of the present network; the session's own flow does not matter. DMF_OK: they are a
+ * maximum flow. DMF_OVER_CAPACITY: *place is the number of the first arc with too much. DMF_NOT_CONSERVED: *place is the number
+ * of the first node at which flow is lost or made. DMF_NEGATIVE. DMF_NOT_GREATEST: they are a flow, and some flow has a larger
+ * value. DMF_BAD_LENGTH if `count` is not dmf_session_arcs(session). *place is 0 where none is named. */
 enum dmf_status dmf_session_check(const dmf_session *session, const uint64_t *flows, size_t count, uint64_t *place);
 
-/* The problem text of the open arcs, or the solution text, into `room` bytes. *length is always the length of the whole text,
- * but after DMF_NO_MEMORY. If it exceeds `room`, the answer is DMF_BAD_LENGTH, and nothing is written: so ask with a room of 1 byte, and then
- * with that length. No 0 is added. */
+/* The problem text of the open arcs, or the solution text, into `room` bytes. *length becomes the length of the whole text,
+ * unless the answer is DMF_NO_MEMORY. If it exceeds `room`, the answer is DMF_BAD_LENGTH, and nothing is written: so ask with
+ * a room of 1 byte, and then with that length. No 0 is added. */
 enum dmf_status dmf_session_problem(const dmf_session *session, uint8_t *text, size_t room, size_t *length);
 enum dmf_status dmf_session_solution(const dmf_session *session, uint8_t *text, size_t room, size_t *length);
 

@@ -10,6 +10,7 @@ from pathlib import Path
 
 ROOT = Path(__file__).resolve().parent.parent
 HEADER = ROOT / "include/dmf.h"
+STRICT = ["-Wall", "-Wextra", "-Wpedantic", "-Werror", "-O1", "-g", f"-I{HEADER.parent}"]
 
 
 @functools.cache
@@ -18,6 +19,14 @@ def library_folder() -> Path:
     taken = subprocess.run([ROOT / "tools/prebuilt", "library"], capture_output=True, text=True)
     assert taken.returncode == 0, taken.stdout
     return Path(taken.stdout.rstrip("\n")).parent
+
+
+def compiled(compiler: list[str], source: Path, folder: Path, scratch: Path) -> Path:
+    """A program in C or C++ that is linked with the library of this folder. It has no warning."""
+    program = scratch / "caller"
+    linked = [str(folder / "libdmf.so.0"), f"-Wl,-rpath,{folder}"]
+    subprocess.run([*compiler, *STRICT, str(source), "-o", str(program), *linked], check=True)
+    return program
 
 
 class Refused(Exception):

@@ -21,8 +21,8 @@ from typing import Any
 HERE = Path(__file__).resolve().parent
 # A source archive has beside this file what the repository has above it.
 ROOT = HERE if (HERE / "PKG-INFO").is_file() else HERE.parents[1]
-# The executable and the C library in the wheel and in a source archive.
-INSIDE, LIBRARY = "dmf/bin/dmf", "dmf/bin/libdmf.so.0"
+# The executable, the C library and its header in the wheel and in a source archive.
+INSIDE, LIBRARY, HEADER = "dmf/bin/dmf", "dmf/bin/libdmf.so.0", "dmf/include/dmf.h"
 
 
 def version() -> str:
@@ -72,16 +72,21 @@ def executable() -> dict[str, bytes]:
 
 
 def library() -> dict[str, bytes]:
-    """The C library, if there is one of these sources: that of a source archive, or that of the repository. Without it the package asks
-    the executable."""
+    """The C library and its header, if there is one of these sources: that of a source archive, or that of the repository. Without it the
+    package asks the executable."""
     for path in HERE / LIBRARY, *([] if (ROOT / "tools/prebuilt").is_file() else [ROOT / "crates/dmf_c/out/libdmf.so.0"]):
         if path.is_file():
-            return {LIBRARY: path.read_bytes()}
+            return {LIBRARY: path.read_bytes(), **header()}
     try:
         take = subprocess.run([ROOT / "tools/prebuilt", "library"], stdout=subprocess.PIPE, text=True)
     except OSError:
         return {}
-    return {LIBRARY: Path(take.stdout.rstrip("\n")).read_bytes()} if take.returncode == 0 else {}
+    return {LIBRARY: Path(take.stdout.rstrip("\n")).read_bytes(), **header()} if take.returncode == 0 else {}
+
+
+def header() -> dict[str, bytes]:
+    """The header, for programs in C that use the library of the wheel."""
+    return {HEADER: path.read_bytes() for path in (HERE / HEADER, ROOT / "include/dmf.h") if path.is_file()}
 
 
 def tools() -> dict[str, bytes]:

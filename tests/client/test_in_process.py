@@ -2,6 +2,7 @@
 
 from __future__ import annotations
 
+import _thread
 import contextlib
 import gc
 import itertools
@@ -287,13 +288,13 @@ def test_one_thread_runs_call_after_call(monkeypatch: pytest.MonkeyPatch) -> Non
     monkeypatch.setattr(loaded, "MOST_AT_ONCE", 0)
     loaded._threads.cache_clear()
     begun: list[object] = []
-    begin = loaded._thread.start_new_thread
+    begin = _thread.start_new_thread
 
     def noted(*words: Any) -> int:
         begun.append(words)
         return begin(*words)
 
-    monkeypatch.setattr(loaded._thread, "start_new_thread", noted)
+    monkeypatch.setattr(_thread, "start_new_thread", noted)
     with prepared() as network, prepared(program=BUILT) as other:
         for _ in range(20):
             assert all_told(network) == all_told(other)

@@ -102,7 +102,17 @@ print(dmf.program(), dmf.library(), type(network._session).__name__, network.sol
     assert out(folder, "python", "-c", script) == f"{own(folder)} {library} InProcess 3\n"
     assert own(folder).read_bytes() == Path(BUILT).read_bytes()
     assert library.read_bytes() == (library_folder() / "libdmf.so.0").read_bytes()
+
+
+@needs(shutil.which("g++"), "g++", "no program in C or C++ was compiled with the library of the wheel")
+def test_the_examples_of_the_library(folder: Path) -> None:
+    """Each runs by the library that pip put, with the header beside it, as LIBRARY.md says."""
+    library = own(folder).with_name("libdmf.so.0")
     assert out(folder, "python", ROOT / "examples/c/limit.py", library) == "5 [3, 2, 1, 2, 3]\n"
+    flags = [f"-I{library.parents[1]}/include", library, f"-Wl,-rpath,{library.parent}"]
+    for compiler, source, last in ("gcc", "limit.c", "again: 5\n"), ("g++", "limit.cpp", "on the source's side: 1\n"):
+        out(folder, compiler, ROOT / "examples/c" / source, "-o", folder / source, *flags)
+        assert out(folder, folder / source).endswith(last)
 
 
 @pytest.mark.parametrize("words", [["dmf"], ["python", "-m", "dmf"]], ids=["command", "module"])

@@ -15,6 +15,7 @@ from dmf.copies import Copy
 from dmf.lexical import LARGEST, MOST_NODES
 from dmf.process import Child
 from dmf.session import MOST_COMMANDS, case_lines
+from dmf.trying import Here
 
 ARCS = 24
 CLOSED: list[Any] = [[("close", number)] for number in range(1, ARCS + 1)]
@@ -103,6 +104,27 @@ def test_a_case_of_many_commands_goes_alone() -> None:
         many: list[Any] = [("add", "a", "b", 1)] * MOST_COMMANDS
         assert copy._commands(many) == [("add", 1, 2, 1)] * MOST_COMMANDS and copy._commands([*many, many[0]]) == []
         assert swept(network, [many, [*many, many[0]], CLOSED[0]]) == [300 + MOST_COMMANDS, 301 + MOST_COMMANDS, 299]
+
+
+@pytest.mark.parametrize(("count", "is_worth_it"), [(None, True), (41, False), (100, False), (101, True), (10_000, True)])
+def test_when_another_session_begins(count: int | None, is_worth_it: bool) -> None:
+    """After 1.5 s of trying, as the first took to begin with its first case: if 60 cases are left, of 25 ms each, or nobody knows how many."""
+    with beside(BUILT) as network:
+        here = Here(network._kept.copy(), BUILT, False, 4, count)
+        try:
+            assert here._is_worth_another()
+            here._copies.append(Copy(network._kept.copy(), BUILT))
+            assert not here._is_worth_another(), "the first has not begun yet"
+            here._note(1, 0.5, begin_seconds=1.0, is_first=True)
+            assert not here._is_worth_another()
+            here._note(40, 1.0, begin_seconds=0.0, is_first=False)
+            assert here._is_worth_another() == is_worth_it
+            here._copies.append(Copy(network._kept.copy(), BUILT))
+            assert not here._is_worth_another(), "the second has not begun yet"
+            here._note(1, 0.5, begin_seconds=1.0, is_first=True)
+            assert not here._is_worth_another()
+        finally:
+            here.close()
 
 
 def test_a_function_makes_nothing_again_that_another_case_did() -> None:

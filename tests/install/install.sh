@@ -410,15 +410,19 @@ for file in bin/dmf lib/libdmf.so.0; do
     same "$file needs libc alone" "$(ldd "$work/real/$file" | sed -n 's/^\t\(lib[^ ]*\.so\).*/\1/p')" libc.so
 done
 
-# A C program that finds the library as its field does: by pkg-config's file, here read by hand, and by the loader.
-if command -v gcc >/dev/null; then
+# Programs in C and C++ that find the library as their field does: by pkg-config's file, here read by hand, and by the loader.
+if command -v gcc >/dev/null && command -v g++ >/dev/null; then
     flags="$(sed -n "s|^prefix=.*||; s|\${includedir}|$work/real/include|; s|\${libdir}|$work/real/lib|; s/^\(Libs\|Cflags\): //p" "$work/real/lib/pkgconfig/dmf.pc")"
     # shellcheck disable=SC2086 # It has a word for each flag.
     gcc examples/c/limit.c -o "$work/limit" $flags >"$work/out" 2>"$work/err"
     same "a C program is linked" "$? $(cat "$work/err")" "0 "
     same "it runs" "$(LD_LIBRARY_PATH="$work/real/lib" "$work/limit" | tail -n 2)" $'without arc 1: 2\nagain: 5'
+    # shellcheck disable=SC2086
+    g++ -std=c++17 examples/c/limit.cpp -o "$work/limit" $flags >"$work/out" 2>"$work/err"
+    same "a C++ program is linked" "$? $(cat "$work/err")" "0 "
+    same "that runs" "$(LD_LIBRARY_PATH="$work/real/lib" "$work/limit")" $'3\n2\n1\n2\n3\non the source\'s side: 1'
 else
-    echo "skipped: no gcc, so no C program was linked with the installed library"
+    echo "skipped: no gcc or no g++, so no program in C or C++ was linked with the installed library"
 fi
 same "the example of ctypes runs" "$(python3 examples/c/limit.py "$work/real/lib/libdmf.so.0")" "5 [3, 2, 1, 2, 3]"
 

@@ -9,9 +9,8 @@ import sys
 from pathlib import Path
 
 import pytest
-from c_library import HEADER, ROOT, library_folder
+from c_library import HEADER, ROOT, compiled, library_folder
 
-STRICT = ["-Wall", "-Wextra", "-Wpedantic", "-Werror", "-O1", "-g", f"-I{HEADER.parent}"]
 EXAMPLES = ROOT / "examples/c"
 SOLVED = "1 -> 2: 3 of 3\n1 -> 3: 2 of 2\n2 -> 3: 1 of 5\n2 -> 4: 2 of 2\n3 -> 4: 3 of 3\nwithout arc 1: 2\nagain: 5\n"
 
@@ -19,13 +18,6 @@ SOLVED = "1 -> 2: 3 of 3\n1 -> 3: 2 of 2\n2 -> 3: 1 of 5\n2 -> 4: 2 of 2\n3 -> 4
 @pytest.fixture(scope="module")
 def folder() -> Path:
     return library_folder()
-
-
-def compiled(compiler: list[str], source: Path, folder: Path, scratch: Path, *more: str) -> Path:
-    program = scratch / "caller"
-    linked = [str(folder / "libdmf.so.0"), f"-Wl,-rpath,{folder}"]
-    subprocess.run([*compiler, *STRICT, *more, str(source), "-o", str(program), *linked], check=True)
-    return program
 
 
 def output_of(*words: str | Path) -> str:

@@ -135,11 +135,14 @@ def sweep(
     made = cases(network) if callable(cases) else cases
     programs = _programs(jobs)
     swept = _Swept(network)
-    begin: Callable[[], Tries] = functools.partial(Here, swept.kept, network._session.way, want_cut, programs)
+    count = operator.length_hint(made, -1)
+    begin: Callable[[], Tries] = functools.partial(
+        Here, swept.kept, network._session.way, want_cut, programs, None if count < 0 else count
+    )
     if executor is not None:
         begin = functools.partial(There, Sent.of(swept.kept, network._session.program), executor, want_cut)
     results = _results(swept, iter(made), begin)
-    return _shown(results, operator.length_hint(made) or None) if progress else results
+    return _shown(results, count if count > 0 else None) if progress else results
 
 
 def _programs(jobs: int | None) -> int:

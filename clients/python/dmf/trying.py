@@ -61,14 +61,17 @@ Pending = Callable[[], "list[Answer]"]
 
 class Here(Tries):
     """Sessions of this process, each with a thread that waits for it. Programs read one file. The first tries the cases alone, and another one
-    begins whenever those that are there have tried cases for as long as it took them to begin: so a small sweep takes one session, and no
-    sweep more than twice the processor time of its cases."""
+    begins when those that are there have tried cases for as long as it took them to begin, and will for as long again, if it is known
+    how many cases there are. So all sessions together take about half as long again as one would, at most. The first cases of a session
+    count to its beginning, since it makes then what all cases use."""
 
-    def __init__(self, kept: Kept[Any], way: Way, want_cut: bool, jobs: int) -> None:
+    def __init__(self, kept: Kept[Any], way: Way, want_cut: bool, jobs: int, count: int | None = None) -> None:
+        """`count` is how many cases there are, if that is known."""
         # It takes 1 MB, and nothing else needs it.
         from concurrent.futures import ThreadPoolExecutor
 
         super().__init__(4 * jobs)
+        self._count = count
         self._begin_copy = functools.partial(Copy, kept, way)
         self._want_cut = want_cut
         self._jobs = jobs
@@ -76,9 +79,13 @@ class Here(Tries):
         self._file = problem_file(kept) if isinstance(way, PROGRAM) else contextlib.nullcontext(None)
         self._path: str | None = None
         self._copies: list[Copy] = []
-        # The copies that no thread has, and how long cases were tried so far, in seconds. Whoever waits for a copy waits for a change.
+        # The copies that no thread has. Whoever waits for a copy waits for a change.
         self._free: list[Copy] = []
-        self._tried = 0.0
+        # How many copies have begun, and in how many seconds; how many cases were tried so far, and in how many seconds; and how long each
+        # of the last ones took.
+        self._begun_count, self._begun = 0, 0.0
+        self._tried_count, self._tried = 0, 0.0
+        self._pace = 0.0
         self._is_over = False
         self._changed = threading.Condition()
         self._threads = ThreadPoolExecutor(jobs, "dmf-sweep")
@@ -95,9 +102,17 @@ class Here(Tries):
             seconds = time.monotonic() - began - (copy.begin_seconds - before)
             with self._changed:
                 self._free.append(copy)
-                self._tried += seconds
+                self._note(len(cases), seconds, copy.begin_seconds - before, is_first=not before)
                 self._changed.notify_all()
             self.learn(len(cases), seconds)
+
+    def _note(self, count: int, seconds: float, begin_seconds: float, is_first: bool) -> None:
+        """Notes how long so many cases took, and how long their copy took to begin before them."""
+        self._tried_count += count
+        self._tried += seconds
+        self._begun += begin_seconds + (seconds if is_first else 0)
+        self._begun_count += is_first
+        self._pace = seconds / count
 
     def _take(self) -> Copy:
         """A copy that no other thread has: one that has begun, or another one if that is worth it."""
@@ -113,10 +128,11 @@ class Here(Tries):
             return copy
 
     def _is_worth_another(self) -> bool:
-        count = len(self._copies)
-        if self._is_over or not count:
+        if self._is_over or not self._copies:
             return True
-        return count < self._jobs and self._tried >= sum(copy.begin_seconds for copy in self._copies) > 0
+        if len(self._copies) >= self._jobs or self._begun_count < len(self._copies) or self._tried < self._begun:
+            return False
+        return self._count is None or (self._count - self._tried_count) * self._pace >= self._begun
 
     def close(self) -> None:
         with self._changed:
