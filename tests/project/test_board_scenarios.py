@@ -3,8 +3,10 @@ shown."""
 
 from __future__ import annotations
 
+import base64
 import json
 from collections.abc import Iterator
+from itertools import product
 from pathlib import Path
 from typing import Any
 from xml.etree import ElementTree
@@ -13,7 +15,7 @@ import dmf
 import pytest
 from board_pages import Page
 from board_running import Board, board
-from desk_shared import run, without
+from desk_shared import ROOT, run, without
 from dmf.project.comparison import ArcState
 from dmf.project.desk import ProjectDesk
 from dmf.project.opening import project_desk
@@ -322,3 +324,30 @@ def test_report(water: Board, tmp_path: Path) -> None:
     water.end()
     ran = run("dmf-plan", f"{tmp_path}/kept.dmf.json", typed=f"report {tmp_path}/report.html\n")
     assert ran.returncode == 0 and (tmp_path / "report.html").read_bytes() == page
+
+
+def test_it_fits(driver: Any, water: Board, writes: bool) -> None:
+    """On a wide screen, a narrower one and a phone, in light and dark, a comparison is no wider than the page, and its letters can be read. The
+    picture for the documents is made at least, and with --write put."""
+    heights = "return [...document.querySelectorAll('#compare-picture text')].filter((it) => it.checkVisibility()).map((it) => "
+    heights += "Number(getComputedStyle(it).fontSize.slice(0, -2)) * it.getScreenCTM().a)"
+    page = ScenarioPage(driver, water.address)
+    for width, scheme in product((400, 768, 1280, 1600), ("dark", "light")):
+        driver.execute_cdp_cmd("Emulation.setEmulatedMedia", {"features": [{"name": "prefers-color-scheme", "value": scheme}]})
+        driver.execute_cdp_cmd("Emulation.setDeviceMetricsOverride", {"width": width, "height": 1000, "deviceScaleFactor": 1, "mobile": False})
+        page.compare("first", "Pipe")
+        page.settle()
+        seen, wide = driver.execute_script("return [document.documentElement.clientWidth, document.documentElement.scrollWidth]")
+        assert seen == wide
+        assert min(driver.execute_script(heights)) >= 11
+    left, top, wide, high = driver.execute_script(
+        "const it = document.getElementById('compared-shown').getBoundingClientRect(); return [it.left, it.top + scrollY, it.width, it.height]"
+    )
+    clip = {"x": left - 8, "y": top - 8, "width": wide + 16, "height": high + 16, "scale": 0.8}
+    picture = driver.execute_cdp_cmd("Page.captureScreenshot", {"clip": clip, "captureBeyondViewport": True})["data"]
+    assert base64.b64decode(picture)[:4] == b"\x89PNG"
+    if writes:
+        (ROOT / "docs/pictures/compared.png").write_bytes(base64.b64decode(picture))
+    driver.execute_cdp_cmd("Emulation.setEmulatedMedia", {"features": []})
+    driver.execute_cdp_cmd("Emulation.clearDeviceMetricsOverride", {})
+    driver.get("about:blank")

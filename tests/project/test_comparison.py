@@ -10,6 +10,8 @@ from typing import Any
 import dmf
 import pytest
 from desk_shared import run
+from dmf.desk_network import Held
+from dmf.desk_steps import Change, Step
 from dmf.desk_text import problem
 from dmf.project.comparison import CLOSED, compare
 from dmf.project.desk import ProjectDesk
@@ -17,7 +19,7 @@ from dmf.project.form import project_of
 from dmf.project.opening import project_desk
 from dmf.text import read_problem
 from project_played import played, state
-from project_shared import named, supply_project, water_project
+from project_shared import arc_states, named, supply_project, water_project
 
 
 def judge(desk: ProjectDesk, folder: Path, first: tuple[str, str], second: tuple[str, str]) -> None:
@@ -88,6 +90,34 @@ def test_opened_again(tmp_path: Path) -> None:
     desk.add(desk.names.place("Mill"), desk.names.place("Station"), 24, "New")
     found = {it.arc: (it.first.capacity, it.second.capacity) for it in compare(desk, "first", "short").arcs}
     assert found["Bridge pipe, Mill -> South Tower"] == (5, 20) and found["New, Mill -> Station"] == (25, 24)
+    desk.end()
+
+
+def test_takes_as_long_as_what_differs(tmp_path: Path, monkeypatch: pytest.MonkeyPatch) -> None:
+    """Of scenarios that begin with the same steps, a comparison makes only the others again, and so does who goes between them."""
+    desk = water_project(tmp_path)
+    for most in range(30):
+        desk.cap(named(desk, "Mill Lane"), most)
+    desk.new("more", "first")
+    desk.close(named(desk, "Bridge pipe"))
+    made: list[str] = []
+    make = Held.make
+
+    def counted(held: Held, text: str, changes: tuple[Change, ...]) -> Step:
+        made.append(text)
+        return make(held, text, changes)
+
+    monkeypatch.setattr(Held, "make", counted)
+    before = arc_states(desk)
+    found = compare(desk, "first", "more")
+    # Mill Lane carries 29 in place of 45 in the limits of the story's page.
+    assert made == ["close Bridge pipe"] and (found.first.value, found.second.value) == (165 - 16, 155 - 16)
+    assert (arc_states(desk), desk.at) == (before, 32)
+    desk.go("first")
+    desk.undo(10)
+    desk.go("more")
+    assert made == ["close Bridge pipe", *(f"Mill Lane carries {most} litres per second" for most in range(20, 30)), "close Bridge pipe"]
+    assert arc_states(desk) == before
     desk.end()
 
 

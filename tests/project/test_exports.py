@@ -18,7 +18,7 @@ from xml.etree import ElementTree
 import pytest
 from desk_shared import ROOT, run
 from dmf.board.picture import Picture
-from dmf.desk_text import near, problem, table
+from dmf.desk_text import problem, table
 from dmf.project.desk import ProjectDesk
 from dmf.quantity import plain_text
 from oracle import program
@@ -130,7 +130,7 @@ def test_table(desk: ProjectDesk, tmp_path: Path) -> None:
 
 def test_picture(desk: ProjectDesk) -> None:
     """The page's picture to take along has the flow and the room of each arc, and a caption."""
-    root = ElementTree.fromstring(Picture(desk).svg((), near(desk, ()), to_take=True))
+    root = ElementTree.fromstring(Picture(desk).svg((), desk.pictured(), to_take=True))
     titles = [group.findtext(f"{SVG}title") or "" for group in root.iter(f"{SVG}g") if (group.get("class") or "").startswith("arc")]
     found = {match[1]: (match[2], match[3]) for match in map(TITLE.fullmatch, titles) if match and match[2]}
     assert found == states(desk)

@@ -216,12 +216,13 @@ def test_it_fits(tmp_path: Path, driver: Any) -> None:
 
 @DRAWS
 def test_the_picture_of_the_story(tmp_path: Path, driver: Any, writes: bool) -> None:
-    """The picture of the water story, which is made at least, and with --write put."""
+    """The pictures of the water story, on a wide screen and on a phone in the dark, which are made at least, and with --write put."""
     shutil.copy(ROOT / "examples/water/pipes.csv", tmp_path)
     story = (ROOT / "examples/water/today.txt").read_text() + f"report {tmp_path}/report.html\n"
     assert run("dmf-plan", f"{tmp_path}/pipes.csv", "--keep", typed=story).returncode == 0
-    shown(driver, tmp_path / "report.html", 1280, height=1000)
-    picture = driver.get_screenshot_as_png()
-    assert int.from_bytes(picture[16:20], "big") == 1280
-    if writes:
-        (ROOT / "docs/pictures/report.png").write_bytes(picture)
+    for name, width, scheme in ("report", 1280, "light"), ("report-small", 400, "dark"):
+        shown(driver, tmp_path / "report.html", width, scheme, height=1000)
+        picture = driver.get_screenshot_as_png()
+        assert int.from_bytes(picture[16:20], "big") == width
+        if writes:
+            (ROOT / f"docs/pictures/{name}.png").write_bytes(picture)

@@ -151,7 +151,8 @@ def known_arcs(desk: DeskView) -> Iterator[tuple[Known, int]]:
 
 def compare(desk: ProjectDesk, first: str, second: str) -> Comparison:
     """Two scenarios of a desk's project, of which one may be `base`, beside each other. The desk shows the present one again then.
-    Raises a `DeskFault` if there is no such scenario. Takes as long as the steps of both take together."""
+    Raises a `DeskFault` if there is no such scenario. Takes as long as those steps take in which the three are not the same from the first
+    on."""
     with desk.visiting(first):
         one = _Seen(desk, first)
     with desk.visiting(second):

@@ -6,9 +6,10 @@ the session of the others, which has undone theirs."""
 from __future__ import annotations
 
 import contextlib
-from collections.abc import Callable, Collection, Iterable, Iterator, Mapping
+from collections.abc import Callable, Collection, Iterable, Iterator, Mapping, Sequence
 from dataclasses import dataclass, field, replace
 from decimal import Decimal
+from itertools import takewhile
 from typing import Any
 
 from ..desk import Desk
@@ -223,14 +224,14 @@ class ProjectDesk(Desk):
             raise DeskFault("a trial is open; `keep` or `drop` ends it")
         if scenario is self.scenario:
             return
-        before = self.project.present
+        before, made = self.project.present, self._made()
         if self.file.why_not:
             # It is only looked at.
             self.project.present = name
         else:
             self._keep("go", name)
         try:
-            self._show(scenario)
+            self._show(scenario, made)
         except BaseException:
             if self.file.why_not:
                 self.project.present = before
@@ -254,10 +255,10 @@ class ProjectDesk(Desk):
         self._come(replace(self.scenario, name=name))
 
     def _come(self, scenario: Scenario) -> None:
-        before = self.project.present
+        before, made = self.project.present, self._made()
         self._keep("new", said_scenario(scenario))
         try:
-            self._show(self.scenario)
+            self._show(self.scenario, made)
         except BaseException:
             self._keep("go", before)
             self._keep("delete", scenario.name)
@@ -303,24 +304,30 @@ class ProjectDesk(Desk):
         before = Timeline(list(self._time.done), list(self._time.undone), list(self._time.floors), self.turn)
         here = replace(self.scenario, at=self.at - 1)
         with self._unkept():
-            self.news += self._follow(steps).told
+            seen = self._follow(steps, here.steps[: here.at])
+            self.news += seen.told
             self._visited = name
             try:
                 yield
             finally:
                 self._visited = ""
                 try:
-                    self._follow(here)
+                    self._follow(here, seen.scenario.steps[: seen.scenario.at])
                     self._time.floors, self._time.turn = before.floors, before.turn
                 except BaseException:
                     # The session has ended, and begins again with these.
                     self._time = before
                     raise
 
-    def _show(self, scenario: Scenario) -> None:
-        """Makes the steps of a scenario, tells in what it differs from what was kept, and keeps it as it is."""
+    def _made(self) -> list[KeptStep]:
+        """The steps of the present scenario that are made."""
+        return self.scenario.steps[: self.at - 1]
+
+    def _show(self, scenario: Scenario, made: Sequence[KeptStep] = ()) -> None:
+        """Makes the steps of a scenario, tells in what it differs from what was kept, and keeps it as it is. Those that are `made` may be
+        some of them."""
         with self._unkept():
-            carried = self._follow(scenario)
+            carried = self._follow(scenario, made)
         self._take(carried)
 
     def _take(self, carried: Carried) -> None:
@@ -329,15 +336,16 @@ class ProjectDesk(Desk):
         if carried.told and not self.file.why_not:
             self._keep("carried", said_scenario(carried.scenario))
 
-    def _follow(self, scenario: Scenario, unsure: Collection[ArcName] = ()) -> Carried:
-        """Undoes the steps on the session, and makes those of a scenario. If that is broken off, the session ends, and begins again
-        with the steps that were made before."""
+    def _follow(self, scenario: Scenario, made: Sequence[KeptStep] = (), unsure: Collection[ArcName] = ()) -> Carried:
+        """Undoes the steps on the session, and makes those of a scenario. The first of both that are the same stay, if it is known which
+        are `made`. If that is broken off, the session ends, and begins again with the steps that were made before."""
         before = self._time
         self._time = Timeline(list(before.done), list(before.undone), list(before.floors), before.turn + 1)
+        same = len([*takewhile(lambda pair: pair[0] == pair[1], zip(made, scenario.steps))])
         try:
-            self._undo(self.at - 1)
+            self._undo(self.at - 1 - same)
             self._time.undone = []
-            carried = self._remade(scenario, unsure)
+            carried = self._remade(scenario, same, unsure)
             self._undo(self.at - 1 - carried.scenario.at)
         except BaseException:
             self._held.drop()
@@ -346,11 +354,11 @@ class ProjectDesk(Desk):
         self._time.floors = [1 + carried.scenario.inherited]
         return carried
 
-    def _remade(self, scenario: Scenario, unsure: Collection[ArcName]) -> Carried:
-        """Makes the steps of a scenario, as far as they mean something, those too that are undone."""
-        now = replace(scenario, steps=[], left_out=list(scenario.left_out))
+    def _remade(self, scenario: Scenario, same: int, unsure: Collection[ArcName]) -> Carried:
+        """Makes the steps of a scenario after so many first ones, as far as they mean something, those too that are undone."""
+        now = replace(scenario, steps=scenario.steps[:same], left_out=list(scenario.left_out))
         carried = Carried(now)
-        for number, step in enumerate(scenario.steps, 1):
+        for number, step in enumerate(scenario.steps[same:], same + 1):
             told = f"scenario {shown(scenario.name)}, step {number}, {display(step.text)}"
             try:
                 made = self._do(step.text, changes_of(self, step.requests, unsure))
@@ -370,4 +378,4 @@ class ProjectDesk(Desk):
         """Takes a table that has changed, and carries all scenarios over to it, the present one last."""
         self._keep("table", {"table": said_table(table), "network": base.network})
         for scenario in sorted(self.project.scenarios, key=lambda it: it is self.scenario):
-            self._take(self._follow(scenario, base.found.unsure))
+            self._take(self._follow(scenario, unsure=base.found.unsure))

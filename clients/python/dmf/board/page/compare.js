@@ -75,6 +75,7 @@ export function closeComparison() {
   asked += 1;
   shown = null;
   at("compared-shown").hidden = true;
+  at("main").classList.remove("compared");
   for (const watcher of watchers) watcher();
 }
 
@@ -87,6 +88,7 @@ function limitOf(it) {
 function showTable() {
   const told = /** @type {Comparison} */ (shown), { first, second, total } = told;
   at("compared-shown").hidden = false;
+  at("main").classList.add("compared");
   at("compare-old").hidden = true;
   const words = `one=${encodeURIComponent(first.name)}&two=${encodeURIComponent(second.name)}&turn=${told.turn}`;
   at("take-difference").setAttribute("href", `difference.svg?${words}`);
