@@ -105,7 +105,8 @@ def judge_sweep(page: Page, it: Board, rows: list[Any]) -> None:
     names = {row["name"]: row for row in it.state()["limit"]}
     page.press("Try each pipe of the limit")
     page.wait(lambda: page.text("#verdict").startswith("Worst"))
-    told = page.text("#verdict").partition(": ")[2].partition(",")[0]
+    # Of several that cost as much the first is taken.
+    told = page.text("#verdict").partition(": ")[2].partition(",")[0].partition(" or ")[0]
     without = value_of([{**row, "closed": row["number"] == names[told]["number"]} for row in rows])
     sample = list(names.values())[:: max(1, len(names) // 4)]
     assert all(value_of([{**row, "closed": row["number"] == one["number"]} for row in rows]) >= without for one in sample)
