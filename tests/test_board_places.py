@@ -6,6 +6,7 @@ import json
 import shutil
 from pathlib import Path
 from typing import Any
+from urllib.parse import quote
 
 import pytest
 from board_running import board
@@ -31,7 +32,7 @@ def test_kept(tmp_path: Path) -> None:
     A place that was moved in the file lies there."""
     project = project_of(tmp_path)
     with board("--keep", str(tmp_path / "pipes.csv")) as it:
-        names = {f"node-{it.told(f'find?text={name}')['found'][0]['node']}": name for name in it.state()["names"]}
+        names = {f"node-{it.told(f'find?text={quote(name)}')['found'][0]['node']}": name for name in it.state()["names"]}
         seen = spots(it)
         assert it.end() == 130
     found = kept(project)
@@ -71,6 +72,27 @@ def test_map_is_kept(tmp_path: Path) -> None:
         assert it.end() == 130
     at: dict[str, Any] = dict(zip(turned["names"], zip(turned["right"], turned["down"])))
     assert {name: (x, -y) for name, (x, y) in kept(Path(project)).items()} == at
+
+
+PUMPS = "place,lets through,x,y\nMill,60,4,1\nReservoir,,0,0\nHarbour,,9,2\n"
+
+
+def test_table_of_places(tmp_path: Path) -> None:
+    """A table of places with the columns of a map is one. What is no map there is told, and refuses nothing."""
+    table = tmp_path / "places.csv"
+    for text, told in (PUMPS, "6 places are not on the map"), (PUMPS.replace("9,2", "9,north"), "is taken for no map"):
+        table.write_text(text)
+        with board("--places", str(table), PIPES) as it:
+            node = {name: f"node-{it.told(f'find?text={name}')['found'][0]['node']}" for name in ("Reservoir", "Mill", "Harbour")}
+            seen = {name: [*map(float, spots(it)[at])] for name, at in node.items()}
+            it.process.send_signal(2)
+            assert told in it.process.communicate(timeout=60)[1]
+        shares = [(seen["Mill"][axis] - seen["Reservoir"][axis]) / (seen["Harbour"][axis] - seen["Reservoir"][axis]) for axis in (0, 1)]
+        assert (shares == pytest.approx([4 / 9, 1 / 2], abs=0.01)) == (text == PUMPS)
+    table.write_text("place,lets through\nMill,60\n")
+    with board("--places", str(table), PIPES) as it:
+        it.process.send_signal(2)
+        assert "map" not in it.process.communicate(timeout=60)[1]
 
 
 def test_places_that_go(tmp_path: Path) -> None:

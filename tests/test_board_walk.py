@@ -185,7 +185,11 @@ class Walk:
 
     def reload(self) -> str:
         self.page.driver.refresh()
-        self.page.ready()
+        try:
+            self.page.ready()
+        except Exception:
+            ended = self.it.process.poll()
+            pytest.fail(f"a reload shows {self.page.text('body')!r}; the board {'runs' if ended is None else f'has ended with {ended}'}")
         return "reload"
 
     def judge(self, done: str) -> None:

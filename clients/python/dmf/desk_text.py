@@ -14,7 +14,7 @@ from .desk import Desk
 from .desk_steps import DeskFault, Line
 from .folding import renumbered
 from .names import written
-from .picture import Drawing, nearest, picture
+from .picture import Drawing, picture
 from .plan_rows import Carried, Told, plan_text
 from .tables.comments import comments
 from .tables.extra import Extra
@@ -133,14 +133,3 @@ def drawn(desk: Desk, path: str) -> bytes:
         raise DeskFault("Graphviz is not there, which draws; its program is called dot. A FILE.dot can be had") from None
     except subprocess.SubprocessError as error:
         raise DeskFault(f"Graphviz did not draw it: {error}") from None
-
-
-def near(desk: Desk, nodes: tuple[int, ...], most: int = MOST_DRAWN) -> list[int]:
-    """The numbers of the nearest arcs: nearest to these nodes, or to the cut if none are given."""
-    numbers = [number for number, line in enumerate(desk.lines, 1) if not line.is_replaced]
-    lines = arcs_of([desk.lines[number - 1] for number in numbers])
-    ends = (nodes[0], nodes[-1]) if nodes else (desk.source, desk.sink)
-    side = desk.side() if desk.is_greatest and not nodes else set()
-    drawn = Drawing(Problem(len(desk.names.nodes), *ends, [], described=desk.subject.described), lines, [], side)
-    found = drawn.drawn if len(drawn.drawn) <= most else nearest(drawn, most)
-    return [numbers[place] for place in found]

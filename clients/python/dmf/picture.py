@@ -3,7 +3,7 @@
 from __future__ import annotations
 
 from collections import Counter, defaultdict
-from collections.abc import Collection, Iterable, Iterator, Sequence
+from collections.abc import Callable, Collection, Iterable, Iterator, Sequence
 from dataclasses import dataclass, field
 from functools import cached_property
 
@@ -101,12 +101,18 @@ def nearest(drawing: Drawing, most: int) -> list[int]:
     if at_places or not chosen:
         beside = {place for node in at_places or drawing.terminals() for place in at_node[node]}
         chosen += sorted(beside.difference(chosen))
+    return spread(chosen, most, drawing.ends, lambda node: at_node[node])
+
+
+def spread(first: Iterable[int], most: int, ends: Callable[[int], tuple[int, int]], at_node: Callable[[int], Iterable[int]]) -> list[int]:
+    """These arcs, and then those that are fewest steps away from them, in their order."""
+    chosen = list(first)
     known = set(chosen)
-    for place in chosen:
+    for arc in chosen:
         if len(chosen) >= most:
             break
-        for node in drawing.ends(place):
-            new = [other for other in at_node[node] if other not in known]
+        for node in ends(arc):
+            new = [other for other in at_node(node) if other not in known]
             known.update(new)
             chosen += new
     return sorted(chosen[:most])

@@ -14,13 +14,13 @@ from collections.abc import Callable, Iterator, Mapping
 from ..desk import Desk
 from ..desk_amounts import amount
 from ..desk_steps import DeskFault, unforeseen
-from ..desk_text import near as near_arcs
 from ..desk_text import problem, table
 from ..project.report import report
 from ..quantity import plain_text
 from .answers import Answer, Json, Made, WrongForm, answer, judge_arcs, judge_fields, judge_words, whole
 from .keeping import keep_spots, kept_spots
 from .many import change_many, many_view
+from .nearby import Nearby
 from .overview import Overview
 from .picture import NoPicture, Picture
 from .places import Spot
@@ -47,6 +47,7 @@ class Board:
         self._overview = Overview(desk, self.picture.places)
         # How many places had been put when a project was asked to keep where.
         self._put_count = -1
+        self._nearby = Nearby(desk)
         self._rows_of_all = Rows(desk)
         self._sweeps = Sweeps(desk)
         self._comparisons = Comparisons(desk, self.picture.places)
@@ -208,7 +209,7 @@ class Board:
 
     def _picture(self, near: str) -> Json:
         nodes = self._near(near)
-        svg, reason, arcs = "", "", near_arcs(self.desk, nodes)
+        svg, reason, arcs = "", "", self._nearby.arcs(nodes)
         try:
             svg = self.picture.svg(nodes, arcs)
         except NoPicture as fault:
@@ -233,7 +234,7 @@ class Board:
     def _picture_file(self, near: str, turn: str) -> Answer:
         self._judge_turn(whole(turn, "turn"))
         nodes = self._near(near)
-        svg = self.picture.svg(nodes, near_arcs(self.desk, nodes), to_take=True)
+        svg = self.picture.svg(nodes, self._nearby.arcs(nodes), to_take=True)
         return Answer(200, "image/svg+xml", svg.encode(), "plan.svg")
 
     def _table_file(self, turn: str) -> Answer:

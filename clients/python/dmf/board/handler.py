@@ -68,6 +68,7 @@ class Handler(BaseHTTPRequestHandler):
             self._send(outside("The address has not the token that the board told when it began"))
             return False
         self.server.strangers.admit(self.connection)
+        self.server.note_request()
         return super().parse_request()
 
     def finish(self) -> None:

@@ -26,6 +26,10 @@ GLOBE = ("lon longitude long lng".split(), "lat latitude".split())
 APART, DEGREES = 150.0, (180, 90)
 
 
+class NoMap(TableFault):
+    """That a table of places does not say where they lie."""
+
+
 class _Columns(NamedTuple):
     """The columns of a map: the place, and how far it lies to the right and upwards."""
 
@@ -77,7 +81,7 @@ def _columns_of(titles: Sequence[str], line: int) -> _Columns:
         found = _Columns(first(USUAL[PLACE]), first(right), first(up), is_globe)
         if min(found[:3]) >= 0:
             return found
-    raise TableFault(f"a map has the columns place, x and y, or place, lon and lat; here are {', '.join(map(shown, titles))}", line)
+    raise NoMap(f"a map has the columns place, x and y, or place, lon and lat; here are {', '.join(map(shown, titles))}", line)
 
 
 def _spots(rows: Sequence[tuple[int, list[str]]], columns: _Columns, sign: str, path: str) -> dict[str, Spot]:

@@ -23,7 +23,7 @@ from .pages import pages
 from .strangers import Strangers, user_of
 
 LOOPBACK_6 = "::1"
-# How long a board runs on without a page, in seconds: as long as a reload takes.
+# How long a board runs on without a page after the last request, in seconds: as long as a reload takes to the next one.
 GRACE = 3.0
 # How long the server waits where it has no file left for a connection, in seconds.
 PAUSE = 0.2
@@ -61,6 +61,8 @@ class Server(ThreadingHTTPServer):
         self.pages = pages()
         self._held: set[socket.socket] = set()
         self._counted = threading.Condition()
+        # When a page asked for something last.
+        self._asked = time.monotonic()
         self._told = board.desk.turn
 
     def _listen(self, port: int) -> None:
@@ -96,11 +98,19 @@ class Server(ThreadingHTTPServer):
             _tell(page, self.board.desk.turn)
 
     def let_go(self, page: socket.socket) -> None:
-        """A page has gone. If it was the last one and none comes in time, the board ends."""
+        """A page has gone. If it was the last one and none comes in time, the board ends. One that comes asks for its files first, and on
+        a busy machine that may take long."""
+        self.note_request()
         with self._counted:
             self._held.remove(page)
-            if not self._held and not self._counted.wait_for(lambda: self._held, GRACE):
+            while not self._held and (left := self._asked + GRACE - time.monotonic()) > 0:
+                self._counted.wait(left)
+            if not self._held:
                 self.shutdown()
+
+    def note_request(self) -> None:
+        """A page asks for something."""
+        self._asked = time.monotonic()
 
     def tell_pages(self) -> None:
         """Tells each page the turn, if it is another than it was told before."""
