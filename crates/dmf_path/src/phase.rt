@@ -12,7 +12,6 @@ ghost use Rattle.dmf_path.specs.Searching.{AreAside, AreKept, IsMarked, MayLast}
 
 use crate::aside::{Aside, Ends, take_up};
 use crate::ball::Ball;
-use crate::frontier::unlabel;
 use crate::levels::{Levels, set_current};
 use crate::push::Links;
 use crate::redirect::{redirect, refit};
@@ -77,12 +76,12 @@ fn go_on(links: &mut Links, levels: &mut Levels, ball: &Ball, trail: &mut Trail)
     ensures goes { Goes links.new levels.new ball.now trail.new }
     ensures same { sought (residual_of links.new) (way_of trail.new) ≡ sought (residual_of links.old) (way_of trail.old) }
     ensures found { result ≡ true → IsFound (residual_of links.new) (way_of trail.new) }
-    ensures none { result ≡ false → (ps : List ℕ) → ¬ IsWalk (residual_of links.old).links levels.old.near.labels.items
+    ensures none { result ≡ false → (ps : List ℕ) → ¬ IsWalk (residual_of links.old).links levels.old.near.labels
         (told (residual_of links.old) (way_of trail.old)).rooms trail.old.goal trail.old.start ps }
 {
     walk(
         links,
-        &levels.near.labels,
+        levels.near.labels(),
         &mut levels.current,
         ball,
         trail,
@@ -101,10 +100,10 @@ fn mend(links: &Links, levels: &mut Levels, ball: &mut Ball, trail: &mut Trail) 
     if !levels.all || !levels.from_start || levels.noted.lost {
         return false;
     }
-    let before = levels.near.labels[trail.goal as usize];
+    let before = levels.near.label(trail.goal);
     refit(links, levels, ball, trail.start, trail.goal);
-    let start_label = levels.near.labels[trail.start as usize];
-    let goal_label = levels.near.labels[trail.goal as usize];
+    let start_label = levels.near.label(trail.start);
+    let goal_label = levels.near.label(trail.goal);
     trail.free(start_label - goal_label);
     goal_label < before
 }
@@ -121,20 +120,20 @@ fn relabel(links: &Links, levels: &mut Levels, ball: &mut Ball, trail: &mut Trai
     ensures fit { IsFit ball.new (residual_of links.now) }
     ensures around { IsAround ball.new trail.new.goal }
     ensures way { way_of trail.new ≡ with_slots (way_of trail.old) trail.new.slots.items }
-    ensures labelled { result ≡ true → (ps : List ℕ) × IsWalk (links_of links.now.table.value) levels.new.near.labels.items links.now.rooms.items
+    ensures labelled { result ≡ true → (ps : List ℕ) × IsWalk (links_of links.now.table.value) levels.new.near.labels links.now.rooms.items
         trail.old.goal trail.old.start ps }
     ensures none { result ≡ false → IsSeparated (links_of links.now.table.value) links.now.rooms.items trail.old.start trail.old.goal }
 {
-    unlabel(&mut levels.near);
+    levels.near.unlabel();
     if !label_anew(links, levels, trail.start, trail.goal) {
         make_fresh(&links.table, levels, trail);
         return false;
     }
-    set_current(&links.table, &levels.near.queue, &mut levels.current);
+    set_current(&links.table, levels.near.queue(), &mut levels.current);
     levels.noted.clear();
     ball.renew(links, trail.goal, levels.all && levels.from_start);
-    let start_label = levels.near.labels[trail.start as usize];
-    let goal_label = levels.near.labels[trail.goal as usize];
+    let start_label = levels.near.label(trail.start);
+    let goal_label = levels.near.label(trail.goal);
     trail.free(start_label - goal_label);
     true
 }
@@ -146,7 +145,7 @@ pub fn begin_anew(links: &mut Links, levels: &mut Levels, trail: &mut Trail)
     requires ready { AreReady levels.old }
     ensures searching { IsSearching (residual_of links.new) (labelling_of levels.new) (way_of trail.new) }
     ensures ready { AreReady levels.new }
-    ensures fresh { IsFresh (links_of links.new.table.value) levels.new.near.labels.items trail.new.start }
+    ensures fresh { IsFresh (links_of links.new.table.value) levels.new.near.labels trail.new.start }
     ensures all { levels.new.all ≡ false }
     ensures same { sought (residual_of links.new) (way_of trail.new) ≡ sought (residual_of links.old) (way_of trail.old) }
 {
@@ -178,7 +177,7 @@ pub fn aim(
     ensures kept { AreKept levels.new result (told (residual_of links.new) (way_of trail.new)) }
     ensures asides { AreAside asides.new (told (residual_of links.new) (way_of trail.new)) }
     ensures fit { IsFit ball.new (told (residual_of links.new) (way_of trail.new)) }
-    ensures marked { IsMarked (links_of links.new.table.value) levels.new.near.labels.items trail.new.start result }
+    ensures marked { IsMarked (links_of links.new.table.value) levels.new.near.labels trail.new.start result }
     ensures same { sought (residual_of links.new) (way_of trail.new)
         ≡ record { residual = told (residual_of links.old) (way_of trail.old); start = ends.start; goal = ends.goal } }
 {
@@ -193,8 +192,8 @@ pub fn aim(
     trail.start = ends.start;
     trail.goal = ends.goal;
     if redirect(links, levels, ball, used.goal, ends.start, ends.goal) {
-        let start_label = levels.near.labels[ends.start as usize];
-        let goal_label = levels.near.labels[ends.goal as usize];
+        let start_label = levels.near.label(ends.start);
+        let goal_label = levels.near.label(ends.goal);
         trail.free(start_label - goal_label);
         return false;
     }
@@ -210,15 +209,11 @@ pub fn make_fresh(table: &LinkTable, levels: &mut Levels, trail: &mut Trail)
     requires goal { IsNode table.now.nodes trail.old.goal }
     ensures ready { IsReady table.now.nodes levels.new.near levels.new.far }
     ensures all { levels.new.all ≡ false }
-    ensures labels { levels.new.near.labels.items ≡ fresh_labels table.now.nodes trail.old.start trail.old.goal }
+    ensures labels { levels.new.near.labels ≡ fresh_labels table.now.nodes trail.old.start trail.old.goal }
     ensures current { levels.new.current ≡ levels.old.current }
     ensures way { way_of trail.new ≡ with_slots (way_of trail.old) [] }
 {
-    unlabel(&mut levels.near);
-    levels.near.labels[trail.start as usize] = 0;
-    levels.near.labels[trail.goal as usize] = 0;
-    levels.near.queue.push_reserved(trail.start);
-    levels.near.queue.push_reserved(trail.goal);
+    levels.near.label_ends(table.nodes, trail.start, trail.goal);
     levels.all = false;
     trail.free(0);
 }

@@ -1,6 +1,5 @@
 -- All links leave. The labels that fit are taken up, and made to lead to the goal, or taken off.
 use Rattle.std.proofs.Common.{ℕ, ◌≡◌, ◌+◌, ◌≤◌, true, length, get_or, [], refl, ap, sym, ◌∙◌, subst, arith, inl, inr}
-use Rattle.std.proofs.lemmas.List.{get_or_default}
 use Rattle.dmf_node.specs.Node.{IsNode}
 use Rattle.dmf_path.specs.declared.levels.Levels.{Levels}
 use Rattle.dmf_path.specs.Labels.{no_label}
@@ -14,7 +13,7 @@ use Rattle.dmf_path.proofs.Labelled.{sound-below, sound-whole}
 use Rattle.dmf_path.proofs.Settling.{can-settle}
 use Rattle.dmf_path.proofs.SearchTurns.{plainly, searching-settled, searching-free, searching-anew, sought-free, told-settled}
 use Rattle.dmf_path.proofs.phase.aim.Goals as goal
-use Rattle.dmf_path.proofs.phase.aim.Goals.{After-settle, After-take_up-used, After-redirect, After-index-goal_label}
+use Rattle.dmf_path.proofs.phase.aim.Goals.{After-settle, After-take_up-used, After-redirect, After-label-goal_label}
 
 pub settle-requires : goal.settle-requires
 settle-requires c = record { can = can-settle c.requires.searching }
@@ -60,8 +59,7 @@ redirect-requires c =
     let at = (goal.at.redirect-requires c).After-settle in
     let usable = (taken (goal.at.redirect-requires c).After-take_up-used).0 in
     record {
-      ready = usable.ready;
-      kept = usable.kept;
+      usable = record { ready = usable.ready; goal_is = usable.goal_is; current_is = usable.current_is; kept = usable.kept };
       fit = subst (IsFit c.args.ball.now) (sym c.settle.ensures.links) c.requires.fit;
       start = node at c.args.ends.start c.requires.start;
       goal = node at c.args.ends.goal c.requires.goal;
@@ -70,39 +68,30 @@ redirect-requires c =
 -- The labels lead to the goal, and the start has a small one.
 kept : (c : After-redirect) → c.redirect.result ≡ true
     → AreKeptFor (labelling_of c.redirect.new.levels) c.redirect.new.levels.noted (residual_of c.settle.new.links) c.args.ends.goal
-    × (get_or c.redirect.new.levels.near.labels.items c.args.ends.start 0 ≤ c.settle.new.links.table.value.nodes)
+    × (get_or c.redirect.new.levels.near.labels c.args.ends.start 0 ≤ c.settle.new.links.table.value.nodes)
 kept c can =
-    let k = c.redirect.ensures.kept can in (
+    let k = (c.redirect.ensures.redirected can).kept in (
       k,
       elim (k.lasting.whole.small.1 c.args.ends.start (node (goal.at.After-redirect c).After-settle c.args.ends.start c.requires.start)) [
-        | inl none ↦ absurd (c.redirect.ensures.labelled can none)
+        | inl none ↦ absurd ((c.redirect.ensures.redirected can).labelled none)
         | inr small ↦ small
       ],
     )
 
 -- the labels of the start and of the goal are read
-read : (c : After-index-goal_label) → c.redirect.result ≡ true
-    → (c.index-start_label.result.now ≡ get_or c.redirect.new.levels.near.labels.items c.args.ends.start 0)
-    × (c.index-goal_label.result.now ≡ get_or c.redirect.new.levels.near.labels.items c.args.ends.goal 0)
-read c can =
-    let k = c.redirect.ensures.kept can in
-    let labels = c.redirect.new.levels.near.labels.items in
-    let at = (goal.at.After-index-goal_label c).After-settle in
-    let long = k.lasting.whole.small.0 in (
-      c.index-start_label.ensures ∙ sym (get_or_default labels c.args.ends.start 0 _
-          (omega (arith, long, (node at c.args.ends.start c.requires.start).to_last))),
-      c.index-goal_label.ensures ∙ sym (get_or_default labels c.args.ends.goal 0 _ (omega (arith, long, (node at c.args.ends.goal c.requires.goal).to_last))),
-    )
+read : (c : After-label-goal_label) → (c.label-start_label.result ≡ get_or c.redirect.new.levels.near.labels c.args.ends.start 0)
+    × (c.label-goal_label.result ≡ get_or c.redirect.new.levels.near.labels c.args.ends.goal 0)
+read c = (c.label-start_label.ensures, c.label-goal_label.ensures)
 
 pub overflow_sub-start_label : goal.overflow_sub-start_label
 overflow_sub-start_label c =
-    omega (arith, read (goal.at.overflow_sub-start_label c).After-index-goal_label c.if-redirect.true, c.redirect.ensures.above c.if-redirect.true)
+    omega (arith, read (goal.at.overflow_sub-start_label c).After-label-goal_label, (c.redirect.ensures.redirected c.if-redirect.true).above)
 
 pub free-requires : goal.free-requires
 free-requires c =
     let at = goal.at.free-requires c in
     let both = kept at.After-redirect c.if-redirect.true in
-    let read = (read at.After-index-goal_label c.if-redirect.true).0 in
+    let read = (read at.After-label-goal_label).0 in
     record { capacity = omega (arith, read, both.1, (settled at.After-settle).aimed.capacity_is) }
 
 pub returns-then-redirect : goal.returns-then-redirect
@@ -132,8 +121,8 @@ returns-then-redirect c =
     omega (
       arith,
       c.free.ensures.count,
-      read (goal.at.returns-then-redirect c).After-index-goal_label c.if-redirect.true,
-      c.redirect.ensures.above c.if-redirect.true,
+      read (goal.at.returns-then-redirect c).After-label-goal_label,
+      (c.redirect.ensures.redirected c.if-redirect.true).above,
     ) in
     let searching = searching-free next v w slots aimed c.settle.new.links.rooms_are is.holding.small k.current_is k.passed count in
     let same = sought-free next w slots c.free.ensures.way in

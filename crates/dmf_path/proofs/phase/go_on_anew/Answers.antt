@@ -60,7 +60,7 @@ pub returns-then-relabel-clause-none : goal.returns-then-relabel-clause-none
 returns-then-relabel-clause-none c =
     let at = (goal.at.returns-then-relabel-clause-none c).After-relabel in
     let found = c.relabel.ensures.labelled c.if-relabel.true in
-    let walk = subst (λ (s : Sought). IsWalk s.residual.links c.relabel.new.levels.near.labels.items s.residual.rooms s.goal s.start found.0)
+    let walk = subst (λ (s : Sought). IsWalk s.residual.links c.relabel.new.levels.near.labels s.residual.rooms s.goal s.start found.0)
     (sym (free at)) found.1 in
     λ ended. absurd (c.go_on.ensures.none ended found.0 walk)
 

@@ -77,7 +77,7 @@ can c = can-augment c.args.limit (are c) c.find.ensures.searching (c.find.ensure
 
 -- The slots have links of the table.
 within : (c : After-bottleneck-amount) → AreWithin (residual_of c.find.new.links).links (way_of c.find.new.trail).slots
-within c = λ i inside. slot-within (residual_of c.find.new.links).links c.find.new.levels.near.labels.items _ _ (way_of c.find.new.trail).slots i
+within c = λ i inside. slot-within (residual_of c.find.new.links).links c.find.new.levels.near.labels _ _ (way_of c.find.new.trail).slots i
     (can c).descends inside
 
 pub touch-requires : goal.touch-requires
