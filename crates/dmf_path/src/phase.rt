@@ -1,14 +1,12 @@
 //! The search for the next path: the walk goes on, or the nodes get new labels and it begins again.
-ghost use Rattle.std.specs.Prelude.{◌≡◌, ◌≢◌, ◌⊎◌, ℕ, List, true, false, []};
+ghost use Rattle.std.specs.Prelude.{◌≡◌, ◌≢◌, ℕ, List, true, false, []};
 ghost use Rattle.dmf_node.specs.Node.{IsNode};
 ghost use Rattle.dmf_links.specs.LinkTable.{links_of};
-ghost use Rattle.dmf_path.specs.Ball.{IsAround, IsFit};
-ghost use Rattle.dmf_path.specs.Going.{Goes};
+ghost use Rattle.dmf_path.specs.Going.{Goes, IsAimedAnew, Keeps};
 ghost use Rattle.dmf_path.specs.Walk.{IsWalk};
 ghost use Rattle.dmf_path.specs.Held.{way_of, with_slots};
 ghost use Rattle.dmf_path.specs.Residual.{residual_of, told};
-ghost use Rattle.dmf_path.specs.Searching.{labelling_of, sought, AreReady, IsSearching, IsFound, IsFresh, IsReady, IsSeparated, fresh_labels};
-ghost use Rattle.dmf_path.specs.Searching.{AreAside, AreKept, IsMarked, MayLast};
+ghost use Rattle.dmf_path.specs.Searching.{labelling_of, sought, AreAside, AreReady, IsSearching, IsFound, IsFresh, IsReady, IsSeparated, fresh_labels};
 
 use crate::aside::{Aside, Ends, take_up};
 use crate::ball::Ball;
@@ -23,14 +21,8 @@ use dmf_links::LinkTable;
 /// Finds the least path from the start to the goal: goes on with the walk, and if none is left, lowers labels near the goal or labels the
 /// nodes anew, and walks again.
 pub fn find(links: &mut Links, levels: &mut Levels, ball: &mut Ball, trail: &mut Trail) -> bool
-    requires searching { IsSearching (residual_of links.old) (labelling_of levels.old) (way_of trail.old) }
-    requires ready { AreReady levels.old }
-    requires lasting { MayLast levels.old (told (residual_of links.old) (way_of trail.old)) }
-    requires fit { IsFit ball.old (told (residual_of links.old) (way_of trail.old)) }
-    ensures searching { IsSearching (residual_of links.new) (labelling_of levels.new) (way_of trail.new) }
-    ensures ready { AreReady levels.new }
-    ensures lasting { MayLast levels.new (told (residual_of links.new) (way_of trail.new)) }
-    ensures fit { IsFit ball.new (told (residual_of links.new) (way_of trail.new)) }
+    requires keeps { Keeps links.old levels.old ball.old trail.old }
+    ensures keeps { Keeps links.new levels.new ball.new trail.new }
     ensures same { sought (residual_of links.new) (way_of trail.new) ≡ sought (residual_of links.old) (way_of trail.old) }
     ensures found { result ≡ true → IsFound (residual_of links.new) (way_of trail.new) }
     ensures none { result ≡ false → IsSeparated (links_of links.old.table.value)
@@ -110,16 +102,10 @@ fn mend(links: &Links, levels: &mut Levels, ball: &mut Ball, trail: &mut Trail) 
 
 /// Labels the nodes anew, and frees the slots; no push is held. Returns whether the start has a label, so that a path is left.
 fn relabel(links: &Links, levels: &mut Levels, ball: &mut Ball, trail: &mut Trail) -> bool
-    requires searching { IsSearching (residual_of links.now) (labelling_of levels.old) (way_of trail.old) }
-    requires ready { AreReady levels.old }
-    requires fit { IsFit ball.old (residual_of links.now) }
-    requires around { IsAround ball.old trail.old.goal }
-    ensures searching { IsSearching (residual_of links.now) (labelling_of levels.new) (way_of trail.new) }
-    ensures ready { AreReady levels.new }
-    ensures lasting { MayLast levels.new (residual_of links.now) }
-    ensures fit { IsFit ball.new (residual_of links.now) }
-    ensures around { IsAround ball.new trail.new.goal }
-    ensures way { way_of trail.new ≡ with_slots (way_of trail.old) trail.new.slots.items }
+    requires goes { Goes links.now levels.old ball.old trail.old }
+    requires settled { told (residual_of links.now) (way_of trail.old) ≡ residual_of links.now }
+    ensures goes { Goes links.now levels.new ball.new trail.new }
+    ensures same { sought (residual_of links.now) (way_of trail.new) ≡ sought (residual_of links.now) (way_of trail.old) }
     ensures labelled { result ≡ true → (ps : List ℕ) × IsWalk (links_of links.now.table.value) levels.new.near.labels links.now.rooms.items
         trail.old.goal trail.old.start ps }
     ensures none { result ≡ false → IsSeparated (links_of links.now.table.value) links.now.rooms.items trail.old.start trail.old.goal }
@@ -164,20 +150,12 @@ pub fn aim(
     trail: &mut Trail,
     ends: Ends,
 ) -> bool
-    requires searching { IsSearching (residual_of links.old) (labelling_of levels.old) (way_of trail.old) }
-    requires ready { AreReady levels.old }
-    requires lasting { MayLast levels.old (told (residual_of links.old) (way_of trail.old)) }
+    requires keeps { Keeps links.old levels.old ball.old trail.old }
     requires asides { AreAside asides.old (told (residual_of links.old) (way_of trail.old)) }
-    requires fit { IsFit ball.old (told (residual_of links.old) (way_of trail.old)) }
     requires start { IsNode links.old.table.value.nodes ends.start }
     requires goal { IsNode links.old.table.value.nodes ends.goal }
     requires apart { ends.start ≢ ends.goal }
-    ensures searching { IsSearching (residual_of links.new) (labelling_of levels.new) (way_of trail.new) }
-    ensures ready { AreReady levels.new }
-    ensures kept { AreKept levels.new result (told (residual_of links.new) (way_of trail.new)) }
-    ensures asides { AreAside asides.new (told (residual_of links.new) (way_of trail.new)) }
-    ensures fit { IsFit ball.new (told (residual_of links.new) (way_of trail.new)) }
-    ensures marked { IsMarked (links_of links.new.table.value) levels.new.near.labels trail.new.start result }
+    ensures aimed { IsAimedAnew links.new levels.new asides.new ball.new trail.new result }
     ensures same { sought (residual_of links.new) (way_of trail.new)
         ≡ record { residual = told (residual_of links.old) (way_of trail.old); start = ends.start; goal = ends.goal } }
 {

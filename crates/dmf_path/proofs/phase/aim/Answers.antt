@@ -16,11 +16,11 @@ use Rattle.dmf_path.proofs.phase.aim.Goals as goal
 use Rattle.dmf_path.proofs.phase.aim.Goals.{After-settle, After-take_up-used, After-redirect, After-label-goal_label}
 
 pub settle-requires : goal.settle-requires
-settle-requires c = record { can = can-settle c.requires.searching }
+settle-requires c = record { can = can-settle c.requires.keeps.searching }
 
 -- After all links have left, the search goes on.
 settled : (c : After-settle) → IsSearching (residual_of c.settle.new.links) (labelling_of c.args.levels.now) (way_of c.settle.new.self)
-settled c = searching-settled c.requires.searching c.settle.ensures.links c.settle.ensures.way
+settled c = searching-settled c.requires.keeps.searching c.settle.ensures.links c.settle.ensures.way
 
 -- The links are the same as before.
 node : (c : After-settle) (v : ℕ) → IsNode c.args.links.now.table.value.nodes v → IsNode c.settle.new.links.table.value.nodes v
@@ -37,11 +37,11 @@ in_use c =
     let v = labelling_of levels in
     record {
       ready = subst (λ (x : Residual). IsReady x.links.nodes levels.near levels.far) (sym e.links)
-          (ready-at c.args.links.now.table.value.nodes levels c.requires.ready c.requires.searching.aimed.one_label_each);
+          (ready-at c.args.links.now.table.value.nodes levels c.requires.keeps.ready c.requires.keeps.searching.aimed.one_label_each);
       goal_is = is.aimed.goal_is;
       current_is = is.under_way.walking.current_is;
       kept = λ all. record {
-        lasting = subst (AreLasting v levels.noted) (sym e.links) (c.requires.lasting all);
+        lasting = subst (AreLasting v levels.noted) (sym e.links) (c.requires.keeps.lasting all);
         current_is = is.under_way.walking.current_is;
         passed = subst (λ (x : Residual). ArePassed next.links v.labels x.rooms mid.goal v.current)
             (told-settled (way_of c.args.trail.now) next e.way) is.under_way.walking.passed;
@@ -60,7 +60,7 @@ redirect-requires c =
     let usable = (taken (goal.at.redirect-requires c).After-take_up-used).0 in
     record {
       usable = record { ready = usable.ready; goal_is = usable.goal_is; current_is = usable.current_is; kept = usable.kept };
-      fit = subst (IsFit c.args.ball.now) (sym c.settle.ensures.links) c.requires.fit;
+      fit = subst (IsFit c.args.ball.now) (sym c.settle.ensures.links) c.requires.keeps.fit;
       start = node at c.args.ends.start c.requires.start;
       goal = node at c.args.ends.goal c.requires.goal;
     }
@@ -127,13 +127,15 @@ returns-then-redirect c =
     let searching = searching-free next v w slots aimed c.settle.new.links.rooms_are is.holding.small k.current_is k.passed count in
     let same = sought-free next w slots c.free.ensures.way in
     record {
-      searching = rw c.free.ensures.way searching;
-      ready = (c.settle.new.links.table.value.nodes, c.redirect.ensures.ready);
-      kept = λ all. (refl, subst (AreLasting v levels.noted) (sym (ap (λ (s : Sought). s.residual) same)) k.lasting);
-      asides = subst (AreAside c.take_up-used.new.asides) (sym (ap (λ (x : Sought). x.residual) same))
-          (taken (goal.at.returns-then-redirect c).After-take_up-used).1;
-      fit = subst (IsFit c.redirect.new.ball) (sym (ap (λ (x : Sought). x.residual) same)) c.redirect.ensures.fit;
-      marked = begun refl;
+      aimed = record {
+        searching = rw c.free.ensures.way searching;
+        ready = (c.settle.new.links.table.value.nodes, c.redirect.ensures.ready);
+        kept = λ all. (refl, subst (AreLasting v levels.noted) (sym (ap (λ (s : Sought). s.residual) same)) k.lasting);
+        asides_are = subst (AreAside c.take_up-used.new.asides) (sym (ap (λ (x : Sought). x.residual) same))
+            (taken (goal.at.returns-then-redirect c).After-take_up-used).1;
+        fit = subst (IsFit c.redirect.new.ball) (sym (ap (λ (x : Sought). x.residual) same)) c.redirect.ensures.fit;
+        marked = begun refl;
+      };
       same = same ∙ ap (λ (x : Residual). record { residual = x; start = c.args.ends.start; goal = c.args.ends.goal }) e.links;
     }
 
@@ -158,12 +160,14 @@ returns c =
     (node at c.args.ends.goal c.requires.goal) c.requires.apart m.labels (subst (AreCurrent next.links) (sym current) up.0.current_is) m.way in
     let same = sought-free next (record mid { start = c.args.ends.start; goal = c.args.ends.goal }) [] m.way in
     record {
-      searching = anew.0;
-      ready = (c.settle.new.links.table.value.nodes, m.ready);
-      kept = λ all. let no = m.all in absurd (cc);
-      asides = subst (AreAside c.take_up-used.new.asides) (sym (ap (λ (x : Sought). x.residual) same)) up.1;
-      fit = subst (IsFit c.redirect.new.ball) (sym (ap (λ (x : Sought). x.residual) same)) c.redirect.ensures.fit;
-      marked = fresh anew.1;
+      aimed = record {
+        searching = anew.0;
+        ready = (c.settle.new.links.table.value.nodes, m.ready);
+        kept = λ all. let no = m.all in absurd (cc);
+        asides_are = subst (AreAside c.take_up-used.new.asides) (sym (ap (λ (x : Sought). x.residual) same)) up.1;
+        fit = subst (IsFit c.redirect.new.ball) (sym (ap (λ (x : Sought). x.residual) same)) c.redirect.ensures.fit;
+        marked = fresh anew.1;
+      };
       same = same
           ∙ ap (λ (x : Residual). record { residual = x; start = c.args.ends.start; goal = c.args.ends.goal }) c.settle.ensures.links;
     }

@@ -1,23 +1,35 @@
 -- The labels, the current links and the slots fit together; or the search is fresh.
-use Rattle.std.proofs.Common.{◌≡◌, ◌≤◌, true, replicate, get_or, ap, sym, ◌∙◌, subst, arith}
+use Rattle.std.proofs.Common.{◌≡◌, ◌≤◌, true, List, [], replicate, get_or, ap, sym, ◌∙◌, subst, arith}
 use Rattle.std.proofs.lemmas.List.{with_items_is}
 use Rattle.dmf_links.specs.LinkTable.{links_of}
+use Rattle.dmf_path.specs.declared.trail.Slot.{Slot}
+use Rattle.dmf_path.specs.Ball.{IsFit}
 use Rattle.dmf_path.specs.Labels.{no_label}
 use Rattle.dmf_path.specs.Reach.{Reach}
 use Rattle.dmf_path.specs.Walk.{AreCurrent, AreSkipped}
 use Rattle.dmf_path.specs.Held.{Way, way_of, with_slots}
-use Rattle.dmf_path.specs.Residual.{residual_of}
-use Rattle.dmf_path.specs.Searching.{Labelling, labelling_of}
+use Rattle.dmf_path.specs.Residual.{residual_of, told}
+use Rattle.dmf_path.specs.Searching.{Labelling, labelling_of, sought, AreLasting}
 use Rattle.dmf_path.proofs.LeastTrail.{walk-path}
 use Rattle.dmf_path.proofs.Beginning.{first-queued, skipped-first, ready-at}
-use Rattle.dmf_path.proofs.SearchTurns.{aimed-with, searching-free, searching-anew}
+use Rattle.dmf_path.proofs.SearchTurns.{aimed-with, plainly, searching-free, searching-anew, sought-free}
+use Rattle.dmf_path.proofs.Settling.{told-free}
 use Rattle.dmf_path.proofs.phase.relabel.Goals as goal
-use Rattle.dmf_path.proofs.phase.relabel.Goals.{After-label-goal_label}
+use Rattle.dmf_path.proofs.phase.relabel.Goals.{Start, After-label-goal_label}
+
+-- With other free slots the network and the ends are the same.
+same : (c : Start) {new : Way} (slots : List Slot) → new ≡ with_slots (way_of c.args.trail.now) slots
+    → (told (residual_of c.args.links.now) new ≡ residual_of c.args.links.now)
+    × (sought (residual_of c.args.links.now) new ≡ sought (residual_of c.args.links.now) (way_of c.args.trail.now))
+same c slots way =
+    let r = residual_of c.args.links.now in
+    let w = way_of c.args.trail.now in
+    (ap (told r) way ∙ told-free r w slots, sought-free r w slots way ∙ (λ i. plainly (sym c.requires.settled i) w))
 
 pub label_anew-requires : goal.label_anew-requires
 label_anew-requires c =
-    let a = c.requires.searching.aimed in
-    let is = ready-at c.args.links.now.table.value.nodes c.args.levels.now c.requires.ready a.one_label_each in
+    let a = c.requires.goes.searching.aimed in
+    let is = ready-at c.args.links.now.table.value.nodes c.args.levels.now c.requires.goes.ready a.one_label_each in
     record {
       near_is = ap (λ (f : Reach). f.labels) c.unlabel.ensures ∙ ap (λ n. replicate n no_label) is.one_label_each;
       far_is = is.far_is;
@@ -29,25 +41,28 @@ label_anew-requires c =
 pub make_fresh-requires : goal.make_fresh-requires
 make_fresh-requires c = record {
   ready = rw c.deref.ensures c.label_anew.ensures.relabelled.ready;
-  start = rw c.deref.ensures c.requires.searching.aimed.start_is;
-  goal = rw c.deref.ensures c.requires.searching.aimed.goal_is;
+  start = rw c.deref.ensures c.requires.goes.searching.aimed.start_is;
+  goal = rw c.deref.ensures c.requires.goes.searching.aimed.goal_is;
 }
 
 pub returns-then-not-label_anew : goal.returns-then-not-label_anew
 returns-then-not-label_anew c =
-    let a = c.requires.searching.aimed in
+    let a = c.requires.goes.searching.aimed in
     let m = rw c.deref.ensures at c.make_fresh.ensures in
     let w = way_of c.args.trail.now in
     let current = subst (AreCurrent (links_of c.args.links.now.table.value)) (sym (ap (λ v. v.items) (m.current ∙ c.label_anew.ensures.relabelled.current)))
-    c.requires.searching.under_way.walking.current_is in
-    let anew = searching-anew (labelling_of c.make_fresh.new.levels) c.requires.searching a.start_is a.goal_is a.apart m.labels current m.way in
+    c.requires.goes.searching.under_way.walking.current_is in
+    let still = same (goal.at.returns-then-not-label_anew c).Start [] m.way in
+    let anew = searching-anew (labelling_of c.make_fresh.new.levels) c.requires.goes.searching a.start_is a.goal_is a.apart m.labels current m.way in
     record {
-      searching = anew.0;
-      ready = (c.args.links.now.table.value.nodes, m.ready);
-      lasting = λ e. let no = m.all in absurd (cc);
-      fit = c.requires.fit;
-      around = λ some. c.requires.around some ∙ sym (ap (λ (u : Way). u.goal) m.way);
-      way = m.way ∙ ap (with_slots w) (sym (ap (λ (u : Way). u.slots) m.way));
+      goes = record {
+        searching = anew.0;
+        ready = (c.args.links.now.table.value.nodes, m.ready);
+        lasting = λ e. let no = m.all in absurd (cc);
+        fit = subst (IsFit c.args.ball.now) (c.requires.settled ∙ sym still.0) c.requires.goes.fit;
+        around = λ some. c.requires.goes.around some ∙ sym (ap (λ (u : Way). u.goal) m.way);
+      };
+      same = still.1;
       labelled = λ e. absurd (cc);
       none = λ e. c.label_anew.ensures.relabelled.none c.if-not-label_anew.true;
     }
@@ -59,7 +74,7 @@ set_current-requires c =
     record {
       nodes = rw (c.deref-2.ensures, c.queue.ensures.value) (λ i before. omega (arith, c.queue.ensures.queued.within i before, is.one_label_each));
       current = rw c.deref-2.ensures (subst (AreCurrent (links_of c.args.links.now.table.value)) (sym (c.deref_mut.ensures.value ∙ same))
-          c.requires.searching.under_way.walking.current_is);
+          c.requires.goes.searching.under_way.walking.current_is);
     }
 
 -- the labels of the start and of the goal are read
@@ -82,11 +97,11 @@ pub free-requires : goal.free-requires
 free-requires c =
     let labelled = c.label_anew.ensures.relabelled.labelled c.if-not-label_anew.false in
     let read = (read (goal.at.free-requires c).After-label-goal_label).0 in
-    record { capacity = omega (arith, read, labelled.start_label, c.requires.searching.aimed.capacity_is) }
+    record { capacity = omega (arith, read, labelled.start_label, c.requires.goes.searching.aimed.capacity_is) }
 
 pub returns : goal.returns
 returns c =
-    let a = c.requires.searching.aimed in
+    let a = c.requires.goes.searching.aimed in
     let links = c.args.links.now in
     let l = links_of links.table.value in
     let w = way_of c.args.trail.now in
@@ -100,7 +115,7 @@ returns c =
     let skipped : AreSkipped l levels.near.labels links.rooms.items c.set_current.new.current = skipped-first l levels.near.labels links.rooms.items c.set_current.new.current a.links labelled.sound.small first in
     let aimed = aimed-with (residual_of links) w a labelled.start_label labelled.sound in
     let v : Labelling = record { labels = levels.near.labels; current = c.set_current.new.current } in
-    let searching = searching-free (residual_of links) v w slots aimed links.rooms_are c.requires.searching.holding.small
+    let searching = searching-free (residual_of links) v w slots aimed links.rooms_are c.requires.goes.searching.holding.small
     (rw c.deref-2.ensures at c.set_current.ensures.current)
     (λ v p ps node lies before walk. skipped v p node lies before walk.0)
     (omega (
@@ -110,20 +125,24 @@ returns c =
       low (goal.at.returns c).After-label-goal_label
           c.if-not-label_anew.false,
     )) in
+    let still = same (goal.at.returns c).Start slots c.free.ensures.way in
+    let lasting : levels.all ≡ true → AreLasting v c.clear.new.self (residual_of links) = λ all. record {
+      whole = c.label_anew.ensures.whole c.if-not-label_anew.false all;
+      skipped = λ known. rw c.clear.ensures.none
+          (record { within = λ i x none. absurd (omega (arith, none)); each = λ v p node lies before can. absurd (skipped v p node lies before can) });
+    } in
     record {
-      searching = rw (current, c.free.ensures.way) searching;
-      ready = (links.table.value.nodes, is);
-      lasting = λ all. record {
-        whole = c.label_anew.ensures.whole c.if-not-label_anew.false all;
-        skipped = λ known. rw (current, c.clear.ensures.none)
-            (record { within = λ i x none. absurd (omega (arith, none)); each = λ v p node lies before can. absurd (skipped v p node lies before can) });
+      goes = record {
+        searching = rw (current, c.free.ensures.way) searching;
+        ready = (links.table.value.nodes, is);
+        lasting = λ all. rw current (subst (AreLasting v c.clear.new.self) (sym still.0) (lasting all));
+        fit = subst (IsFit c.renew.new.self) (sym still.0) c.renew.ensures.fit;
+        around = λ some. c.renew.ensures.around some ∙ sym (ap (λ (u : Way). u.goal) c.free.ensures.way);
       };
-      fit = c.renew.ensures.fit;
-      around = λ some. c.renew.ensures.around some ∙ sym (ap (λ (u : Way). u.goal) c.free.ensures.way);
-      way = c.free.ensures.way;
+      same = still.1;
       labelled = λ yes. labelled.walk;
       none = λ e. absurd (cc);
     }
 
 pub renew-requires : goal.renew-requires
-renew-requires c = record { fit = c.requires.fit; around = c.requires.around; goal = c.requires.searching.aimed.goal_is }
+renew-requires c = record { fit = subst (IsFit c.args.ball.now) c.requires.settled c.requires.goes.fit; around = c.requires.goes.around; goal = c.requires.goes.searching.aimed.goal_is }
