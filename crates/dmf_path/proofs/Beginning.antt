@@ -70,5 +70,5 @@ first-queued l labels queue current long queued first v node has =
     rw (get_or_default queue at.0 0 v at.1 ∙ at.2) at (first at.0 at.1)
 
 -- Levels that are ready are ready for the number of nodes that have labels.
-pub ready-at : (nodes : ℕ) (levels : Levels) → AreReady levels → length levels.near.labels.items ≡ nodes + 1 → IsReady nodes levels.near levels.far
+pub ready-at : (nodes : ℕ) (levels : Levels) → AreReady levels → length levels.near.labels ≡ nodes + 1 → IsReady nodes levels.near levels.far
 ready-at nodes levels ready long = let same : ready.0 ≡ nodes = omega (arith, long, ready.1.one_label_each) in rw same at ready.1

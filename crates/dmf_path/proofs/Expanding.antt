@@ -7,7 +7,6 @@ use Rattle.dmf_path.specs.Labels.{no_label}
 use Rattle.dmf_path.specs.BothEnds.{AreLevels}
 use Rattle.dmf_path.specs.Frontier.{AreSpread, Expands, IsAtRest, AreApart, MeetBeyond}
 use Rattle.dmf_path.proofs.Labelling.{queue-short, queued-at, label-below}
-use Rattle.dmf_path.proofs.LabellingTurn.{node-read}
 
 -- The nodes of a level are expanded in turn. The waiting nodes are on that level or one beyond it, and no other node is further.
 pub record IsLevel (l : Links) (opens : List ℕ) (root level : ℕ) (labels queue : List ℕ) (done : ℕ) : Type 0 where
@@ -93,12 +92,9 @@ module _ {l : Links} {opens labels queue : List ℕ} {done : ℕ} {new after : L
     ]
   ]
 
--- What is read for the next node is its label.
-pub level-read : {l : Links} {opens : List ℕ} {root : ℕ} {labels queue : List ℕ} {done node level : ℕ} → AreLinks l → AreSpread l opens root labels queue done
-    → done < length queue → node ≡ get_or queue done node → level ≡ get_or labels node level → get_or labels (get_or queue done 0) 0 ≡ level
-level-read {labels = labels} {node = node} {level = level} are so_far ahead node_read level_read =
-    let read = node-read are so_far ahead node_read in
-    ap (λ v. get_or labels v 0) read.0 ∙ get_or_default labels node 0 level (omega (arith, read.1.to_last, so_far.one_each)) ∙ sym level_read
+-- Where no node has labels of both searches, none that has is anywhere else.
+pub apart-beyond : (level : ℕ) (labels others : List ℕ) → AreApart labels others → MeetBeyond level labels others
+apart-beyond level labels others apart v within has other = elim (apart v within) [ inl none ↦ absurd (has none) | inr none ↦ absurd (other none) ]
 
 -- The slice of the queue from a place on is what stands there.
 pub behind-is : (queue : List ℕ) (before : ℕ) → take (length queue - before) (drop before queue) ≡ drop before queue

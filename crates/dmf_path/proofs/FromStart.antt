@@ -1,7 +1,8 @@
 -- Labels made of the distances from the start: no link with room falls by more than one, and a walk leads from the start to each node that
 -- has a distance.
-use Rattle.std.proofs.Common.{ℕ, ◌≡◌, ◌≢◌, ◌+◌, ◌-◌, ◌<◌, ◌≤◌, inl, inr, List, [], ◌∷◌, length, get_or, zero, suc, ap, sym, refl, ◌∙◌, subst, arith}
+use Rattle.std.proofs.Common.{ℕ, ◌≡◌, ◌≢◌, ◌+◌, ◌-◌, ◌<◌, ◌≤◌, ◌++◌, inl, inr, List, [], ◌∷◌, length, get_or, set, zero, suc, ap, sym, refl, ◌∙◌, subst, arith}
 use Rattle.std.proofs.lemmas.Bool.{cases_eq}
+use Rattle.std.proofs.lemmas.List.{length-set, length_push}
 use Rattle.dmf_node.specs.Node.{IsNode}
 use Rattle.dmf_links.specs.Links.{Links, AreLinks, tail_of}
 use Rattle.dmf_path.specs.Labels.{no_label, AreLabels, AreQueued}
@@ -10,7 +11,9 @@ use Rattle.dmf_path.specs.BothEnds.{AreTurned, AreWhole, IsLabelled}
 use Rattle.dmf_links.proofs.LinkPlaces.{lies-within}
 use Rattle.dmf_links.proofs.Flags.{room-of_flag, flag-of_room}
 use Rattle.dmf_path.proofs.Labelled.{sound-below, sound-whole}
+use Rattle.dmf_path.proofs.Joining.{queued-next}
 use Rattle.dmf_path.proofs.Reaching.{AreOpen}
+use Rattle.dmf_path.proofs.Spreading.{cases-set}
 
 -- The nodes before `node` have their labels.
 pub record AreTurning (nodes : ℕ) (from_start labels queue : List ℕ) (node : ℕ) : Type 0 where
@@ -18,6 +21,26 @@ pub record AreTurning (nodes : ℕ) (from_start labels queue : List ℕ) (node :
   pub each : (v : ℕ) → IsNode nodes v → v < node → get_or labels v 0 ≡ nodes - get_or from_start v 0
   pub queued : AreQueued labels queue
   pub count : length queue + 1 ≡ node
+
+-- The next one gets its own,
+pub turning-next : {nodes : ℕ} {from_start labels queue : List ℕ} {node label : ℕ} → AreTurning nodes from_start labels queue node → 1 ≤ node → node ≤ nodes
+    → label ≡ nodes - get_or from_start node 0 → AreTurning nodes from_start (set labels node label) (queue ++ node ∷ []) (node + 1)
+turning-next {labels = labels} {queue = queue} {node = node} {label = label} so_far first last is =
+    let within : node < length labels = omega (arith, last, so_far.one_each) in
+    record {
+      one_each = length-set labels node label ∙ so_far.one_each;
+      each = λ v node_is before. elim (cases-set labels node v label within) [
+        | inl here ↦ here.1 ∙ rw here.0 is
+        | inr other ↦ other.1 ∙ so_far.each v node_is (omega (arith, before, other.0))
+      ];
+      queued = queued-next labels queue node label so_far.queued within;
+      count = omega (arith, so_far.count, length_push queue node);
+    }
+
+-- and then all have theirs.
+pub turning-last : {nodes : ℕ} {from_start labels queue : List ℕ} {node : ℕ} → AreTurning nodes from_start labels queue node → nodes < node
+    → AreTurned nodes from_start labels
+turning-last so_far all = record { one_each = so_far.one_each; each = λ v node_is. so_far.each v node_is (omega (arith, node_is.to_last, all)) }
 
 module _ {l : Links} (rooms opens : List ℕ) {labels : List ℕ} {start : ℕ} {s : List ℕ} (links : AreLinks l) (opened : AreOpen l rooms opens)
     (labelled : AreLabels l opens start 0 s) (turned : AreTurned l.nodes s labels) where

@@ -1,14 +1,13 @@
 -- The nodes near a goal: what a breadth-first search from it knows before it has looked through all levels.
-use Rattle.std.proofs.Common.{ℕ, ◌≡◌, ◌≢◌, ◌≤◌, ◌<◌, inl, inr, false, List, [], length, replicate, get_or, ap, ◌∙◌, refl, arith}
+use Rattle.std.proofs.Common.{ℕ, ◌≡◌, ◌≢◌, ◌≤◌, ◌<◌, inl, inr, false, List, length, get_or, ap, refl, arith}
 use Rattle.std.proofs.lemmas.Bool.{cases_eq, cases_lt}
-use Rattle.std.proofs.lemmas.List.{get_or-replicate, length-replicate}
 use Rattle.dmf_node.specs.Node.{IsNode}
 use Rattle.dmf_links.specs.Links.{Links, AreLinks, AreFlags}
 use Rattle.dmf_links.proofs.LinkPlaces.{lies-within}
 use Rattle.dmf_path.specs.declared.ball.Ball.{Ball}
-use Rattle.dmf_path.specs.Ball.{AreInside, AreNear, IsFit, IsTidy}
+use Rattle.dmf_path.specs.Ball.{AreInside, AreNear, IsFit}
 use Rattle.dmf_path.specs.Frontier.{AreSpread}
-use Rattle.dmf_path.specs.Labels.{no_label, AreQueued}
+use Rattle.dmf_path.specs.Labels.{no_label}
 use Rattle.dmf_path.specs.Residual.{Residual, roomed}
 use Rattle.dmf_path.proofs.Labelled.{opposite}
 use Rattle.dmf_path.proofs.Labelling.{queued-at}
@@ -75,18 +74,3 @@ fit-falls ball r rooms none is = record {
         };
       };
 }
-
--- Where nothing is known, all of it is right.
-pub fit-none : {ball : Ball} → IsTidy ball → ball.radius ≡ 0 → (r : Residual) → IsFit ball r
-fit-none tidy zero r = record { tidy = tidy; known = λ some. absurd (omega (arith, some, zero)) }
-
--- Where no node has a label, and the queue is empty, all nodes with labels are in the queue.
-pub queued-none : (labels queue : List ℕ) (n : ℕ) → labels ≡ replicate n no_label → queue ≡ [] → AreQueued labels queue
-queued-none labels queue n clean empty = rw (clean, empty) (record {
-  within = λ k before. absurd (omega (arith, before));
-  listed = λ v within has. absurd (has (get_or-replicate n v no_label 0 (omega (arith, within, length-replicate n no_label))));
-})
-
--- Nothing is known below the radius 0.
-pub inside-none : (labels queue : List ℕ) (done : ℕ) → AreInside labels queue done 0
-inside-none labels queue done v within low = absurd (omega (arith, low))

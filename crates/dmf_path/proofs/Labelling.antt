@@ -7,7 +7,8 @@ use Rattle.std.proofs.lemmas.List.Folds.{sum_by-replicate}
 use Rattle.dmf_node.specs.Node.{IsNode}
 use Rattle.dmf_links.specs.Links.{Links, AreLinks}
 use Rattle.dmf_path.specs.Labels.{no_label, AreLabels, AreQueued}
-use Rattle.dmf_path.specs.Frontier.{AreSpread}
+use Rattle.dmf_path.specs.Frontier.{AreSpread, IsSpread, begun_at}
+use Rattle.dmf_path.specs.Reach.{Reach}
 use Rattle.dmf_path.proofs.Spreading.{unlabelled_count-set, cases-set}
 
 module _ {l : Links} {opens : List ℕ} {root : ℕ} {labels queue : List ℕ} {done : ℕ} (so_far : AreSpread l opens root labels queue done) where
@@ -44,6 +45,13 @@ module _ {l : Links} {opens : List ℕ} {root : ℕ} {labels queue : List ℕ} {
     | inr has ↦ let at = queued-at v (label-node v within has) has in omega (arith, at.1, at.3, queue-short, are.at_most_nodes)
   ]
 
+  -- All nodes with labels are in the queue.
+  pub spread-queued : AreQueued labels queue
+  spread-queued = record {
+    within = λ k before. omega (arith, (so_far.queued k before).node.to_last, so_far.one_each);
+    listed = λ v within has. so_far.listed v (label-node v (omega (arith, within, so_far.one_each)) has) has;
+  }
+
   -- The labels after the queue is used up, or after the node `stop` has a label.
   pub labels-spread : (stop : ℕ) → AreLinks l → stop ≤ l.nodes → (done ≡ length queue) ⊎ (slice_index labels stop ≢ no_label)
       → AreLabels l opens root stop labels
@@ -73,9 +81,9 @@ module _ {l : Links} {opens : List ℕ} {root : ℕ} {labels queue : List ℕ} {
   }
 
 -- A search begins at its root.
-pub starts-spread : {l : Links} {opens : List ℕ} {root : ℕ} {clean labels queue : List ℕ} {done : ℕ} → IsNode l.nodes root
-    → clean ≡ replicate (l.nodes + 1) no_label → labels ≡ set clean root 0 → queue ≡ root ∷ [] → done ≡ 0 → AreSpread l opens root labels queue done
-starts-spread {l = l} {root = root} node clean_is labels_are queue_is done_is =
+pub starts-spread : {l : Links} {opens : List ℕ} {root : ℕ} {clean : List ℕ} {f : Reach} → IsNode l.nodes root → length opens ≡ length l.heads
+    → clean ≡ replicate (l.nodes + 1) no_label → f ≡ begun_at root clean → IsSpread l opens f
+starts-spread {l = l} {root = root} node flags clean_is begun_is =
     let none : List ℕ = replicate (l.nodes + 1) no_label in
     let f : ℕ → ℕ = λ x. cond (x == no_label) 1 0 in
     let long : length none ≡ l.nodes + 1 = length-replicate (l.nodes + 1) no_label in
@@ -86,7 +94,8 @@ starts-spread {l = l} {root = root} node clean_is labels_are queue_is done_is =
     let same : (k : ℕ) → k < 1 → slice_index (set none root 0) (slice_index (root ∷ []) k) ≡ 0 = λ k first. rw (only k first) at_root in
     let only_root : (v : ℕ) → v ≤ l.nodes → slice_index (set none root 0) v ≢ no_label → v ≡ root = λ v within has.
     elim (cases-set none root v 0 inside) [ inl here ↦ here.0 | inr other ↦ absurd (has (other.1 ∙ unset v within)) ] in
-    rw (labels_are, clean_is, queue_is, done_is) (record {
+    rw (begun_is, clean_is) (record {
+      one_flag_each = flags;
       one_each = length-set none root 0 ∙ long;
       root_is = at_root;
       zero = omega (arith, cases-set none root 0 0 inside, node.from_one, unset 0 (omega arith));

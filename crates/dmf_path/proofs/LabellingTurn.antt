@@ -112,6 +112,7 @@ module _ {l : Links} {opens : List ℕ} {root : ℕ} {old queue : List ℕ} {don
   spread-turn =
       let count = ap length turn.queued ∙ length-append queue turn.fresh in
       record {
+        one_flag_each = so_far.one_flag_each;
         one_each = long ∙ so_far.one_each;
         root_is = kept-at done root ahead (omega (arith, so_far.root_is)) ∙ so_far.root_is;
         zero = elim (cases_eq (slice_index new 0) no_label) [

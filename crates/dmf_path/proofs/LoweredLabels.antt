@@ -7,7 +7,8 @@ use Rattle.dmf_node.specs.Node.{IsNode}
 use Rattle.dmf_links.specs.Links.{Links, LiesAt, AreLinks, AreFlags}
 use Rattle.dmf_path.specs.Labels.{no_label}
 use Rattle.dmf_path.specs.BothEnds.{AreWhole}
-use Rattle.dmf_path.specs.Searching.{AreNoted}
+use Rattle.dmf_path.specs.Residual.{Residual}
+use Rattle.dmf_path.specs.Searching.{Labelling, AreLowered, AreNoted}
 use Rattle.dmf_path.specs.Walk.{AreCurrent, AreValid}
 use Rattle.dmf_links.proofs.LinkPlaces.{lies-within, lies-partner}
 use Rattle.dmf_path.proofs.Labelled.{opposite}
@@ -109,6 +110,9 @@ module _ {l : Links} {rooms flags labels : List ℕ} {x label : ℕ} (may : MayF
     valid = valid-fallen;
   }
 
+  pub less-fallen : (v : ℕ) → get_or (set labels x label) v 0 ≤ get_or labels v 0
+  less-fallen v = grind (arith, cases-set labels x v label inside, may.lower)
+
   -- The noted links stay enough, once the links that fall to the node are current again, or ones before them.
   pub noted-fallen : {old current noted : List ℕ} → ((v : ℕ) → get_or current v 0 ≤ get_or old v 0)
       → ((p : ℕ) → LiesAt l x p → get_or flags p 0 ≡ 1 → get_or (set labels x label) (get_or l.heads p 0) 0 ≡ label + 1
@@ -135,3 +139,16 @@ module _ {l : Links} {rooms flags labels : List ℕ} {x label : ℕ} (may : MayF
           ]
         ];
   }
+
+-- Labels are lowered as far as they are,
+pub lowered-from : {r : Residual} {v : Labelling} → AreWhole r.links v.labels r.rooms → AreCurrent r.links v.current → AreLowered r v v
+lowered-from whole current = record { whole = whole; current_is = current; noted = λ noted is. is; less = λ v. omega arith }
+
+-- and where they are lowered once more, they are lowered.
+pub lowered-again : {r : Residual} {a b c : Labelling} → AreLowered r a b → AreLowered r b c → AreLowered r a c
+lowered-again first next = record {
+  whole = next.whole;
+  current_is = next.current_is;
+  noted = λ noted is. next.noted noted (first.noted noted is);
+  less = λ v. omega (arith, first.less v, next.less v);
+}

@@ -1,20 +1,22 @@
 -- Two searches meet: what their labels say then, and that a path has no more links than there are nodes.
-use Rattle.std.proofs.Common.{ℕ, ◌≡◌, ◌≢◌, ◌+◌, ◌≤◌, ◌<◌, ◌⊎◌, inl, inr, List, [], ◌∷◌, Option, None, length, get_or, map, suc, refl, ap, sym, ◌∙◌, arith}
+use Rattle.std.proofs.Common.{ℕ, ◌≡◌, ◌≢◌, ◌+◌, ◌≤◌, ◌<◌, ◌⊎◌, inl, inr, List, [], ◌∷◌, Option, None, length, get_or, set, replicate, map, suc, refl, ap, sym, ◌∙◌, arith}
 use Rattle.std.proofs.Common.{◌==◌, cond}
 use Rattle.std.proofs.lemmas.Bool.{cases_lt}
 use Rattle.std.proofs.lemmas.Bool.Decides.{nat_tests}
+use Rattle.std.proofs.lemmas.List.{get_or-replicate, length-replicate, length-set}
 use Rattle.std.proofs.lemmas.List.Sums.{sum_by-cons}
 use Rattle.dmf_node.specs.Node.{IsNode}
-use Rattle.dmf_path.specs.declared.frontier.Frontier.{Frontier}
+use Rattle.dmf_path.specs.Reach.{Reach}
 use Rattle.dmf_path.specs.declared.push.Links.{Links as Roomy}
 use Rattle.dmf_links.specs.Links.{Links, LiesAt, AreLinks, open_flag, tail_of}
 use Rattle.dmf_links.specs.LinkTable.{links_of}
 use Rattle.dmf_path.specs.Labels.{no_label, unlabelled_count}
 use Rattle.dmf_path.specs.BothEnds.{AreLevels, AreNearing, HasMetAt, HaveGoneOn}
 use Rattle.dmf_path.specs.Searching.{IsSeparated}
-use Rattle.dmf_path.specs.Frontier.{AreSpread, IsAtRest, AreApart, MeetBeyond}
+use Rattle.dmf_path.specs.Frontier.{AreSpread, IsAtRest, AreApart, MeetBeyond, next_label}
 use Rattle.dmf_links.proofs.LinkPlaces.{lies-partner}
 use Rattle.dmf_path.proofs.Labelling.{queued-at, labels-spread}
+use Rattle.dmf_path.proofs.Spreading.{cases-set}
 use Rattle.dmf_path.proofs.Expanding.{level-first, level-labels}
 use Rattle.dmf_path.proofs.Reaching.{AreOpen-map, separated-unlabelled, separated-labelled}
 
@@ -55,10 +57,6 @@ apart-count (x ∷ g) (y ∷ s) long apart =
     let f : ℕ → ℕ = λ label. cond (label == no_label) 1 0 in
     omega (arith, rest, one-of x y (apart 0 (omega arith)), sum_by-cons f x g, sum_by-cons f y s)
 
--- the level of the next node of a search
-abbrev pub next_level : Frontier → ℕ
-next_level f = get_or f.labels.items (get_or f.queue.items f.done 0) 0
-
 -- the open links of the search from the start
 abbrev opens_of : Roomy → List ℕ
 opens_of links = map open_flag links.rooms.items
@@ -70,26 +68,26 @@ flag-opposite links p within =
     links.flags_are.1 p within
     ∙ sym (AreOpen-map (links_of links.table.value) links.rooms.items (opens_of links) links.rooms_are refl _ (links.table.value.are.each p within).partner)
 
-module _ (links : Roomy) (g s : Frontier) (are : AreNearing links g s) (ahead_g : g.done < length g.queue.items) (ahead_s : s.done < length s.queue.items) where
+module _ (links : Roomy) (g s : Reach) (are : AreNearing links g s) (ahead_g : g.done < length g.queue) (ahead_s : s.done < length s.queue) where
   -- As long as both searches are apart, they queue no more nodes together than there are. So they have few levels.
-  few-levels : next_level g + next_level s < links.table.value.nodes
+  few-levels : next_label g + next_label s < links.table.value.nodes
   few-levels =
       let goal = are.goal_side in
       let start = are.start_side in
       let small = (goal.queued g.done ahead_g).small in
       let small_s = (start.queued s.done ahead_s).small in
-      let apart = apart-count g.labels.items s.labels.items (goal.one_each ∙ sym start.one_each) are.apart in
+      let apart = apart-count g.labels s.labels (goal.one_each ∙ sym start.one_each) are.apart in
       omega (arith, small, small_s, ahead_g, ahead_s, goal.counted, start.counted, goal.one_each, apart)
 
   -- Two searches have met if the labels of each node that has both add up to the length of a path across their two levels.
-  has-met : {at : ℕ} (to_goal from_start : List ℕ) → AreLevels (links_of links.table.value) links.flags.items g.root (next_level g) to_goal
-      → AreLevels (links_of links.table.value) (opens_of links) s.root (next_level s) from_start → IsNode links.table.value.nodes at
+  has-met : {at : ℕ} (to_goal from_start : List ℕ) → AreLevels (links_of links.table.value) links.flags.items g.root (next_label g) to_goal
+      → AreLevels (links_of links.table.value) (opens_of links) s.root (next_label s) from_start → IsNode links.table.value.nodes at
       → get_or to_goal at 0 ≢ no_label → get_or from_start at 0 ≢ no_label → ((v : ℕ) → IsNode links.table.value.nodes v → get_or to_goal v 0 ≢ no_label
-      → get_or from_start v 0 ≢ no_label → get_or to_goal v 0 + get_or from_start v 0 ≡ next_level g + next_level s + 1)
+      → get_or from_start v 0 ≢ no_label → get_or to_goal v 0 + get_or from_start v 0 ≡ next_label g + next_label s + 1)
       → HasMetAt (links_of links.table.value) links.flags.items (opens_of links) s.root g.root at to_goal from_start
   has-met to_goal from_start goal_side start_side node has_g has_s sum = record {
-    near = next_level g;
-    far = next_level s;
+    near = next_label g;
+    far = next_label s;
     goal_side = goal_side;
     start_side = start_side;
     met = record {
@@ -102,72 +100,88 @@ module _ (links : Roomy) (g s : Frontier) (are : AreNearing links g s) (ahead_g 
   }
 
   -- The goal's side has met the start's.
-  pub has-met_goal : {at : ℕ} {new : List ℕ} → AreLevels (links_of links.table.value) links.flags.items g.root (next_level g) new
-      → MeetBeyond (next_level g) new s.labels.items → IsNode links.table.value.nodes at → get_or new at 0 ≢ no_label → get_or s.labels.items at 0 ≢ no_label
-      → HasMetAt (links_of links.table.value) links.flags.items (opens_of links) s.root g.root at new s.labels.items
+  pub has-met_goal : {at : ℕ} {new : List ℕ} → AreLevels (links_of links.table.value) links.flags.items g.root (next_label g) new
+      → MeetBeyond (next_label g) new s.labels → IsNode links.table.value.nodes at → get_or new at 0 ≢ no_label → get_or s.labels at 0 ≢ no_label
+      → HasMetAt (links_of links.table.value) links.flags.items (opens_of links) s.root g.root at new s.labels
   has-met_goal {new = new} levels beyond node has_g has_s =
       let whole = links.table.value.are in
       let side = level-labels whole (level-first are.start_side ahead_s are.start_rest refl) in
-      has-met new s.labels.items levels side node has_g has_s
+      has-met new s.labels levels side node has_g has_s
       (λ v is. sum-met v whole (λ p within one. sym (flag-opposite links p within) ∙ one) levels are.start_side side ahead_s are.start_rest refl beyond is
       (omega (arith, few-levels, whole.at_most_nodes)))
 
   -- The start's side has met the goal's.
-  pub has-met_start : {at : ℕ} {new : List ℕ} → AreLevels (links_of links.table.value) (opens_of links) s.root (next_level s) new
-      → MeetBeyond (next_level s) new g.labels.items → IsNode links.table.value.nodes at → get_or new at 0 ≢ no_label → get_or g.labels.items at 0 ≢ no_label
-      → HasMetAt (links_of links.table.value) links.flags.items (opens_of links) s.root g.root at g.labels.items new
+  pub has-met_start : {at : ℕ} {new : List ℕ} → AreLevels (links_of links.table.value) (opens_of links) s.root (next_label s) new
+      → MeetBeyond (next_label s) new g.labels → IsNode links.table.value.nodes at → get_or new at 0 ≢ no_label → get_or g.labels at 0 ≢ no_label
+      → HasMetAt (links_of links.table.value) links.flags.items (opens_of links) s.root g.root at g.labels new
   has-met_start {new = new} levels beyond node has_s has_g =
       let whole = links.table.value.are in
       let side = level-labels whole (level-first are.goal_side ahead_g are.goal_rest refl) in
-      has-met g.labels.items new side levels node has_g has_s (λ v is has_x has_y.
+      has-met g.labels new side levels node has_g has_s (λ v is has_x has_y.
       let sum = sum-met v whole (λ p within one.
       let link = whole.each p within in
       flag-opposite links _ link.partner ∙ ap (λ q. get_or (opens_of links) q 0) link.partner_back ∙ one)
       levels are.goal_side side ahead_g are.goal_rest refl beyond is (omega (arith, few-levels, whole.at_most_nodes)) has_y has_x in
       omega (arith, sum))
 
+-- ---- the beginning
+
+-- A search that begins is at rest,
+pub begun-rest : (root : ℕ) (labels : List ℕ) → IsAtRest (set labels root 0) (root ∷ []) 0
+begun-rest root labels j ahead within = let first : j ≡ 0 = omega (arith, within) in rw first (omega arith)
+
+-- and two that begin at two nodes are apart.
+pub begun-apart : (n goal start : ℕ) → start ≢ goal → goal < n → start < n → AreApart (set (replicate n no_label) goal 0) (set (replicate n no_label) start 0)
+begun-apart n goal start apart below_goal below_start v within =
+    let none : List ℕ = replicate n no_label in
+    let long : length none ≡ n = length-replicate n no_label in
+    let unset : get_or none v 0 ≡ no_label = get_or-replicate n v no_label 0 (omega (arith, within, length-set none goal 0, long)) in
+    elim (cases-set none goal v 0 (omega (arith, below_goal, long))) [
+      | inr other ↦ inl (other.1 ∙ unset)
+      | inl here ↦ elim (cases-set none start v 0 (omega (arith, below_start, long))) [
+        | inr other ↦ inr (other.1 ∙ unset)
+        | inl too ↦ absurd (apart (sym too.0 ∙ here.0))
+      ]
+    ]
+
 -- ---- one level after the other
 
 -- Two searches that have not met are as far as they are,
-pub on-from : {links : Roomy} {g s : Frontier} → AreNearing links g s → HaveGoneOn links g s g s None
+pub on-from : {links : Roomy} {g s : Reach} → AreNearing links g s → HaveGoneOn links g s g s None
 on-from are = record {
   goal_side = are.goal_side;
   start_side = are.start_side;
   met = λ v none. absurd (cc);
   goal_root = refl;
   start_root = refl;
-  goal_capacity = refl;
-  start_capacity = refl;
 }
 
 -- and where they have gone on and go on again, they have gone on.
-pub on-again : {links : Roomy} {g s a b c d : Frontier} {at : Option ℕ} → HaveGoneOn links g s a b None → HaveGoneOn links a b c d at
+pub on-again : {links : Roomy} {g s a b c d : Reach} {at : Option ℕ} → HaveGoneOn links g s a b None → HaveGoneOn links a b c d at
     → HaveGoneOn links g s c d at
 on-again on next = record {
-  goal_side = rw (← on.goal_root) next.goal_side;
-  start_side = rw (← on.start_root) next.start_side;
+  goal_side = next.goal_side;
+  start_side = next.start_side;
   met = rw (← on.goal_root, ← on.start_root) next.met;
   goal_root = next.goal_root ∙ on.goal_root;
   start_root = next.start_root ∙ on.start_root;
-  goal_capacity = next.goal_capacity ∙ on.goal_capacity;
-  start_capacity = next.start_capacity ∙ on.start_capacity;
 }
 
 -- ---- no path is left
 
-module _ {links : Roomy} {g s : Frontier} (are : AreNearing links g s) where
+module _ {links : Roomy} {g s : Reach} (are : AreNearing links g s) where
   -- All nodes that lead to the goal have labels, and the start has none.
-  pub goal-used_up : length g.queue.items ≤ g.done → IsSeparated (links_of links.table.value) links.rooms.items s.root g.root
+  pub goal-used_up : length g.queue ≤ g.done → IsSeparated (links_of links.table.value) links.rooms.items s.root g.root
   goal-used_up all =
       let side = are.goal_side in
       let whole = links.table.value.are in
-      let unset : get_or g.labels.items s.root 0 ≡ no_label =
+      let unset : get_or g.labels s.root 0 ≡ no_label =
       omega (arith, are.apart s.root (omega (arith, are.start.to_last, side.one_each)), are.start_side.root_is) in
       separated-unlabelled links.rooms.items links.flags.items whole links.flags_are
       (labels-spread side s.root whole are.start.to_last (inl (omega (arith, all, side.come)))) unset unset
 
   -- All nodes to which the start leads have labels, and the goal has none.
-  pub start-used_up : length s.queue.items ≤ s.done → IsSeparated (links_of links.table.value) links.rooms.items s.root g.root
+  pub start-used_up : length s.queue ≤ s.done → IsSeparated (links_of links.table.value) links.rooms.items s.root g.root
   start-used_up all =
       let side = are.start_side in
       let whole = links.table.value.are in

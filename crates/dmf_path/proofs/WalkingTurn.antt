@@ -62,7 +62,7 @@ pub record Turn : Type 0 where
   pub on : IsOnWay r labels current aim w node
   pub other : node ≢ w.joint
   pub end_read : end ≡ get_or r.links.first (node + 1) end
-  pub near : 0 < ball.radius → AreNear aim.links aim.rooms w.goal ball.radius ball.around.labels.items
+  pub near : 0 < ball.radius → AreNear aim.links aim.rooms w.goal ball.radius ball.around.labels
   pub from : get_or current node 0 ≤ place
   pub skipped : get_or current node 0 ≤ skip
   pub order : skip ≤ place
@@ -123,8 +123,8 @@ module _ (t : Turn) where
       t.first p later before (omega (arith, room, told-room (lies-before p later (omega (arith, before, t.order))) falls)) falls
 
   -- what is known of the nodes near the goal
-  near-told : 0 < t.ball.radius → AreNear t.r.links t.aim.rooms t.w.goal t.ball.radius t.ball.around.labels.items
-  near-told some = subst (λ (x : Residual). AreNear x.links t.aim.rooms t.w.goal t.ball.radius t.ball.around.labels.items) (sym t.on.same) (t.near some)
+  near-told : 0 < t.ball.radius → AreNear t.r.links t.aim.rooms t.w.goal t.ball.radius t.ball.around.labels
+  near-told some = subst (λ (x : Residual). AreNear x.links t.aim.rooms t.w.goal t.ball.radius t.ball.around.labels) (sym t.on.same) (t.near some)
 
   -- No walk begins with it: the goal is not so near.
   none-told : (p : ℕ) (ps : List ℕ) → get_or t.current t.node 0 ≤ p → p < t.place → ¬ IsWalk t.r.links t.labels t.aim.rooms t.w.goal t.node (p ∷ ps)

@@ -29,7 +29,7 @@ pub record AreShared (shared : Shared) : Type 0 where
 pub record HasBegun (nodes : ℕ) (levels : Levels) (trail : Trail) : Type 0 where
   pub residual : Residual
   pub searching : IsSearching residual (labelling_of levels) (way_of trail)
-  pub fresh : IsFresh residual.links levels.near.labels.items trail.start
+  pub fresh : IsFresh residual.links levels.near.labels trail.start
   pub nodes_are : residual.links.nodes ≡ nodes
   pub ready : AreReady levels
   pub none_last : levels.all ≡ false

@@ -1,10 +1,9 @@
 -- The nodes near a goal, as a breadth-first search from it finds them backwards.
 -- Private: only contracts inside the crate and proofs use this.
-use Rattle.std.specs.Prelude.{ℕ, ◌≡◌, ◌+◌, ◌<◌, ◌≤◌, false, List, length, slice_index, vec_capacity}
+use Rattle.std.specs.Prelude.{ℕ, ◌≡◌, ◌+◌, ◌<◌, ◌≤◌, true, false, Bool, List, length, slice_index}
 use Rattle.dmf_node.specs.Node.{IsNode}
 use Rattle.dmf_links.specs.Links.{Links, LiesAt}
 use Rattle.dmf_path.specs.declared.ball.Ball.{Ball}
-use Rattle.dmf_path.specs.Labels.{AreQueued}
 use Rattle.dmf_path.specs.Residual.{Residual}
 
 -- Each node with a label below the radius is one of the first `done` in the queue.
@@ -20,12 +19,9 @@ pub record AreNear (l : Links) (rooms : List ℕ) (goal radius : ℕ) (labels : 
   pub near : (v p : ℕ) → IsNode l.nodes v → LiesAt l v p → 0 < slice_index rooms p → slice_index labels (slice_index l.heads p) < radius
       → slice_index labels v ≤ slice_index labels (slice_index l.heads p) + 1
 
--- The labels can be removed, and the nodes with a label below the radius are the first ones of the queue.
-pub record IsTidy (ball : Ball) : Type 0 where
-  pub queued : AreQueued ball.around.labels.items ball.around.queue.items
-  pub capacity : length ball.around.labels.items ≤ vec_capacity ball.around.queue
-  pub come : ball.around.done ≤ length ball.around.queue.items
-  pub inside : AreInside ball.around.labels.items ball.around.queue.items ball.around.done ball.radius
+-- The nodes with a label below the radius are the first ones of the queue.
+abbrev pub IsTidy : Ball → Type 0
+IsTidy ball = AreInside ball.around.labels ball.around.queue ball.around.done ball.radius
 
 -- The search has looked at the links of nodes.
 abbrev pub AreNodes : ℕ → List ℕ → ℕ → Type 0
@@ -34,8 +30,8 @@ AreNodes nodes queue done = (i : ℕ) → i < done → IsNode nodes (slice_index
 -- What is known is right in this residual network, in which no room rises.
 pub record IsKnown (ball : Ball) (r : Residual) : Type 0 where
   pub falls : r.takes_back ≡ false
-  pub nodes : AreNodes r.links.nodes ball.around.queue.items ball.around.done
-  pub near : AreNear r.links r.rooms ball.around.root ball.radius ball.around.labels.items
+  pub nodes : AreNodes r.links.nodes ball.around.queue ball.around.done
+  pub near : AreNear r.links r.rooms ball.around.root ball.radius ball.around.labels
 
 pub record IsFit (ball : Ball) (r : Residual) : Type 0 where
   pub tidy : IsTidy ball
@@ -44,3 +40,8 @@ pub record IsFit (ball : Ball) (r : Residual) : Type 0 where
 -- It is about this goal.
 abbrev pub IsAround : Ball → ℕ → Type 0
 IsAround ball goal = 0 < ball.radius → ball.around.root ≡ goal
+
+-- What is known is right, and about this goal where it was looked for.
+pub record IsFitAround (ball : Ball) (r : Residual) (goal : ℕ) (is_looked_for : Bool) : Type 0 where
+  pub fit : IsFit ball r
+  pub around : is_looked_for ≡ true → IsAround ball goal

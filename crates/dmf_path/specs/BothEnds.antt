@@ -1,11 +1,11 @@
 -- Labels from both ends: two breadth-first searches, one backwards from the goal and one forwards from the start, go on in turn, level
 -- by level, until a node has a label of both.
 -- Private: only contracts inside the crate and proofs use this.
-use Rattle.std.specs.Prelude.{ℕ, ◌≡◌, ◌≢◌, ◌+◌, ◌-◌, ◌<◌, ◌≤◌, ◌⊎◌, ◌==◌, if◌then◌else◌, List, Option, Some, length, slice_index, map, vec_capacity}
+use Rattle.std.specs.Prelude.{ℕ, ◌≡◌, ◌≢◌, ◌+◌, ◌-◌, ◌<◌, ◌≤◌, ◌⊎◌, ◌==◌, if◌then◌else◌, List, Option, None, Some, length, slice_index, map}
 use Rattle.dmf_node.specs.Node.{IsNode}
-use Rattle.dmf_path.specs.declared.frontier.Frontier.{Frontier}
+use Rattle.dmf_path.specs.Reach.{Reach}
 use Rattle.dmf_path.specs.declared.push.Links.{Links as Roomy}
-use Rattle.dmf_path.specs.Frontier.{AreApart, AreSpread, IsAtRest}
+use Rattle.dmf_path.specs.Frontier.{AreApart, IsAtRest, IsSpread, MeetBeyond, next_label}
 use Rattle.dmf_links.specs.Links.{Links, LiesAt, open_flag}
 use Rattle.dmf_links.specs.LinkTable.{links_of}
 use Rattle.dmf_path.specs.Labels.{no_label, IsBacked}
@@ -39,36 +39,43 @@ pub record HasMetAt (l : Links) (flags opens : List ℕ) (start goal at : ℕ) (
   pub met : HaveMet l.nodes near far at to_goal from_start
   pub long : near + far < l.nodes
 
--- The search from the goal goes on where it stopped, and so does the search from the start.
-abbrev pub IsGoalSide : Roomy → ℕ → Frontier → Type 0
-IsGoalSide links goal f = AreSpread (links_of links.table.value) links.flags.items goal f.labels.items f.queue.items f.done
+-- The search has looked at the links of the nodes on the next level, until one of the nodes to which they lead also had a label of the
+-- other search, and that is the one that was met.
+pub record HasExpandedLevel (l : Links) (opens : List ℕ) (old new : Reach) (others : List ℕ) (met : Option ℕ) : Type 0 where
+  pub so_far : IsSpread l opens new
+  pub levels : AreLevels l opens new.root (next_label old) new.labels
+  pub at_rest : met ≡ None → IsAtRest new.labels new.queue new.done
+  pub apart : met ≡ None → AreApart new.labels others
+  pub beyond : MeetBeyond (next_label old) new.labels others
+  pub both : (v : ℕ) → met ≡ Some v → IsNode l.nodes v × (slice_index new.labels v ≢ no_label) × (slice_index others v ≢ no_label)
+  pub further : met ≡ None → old.done < new.done
+  pub root : new.root ≡ old.root
 
-abbrev pub IsStartSide : Roomy → ℕ → Frontier → Type 0
-IsStartSide links start f =
-    AreSpread (links_of links.table.value) (map open_flag links.rooms.items) start f.labels.items f.queue.items f.done
+-- The search from the goal goes on where it stopped, and so does the search from the start.
+abbrev pub IsGoalSide : Roomy → Reach → Type 0
+IsGoalSide links f = IsSpread (links_of links.table.value) links.flags.items f
+
+abbrev pub IsStartSide : Roomy → Reach → Type 0
+IsStartSide links f = IsSpread (links_of links.table.value) (map open_flag links.rooms.items) f
 
 -- The two searches have not met yet: each has labelled all nodes up to the level of its next one, and no node has a label of both.
-pub record AreNearing (links : Roomy) (to_goal from_start : Frontier) : Type 0 where
+pub record AreNearing (links : Roomy) (to_goal from_start : Reach) : Type 0 where
   pub goal : IsNode links.table.value.nodes to_goal.root
   pub start : IsNode links.table.value.nodes from_start.root
-  pub goal_side : IsGoalSide links to_goal.root to_goal
-  pub start_side : IsStartSide links from_start.root from_start
-  pub goal_rest : IsAtRest to_goal.labels.items to_goal.queue.items to_goal.done
-  pub start_rest : IsAtRest from_start.labels.items from_start.queue.items from_start.done
-  pub apart : AreApart to_goal.labels.items from_start.labels.items
-  pub goal_capacity : links.table.value.nodes + 1 ≤ vec_capacity to_goal.queue
-  pub start_capacity : links.table.value.nodes + 1 ≤ vec_capacity from_start.queue
+  pub goal_side : IsGoalSide links to_goal
+  pub start_side : IsStartSide links from_start
+  pub goal_rest : IsAtRest to_goal.labels to_goal.queue to_goal.done
+  pub start_rest : IsAtRest from_start.labels from_start.queue from_start.done
+  pub apart : AreApart to_goal.labels from_start.labels
 
 -- They have gone on from there. If they have met, then at this node.
-pub record HaveGoneOn (links : Roomy) (to_goal from_start new_goal new_start : Frontier) (node : Option ℕ) : Type 0 where
-  pub goal_side : IsGoalSide links to_goal.root new_goal
-  pub start_side : IsStartSide links from_start.root new_start
+pub record HaveGoneOn (links : Roomy) (to_goal from_start new_goal new_start : Reach) (node : Option ℕ) : Type 0 where
+  pub goal_side : IsGoalSide links new_goal
+  pub start_side : IsStartSide links new_start
   pub met : (v : ℕ) → node ≡ Some v → HasMetAt (links_of links.table.value) links.flags.items (map open_flag links.rooms.items)
-      from_start.root to_goal.root v new_goal.labels.items new_start.labels.items
+      from_start.root to_goal.root v new_goal.labels new_start.labels
   pub goal_root : new_goal.root ≡ to_goal.root
   pub start_root : new_start.root ≡ from_start.root
-  pub goal_capacity : vec_capacity new_goal.queue ≡ vec_capacity to_goal.queue
-  pub start_capacity : vec_capacity new_start.queue ≡ vec_capacity from_start.queue
 
 -- a node's joined label, if a shortest path has `long` links: the number of links that are left to the goal
 abbrev pub joined_label : ℕ → ℕ → ℕ → ℕ

@@ -1,9 +1,9 @@
 -- A breadth-first search that goes on where it stopped.
 -- Private: only contracts inside the crate and proofs use this.
-use Rattle.std.specs.Prelude.{ℕ, ◌≡◌, ◌≢◌, ◌+◌, ◌≤◌, ◌<◌, ◌⊎◌, ◌++◌, List, length, replicate, slice_index, vec_capacity, Contains}
+use Rattle.std.specs.Prelude.{ℕ, ◌≡◌, ◌≢◌, ◌+◌, ◌≤◌, ◌<◌, ◌⊎◌, ◌++◌, List, [], ◌∷◌, length, replicate, slice_index, slice_set, Contains}
 use Rattle.dmf_node.specs.Node.{IsNode}
 use Rattle.dmf_links.specs.Links.{Links, LiesAt}
-use Rattle.dmf_path.specs.declared.frontier.Frontier.{Frontier}
+use Rattle.dmf_path.specs.Reach.{Reach}
 use Rattle.dmf_path.specs.Labels.{no_label, unlabelled_count, IsBacked, Spreads}
 
 -- At this place of the queue stands a node whose label is at most the place.
@@ -14,6 +14,7 @@ pub record IsQueued (l : Links) (labels queue : List ℕ) (k : ℕ) : Type 0 whe
 -- The queue lists the nodes with labels, in the order of the labels. The search has looked at the open links of the nodes before place
 -- `done`, and no label exceeds the label of the last of these nodes by more than one.
 pub record AreSpread (l : Links) (opens : List ℕ) (root : ℕ) (labels queue : List ℕ) (done : ℕ) : Type 0 where
+  pub one_flag_each : length opens ≡ length l.heads
   pub one_each : length labels ≡ l.nodes + 1
   pub root_is : slice_index labels root ≡ 0
   pub zero : slice_index labels 0 ≡ no_label
@@ -49,14 +50,33 @@ abbrev pub MeetBeyond : ℕ → List ℕ → List ℕ → Type 0
 MeetBeyond level labels others =
     (v : ℕ) → v < length labels → slice_index labels v ≢ no_label → slice_index others v ≢ no_label → slice_index labels v ≡ level + 1
 
--- No node has a label, and some may have no place for one yet, but there is memory for the labels and the queue.
-pub record IsIdle (nodes : ℕ) (frontier : Frontier) : Type 0 where
-  pub labels_are : frontier.labels.items ≡ replicate (length frontier.labels.items) no_label
-  pub at_most : length frontier.labels.items ≤ nodes + 1
-  pub labels_capacity : nodes + 1 ≤ vec_capacity frontier.labels
-  pub capacity : nodes + 1 ≤ vec_capacity frontier.queue
+-- No node has a label.
+abbrev pub IsClean : ℕ → Reach → Type 0
+IsClean nodes f = f.labels ≡ replicate (nodes + 1) no_label
 
--- No node has a label, and the queue has room for all of them.
-pub record IsClean (nodes : ℕ) (frontier : Frontier) : Type 0 where
-  pub labels_are : frontier.labels.items ≡ replicate (nodes + 1) no_label
-  pub capacity : nodes + 1 ≤ vec_capacity frontier.queue
+-- the search at its root, which alone has a label
+abbrev pub begun_at : ℕ → List ℕ → Reach
+begun_at root labels = record { root = root; labels = slice_set labels root 0; queue = root ∷ []; done = 0 }
+
+-- the search without labels
+abbrev pub unlabelled : Reach → Reach
+unlabelled f = record { root = f.root; labels = replicate (length f.labels) no_label; queue = []; done = 0 }
+
+-- the search with another label of one node
+abbrev pub with_label : Reach → ℕ → ℕ → Reach
+with_label f v label = record { root = f.root; labels = slice_set f.labels v label; queue = f.queue; done = f.done }
+
+-- the label of the next node in the queue
+abbrev pub next_label : Reach → ℕ
+next_label f = slice_index f.labels (slice_index f.queue f.done)
+
+-- The search has come so far over these links.
+abbrev pub IsSpread : Links → List ℕ → Reach → Type 0
+IsSpread l opens f = AreSpread l opens f.root f.labels f.queue f.done
+
+-- The search has looked at the links of the next node.
+pub record HasExpanded (l : Links) (opens : List ℕ) (old new : Reach) : Type 0 where
+  pub so_far : IsSpread l opens new
+  pub expands : Expands l opens old.labels old.queue old.done new.labels new.queue
+  pub done : new.done ≡ old.done + 1
+  pub root : new.root ≡ old.root

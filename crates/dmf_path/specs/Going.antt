@@ -1,5 +1,8 @@
 -- What a search has while it looks for the next path.
 -- Private: only contracts inside the crate and proofs use this.
+use Rattle.std.specs.Prelude.{Bool, List}
+use Rattle.dmf_links.specs.LinkTable.{links_of}
+use Rattle.dmf_path.specs.declared.aside.Aside.{Aside}
 use Rattle.dmf_path.specs.declared.ball.Ball.{Ball}
 use Rattle.dmf_path.specs.declared.levels.Levels.{Levels}
 use Rattle.dmf_path.specs.declared.push.Links.{Links as Roomy}
@@ -7,9 +10,26 @@ use Rattle.dmf_path.specs.declared.trail.Trail.{Trail}
 use Rattle.dmf_path.specs.Ball.{IsAround, IsFit}
 use Rattle.dmf_path.specs.Held.{way_of}
 use Rattle.dmf_path.specs.Residual.{residual_of, told}
-use Rattle.dmf_path.specs.Searching.{labelling_of, AreReady, IsSearching, MayLast}
+use Rattle.dmf_path.specs.Searching.{labelling_of, AreAside, AreKept, AreReady, IsMarked, IsSearching, MayLast}
 
--- Labels that are sound, with current links and held pushes; what another search may keep of them; and the nodes near the goal.
+-- What a search has between two looks for a path: labels that are sound, with current links and held pushes; what another search may keep of
+-- them; and nodes near some goal.
+pub record Keeps (links : Roomy) (levels : Levels) (ball : Ball) (trail : Trail) : Type 0 where
+  pub searching : IsSearching (residual_of links) (labelling_of levels) (way_of trail)
+  pub ready : AreReady levels
+  pub lasting : MayLast levels (told (residual_of links) (way_of trail))
+  pub fit : IsFit ball (told (residual_of links) (way_of trail))
+
+-- The same between other ends, with labels that lead there, or fresh ones.
+pub record IsAimedAnew (links : Roomy) (levels : Levels) (asides : List Aside) (ball : Ball) (trail : Trail) (is_fresh : Bool) : Type 0 where
+  pub searching : IsSearching (residual_of links) (labelling_of levels) (way_of trail)
+  pub ready : AreReady levels
+  pub kept : AreKept levels is_fresh (told (residual_of links) (way_of trail))
+  pub asides_are : AreAside asides (told (residual_of links) (way_of trail))
+  pub fit : IsFit ball (told (residual_of links) (way_of trail))
+  pub marked : IsMarked (links_of links.table.value) levels.near.labels trail.start is_fresh
+
+-- What it has while it looks for one: labels that are sound, with current links and held pushes; what another search may keep of them; and the nodes near the goal.
 pub record Goes (links : Roomy) (levels : Levels) (ball : Ball) (trail : Trail) : Type 0 where
   pub searching : IsSearching (residual_of links) (labelling_of levels) (way_of trail)
   pub ready : AreReady levels

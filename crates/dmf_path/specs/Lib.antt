@@ -3,6 +3,7 @@ pub mod Path
 pub mod Steps
 pub mod Pair
 pub mod Labels
+pub mod Reach
 pub mod Walk
 pub mod Held
 pub mod Residual
@@ -12,6 +13,7 @@ pub mod Searching
 pub mod Ball
 pub mod Going
 pub mod Astray
+pub mod Look
 pub mod BothEnds
 pub mod Frontier
 pub mod Touching

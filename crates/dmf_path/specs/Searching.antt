@@ -1,15 +1,17 @@
 -- What a search keeps.
 -- Private: only contracts inside the crate and proofs use this.
-use Rattle.std.specs.Prelude.{ℕ, ◌≡◌, ◌≢◌, ◌+◌, ◌^◌, ◌<◌, ◌≤◌, ◌⊎◌, Bool, true, false, List, length, replicate, slice_index, slice_set, vec_capacity, Contains}
+use Rattle.std.specs.Prelude.{ℕ, ◌≡◌, ◌≢◌, ◌+◌, ◌^◌, ◌<◌, ◌≤◌, ◌⊎◌, Bool, true, false, List, length, replicate, slice_index, slice_set, Contains}
 use Rattle.std.specs.List.{All}
 use Rattle.dmf_path.specs.declared.aside.Aside.{Aside}
 use Rattle.dmf_path.specs.declared.levels.Levels.{Levels}
-use Rattle.dmf_path.specs.declared.frontier.Frontier.{Frontier}
+use Rattle.dmf_path.specs.declared.push.Links.{Links as Roomy}
+use Rattle.dmf_path.specs.Reach.{Reach}
 use Rattle.dmf_path.specs.declared.noted.Noted.{Noted}
-use Rattle.dmf_path.specs.Labels.{no_label, AreQueued}
-use Rattle.dmf_path.specs.Frontier.{IsClean, IsIdle}
-use Rattle.dmf_path.specs.BothEnds.{AreSound, AreWhole}
+use Rattle.dmf_path.specs.Labels.{no_label}
+use Rattle.dmf_path.specs.Frontier.{IsClean}
+use Rattle.dmf_path.specs.BothEnds.{AreSound, AreWhole, IsLabelled}
 use Rattle.dmf_node.specs.Node.{IsNode}
+use Rattle.dmf_links.specs.LinkTable.{links_of}
 use Rattle.dmf_links.specs.Links.{Links, LiesAt, AreLinks, ArePlaces, AreRooms, pairs_at, tail_of}
 use Rattle.dmf_path.specs.Walk.{AreCurrent, ArePassed, IsAdmissible, IsTrail, IsWalking, end_of}
 use Rattle.dmf_path.specs.Held.{Way, places_of, walked_slots, rest_slots, filled_slots, HaveLeft}
@@ -40,7 +42,7 @@ pub record Labelling : Type 0 where
 
 -- the labels and the current links that levels have
 abbrev pub labelling_of : Levels → Labelling
-labelling_of v = record { labels = v.near.labels.items; current = v.current.items }
+labelling_of v = record { labels = v.near.labels; current = v.current.items }
 
 -- the settled residual network in which a search looks for paths, and the ends of these paths
 pub record Sought : Type 0 where
@@ -96,6 +98,13 @@ pub record AreKeptFor (v : Labelling) (noted : Noted) (r : Residual) (goal : ℕ
   pub current_is : AreCurrent r.links v.current
   pub passed : ArePassed r.links v.labels r.rooms goal v.current
 
+-- Labels have fallen, or stayed, and links that fall then are current again. What was noted still is.
+pub record AreLowered (r : Residual) (old new : Labelling) : Type 0 where
+  pub whole : AreWhole r.links new.labels r.rooms
+  pub current_is : AreCurrent r.links new.current
+  pub noted : (noted : List ℕ) → AreNoted r.links old.labels r.rooms old.current noted → AreNoted r.links new.labels r.rooms new.current noted
+  pub less : (v : ℕ) → slice_index new.labels v ≤ slice_index old.labels v
+
 -- If all nodes from which paths lead to the goal have labels, they are lasting.
 abbrev pub MayLast : Levels → Residual → Type 0
 MayLast levels r = levels.all ≡ true → AreLasting (labelling_of levels) levels.noted r
@@ -122,32 +131,48 @@ pub data IsMarked (l : Links) (labels : List ℕ) (start : ℕ) (is_fresh : Bool
   begun : is_fresh ≡ false → IsMarked l labels start is_fresh
   fresh : IsFresh l labels start → IsMarked l labels start is_fresh
 
--- The labels can be removed: the queue of the search from the goal has all nodes with one, and the search from the start has none.
-pub record IsReady (nodes : ℕ) (near far : Frontier) : Type 0 where
-  pub one_label_each : length near.labels.items ≡ nodes + 1
-  pub queued : AreQueued near.labels.items near.queue.items
-  pub capacity : nodes + 1 ≤ vec_capacity near.queue
-  pub idle : IsIdle nodes far
+-- Each node has a place for its label, and none has a label of the search from the start.
+pub record IsReady (nodes : ℕ) (near far : Reach) : Type 0 where
+  pub one_label_each : length near.labels ≡ nodes + 1
+  pub far_is : IsClean nodes far
 
 -- No node has a label of either search, and the ends of paths are two nodes.
-pub record MayBeLabelled (nodes : ℕ) (near far : Frontier) (start goal : ℕ) : Type 0 where
+pub record MayBeLabelled (nodes : ℕ) (near far : Reach) (start goal : ℕ) : Type 0 where
   pub near_is : IsClean nodes near
-  pub far_is : IsIdle nodes far
+  pub far_is : IsClean nodes far
   pub start_is : IsNode nodes start
   pub goal_is : IsNode nodes goal
   pub apart : start ≢ goal
 
--- The labels can be removed from the levels of some number of nodes.
+-- The same for some number of nodes.
 abbrev pub AreReady : Levels → Type 0
 AreReady v = (nodes : ℕ) × IsReady nodes v.near v.far
 
--- Labels that a search may take up in this residual network: they can be taken off, and if all nodes from which paths lead to the goal
+-- Labels that a search may take up in this residual network: if all nodes from which paths lead to the goal
 -- have one, they lead there.
 pub record AreUsable (levels : Levels) (r : Residual) (goal : ℕ) : Type 0 where
   pub ready : IsReady r.links.nodes levels.near levels.far
   pub goal_is : IsNode r.links.nodes goal
   pub current_is : AreCurrent r.links levels.current.items
   pub kept : levels.all ≡ true → AreKeptFor (labelling_of levels) levels.noted r goal
+
+-- Labels that may be made to lead to another goal.
+pub record MayBeRefitted (levels : Levels) (r : Residual) : Type 0 where
+  pub ready : IsReady r.links.nodes levels.near levels.far
+  pub current_is : AreCurrent r.links levels.current.items
+  pub lasting : AreLasting (labelling_of levels) levels.noted r
+
+-- No label has risen, and that of the start has not fallen.
+pub record HaveFallen (old new : Levels) (start goal : ℕ) : Type 0 where
+  pub all : new.all ≡ old.all
+  pub start_label : slice_index new.near.labels start ≡ slice_index old.near.labels start
+  pub less : slice_index new.near.labels goal ≤ slice_index old.near.labels goal
+
+-- The labels lead to the goal, and the start has one that is not lower than the goal's.
+pub record AreRedirected (levels : Levels) (r : Residual) (start goal : ℕ) : Type 0 where
+  pub kept : AreKeptFor (labelling_of levels) levels.noted r goal
+  pub labelled : slice_index levels.near.labels start ≢ no_label
+  pub above : slice_index levels.near.labels goal ≤ slice_index levels.near.labels start
 
 -- Those that are set aside are so for the goal that they had, and no room rises.
 abbrev pub AreAside : List Aside → Residual → Type 0
@@ -181,3 +206,10 @@ pub record IsSeparated (l : Links) (rooms : List ℕ) (start goal : ℕ) : Type 
   pub start_in : inside start ≡ true
   pub goal_out : inside goal ≡ false
   pub closed : IsClosed l rooms inside
+
+-- The nodes have new labels, by which a walk leads from the start to the goal; or no path is left.
+pub record IsRelabelled (links : Roomy) (old new : Levels) (start goal : ℕ) (found : Bool) : Type 0 where
+  pub ready : IsReady links.table.value.nodes new.near new.far
+  pub labelled : found ≡ true → IsLabelled (links_of links.table.value) links.rooms.items new.near.labels start goal
+  pub none : found ≡ false → IsSeparated (links_of links.table.value) links.rooms.items start goal
+  pub current : new.current ≡ old.current

@@ -1,13 +1,12 @@
 //! The nodes near a goal.
-ghost use Rattle.std.specs.Prelude.{◌≡◌, ◌≤◌, ◌<◌, ◌^◌, length, slice_index, vec_capacity, IfOk};
+ghost use Rattle.std.specs.Prelude.{◌≡◌, ◌≤◌, ◌<◌, ◌^◌, length, slice_index, IfOk};
 ghost use Rattle.dmf_node.specs.Node.{IsNode};
 ghost use Rattle.dmf_links.specs.LinkTable.{links_of};
-ghost use Rattle.dmf_path.specs.Ball.{AreInside, AreNear, AreNodes, IsAround, IsFit, IsTidy};
+ghost use Rattle.dmf_path.specs.Ball.{AreInside, AreNear, AreNodes, IsAround, IsFit};
 ghost use Rattle.dmf_path.specs.Frontier.{IsClean};
-ghost use Rattle.dmf_path.specs.Labels.{AreQueued};
 ghost use Rattle.dmf_path.specs.Residual.{Residual, residual_of};
 
-use crate::frontier::{Frontier, begin, expand, unlabel};
+use crate::frontier::Frontier;
 use crate::label::NO_LABEL;
 use crate::open::Flagged;
 use crate::push::Links;
@@ -34,13 +33,7 @@ impl Ball {
         ensures { (r : Residual) → IsFit result r }
     {
         Ball {
-            around: Frontier {
-                root: 0,
-                labels: Vec::new(alloc),
-                queue: Vec::new(alloc),
-                done: 0,
-                looked: 0,
-            },
+            around: Frontier::none(alloc),
             radius: 0,
         }
     }
@@ -58,15 +51,13 @@ impl Ball {
 
     /// Looks for the nodes near this goal, if there is memory for them, and no push is taken back.
     pub fn surround(&mut self, links: &Links, goal: u32)
-        requires tidy { IsTidy self.old }
-        requires goal { IsNode links.now.table.value.nodes goal }
+        requires { IsNode links.now.table.value.nodes goal }
         ensures fit { IsFit self.new (residual_of links.now) }
         ensures around { IsAround self.new goal }
     {
-        unlabel(&mut self.around);
-        self.around.done = 0;
+        self.around.unlabel();
         self.radius = 0;
-        if links.takes_back || self.around.labels.len() != links.table.nodes as usize + 1 {
+        if links.takes_back || self.around.labels().len() != links.table.nodes as usize + 1 {
             return;
         }
         self.radius = look_around(links, &mut self.around, goal);
@@ -90,14 +81,13 @@ impl Ball {
         ensures fit { (r : Residual) → IsFit self.old r → IsFit self.new r }
         ensures around { IsAround self.new goal }
     {
-        if self.around.root != goal {
+        if self.around.root() != goal {
             self.radius = 0;
         }
     }
 
     /// Forgets what is known.
     pub fn forget(&mut self)
-        requires tidy { IsTidy self.old }
         ensures fit { (r : Residual) → IsFit self.new r }
     {
         self.radius = 0;
@@ -108,30 +98,25 @@ impl Ball {
 fn look_around(links: &Links, around: &mut Frontier, goal: u32) -> u32
     requires goal { IsNode links.now.table.value.nodes goal }
     requires clean { IsClean links.now.table.value.nodes around.old }
-    ensures near { AreNear (links_of links.now.table.value) links.now.rooms.items goal result around.new.labels.items }
+    ensures near { AreNear (links_of links.now.table.value) links.now.rooms.items goal result around.new.labels }
     ensures root { around.new.root ≡ goal }
-    ensures queued { AreQueued around.new.labels.items around.new.queue.items }
-    ensures come { around.new.done ≤ length around.new.queue.items }
-    ensures inside { AreInside around.new.labels.items around.new.queue.items around.new.done result }
-    ensures nodes { AreNodes links.now.table.value.nodes around.new.queue.items around.new.done }
-    ensures capacity { vec_capacity around.new.queue ≡ vec_capacity around.old.queue }
+    ensures inside { AreInside around.new.labels around.new.queue around.new.done result }
+    ensures nodes { AreNodes links.now.table.value.nodes around.new.queue around.new.done }
 {
-    begin(around, goal);
-    while around.done < around.queue.len() && is_close(&links.table, around) {
-        expand(&links.table, &Flagged(&links.flags), around);
+    around.begin(goal);
+    while around.has_next() && is_close(&links.table, around) {
+        around.expand(&links.table, &Flagged(&links.flags));
     }
-    if around.done < around.queue.len() {
-        return around.labels[around.queue[around.done] as usize];
+    if around.has_next() {
+        return around.next_label();
     }
     NO_LABEL
 }
 
 /// Whether the search may look at the links of the next node.
 fn is_close(table: &LinkTable, around: &Frontier) -> bool
-    requires ahead { around.now.done < length around.now.queue.items }
-    requires node { slice_index around.now.queue.items around.now.done ≤ table.now.nodes }
+    requires ahead { around.now.done < length around.now.queue }
+    requires node { slice_index around.now.queue around.now.done ≤ table.now.nodes }
 {
-    let places = table.places_at(around.queue[around.done]);
-    let count = (places.end - places.start) as u64;
-    around.done == 0 || around.looked.saturating_add(count) <= MOST
+    around.seen().is_empty() || around.looked_next(table) <= MOST
 }

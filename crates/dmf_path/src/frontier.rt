@@ -1,182 +1,310 @@
 //! A breadth-first search that goes on where it stopped: from a root, level by level, over open links.
-ghost use Rattle.std.specs.Prelude.{◌≡◌, ◌≢◌, ℕ, ◌+◌, ◌^◌, ◌≤◌, ◌<◌, ◌∷◌, [], None, Some, IfOk, length, replicate, slice_index, slice_set, vec_capacity};
+ghost use Rattle.std.specs.Prelude.{◌≡◌, ◌≢◌, ℕ, ◌+◌, ◌*◌, ◌^◌, ◌≤◌, ◌<◌, true, false, drop, take, IfOk, length, replicate, slice_index};
 ghost use Rattle.dmf_node.specs.Node.{IsNode};
 ghost use Rattle.dmf_links.specs.LinkTable.{links_of};
-ghost use Rattle.dmf_path.specs.Labels.{AreQueued, no_label};
-ghost use Rattle.dmf_path.specs.BothEnds.{AreLevels};
-ghost use Rattle.dmf_path.specs.Frontier.{AreSpread, AreApart, Expands, IsAtRest, IsClean, IsIdle, MeetBeyond};
+ghost use Rattle.dmf_path.specs.BothEnds.{AreJoined, AreTurned};
+ghost use Rattle.dmf_path.specs.Frontier.{HasExpanded, IsClean, IsSpread, begun_at, next_label, unlabelled, with_label};
+ghost use Rattle.dmf_path.specs.Labels.{AreLabels, AreQueued, no_label, unlabelled_count};
+ghost use Rattle.dmf_path.specs.Searching.{fresh_labels};
 
-use crate::label::{NO_LABEL, spread, take_off};
+use crate::label::{NO_LABEL, take_off};
 use crate::open::OpenLinks;
 use dmf_links::LinkTable;
 use std::alloc::{AllocError, Global};
+use std::marker::Model;
 
-/// How far a breadth-first search has come: the labels of the nodes, and a queue of the nodes that have one, in the order of their labels.
+/// How far a breadth-first search has come: the labels of the nodes, and a queue of the nodes that have one. Once labels are joined or
+/// turned, the queue still has these nodes, though no longer in the order of their labels.
 #[derive(Drop)]
 pub struct Frontier {
     /// The node at which the search began.
-    pub root: u32,
+    root: u32,
     /// For each node the number of links from the root to it, or [`NO_LABEL`].
-    pub labels: Vec<u32>,
-    /// The nodes with labels.
-    pub queue: Vec<u32>,
+    labels: Vec<u32>,
+    /// The nodes with labels. There is memory for all nodes.
+    queue: Vec<u32>,
     /// The search has looked at the links of so many of these nodes.
-    pub done: usize,
+    done: usize,
     /// How many links it has looked at.
-    pub looked: u64,
+    looked: u64,
+}
+
+impl Model for Frontier {
+    ghost use Rattle.std.specs.Prelude.{◌*◌, ◌^◌, ◌≤◌, length, vec_capacity};
+    ghost use Rattle.dmf_path.specs.Labels.{AreQueued};
+    ghost use Rattle.dmf_path.specs.Reach.{Reach};
+
+    ghost Value = { Reach };
+
+    ghost view = { λ a. record { root = a.root; labels = a.labels.items; queue = a.queue.items; done = a.done } };
+
+    ghost invariant = { λ a. AreQueued a.labels.items a.queue.items × (length a.labels.items ≤ vec_capacity a.queue)
+        × (a.done ≤ length a.queue.items) × (a.looked ≤ a.done * 2 ^ 31) };
 }
 
 impl Frontier {
     /// A search among so many nodes that has not begun. Takes memory for two numbers a node.
     pub fn new(alloc: Global, nodes: u32) -> Result<Frontier, AllocError>
         requires { nodes < 2 ^ 31 }
-        ensures clean { IfOk result (IsClean nodes) }
-        ensures empty { IfOk result (λ frontier. frontier.queue.items ≡ []) }
-        ensures done { IfOk result (λ frontier. frontier.done ≡ 0) }
-    {
-        let mut frontier = Frontier::idle(alloc, nodes)?;
-        make_ready(&mut frontier, nodes);
-        Ok(frontier)
-    }
-
-    /// The same, but its memory stays untouched until [`make_ready`] is called: where it never is, it costs no time.
-    pub fn idle(alloc: Global, nodes: u32) -> Result<Frontier, AllocError>
-        requires { nodes < 2 ^ 31 }
-        ensures idle { IfOk result (IsIdle nodes) }
-        ensures empty { IfOk result (λ frontier. frontier.queue.items ≡ []) }
-        ensures done { IfOk result (λ frontier. frontier.done ≡ 0) }
+        ensures { IfOk result (IsClean nodes) }
     {
         Ok(Frontier {
             root: 0,
-            labels: Vec::with_capacity(alloc, nodes as usize + 1)?,
+            labels: vec![in alloc; NO_LABEL; nodes as usize + 1]?,
             queue: Vec::with_capacity(alloc, nodes as usize + 1)?,
             done: 0,
             looked: 0,
         })
     }
-}
 
-/// Gives each of so many nodes a place for its label, where it has none yet. Takes no memory: the search has it.
-pub fn make_ready(frontier: &mut Frontier, nodes: u32)
-    requires { IsIdle nodes frontier.old }
-    ensures clean { IsClean nodes frontier.new }
-    ensures queue { frontier.new.queue ≡ frontier.old.queue }
-    ensures done { frontier.new.done ≡ frontier.old.done }
-{
-    frontier
-        .labels
-        .resize(nodes as usize + 1, NO_LABEL)
-        .unwrap();
-}
+    /// A search among no nodes. Takes no memory.
+    pub fn none(alloc: Global) -> Frontier {
+        Frontier {
+            root: 0,
+            labels: Vec::new(alloc),
+            queue: Vec::new(alloc),
+            done: 0,
+            looked: 0,
+        }
+    }
 
-/// Begins at a root. No node has a label yet.
-pub fn begin(frontier: &mut Frontier, root: u32)
-    requires root { root < length frontier.old.labels.items }
-    requires capacity { length frontier.old.labels.items ≤ vec_capacity frontier.old.queue }
-    ensures labels { frontier.new.labels.items ≡ slice_set frontier.old.labels.items root 0 }
-    ensures queue { frontier.new.queue.items ≡ root ∷ [] }
-    ensures done { frontier.new.done ≡ 0 }
-    ensures root { frontier.new.root ≡ root }
-    ensures capacity { vec_capacity frontier.new.queue ≡ vec_capacity frontier.old.queue }
-{
-    frontier.root = root;
-    frontier.done = 0;
-    frontier.looked = 0;
-    frontier.labels[root as usize] = 0;
-    frontier.queue.clear();
-    frontier.queue.push_reserved(root);
-}
-
-/// Removes all labels.
-pub fn unlabel(frontier: &mut Frontier)
-    requires queued { AreQueued frontier.old.labels.items frontier.old.queue.items }
-    ensures labels { frontier.new.labels.items ≡ replicate (length frontier.old.labels.items) no_label }
-    ensures queue { frontier.new.queue.items ≡ [] }
-    ensures capacity { vec_capacity frontier.new.queue ≡ vec_capacity frontier.old.queue }
-{
-    take_off(&mut frontier.labels, &frontier.queue);
-    frontier.queue.clear();
-}
-
-/// Looks at the links of the next node.
-pub fn expand<O: OpenLinks>(table: &LinkTable, opens: &O, frontier: &mut Frontier)
-    requires one_flag_each { length (O.flags opens.now) ≡ length table.now.heads.items }
-    requires so_far { AreSpread (links_of table.now) (O.flags opens.now) frontier.old.root
-        frontier.old.labels.items frontier.old.queue.items frontier.old.done }
-    requires ahead { frontier.old.done < length frontier.old.queue.items }
-    requires capacity { table.now.nodes + 1 ≤ vec_capacity frontier.old.queue }
-    ensures so_far { AreSpread (links_of table.now) (O.flags opens.now) frontier.new.root
-        frontier.new.labels.items frontier.new.queue.items frontier.new.done }
-    ensures expands { Expands (links_of table.now) (O.flags opens.now) frontier.old.labels.items frontier.old.queue.items frontier.old.done
-        frontier.new.labels.items frontier.new.queue.items }
-    ensures done { frontier.new.done ≡ frontier.old.done + 1 }
-    ensures root { frontier.new.root ≡ frontier.old.root }
-    ensures capacity { vec_capacity frontier.new.queue ≡ vec_capacity frontier.old.queue }
-{
-    let node = frontier.queue[frontier.done];
-    let places = table.places_at(node);
-    let label = frontier.labels[node as usize] + 1;
-    frontier.done += 1;
-    frontier.looked = frontier
-        .looked
-        .wrapping_add((places.end - places.start) as u64);
-    spread(&table.heads, opens, places, label, frontier);
-}
-
-/// Looks at the links of the nodes on the next level, until one of the nodes to which they lead also has a label of the other search.
-/// Returns that node.
-pub fn expand_level<O: OpenLinks>(
-    table: &LinkTable,
-    opens: &O,
-    frontier: &mut Frontier,
-    others: &[u32],
-) -> Option<u32>
-    requires one_flag_each { length (O.flags opens.now) ≡ length table.now.heads.items }
-    requires one_label_each { length others.now ≡ table.now.nodes + 1 }
-    requires so_far { AreSpread (links_of table.now) (O.flags opens.now) frontier.old.root
-        frontier.old.labels.items frontier.old.queue.items frontier.old.done }
-    requires ahead { frontier.old.done < length frontier.old.queue.items }
-    requires at_rest { IsAtRest frontier.old.labels.items frontier.old.queue.items frontier.old.done }
-    requires apart { AreApart frontier.old.labels.items others.now }
-    requires capacity { table.now.nodes + 1 ≤ vec_capacity frontier.old.queue }
-    ensures so_far { AreSpread (links_of table.now) (O.flags opens.now) frontier.new.root
-        frontier.new.labels.items frontier.new.queue.items frontier.new.done }
-    ensures levels { AreLevels (links_of table.now) (O.flags opens.now) frontier.new.root
-        (slice_index frontier.old.labels.items (slice_index frontier.old.queue.items frontier.old.done)) frontier.new.labels.items }
-    ensures at_rest { result ≡ None → IsAtRest frontier.new.labels.items frontier.new.queue.items frontier.new.done }
-    ensures apart { result ≡ None → AreApart frontier.new.labels.items others.now }
-    ensures beyond { MeetBeyond (slice_index frontier.old.labels.items (slice_index frontier.old.queue.items frontier.old.done))
-        frontier.new.labels.items others.now }
-    ensures met { (v : ℕ) → result ≡ Some v → IsNode table.now.nodes v
-        × (slice_index frontier.new.labels.items v ≢ no_label) × (slice_index others.now v ≢ no_label) }
-    ensures further { result ≡ None → frontier.old.done < frontier.new.done }
-    ensures root { frontier.new.root ≡ frontier.old.root }
-    ensures capacity { vec_capacity frontier.new.queue ≡ vec_capacity frontier.old.queue }
-{
-    let level = frontier.labels[frontier.queue[frontier.done] as usize];
-    while frontier.done < frontier.queue.len()
-        && frontier.labels[frontier.queue[frontier.done] as usize] == level
+    /// Begins at a root. No node has a label yet.
+    pub fn begin(&mut self, root: u32)
+        requires clean { self.old.labels ≡ replicate (length self.old.labels) no_label }
+        requires root { root < length self.old.labels }
+        ensures { self.new ≡ begun_at root self.old.labels }
     {
-        let before = frontier.queue.len();
-        expand(table, opens, frontier);
-        let met = first_labelled(&frontier.queue[before..], others);
-        if met.is_some() {
-            return met;
-        }
+        self.root = root;
+        self.done = 0;
+        self.looked = 0;
+        self.labels[root as usize] = 0;
+        self.queue.clear();
+        self.queue.push_reserved(root);
     }
-    None
-}
 
-/// The first of the nodes that has a label.
-fn first_labelled(nodes: &[u32], labels: &[u32]) -> Option<u32>
-    requires { (i : ℕ) → i < length nodes.now → slice_index nodes.now i < length labels.now }
-    ensures none { result ≡ None → (i : ℕ) → i < length nodes.now → slice_index labels.now (slice_index nodes.now i) ≡ no_label }
-    ensures some { (v : ℕ) → result ≡ Some v → (slice_index labels.now v ≢ no_label) × (i : ℕ) × (i < length nodes.now) × (slice_index nodes.now i ≡ v) }
-{
-    for node in nodes {
-        if labels[*node as usize] != NO_LABEL {
-            return Some(*node);
+    /// Removes all labels.
+    pub fn unlabel(&mut self)
+        ensures { self.new ≡ unlabelled self.old }
+    {
+        take_off(&mut self.labels, &self.queue);
+        self.queue.clear();
+        self.done = 0;
+        self.looked = 0;
+    }
+
+    /// The node at which the search began.
+    pub fn root(&self) -> u32
+        ensures { result ≡ self.now.root }
+    {
+        self.root
+    }
+
+    /// The labels of the nodes. The first one belongs to number 0, which is no node.
+    pub fn labels(&self) -> &[u32]
+        ensures { result.now ≡ self.now.labels }
+    {
+        &self.labels
+    }
+
+    /// The same, out of the search.
+    pub fn into_labels(self) -> Vec<u32>
+        ensures { result.items ≡ self.labels }
+    {
+        let Frontier { labels, .. } = self;
+        labels
+    }
+
+    /// The nodes with labels.
+    pub fn queue(&self) -> &[u32]
+        ensures value { result.now ≡ self.now.queue }
+        ensures queued { AreQueued self.now.labels self.now.queue }
+    {
+        &self.queue
+    }
+
+    /// The nodes whose links it has looked at.
+    pub fn seen(&self) -> &[u32]
+        ensures value { result.now ≡ take self.now.done self.now.queue }
+        ensures come { self.now.done ≤ length self.now.queue }
+    {
+        &self.queue[..self.done]
+    }
+
+    /// The nodes with labels whose links it has not looked at.
+    pub fn waiting(&self) -> &[u32]
+        ensures { result.now ≡ drop self.now.done self.now.queue }
+    {
+        &self.queue[self.done..]
+    }
+
+    /// Whether there are such nodes.
+    pub fn has_next(&self) -> bool
+        ensures more { result ≡ true → self.now.done < length self.now.queue }
+        ensures none { result ≡ false → length self.now.queue ≤ self.now.done }
+    {
+        self.done < self.queue.len()
+    }
+
+    /// How many links it has looked at.
+    pub fn looked(&self) -> u64 {
+        self.looked
+    }
+
+    /// The label of a node.
+    pub fn label(&self, node: u32) -> u32
+        requires { node < length self.now.labels }
+        ensures { result ≡ slice_index self.now.labels node }
+    {
+        self.labels[node as usize]
+    }
+
+    /// Whether a node has a label.
+    pub fn has_label(&self, node: u32) -> bool
+        requires { node < length self.now.labels }
+        ensures has { result ≡ true → slice_index self.now.labels node ≢ no_label }
+        ensures none { result ≡ false → slice_index self.now.labels node ≡ no_label }
+    {
+        self.labels[node as usize] != NO_LABEL
+    }
+
+    /// The label of the next node.
+    pub fn next_label(&self) -> u32
+        requires { self.now.done < length self.now.queue }
+        ensures { result ≡ next_label self.now }
+    {
+        self.labels[self.queue[self.done] as usize]
+    }
+
+    /// How many links it will have looked at once it has looked at those of the next node.
+    pub fn looked_next(&self, table: &LinkTable) -> u64
+        requires ahead { self.now.done < length self.now.queue }
+        requires node { slice_index self.now.queue self.now.done ≤ table.now.nodes }
+        ensures { result ≤ (self.now.done + 1) * 2 ^ 31 }
+    {
+        let places = table.places_at(self.queue[self.done]);
+        self.looked
+            .saturating_add((places.end - places.start) as u64)
+    }
+
+    /// Looks at the links of the next node. Those nodes without a label to which open ones lead get the next label, and are queued.
+    pub fn expand<O: OpenLinks>(&mut self, table: &LinkTable, opens: &O)
+        requires so_far { IsSpread (links_of table.now) (O.flags opens.now) self.old }
+        requires ahead { self.old.done < length self.old.queue }
+        ensures { HasExpanded (links_of table.now) (O.flags opens.now) self.old self.new }
+    {
+        let node = self.queue[self.done];
+        let places = table.places_at(node);
+        let label = self.labels[node as usize] + 1;
+        self.done += 1;
+        self.looked += (places.end - places.start) as u64;
+        let heads = &table.heads[..];
+        let labels = &mut self.labels[..];
+        let queue = &mut self.queue;
+        for place in places.start..places.end {
+            let head = heads[place];
+            if opens.is_open(place) && labels[head as usize] == NO_LABEL {
+                labels[head as usize] = label;
+                queue.push_reserved(head);
+            }
         }
     }
-    None
+
+    /// Labels each node that open links reach from the root with its distance from the root, level by level, until node `stop` has a
+    /// label. No node has one yet. Node 0 never has one.
+    pub fn label_from<O: OpenLinks>(&mut self, table: &LinkTable, opens: &O, root: u32, stop: u32)
+        requires one_flag_each { length (O.flags opens.now) ≡ length table.now.heads.items }
+        requires clean { IsClean table.now.nodes self.old }
+        requires root { IsNode table.now.nodes root }
+        requires stop { stop ≤ table.now.nodes }
+        ensures { AreLabels (links_of table.now) (O.flags opens.now) root stop self.new.labels }
+    {
+        self.begin(root);
+        let _ended = self.label_within(table, opens, stop, u64::MAX);
+    }
+
+    /// Goes on in this way with a search that has begun, but looks at no more than `most` links. If these are too few, some labels are
+    /// missing, and the result is `false`.
+    pub fn label_within<O: OpenLinks>(
+        &mut self,
+        table: &LinkTable,
+        opens: &O,
+        stop: u32,
+        most: u64,
+    ) -> bool
+        requires so_far { IsSpread (links_of table.now) (O.flags opens.now) self.old }
+        requires stop { stop ≤ table.now.nodes }
+        ensures labels { result ≡ true → AreLabels (links_of table.now) (O.flags opens.now) self.old.root stop self.new.labels }
+        ensures enough { 2 ^ 62 ≤ most → result ≡ true }
+        ensures long { length self.new.labels ≡ table.now.nodes + 1 }
+    {
+        while self.has_next() && !self.has_label(stop) {
+            if self.looked_next(table) > most {
+                return false;
+            }
+            self.expand(table, opens);
+        }
+        true
+    }
+
+    /// Gives each node the number of nodes less its distance from the start, or 0 if it has none. No node has a label yet.
+    pub fn turn(&mut self, from_start: &Frontier, nodes: u32)
+        requires nodes { nodes < 2 ^ 31 }
+        requires one_each { length from_start.now.labels ≡ nodes + 1 }
+        requires clean { IsClean nodes self.old }
+        ensures { AreTurned nodes from_start.now.labels self.new.labels }
+    {
+        self.done = 0;
+        self.looked = 0;
+        self.queue.clear();
+        let distances = from_start.labels();
+        let labels = &mut self.labels[..];
+        let queue = &mut self.queue;
+        for node in 1..nodes + 1 {
+            labels[node as usize] = nodes.saturating_sub(distances[node as usize]);
+            queue.push_reserved(node);
+        }
+    }
+
+    /// Gives each node that has only a label of the start's side one of this side: the rest of the length of a shortest path.
+    pub fn join(&mut self, from_start: &Frontier, long: u32)
+        requires one_label_each { length self.old.labels ≡ length from_start.now.labels }
+        requires counted { length self.old.queue + unlabelled_count self.old.labels ≤ length self.old.labels }
+        requires at_most { (i : ℕ) → i < length from_start.now.queue → slice_index from_start.now.labels (slice_index from_start.now.queue i) ≤ long }
+        requires small { long < no_label }
+        ensures { AreJoined long self.old.labels from_start.now.labels self.new.labels }
+    {
+        let distances = from_start.labels();
+        let nodes = from_start.queue();
+        let labels = &mut self.labels[..];
+        let queue = &mut self.queue;
+        for node in nodes {
+            if labels[*node as usize] == NO_LABEL {
+                labels[*node as usize] = long - distances[*node as usize];
+                queue.push_reserved(*node);
+            }
+        }
+    }
+
+    /// Removes all labels, and gives these two nodes the label 0.
+    pub fn label_ends(&mut self, nodes: u32, start: u32, goal: u32)
+        requires one_each { length self.old.labels ≡ nodes + 1 }
+        requires start { IsNode nodes start }
+        requires goal { IsNode nodes goal }
+        ensures { self.new.labels ≡ fresh_labels nodes start goal }
+    {
+        self.unlabel();
+        self.labels[start as usize] = 0;
+        self.labels[goal as usize] = 0;
+        self.queue.push_reserved(start);
+        self.queue.push_reserved(goal);
+    }
+
+    /// Gives another label to a node that has one.
+    pub fn set_label(&mut self, node: u32, label: u32)
+        requires within { node < length self.old.labels }
+        requires has { slice_index self.old.labels node ≢ no_label }
+        ensures { self.new ≡ with_label self.old node label }
+    {
+        self.labels[node as usize] = label;
+    }
 }

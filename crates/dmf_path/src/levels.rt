@@ -14,7 +14,7 @@ use std::alloc::{AllocError, Global};
 pub struct Levels {
     /// The search from the goal. Its labels are those that a walk follows, and its queue has all nodes with one.
     pub near: Frontier,
-    /// The search from the start. It has labels only while labelling goes on, and is idle until nodes are labelled from both ends.
+    /// The search from the start. It has labels only while labelling goes on.
     pub far: Frontier,
     /// The place of each node's current link.
     pub current: Vec<u32>,
@@ -43,7 +43,7 @@ impl Levels {
     {
         Ok(Levels {
             near: Frontier::new(alloc, table.nodes)?,
-            far: Frontier::idle(alloc, table.nodes)?,
+            far: Frontier::new(alloc, table.nodes)?,
             current: Vec::from_slice(alloc, &table.first[..table.nodes as usize + 1])?,
             both: false,
             looked: 0,

@@ -1,8 +1,8 @@
 //! Which link of a node a walk takes.
-ghost use Rattle.std.specs.Prelude.{◌≡◌, ◌≢◌, ℕ, true, false, ◌+◌, ◌-◌, ◌≤◌, ◌<◌, ◌⊎◌, length, slice_index};
+ghost use Rattle.std.specs.Prelude.{◌≡◌, ◌≢◌, ℕ, true, false, ◌+◌, ◌≤◌, ◌<◌, ◌⊎◌, length, slice_index};
 ghost use Rattle.dmf_node.specs.Node.{IsNode};
 ghost use Rattle.dmf_path.specs.Astray.{IsAstray};
-ghost use Rattle.dmf_path.specs.Ball.{AreInside, AreNodes};
+ghost use Rattle.dmf_path.specs.Look.{AreLinksOf, AreSeen, IsLook, IsLookFrom, IsNext};
 
 use crate::ball::Ball;
 use crate::push::Links;
@@ -39,30 +39,10 @@ impl Links {
         from: u32,
         end: u32,
     ) -> Look
-        requires node { IsNode self.now.table.value.nodes node }
+        requires links { AreLinksOf self.now node from end }
         requires goal { IsNode self.now.table.value.nodes goal }
-        requires from { slice_index self.now.table.value.first.items node ≤ from }
-        requires range { from ≤ end }
-        requires end { end ≡ slice_index self.now.table.value.first.items (node + 1) }
-        requires one_label_each { length labels.now ≡ self.now.table.value.nodes + 1 }
-        requires one_each { 0 < ball.now.radius → length ball.now.around.labels.items ≡ self.now.table.value.nodes + 1 }
-        requires nodes { 0 < ball.now.radius → AreNodes self.now.table.value.nodes ball.now.around.queue.items ball.now.around.done }
-        requires come { ball.now.around.done ≤ length ball.now.around.queue.items }
-        requires inside { AreInside ball.now.around.labels.items ball.now.around.queue.items ball.now.around.done ball.now.radius }
-        ensures from { from ≤ result.skipped }
-        ensures order { result.skipped ≤ result.place }
-        ensures to { result.place ≤ end }
-        ensures room { result.place < end → 0 < slice_index self.now.rooms.items result.place }
-        ensures falls { result.place < end
-            → slice_index labels.now (slice_index self.now.table.value.heads.items result.place) + 1 ≡ slice_index labels.now node }
-        ensures above { result.place < end → slice_index labels.now goal < slice_index labels.now node }
-        ensures first { (p : ℕ) → from ≤ p → p < result.skipped → 0 < slice_index self.now.rooms.items p
-            → slice_index labels.now (slice_index self.now.table.value.heads.items p) + 1 ≢ slice_index labels.now node }
-        ensures only { slice_index labels.now goal < slice_index labels.now node →
-            (p : ℕ) → from ≤ p → p < result.place → 0 < slice_index self.now.rooms.items p
-            → slice_index labels.now (slice_index self.now.table.value.heads.items p) + 1 ≡ slice_index labels.now node
-            → IsAstray ball.now goal (slice_index labels.now node - slice_index labels.now goal - 1)
-            (slice_index self.now.table.value.heads.items p) }
+        requires seen { AreSeen self.now labels.now ball.now }
+        ensures { IsLookFrom self.now labels.now ball.now goal node from end result }
     {
         let label = labels[node as usize];
         let low = labels[goal as usize];
@@ -97,29 +77,12 @@ impl Links {
         from: u32,
         end: u32,
     ) -> Look
-        requires node { IsNode self.now.table.value.nodes node }
+        requires links { AreLinksOf self.now node from end }
         requires goal { IsNode self.now.table.value.nodes wanted.goal }
         requires low { slice_index labels.now wanted.goal + 1 + wanted.left ≡ wanted.label }
         requires near { (wanted.left ≡ 0) ⊎ (wanted.left ≤ ball.now.radius) }
-        requires from { slice_index self.now.table.value.first.items node ≤ from }
-        requires range { from ≤ end }
-        requires end { end ≡ slice_index self.now.table.value.first.items (node + 1) }
-        requires one_label_each { length labels.now ≡ self.now.table.value.nodes + 1 }
-        requires one_each { 0 < ball.now.radius → length ball.now.around.labels.items ≡ self.now.table.value.nodes + 1 }
-        requires nodes { 0 < ball.now.radius → AreNodes self.now.table.value.nodes ball.now.around.queue.items ball.now.around.done }
-        requires come { ball.now.around.done ≤ length ball.now.around.queue.items }
-        requires inside { AreInside ball.now.around.labels.items ball.now.around.queue.items ball.now.around.done ball.now.radius }
-        ensures from { from ≤ result.skipped }
-        ensures order { result.skipped ≤ result.place }
-        ensures to { result.place ≤ end }
-        ensures room { result.place < end → 0 < slice_index self.now.rooms.items result.place }
-        ensures falls { result.place < end
-            → slice_index labels.now (slice_index self.now.table.value.heads.items result.place) + 1 ≡ wanted.label }
-        ensures first { (p : ℕ) → from ≤ p → p < result.skipped → 0 < slice_index self.now.rooms.items p
-            → slice_index labels.now (slice_index self.now.table.value.heads.items p) + 1 ≢ wanted.label }
-        ensures only { (p : ℕ) → from ≤ p → p < result.place → 0 < slice_index self.now.rooms.items p
-            → slice_index labels.now (slice_index self.now.table.value.heads.items p) + 1 ≡ wanted.label
-            → IsAstray ball.now wanted.goal wanted.left (slice_index self.now.table.value.heads.items p) }
+        requires seen { AreSeen self.now labels.now ball.now }
+        ensures { IsLook self.now labels.now ball.now wanted from end result }
     {
         let few = self.few(ball, wanted, from, end);
         let look = self.look(labels, ball, wanted, from, few);
@@ -144,7 +107,7 @@ impl Links {
         if wanted.left > 0 && wanted.left >= ball.radius {
             return end;
         }
-        let mut count = ball.around.looked;
+        let mut count = ball.around.looked();
         if wanted.left == 0 {
             let places = self.table.places_at(wanted.goal);
             count = (places.end - places.start) as u64;
@@ -159,19 +122,8 @@ impl Links {
     fn look(&self, labels: &[u32], ball: &Ball, wanted: Wanted, from: u32, end: u32) -> Look
         requires range { from ≤ end }
         requires links { end ≤ length self.now.table.value.heads.items }
-        requires one_label_each { length labels.now ≡ self.now.table.value.nodes + 1 }
-        requires one_each { 0 < ball.now.radius → length ball.now.around.labels.items ≡ self.now.table.value.nodes + 1 }
-        ensures from { from ≤ result.skipped }
-        ensures order { result.skipped ≤ result.place }
-        ensures to { result.place ≤ end }
-        ensures room { result.place < end → 0 < slice_index self.now.rooms.items result.place }
-        ensures falls { result.place < end
-            → slice_index labels.now (slice_index self.now.table.value.heads.items result.place) + 1 ≡ wanted.label }
-        ensures first { (p : ℕ) → from ≤ p → p < result.skipped → 0 < slice_index self.now.rooms.items p
-            → slice_index labels.now (slice_index self.now.table.value.heads.items p) + 1 ≢ wanted.label }
-        ensures only { (p : ℕ) → from ≤ p → p < result.place → 0 < slice_index self.now.rooms.items p
-            → slice_index labels.now (slice_index self.now.table.value.heads.items p) + 1 ≡ wanted.label
-            → IsAstray ball.now wanted.goal wanted.left (slice_index self.now.table.value.heads.items p) }
+        requires seen { AreSeen self.now labels.now ball.now }
+        ensures { IsLook self.now labels.now ball.now wanted from end result }
     {
         let mut skipped = end;
         for place in from..end {
@@ -212,25 +164,12 @@ impl Links {
         from: u32,
         end: u32,
     ) -> u32
-        requires node { IsNode self.now.table.value.nodes node }
+        requires links { AreLinksOf self.now node from end }
         requires goal { IsNode self.now.table.value.nodes wanted.goal }
         requires low { slice_index labels.now wanted.goal + 1 + wanted.left ≡ wanted.label }
         requires near { (wanted.left ≡ 0) ⊎ (wanted.left < ball.now.radius) }
-        requires from { slice_index self.now.table.value.first.items node ≤ from }
-        requires range { from ≤ end }
-        requires end { end ≤ slice_index self.now.table.value.first.items (node + 1) }
-        requires one_label_each { length labels.now ≡ self.now.table.value.nodes + 1 }
-        requires one_each { 0 < ball.now.radius → length ball.now.around.labels.items ≡ self.now.table.value.nodes + 1 }
-        requires nodes { 0 < ball.now.radius → AreNodes self.now.table.value.nodes ball.now.around.queue.items ball.now.around.done }
-        requires come { ball.now.around.done ≤ length ball.now.around.queue.items }
-        requires inside { AreInside ball.now.around.labels.items ball.now.around.queue.items ball.now.around.done ball.now.radius }
-        ensures from { from ≤ result }
-        ensures to { result ≤ end }
-        ensures room { result < end → 0 < slice_index self.now.rooms.items result }
-        ensures falls { result < end → slice_index labels.now (slice_index self.now.table.value.heads.items result) + 1 ≡ wanted.label }
-        ensures only { (p : ℕ) → from ≤ p → p < result → 0 < slice_index self.now.rooms.items p
-            → slice_index labels.now (slice_index self.now.table.value.heads.items p) + 1 ≡ wanted.label
-            → IsAstray ball.now wanted.goal wanted.left (slice_index self.now.table.value.heads.items p) }
+        requires seen { AreSeen self.now labels.now ball.now }
+        ensures { IsNext self.now labels.now ball.now wanted from end result }
     {
         if wanted.left == 0 {
             return self.first_from(wanted.goal, node, from, end);
@@ -248,31 +187,21 @@ impl Links {
         from: u32,
         end: u32,
     ) -> u32
-        requires node { IsNode self.now.table.value.nodes node }
+        requires links { AreLinksOf self.now node from end }
         requires near { wanted.left < ball.now.radius }
-        requires from { slice_index self.now.table.value.first.items node ≤ from }
-        requires range { from ≤ end }
-        requires end { end ≤ slice_index self.now.table.value.first.items (node + 1) }
-        requires one_label_each { length labels.now ≡ self.now.table.value.nodes + 1 }
-        requires one_each { length ball.now.around.labels.items ≡ self.now.table.value.nodes + 1 }
-        requires nodes { AreNodes self.now.table.value.nodes ball.now.around.queue.items ball.now.around.done }
-        requires come { ball.now.around.done ≤ length ball.now.around.queue.items }
-        requires inside { AreInside ball.now.around.labels.items ball.now.around.queue.items ball.now.around.done ball.now.radius }
+        requires seen { AreSeen self.now labels.now ball.now }
         ensures from { from ≤ result }
         ensures to { result ≤ end }
         ensures room { result < end → 0 < slice_index self.now.rooms.items result }
         ensures falls { result < end → slice_index labels.now (slice_index self.now.table.value.heads.items result) + 1 ≡ wanted.label }
         ensures only { (p : ℕ) → from ≤ p → p < result → 0 < slice_index self.now.rooms.items p
             → slice_index labels.now (slice_index self.now.table.value.heads.items p) + 1 ≡ wanted.label
-            → wanted.left < slice_index ball.now.around.labels.items (slice_index self.now.table.value.heads.items p) }
+            → wanted.left < slice_index ball.now.around.labels (slice_index self.now.table.value.heads.items p) }
     {
         let mut first = end;
-        for i in 0..ball.around.done {
-            let head = ball.around.queue[i];
-            if is_next(labels, wanted.label, head)
-                && ball.around.labels[head as usize] <= wanted.left
-            {
-                first = self.first_from(head, node, from, first);
+        for head in ball.around.seen() {
+            if is_next(labels, wanted.label, *head) && ball.around.label(*head) <= wanted.left {
+                first = self.first_from(*head, node, from, first);
             }
         }
         first
@@ -281,11 +210,8 @@ impl Links {
     /// The first place from `from` up to `end`, among links of the node, whose link has room and leads to `head`, or `end`. Found at the
     /// head: among its links are the opposites of all that lead there.
     fn first_from(&self, head: u32, node: u32, from: u32, end: u32) -> u32
-        requires node { IsNode self.now.table.value.nodes node }
+        requires links { AreLinksOf self.now node from end }
         requires head { IsNode self.now.table.value.nodes head }
-        requires from { slice_index self.now.table.value.first.items node ≤ from }
-        requires range { from ≤ end }
-        requires end { end ≤ slice_index self.now.table.value.first.items (node + 1) }
         ensures from { from ≤ result }
         ensures to { result ≤ end }
         ensures room { result < end → 0 < slice_index self.now.rooms.items result }
@@ -337,13 +263,13 @@ fn is_next(labels: &[u32], label: u32, node: u32) -> bool
 /// Whether a walk may lead from this node to the goal, over so many links as are left: whether the node is the goal, if none is left, and
 /// else whether it is near enough, as far as that is known.
 fn may_lead(ball: &Ball, wanted: Wanted, head: u32) -> bool
-    requires { 0 < ball.now.radius → head < length ball.now.around.labels.items }
+    requires { 0 < ball.now.radius → head < length ball.now.around.labels }
     ensures { result ≡ false → IsAstray ball.now wanted.goal wanted.left head }
 {
     if wanted.left == 0 {
         return head == wanted.goal;
     }
-    wanted.left > ball.radius || ball.around.labels[head as usize] <= wanted.left
+    wanted.left > ball.radius || ball.around.label(head) <= wanted.left
 }
 
 /// The lower one of two places.

@@ -1,65 +1,58 @@
 //! Lowering labels near the goal.
-ghost use Rattle.std.specs.Prelude.{◌≡◌, ◌≢◌, ◌+◌, ◌≤◌, ℕ, List, length, slice_index};
+ghost use Rattle.std.specs.Prelude.{◌≡◌, ◌≢◌, ◌+◌, ◌≤◌, ℕ, length, slice_index};
 ghost use Rattle.dmf_node.specs.Node.{IsNode};
 ghost use Rattle.dmf_links.specs.Links.{LiesAt};
 ghost use Rattle.dmf_links.specs.LinkTable.{links_of};
 ghost use Rattle.dmf_path.specs.Ball.{IsFit};
 ghost use Rattle.dmf_path.specs.BothEnds.{AreWhole};
-ghost use Rattle.dmf_path.specs.Labels.{no_label};
 ghost use Rattle.dmf_path.specs.Residual.{residual_of};
-ghost use Rattle.dmf_path.specs.Searching.{AreNoted};
+ghost use Rattle.dmf_path.specs.Searching.{AreLowered};
 ghost use Rattle.dmf_path.specs.Walk.{AreCurrent};
 
 use crate::ball::Ball;
+use crate::frontier::Frontier;
 use crate::label::NO_LABEL;
 use crate::push::Links;
 
 /// Lowers the labels of the nodes in the ball, the farthest first, as far as the labels of the nodes before them allow, and makes links
 /// that fall then current again. No label of the start falls.
-pub fn lower_near(links: &Links, ball: &Ball, start: u32, labels: &mut [u32], current: &mut [u32])
+pub fn lower_near(links: &Links, ball: &Ball, start: u32, near: &mut Frontier, current: &mut [u32])
     requires fit { IsFit ball.now (residual_of links.now) }
-    requires whole { AreWhole (links_of links.now.table.value) labels.old links.now.rooms.items }
+    requires whole { AreWhole (links_of links.now.table.value) near.old.labels links.now.rooms.items }
     requires current { AreCurrent (links_of links.now.table.value) current.old }
-    ensures whole { AreWhole (links_of links.now.table.value) labels.new links.now.rooms.items }
-    ensures current { AreCurrent (links_of links.now.table.value) current.new }
-    ensures noted { (noted : List ℕ) → AreNoted (links_of links.now.table.value) labels.old links.now.rooms.items current.old noted
-        → AreNoted (links_of links.now.table.value) labels.new links.now.rooms.items current.new noted }
-    ensures start { slice_index labels.new start ≡ slice_index labels.old start }
-    ensures less { (v : ℕ) → slice_index labels.new v ≤ slice_index labels.old v }
-    ensures labelled { (v : ℕ) → slice_index labels.new v ≢ no_label → slice_index labels.old v ≢ no_label }
+    ensures lowered { AreLowered (residual_of links.now) (record { labels = near.old.labels; current = current.old })
+        (record { labels = near.new.labels; current = current.new }) }
+    ensures start { slice_index near.new.labels start ≡ slice_index near.old.labels start }
 {
     if ball.radius == 0 {
         return;
     }
-    let done = ball.around.done;
-    for back in 0..done {
-        let node = ball.around.queue[done - 1 - back];
+    let seen = ball.around.seen();
+    for back in 0..seen.len() {
+        let node = seen[seen.len() - 1 - back];
         if node != start {
-            lower_node(links, node, labels, current);
+            lower_node(links, node, near, current);
         }
     }
 }
 
 /// Lowers the label of this node, if it has one, as far as the labels of the nodes before it allow, and makes the links that fall to it
 /// then current again.
-fn lower_node(links: &Links, node: u32, labels: &mut [u32], current: &mut [u32])
+fn lower_node(links: &Links, node: u32, near: &mut Frontier, current: &mut [u32])
     requires node { IsNode links.now.table.value.nodes node }
-    requires whole { AreWhole (links_of links.now.table.value) labels.old links.now.rooms.items }
+    requires whole { AreWhole (links_of links.now.table.value) near.old.labels links.now.rooms.items }
     requires current { AreCurrent (links_of links.now.table.value) current.old }
-    ensures whole { AreWhole (links_of links.now.table.value) labels.new links.now.rooms.items }
-    ensures current { AreCurrent (links_of links.now.table.value) current.new }
-    ensures noted { (noted : List ℕ) → AreNoted (links_of links.now.table.value) labels.old links.now.rooms.items current.old noted
-        → AreNoted (links_of links.now.table.value) labels.new links.now.rooms.items current.new noted }
-    ensures others { (v : ℕ) → v ≢ node → slice_index labels.new v ≡ slice_index labels.old v }
-    ensures less { (v : ℕ) → slice_index labels.new v ≤ slice_index labels.old v }
-    ensures labelled { (v : ℕ) → slice_index labels.new v ≢ no_label → slice_index labels.old v ≢ no_label }
+    ensures lowered { AreLowered (residual_of links.now) (record { labels = near.old.labels; current = current.old })
+        (record { labels = near.new.labels; current = current.new }) }
+    ensures others { (v : ℕ) → v ≢ node → slice_index near.new.labels v ≡ slice_index near.old.labels v }
 {
-    let label = top_before(links, node, labels).saturating_sub(1);
-    if labels[node as usize] == NO_LABEL || label >= labels[node as usize] {
+    let label = top_before(links, node, near.labels()).saturating_sub(1);
+    let own = near.label(node);
+    if own == NO_LABEL || label >= own {
         return;
     }
-    labels[node as usize] = label;
-    make_current(links, node, label + 1, labels, current);
+    near.set_label(node, label);
+    make_current(links, node, label + 1, near.labels(), current);
 }
 
 /// The greatest label of the nodes from which links with room lead to this node, or 0 if there are none. If one is greater than the

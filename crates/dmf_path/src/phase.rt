@@ -1,18 +1,15 @@
 //! The search for the next path: the walk goes on, or the nodes get new labels and it begins again.
-ghost use Rattle.std.specs.Prelude.{◌≡◌, ◌≢◌, ◌⊎◌, ℕ, List, true, false, []};
+ghost use Rattle.std.specs.Prelude.{◌≡◌, ◌≢◌, ℕ, List, true, false, []};
 ghost use Rattle.dmf_node.specs.Node.{IsNode};
 ghost use Rattle.dmf_links.specs.LinkTable.{links_of};
-ghost use Rattle.dmf_path.specs.Ball.{IsAround, IsFit};
-ghost use Rattle.dmf_path.specs.Going.{Goes};
+ghost use Rattle.dmf_path.specs.Going.{Goes, IsAimedAnew, Keeps};
 ghost use Rattle.dmf_path.specs.Walk.{IsWalk};
 ghost use Rattle.dmf_path.specs.Held.{way_of, with_slots};
 ghost use Rattle.dmf_path.specs.Residual.{residual_of, told};
-ghost use Rattle.dmf_path.specs.Searching.{labelling_of, sought, AreReady, IsSearching, IsFound, IsFresh, IsReady, IsSeparated, fresh_labels};
-ghost use Rattle.dmf_path.specs.Searching.{AreAside, AreKept, IsMarked, MayLast};
+ghost use Rattle.dmf_path.specs.Searching.{labelling_of, sought, AreAside, AreReady, IsSearching, IsFound, IsFresh, IsReady, IsSeparated, fresh_labels};
 
 use crate::aside::{Aside, Ends, take_up};
 use crate::ball::Ball;
-use crate::frontier::unlabel;
 use crate::levels::{Levels, set_current};
 use crate::push::Links;
 use crate::redirect::{redirect, refit};
@@ -24,14 +21,8 @@ use dmf_links::LinkTable;
 /// Finds the least path from the start to the goal: goes on with the walk, and if none is left, lowers labels near the goal or labels the
 /// nodes anew, and walks again.
 pub fn find(links: &mut Links, levels: &mut Levels, ball: &mut Ball, trail: &mut Trail) -> bool
-    requires searching { IsSearching (residual_of links.old) (labelling_of levels.old) (way_of trail.old) }
-    requires ready { AreReady levels.old }
-    requires lasting { MayLast levels.old (told (residual_of links.old) (way_of trail.old)) }
-    requires fit { IsFit ball.old (told (residual_of links.old) (way_of trail.old)) }
-    ensures searching { IsSearching (residual_of links.new) (labelling_of levels.new) (way_of trail.new) }
-    ensures ready { AreReady levels.new }
-    ensures lasting { MayLast levels.new (told (residual_of links.new) (way_of trail.new)) }
-    ensures fit { IsFit ball.new (told (residual_of links.new) (way_of trail.new)) }
+    requires keeps { Keeps links.old levels.old ball.old trail.old }
+    ensures keeps { Keeps links.new levels.new ball.new trail.new }
     ensures same { sought (residual_of links.new) (way_of trail.new) ≡ sought (residual_of links.old) (way_of trail.old) }
     ensures found { result ≡ true → IsFound (residual_of links.new) (way_of trail.new) }
     ensures none { result ≡ false → IsSeparated (links_of links.old.table.value)
@@ -77,12 +68,12 @@ fn go_on(links: &mut Links, levels: &mut Levels, ball: &Ball, trail: &mut Trail)
     ensures goes { Goes links.new levels.new ball.now trail.new }
     ensures same { sought (residual_of links.new) (way_of trail.new) ≡ sought (residual_of links.old) (way_of trail.old) }
     ensures found { result ≡ true → IsFound (residual_of links.new) (way_of trail.new) }
-    ensures none { result ≡ false → (ps : List ℕ) → ¬ IsWalk (residual_of links.old).links levels.old.near.labels.items
+    ensures none { result ≡ false → (ps : List ℕ) → ¬ IsWalk (residual_of links.old).links levels.old.near.labels
         (told (residual_of links.old) (way_of trail.old)).rooms trail.old.goal trail.old.start ps }
 {
     walk(
         links,
-        &levels.near.labels,
+        levels.near.labels(),
         &mut levels.current,
         ball,
         trail,
@@ -101,40 +92,34 @@ fn mend(links: &Links, levels: &mut Levels, ball: &mut Ball, trail: &mut Trail) 
     if !levels.all || !levels.from_start || levels.noted.lost {
         return false;
     }
-    let before = levels.near.labels[trail.goal as usize];
+    let before = levels.near.label(trail.goal);
     refit(links, levels, ball, trail.start, trail.goal);
-    let start_label = levels.near.labels[trail.start as usize];
-    let goal_label = levels.near.labels[trail.goal as usize];
+    let start_label = levels.near.label(trail.start);
+    let goal_label = levels.near.label(trail.goal);
     trail.free(start_label - goal_label);
     goal_label < before
 }
 
 /// Labels the nodes anew, and frees the slots; no push is held. Returns whether the start has a label, so that a path is left.
 fn relabel(links: &Links, levels: &mut Levels, ball: &mut Ball, trail: &mut Trail) -> bool
-    requires searching { IsSearching (residual_of links.now) (labelling_of levels.old) (way_of trail.old) }
-    requires ready { AreReady levels.old }
-    requires fit { IsFit ball.old (residual_of links.now) }
-    requires around { IsAround ball.old trail.old.goal }
-    ensures searching { IsSearching (residual_of links.now) (labelling_of levels.new) (way_of trail.new) }
-    ensures ready { AreReady levels.new }
-    ensures lasting { MayLast levels.new (residual_of links.now) }
-    ensures fit { IsFit ball.new (residual_of links.now) }
-    ensures around { IsAround ball.new trail.new.goal }
-    ensures way { way_of trail.new ≡ with_slots (way_of trail.old) trail.new.slots.items }
-    ensures labelled { result ≡ true → (ps : List ℕ) × IsWalk (links_of links.now.table.value) levels.new.near.labels.items links.now.rooms.items
+    requires goes { Goes links.now levels.old ball.old trail.old }
+    requires settled { told (residual_of links.now) (way_of trail.old) ≡ residual_of links.now }
+    ensures goes { Goes links.now levels.new ball.new trail.new }
+    ensures same { sought (residual_of links.now) (way_of trail.new) ≡ sought (residual_of links.now) (way_of trail.old) }
+    ensures labelled { result ≡ true → (ps : List ℕ) × IsWalk (links_of links.now.table.value) levels.new.near.labels links.now.rooms.items
         trail.old.goal trail.old.start ps }
     ensures none { result ≡ false → IsSeparated (links_of links.now.table.value) links.now.rooms.items trail.old.start trail.old.goal }
 {
-    unlabel(&mut levels.near);
+    levels.near.unlabel();
     if !label_anew(links, levels, trail.start, trail.goal) {
         make_fresh(&links.table, levels, trail);
         return false;
     }
-    set_current(&links.table, &levels.near.queue, &mut levels.current);
+    set_current(&links.table, levels.near.queue(), &mut levels.current);
     levels.noted.clear();
     ball.renew(links, trail.goal, levels.all && levels.from_start);
-    let start_label = levels.near.labels[trail.start as usize];
-    let goal_label = levels.near.labels[trail.goal as usize];
+    let start_label = levels.near.label(trail.start);
+    let goal_label = levels.near.label(trail.goal);
     trail.free(start_label - goal_label);
     true
 }
@@ -146,7 +131,7 @@ pub fn begin_anew(links: &mut Links, levels: &mut Levels, trail: &mut Trail)
     requires ready { AreReady levels.old }
     ensures searching { IsSearching (residual_of links.new) (labelling_of levels.new) (way_of trail.new) }
     ensures ready { AreReady levels.new }
-    ensures fresh { IsFresh (links_of links.new.table.value) levels.new.near.labels.items trail.new.start }
+    ensures fresh { IsFresh (links_of links.new.table.value) levels.new.near.labels trail.new.start }
     ensures all { levels.new.all ≡ false }
     ensures same { sought (residual_of links.new) (way_of trail.new) ≡ sought (residual_of links.old) (way_of trail.old) }
 {
@@ -165,20 +150,12 @@ pub fn aim(
     trail: &mut Trail,
     ends: Ends,
 ) -> bool
-    requires searching { IsSearching (residual_of links.old) (labelling_of levels.old) (way_of trail.old) }
-    requires ready { AreReady levels.old }
-    requires lasting { MayLast levels.old (told (residual_of links.old) (way_of trail.old)) }
+    requires keeps { Keeps links.old levels.old ball.old trail.old }
     requires asides { AreAside asides.old (told (residual_of links.old) (way_of trail.old)) }
-    requires fit { IsFit ball.old (told (residual_of links.old) (way_of trail.old)) }
     requires start { IsNode links.old.table.value.nodes ends.start }
     requires goal { IsNode links.old.table.value.nodes ends.goal }
     requires apart { ends.start ≢ ends.goal }
-    ensures searching { IsSearching (residual_of links.new) (labelling_of levels.new) (way_of trail.new) }
-    ensures ready { AreReady levels.new }
-    ensures kept { AreKept levels.new result (told (residual_of links.new) (way_of trail.new)) }
-    ensures asides { AreAside asides.new (told (residual_of links.new) (way_of trail.new)) }
-    ensures fit { IsFit ball.new (told (residual_of links.new) (way_of trail.new)) }
-    ensures marked { IsMarked (links_of links.new.table.value) levels.new.near.labels.items trail.new.start result }
+    ensures aimed { IsAimedAnew links.new levels.new asides.new ball.new trail.new result }
     ensures same { sought (residual_of links.new) (way_of trail.new)
         ≡ record { residual = told (residual_of links.old) (way_of trail.old); start = ends.start; goal = ends.goal } }
 {
@@ -193,8 +170,8 @@ pub fn aim(
     trail.start = ends.start;
     trail.goal = ends.goal;
     if redirect(links, levels, ball, used.goal, ends.start, ends.goal) {
-        let start_label = levels.near.labels[ends.start as usize];
-        let goal_label = levels.near.labels[ends.goal as usize];
+        let start_label = levels.near.label(ends.start);
+        let goal_label = levels.near.label(ends.goal);
         trail.free(start_label - goal_label);
         return false;
     }
@@ -210,15 +187,11 @@ pub fn make_fresh(table: &LinkTable, levels: &mut Levels, trail: &mut Trail)
     requires goal { IsNode table.now.nodes trail.old.goal }
     ensures ready { IsReady table.now.nodes levels.new.near levels.new.far }
     ensures all { levels.new.all ≡ false }
-    ensures labels { levels.new.near.labels.items ≡ fresh_labels table.now.nodes trail.old.start trail.old.goal }
+    ensures labels { levels.new.near.labels ≡ fresh_labels table.now.nodes trail.old.start trail.old.goal }
     ensures current { levels.new.current ≡ levels.old.current }
     ensures way { way_of trail.new ≡ with_slots (way_of trail.old) [] }
 {
-    unlabel(&mut levels.near);
-    levels.near.labels[trail.start as usize] = 0;
-    levels.near.labels[trail.goal as usize] = 0;
-    levels.near.queue.push_reserved(trail.start);
-    levels.near.queue.push_reserved(trail.goal);
+    levels.near.label_ends(table.nodes, trail.start, trail.goal);
     levels.all = false;
     trail.free(0);
 }

@@ -8,7 +8,7 @@ ghost use Rattle.dmf_path.specs.Held.{way_of, filled_slots, HaveLeft};
 ghost use Rattle.dmf_path.specs.Residual.{residual_of, told};
 
 use crate::frontier::Frontier;
-use crate::label::{NO_LABEL, label_nodes};
+use crate::label::NO_LABEL;
 use crate::open::Roomy;
 use crate::push::Links;
 use crate::trail::Trail;
@@ -58,9 +58,8 @@ fn labels_over(
     ensures { IfOk result (λ labels. AreLabels (links_of table.now) (map open_flag rooms.now) root 0 labels.items) }
 {
     let mut frontier = Frontier::new(alloc, table.nodes)?;
-    let _looked = label_nodes(table, &Roomy(rooms), root, 0, &mut frontier);
-    let Frontier { labels, .. } = frontier;
-    Ok(labels)
+    frontier.label_from(table, &Roomy(rooms), root, 0);
+    Ok(frontier.into_labels())
 }
 
 /// Which nodes have a label. The first mark belongs to node 1.

@@ -21,7 +21,7 @@ pub fn release(links: &mut Links, levels: &Levels, trail: &mut Trail, place: u32
     ensures off { IsOff place (places_of (filled_slots (way_of trail.new))) }
     ensures room { slice_index (told (residual_of links.new) (way_of trail.new)).rooms place ≡ slice_index links.new.rooms.items place }
 {
-    if links.takes_back || falls(&links.table, &levels.near.labels, place) {
+    if links.takes_back || falls(&links.table, levels.near.labels(), place) {
         trail.settle(links);
     }
 }

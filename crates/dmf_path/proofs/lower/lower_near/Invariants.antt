@@ -1,18 +1,10 @@
-use Rattle.std.proofs.Common.{ℕ, ◌≡◌, ◌≢◌, ◌≤◌, List, get_or}
-use Rattle.dmf_links.specs.LinkTable.{links_of}
-use Rattle.dmf_path.specs.BothEnds.{AreWhole}
-use Rattle.dmf_path.specs.Labels.{no_label}
-use Rattle.dmf_path.specs.Searching.{AreNoted}
-use Rattle.dmf_path.specs.Walk.{AreCurrent}
+use Rattle.std.proofs.Common.{◌≡◌, slice_index}
+use Rattle.dmf_path.specs.Residual.{residual_of}
+use Rattle.dmf_path.specs.Searching.{AreLowered}
 use Rattle.dmf_path.proofs.lower.lower_near.Given as goal
 
 abbrev pub invariant-loop-back : goal.invariant-loop-back
 invariant-loop-back l = record {
-  whole : AreWhole (links_of l.links.table.value) l.labels l.links.rooms.items;
-  current : AreCurrent (links_of l.links.table.value) l.current;
-  noted : (noted : List ℕ) → AreNoted (links_of l.links.table.value) l.fn.labels l.links.rooms.items l.fn.current noted
-      → AreNoted (links_of l.links.table.value) l.labels l.links.rooms.items l.current noted;
-  start : get_or l.labels l.start 0 ≡ get_or l.fn.labels l.start 0;
-  less : (v : ℕ) → get_or l.labels v 0 ≤ get_or l.fn.labels v 0;
-  labelled : (v : ℕ) → get_or l.labels v 0 ≢ no_label → get_or l.fn.labels v 0 ≢ no_label;
+  lowered : AreLowered (residual_of l.links) (record { labels = l.fn.near.labels; current = l.fn.current }) (record { labels = l.near.labels; current = l.current });
+  start : slice_index l.near.labels l.start ≡ slice_index l.fn.near.labels l.start;
 }

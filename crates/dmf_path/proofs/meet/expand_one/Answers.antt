@@ -6,35 +6,29 @@ use Rattle.dmf_path.proofs.meet.expand_one.Goals as goal
 pub returns-then-waiting_links : goal.returns-then-waiting_links
 returns-then-waiting_links c =
     let n = c.requires.nearing in
-    let root = c.expand_level.ensures.root in
-    let e = rw (c.deref-then-waiting_links.ensures, c.deref-then-waiting_links-2.ensures.value, c.deref-then-waiting_links-3.ensures.value, root)
-    at c.expand_level.ensures in
+    let e = rw (c.deref-then-waiting_links.ensures, c.deref-then-waiting_links-2.ensures.value, c.labels.ensures) at c.expand_level.ensures in
     record {
       on = record {
         goal_side = n.goal_side;
         start_side = e.so_far;
         met = λ v is.
-            let met = e.met v is in
-            has-met_start c.args.links.now c.args.to_goal.now c.args.from_start.now n c.requires.goal_ahead c.requires.start_ahead e.levels e.beyond
-            met.0 met.1 met.2;
+            let met = e.both v is in
+            has-met_start c.args.links.now c.args.to_goal.now c.args.from_start.now n c.requires.goal_ahead c.requires.start_ahead (rw e.root at e.levels)
+            e.beyond met.0 met.1 met.2;
         goal_root = refl;
-        start_root = root;
-        goal_capacity = refl;
-        start_capacity = e.capacity;
+        start_root = e.root;
       };
       nearing = λ none. record {
         goal = n.goal;
-        start = rw root n.start;
+        start = rw e.root n.start;
         goal_side = n.goal_side;
-        start_side = rw root e.so_far;
+        start_side = e.so_far;
         goal_rest = n.goal_rest;
         start_rest = e.at_rest none;
         apart = λ v within. elim (e.apart none v (omega (arith, within, n.goal_side.one_each, e.so_far.one_each))) [
           | inl here ↦ inr here
           | inr there ↦ inl there
         ];
-        goal_capacity = n.goal_capacity;
-        start_capacity = omega (arith, e.capacity, n.start_capacity);
       };
       further = λ none. omega (arith, e.further none);
     }
@@ -42,31 +36,26 @@ returns-then-waiting_links c =
 pub returns : goal.returns
 returns c =
     let n = c.requires.nearing in
-    let root = c.expand_level-2.ensures.root in
-    let e = rw (c.deref-3.ensures, c.deref-4.ensures.value, c.deref-5.ensures.value, root) at c.expand_level-2.ensures in
+    let e = rw (c.deref-3.ensures, c.deref-4.ensures.value, c.labels-2.ensures) at c.expand_level-2.ensures in
     record {
       on = record {
         goal_side = e.so_far;
         start_side = n.start_side;
         met = λ v is.
-            let met = e.met v is in
-            has-met_goal c.args.links.now c.args.to_goal.now c.args.from_start.now n c.requires.goal_ahead c.requires.start_ahead e.levels e.beyond
-            met.0 met.1 met.2;
-        goal_root = root;
+            let met = e.both v is in
+            has-met_goal c.args.links.now c.args.to_goal.now c.args.from_start.now n c.requires.goal_ahead c.requires.start_ahead (rw e.root at e.levels)
+            e.beyond met.0 met.1 met.2;
+        goal_root = e.root;
         start_root = refl;
-        goal_capacity = e.capacity;
-        start_capacity = refl;
       };
       nearing = λ none. record {
-        goal = rw root n.goal;
+        goal = rw e.root n.goal;
         start = n.start;
-        goal_side = rw root e.so_far;
+        goal_side = e.so_far;
         start_side = n.start_side;
         goal_rest = e.at_rest none;
         start_rest = n.start_rest;
         apart = e.apart none;
-        goal_capacity = omega (arith, e.capacity, n.goal_capacity);
-        start_capacity = n.start_capacity;
       };
       further = λ none. omega (arith, e.further none);
     }

@@ -1,6 +1,5 @@
 -- All links leave. The labels that fit are taken up, and made to lead to the goal, or taken off.
 use Rattle.std.proofs.Common.{ℕ, ◌≡◌, ◌+◌, ◌≤◌, true, length, get_or, [], refl, ap, sym, ◌∙◌, subst, arith, inl, inr}
-use Rattle.std.proofs.lemmas.List.{get_or_default}
 use Rattle.dmf_node.specs.Node.{IsNode}
 use Rattle.dmf_path.specs.declared.levels.Levels.{Levels}
 use Rattle.dmf_path.specs.Labels.{no_label}
@@ -14,14 +13,14 @@ use Rattle.dmf_path.proofs.Labelled.{sound-below, sound-whole}
 use Rattle.dmf_path.proofs.Settling.{can-settle}
 use Rattle.dmf_path.proofs.SearchTurns.{plainly, searching-settled, searching-free, searching-anew, sought-free, told-settled}
 use Rattle.dmf_path.proofs.phase.aim.Goals as goal
-use Rattle.dmf_path.proofs.phase.aim.Goals.{After-settle, After-take_up-used, After-redirect, After-index-goal_label}
+use Rattle.dmf_path.proofs.phase.aim.Goals.{After-settle, After-take_up-used, After-redirect, After-label-goal_label}
 
 pub settle-requires : goal.settle-requires
-settle-requires c = record { can = can-settle c.requires.searching }
+settle-requires c = record { can = can-settle c.requires.keeps.searching }
 
 -- After all links have left, the search goes on.
 settled : (c : After-settle) → IsSearching (residual_of c.settle.new.links) (labelling_of c.args.levels.now) (way_of c.settle.new.self)
-settled c = searching-settled c.requires.searching c.settle.ensures.links c.settle.ensures.way
+settled c = searching-settled c.requires.keeps.searching c.settle.ensures.links c.settle.ensures.way
 
 -- The links are the same as before.
 node : (c : After-settle) (v : ℕ) → IsNode c.args.links.now.table.value.nodes v → IsNode c.settle.new.links.table.value.nodes v
@@ -38,11 +37,11 @@ in_use c =
     let v = labelling_of levels in
     record {
       ready = subst (λ (x : Residual). IsReady x.links.nodes levels.near levels.far) (sym e.links)
-          (ready-at c.args.links.now.table.value.nodes levels c.requires.ready c.requires.searching.aimed.one_label_each);
+          (ready-at c.args.links.now.table.value.nodes levels c.requires.keeps.ready c.requires.keeps.searching.aimed.one_label_each);
       goal_is = is.aimed.goal_is;
       current_is = is.under_way.walking.current_is;
       kept = λ all. record {
-        lasting = subst (AreLasting v levels.noted) (sym e.links) (c.requires.lasting all);
+        lasting = subst (AreLasting v levels.noted) (sym e.links) (c.requires.keeps.lasting all);
         current_is = is.under_way.walking.current_is;
         passed = subst (λ (x : Residual). ArePassed next.links v.labels x.rooms mid.goal v.current)
             (told-settled (way_of c.args.trail.now) next e.way) is.under_way.walking.passed;
@@ -60,9 +59,8 @@ redirect-requires c =
     let at = (goal.at.redirect-requires c).After-settle in
     let usable = (taken (goal.at.redirect-requires c).After-take_up-used).0 in
     record {
-      ready = usable.ready;
-      kept = usable.kept;
-      fit = subst (IsFit c.args.ball.now) (sym c.settle.ensures.links) c.requires.fit;
+      usable = record { ready = usable.ready; goal_is = usable.goal_is; current_is = usable.current_is; kept = usable.kept };
+      fit = subst (IsFit c.args.ball.now) (sym c.settle.ensures.links) c.requires.keeps.fit;
       start = node at c.args.ends.start c.requires.start;
       goal = node at c.args.ends.goal c.requires.goal;
     }
@@ -70,39 +68,30 @@ redirect-requires c =
 -- The labels lead to the goal, and the start has a small one.
 kept : (c : After-redirect) → c.redirect.result ≡ true
     → AreKeptFor (labelling_of c.redirect.new.levels) c.redirect.new.levels.noted (residual_of c.settle.new.links) c.args.ends.goal
-    × (get_or c.redirect.new.levels.near.labels.items c.args.ends.start 0 ≤ c.settle.new.links.table.value.nodes)
+    × (get_or c.redirect.new.levels.near.labels c.args.ends.start 0 ≤ c.settle.new.links.table.value.nodes)
 kept c can =
-    let k = c.redirect.ensures.kept can in (
+    let k = (c.redirect.ensures.redirected can).kept in (
       k,
       elim (k.lasting.whole.small.1 c.args.ends.start (node (goal.at.After-redirect c).After-settle c.args.ends.start c.requires.start)) [
-        | inl none ↦ absurd (c.redirect.ensures.labelled can none)
+        | inl none ↦ absurd ((c.redirect.ensures.redirected can).labelled none)
         | inr small ↦ small
       ],
     )
 
 -- the labels of the start and of the goal are read
-read : (c : After-index-goal_label) → c.redirect.result ≡ true
-    → (c.index-start_label.result.now ≡ get_or c.redirect.new.levels.near.labels.items c.args.ends.start 0)
-    × (c.index-goal_label.result.now ≡ get_or c.redirect.new.levels.near.labels.items c.args.ends.goal 0)
-read c can =
-    let k = c.redirect.ensures.kept can in
-    let labels = c.redirect.new.levels.near.labels.items in
-    let at = (goal.at.After-index-goal_label c).After-settle in
-    let long = k.lasting.whole.small.0 in (
-      c.index-start_label.ensures ∙ sym (get_or_default labels c.args.ends.start 0 _
-          (omega (arith, long, (node at c.args.ends.start c.requires.start).to_last))),
-      c.index-goal_label.ensures ∙ sym (get_or_default labels c.args.ends.goal 0 _ (omega (arith, long, (node at c.args.ends.goal c.requires.goal).to_last))),
-    )
+read : (c : After-label-goal_label) → (c.label-start_label.result ≡ get_or c.redirect.new.levels.near.labels c.args.ends.start 0)
+    × (c.label-goal_label.result ≡ get_or c.redirect.new.levels.near.labels c.args.ends.goal 0)
+read c = (c.label-start_label.ensures, c.label-goal_label.ensures)
 
 pub overflow_sub-start_label : goal.overflow_sub-start_label
 overflow_sub-start_label c =
-    omega (arith, read (goal.at.overflow_sub-start_label c).After-index-goal_label c.if-redirect.true, c.redirect.ensures.above c.if-redirect.true)
+    omega (arith, read (goal.at.overflow_sub-start_label c).After-label-goal_label, (c.redirect.ensures.redirected c.if-redirect.true).above)
 
 pub free-requires : goal.free-requires
 free-requires c =
     let at = goal.at.free-requires c in
     let both = kept at.After-redirect c.if-redirect.true in
-    let read = (read at.After-index-goal_label c.if-redirect.true).0 in
+    let read = (read at.After-label-goal_label).0 in
     record { capacity = omega (arith, read, both.1, (settled at.After-settle).aimed.capacity_is) }
 
 pub returns-then-redirect : goal.returns-then-redirect
@@ -132,19 +121,21 @@ returns-then-redirect c =
     omega (
       arith,
       c.free.ensures.count,
-      read (goal.at.returns-then-redirect c).After-index-goal_label c.if-redirect.true,
-      c.redirect.ensures.above c.if-redirect.true,
+      read (goal.at.returns-then-redirect c).After-label-goal_label,
+      (c.redirect.ensures.redirected c.if-redirect.true).above,
     ) in
     let searching = searching-free next v w slots aimed c.settle.new.links.rooms_are is.holding.small k.current_is k.passed count in
     let same = sought-free next w slots c.free.ensures.way in
     record {
-      searching = rw c.free.ensures.way searching;
-      ready = (c.settle.new.links.table.value.nodes, c.redirect.ensures.ready);
-      kept = λ all. (refl, subst (AreLasting v levels.noted) (sym (ap (λ (s : Sought). s.residual) same)) k.lasting);
-      asides = subst (AreAside c.take_up-used.new.asides) (sym (ap (λ (x : Sought). x.residual) same))
-          (taken (goal.at.returns-then-redirect c).After-take_up-used).1;
-      fit = subst (IsFit c.redirect.new.ball) (sym (ap (λ (x : Sought). x.residual) same)) c.redirect.ensures.fit;
-      marked = begun refl;
+      aimed = record {
+        searching = rw c.free.ensures.way searching;
+        ready = (c.settle.new.links.table.value.nodes, c.redirect.ensures.ready);
+        kept = λ all. (refl, subst (AreLasting v levels.noted) (sym (ap (λ (s : Sought). s.residual) same)) k.lasting);
+        asides_are = subst (AreAside c.take_up-used.new.asides) (sym (ap (λ (x : Sought). x.residual) same))
+            (taken (goal.at.returns-then-redirect c).After-take_up-used).1;
+        fit = subst (IsFit c.redirect.new.ball) (sym (ap (λ (x : Sought). x.residual) same)) c.redirect.ensures.fit;
+        marked = begun refl;
+      };
       same = same ∙ ap (λ (x : Residual). record { residual = x; start = c.args.ends.start; goal = c.args.ends.goal }) e.links;
     }
 
@@ -169,12 +160,14 @@ returns c =
     (node at c.args.ends.goal c.requires.goal) c.requires.apart m.labels (subst (AreCurrent next.links) (sym current) up.0.current_is) m.way in
     let same = sought-free next (record mid { start = c.args.ends.start; goal = c.args.ends.goal }) [] m.way in
     record {
-      searching = anew.0;
-      ready = (c.settle.new.links.table.value.nodes, m.ready);
-      kept = λ all. let no = m.all in absurd (cc);
-      asides = subst (AreAside c.take_up-used.new.asides) (sym (ap (λ (x : Sought). x.residual) same)) up.1;
-      fit = subst (IsFit c.redirect.new.ball) (sym (ap (λ (x : Sought). x.residual) same)) c.redirect.ensures.fit;
-      marked = fresh anew.1;
+      aimed = record {
+        searching = anew.0;
+        ready = (c.settle.new.links.table.value.nodes, m.ready);
+        kept = λ all. let no = m.all in absurd (cc);
+        asides_are = subst (AreAside c.take_up-used.new.asides) (sym (ap (λ (x : Sought). x.residual) same)) up.1;
+        fit = subst (IsFit c.redirect.new.ball) (sym (ap (λ (x : Sought). x.residual) same)) c.redirect.ensures.fit;
+        marked = fresh anew.1;
+      };
       same = same
           ∙ ap (λ (x : Residual). record { residual = x; start = c.args.ends.start; goal = c.args.ends.goal }) c.settle.ensures.links;
     }

@@ -6,10 +6,10 @@ use Rattle.dmf_path.proofs.phase.find.Goals as goal
 pub go_on-requires : goal.go_on-requires
 go_on-requires c = record {
   goes = record {
-    searching = c.requires.searching;
-    ready = c.requires.ready;
-    lasting = c.requires.lasting;
-    fit = c.keep_for.ensures.fit _ c.requires.fit;
+    searching = c.requires.keeps.searching;
+    ready = c.requires.keeps.ready;
+    lasting = c.requires.keeps.lasting;
+    fit = c.keep_for.ensures.fit _ c.requires.keeps.fit;
     around = c.keep_for.ensures.around;
   };
 }

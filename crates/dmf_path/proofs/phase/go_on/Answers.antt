@@ -11,7 +11,7 @@ pub walk-requires : goal.walk-requires
 walk-requires c =
     let is = c.requires.goes in
     record {
-      searching = rw (c.deref.ensures.value, c.deref_mut.ensures.value) is.searching;
+      searching = rw (c.labels.ensures, c.deref_mut.ensures.value) is.searching;
       fit = is.fit;
       around = is.around;
     }
@@ -21,9 +21,9 @@ returns-clause-goes c =
     let is = c.requires.goes in
     let e = c.walk.ensures in
     let current = with_items_is c.args.levels.now.current c.walk.new.current (c.walk.auto.current ∙ c.deref_mut.ensures.len) in
-    let skipped = rw (c.deref.ensures.value, c.deref_mut.ensures.value) at e.skipped in
+    let skipped = rw (c.labels.ensures, c.deref_mut.ensures.value) at e.skipped in
     record {
-      searching = rw current (rw c.deref.ensures.value at e.searching);
+      searching = rw current (rw c.labels.ensures at e.searching);
       ready = is.ready;
       lasting = λ all.
           let was = is.lasting all in
@@ -33,4 +33,4 @@ returns-clause-goes c =
     }
 
 pub returns-clause-none : goal.returns-clause-none
-returns-clause-none c false_is ps = (rw c.deref.ensures.value at (c.walk.ensures.none false_is)) ps
+returns-clause-none c false_is ps = (rw c.labels.ensures at (c.walk.ensures.none false_is)) ps

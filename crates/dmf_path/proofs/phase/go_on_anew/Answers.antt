@@ -1,14 +1,13 @@
 -- All links leave before the nodes get new labels.
 use Rattle.std.proofs.Common.{◌≡◌, sym, subst, ◌∙◌}
-use Rattle.dmf_path.specs.Ball.{IsFit}
 use Rattle.dmf_path.specs.Going.{Goes}
 use Rattle.dmf_path.specs.Held.{way_of}
 use Rattle.dmf_path.specs.Residual.{residual_of}
-use Rattle.dmf_path.specs.Searching.{labelling_of, AreLasting, Sought, sought, IsSeparated}
+use Rattle.dmf_path.specs.Searching.{Sought, sought, IsSeparated}
 use Rattle.dmf_path.specs.Walk.{IsWalk}
 use Rattle.dmf_path.proofs.Going.{goes-settled}
 use Rattle.dmf_path.proofs.Settling.{can-settle}
-use Rattle.dmf_path.proofs.SearchTurns.{plainly, plainly-settled, sought-free, told-settled}
+use Rattle.dmf_path.proofs.SearchTurns.{plainly, sought-settled, told-settled}
 use Rattle.dmf_path.proofs.phase.go_on_anew.Goals as goal
 use Rattle.dmf_path.proofs.phase.go_on_anew.Goals.{After-settle, After-relabel}
 
@@ -20,59 +19,42 @@ settled : (c : After-settle) → Goes c.settle.new.links c.args.levels.now c.arg
 settled c = goes-settled c.requires.goes c.settle.ensures.links c.settle.ensures.way
 
 pub relabel-requires : goal.relabel-requires
-relabel-requires c =
-    let is = settled (goal.at.relabel-requires c).After-settle in
-    let told = told-settled (way_of c.args.trail.now) (residual_of c.settle.new.links) c.settle.ensures.way in
-    record { searching = is.searching; ready = is.ready; fit = subst (IsFit c.args.ball.now) told is.fit; around = is.around }
+relabel-requires c = record {
+  goes = settled (goal.at.relabel-requires c).After-settle;
+  settled = told-settled (way_of c.args.trail.now) (residual_of c.settle.new.links) c.settle.ensures.way;
+}
 
--- The network and the ends are the same,
-plain : (c : After-relabel) → plainly (residual_of c.settle.new.links) (way_of c.settle.new.self) ≡ sought (residual_of c.args.links.now)
+-- The network and the ends are the same after that, and after the nodes get new labels.
+plain : (c : After-relabel) → sought (residual_of c.settle.new.links) (way_of c.relabel.new.trail) ≡ sought (residual_of c.args.links.now)
     (way_of c.args.trail.now)
-plain c = plainly-settled (residual_of c.args.links.now) (way_of c.args.trail.now) c.settle.ensures.links c.settle.ensures.way
+plain c = c.relabel.ensures.same
+    ∙ sought-settled (residual_of c.args.links.now) (way_of c.args.trail.now) c.settle.ensures.links c.settle.ensures.way
 
--- and so they are after the nodes get new labels.
+-- The rooms that the labels fit are those of this network.
 free : (c : After-relabel) → sought (residual_of c.settle.new.links) (way_of c.relabel.new.trail) ≡ plainly (residual_of c.settle.new.links)
     (way_of c.settle.new.self)
-free c = sought-free (residual_of c.settle.new.links) (way_of c.settle.new.self) c.relabel.new.trail.slots.items c.relabel.ensures.way
-
--- The search goes on with these.
-goes : (c : After-relabel) → Goes c.settle.new.links c.relabel.new.levels c.relabel.new.ball c.relabel.new.trail
-goes c =
-    let e = c.relabel.ensures in
-    let levels = c.relabel.new.levels in
-    record {
-      searching = e.searching;
-      ready = e.ready;
-      lasting = λ all. subst (λ (s : Sought). AreLasting (labelling_of levels) levels.noted s.residual) (sym (free c)) (e.lasting all);
-      fit = subst (λ (s : Sought). IsFit c.relabel.new.ball s.residual) (sym (free c)) e.fit;
-      around = e.around;
-    }
+free c = c.relabel.ensures.same
+    ∙ (λ i. plainly (told-settled (way_of c.args.trail.now) (residual_of c.settle.new.links) c.settle.ensures.way i) (way_of c.settle.new.self))
 
 pub go_on-requires : goal.go_on-requires
-go_on-requires c = record { goes = goes (goal.at.go_on-requires c).After-relabel }
+go_on-requires c = record { goes = c.relabel.ensures.goes }
 
 pub returns-then-relabel-clause-same : goal.returns-then-relabel-clause-same
-returns-then-relabel-clause-same c =
-    let at = (goal.at.returns-then-relabel-clause-same c).After-relabel in
-    c.go_on.ensures.same ∙ free at ∙ plain at
+returns-then-relabel-clause-same c = c.go_on.ensures.same ∙ plain (goal.at.returns-then-relabel-clause-same c).After-relabel
 
 pub returns-then-relabel-clause-none : goal.returns-then-relabel-clause-none
 returns-then-relabel-clause-none c =
     let at = (goal.at.returns-then-relabel-clause-none c).After-relabel in
     let found = c.relabel.ensures.labelled c.if-relabel.true in
-    let walk = subst (λ (s : Sought). IsWalk s.residual.links c.relabel.new.levels.near.labels.items s.residual.rooms s.goal s.start found.0)
+    let walk = subst (λ (s : Sought). IsWalk s.residual.links c.relabel.new.levels.near.labels s.residual.rooms s.goal s.start found.0)
     (sym (free at)) found.1 in
     λ ended. absurd (c.go_on.ensures.none ended found.0 walk)
 
-pub returns-else-relabel-clause-goes : goal.returns-else-relabel-clause-goes
-returns-else-relabel-clause-goes c = goes (goal.at.returns-else-relabel-clause-goes c).After-relabel
-
 pub returns-else-relabel-clause-same : goal.returns-else-relabel-clause-same
-returns-else-relabel-clause-same c =
-    let at = (goal.at.returns-else-relabel-clause-same c).After-relabel in
-    free at ∙ plain at
+returns-else-relabel-clause-same c = plain (goal.at.returns-else-relabel-clause-same c).After-relabel
 
 pub returns-else-relabel-clause-none : goal.returns-else-relabel-clause-none
 returns-else-relabel-clause-none c =
     let at = (goal.at.returns-else-relabel-clause-none c).After-relabel in
-    λ ended. subst (λ (s : Sought). IsSeparated s.residual.links s.residual.rooms s.start s.goal) (plain at) (c.relabel.ensures.none c.if-relabel.false)
+    λ ended. subst (λ (s : Sought). IsSeparated s.residual.links s.residual.rooms s.start s.goal) (sym (free at) ∙ plain at)
+    (c.relabel.ensures.none c.if-relabel.false)

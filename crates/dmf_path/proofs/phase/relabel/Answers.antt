@@ -1,31 +1,38 @@
 -- The labels, the current links and the slots fit together; or the search is fresh.
-use Rattle.std.proofs.Common.{◌≡◌, ◌≤◌, true, replicate, get_or, ap, sym, ◌∙◌, subst, arith}
-use Rattle.std.proofs.lemmas.List.{with_items_is, get_or_default}
+use Rattle.std.proofs.Common.{◌≡◌, ◌≤◌, true, List, [], replicate, get_or, ap, sym, ◌∙◌, subst, arith}
+use Rattle.std.proofs.lemmas.List.{with_items_is}
 use Rattle.dmf_links.specs.LinkTable.{links_of}
+use Rattle.dmf_path.specs.declared.trail.Slot.{Slot}
+use Rattle.dmf_path.specs.Ball.{IsFit}
 use Rattle.dmf_path.specs.Labels.{no_label}
+use Rattle.dmf_path.specs.Reach.{Reach}
 use Rattle.dmf_path.specs.Walk.{AreCurrent, AreSkipped}
 use Rattle.dmf_path.specs.Held.{Way, way_of, with_slots}
-use Rattle.dmf_path.specs.Residual.{residual_of}
-use Rattle.dmf_path.specs.Searching.{Labelling, labelling_of}
+use Rattle.dmf_path.specs.Residual.{residual_of, told}
+use Rattle.dmf_path.specs.Searching.{Labelling, labelling_of, sought, AreLasting}
 use Rattle.dmf_path.proofs.LeastTrail.{walk-path}
 use Rattle.dmf_path.proofs.Beginning.{first-queued, skipped-first, ready-at}
-use Rattle.dmf_path.proofs.SearchTurns.{aimed-with, searching-free, searching-anew}
+use Rattle.dmf_path.proofs.SearchTurns.{aimed-with, plainly, searching-free, searching-anew, sought-free}
+use Rattle.dmf_path.proofs.Settling.{told-free}
 use Rattle.dmf_path.proofs.phase.relabel.Goals as goal
-use Rattle.dmf_path.proofs.phase.relabel.Goals.{After-index-goal_label}
+use Rattle.dmf_path.proofs.phase.relabel.Goals.{Start, After-label-goal_label}
 
-pub unlabel-requires : goal.unlabel-requires
-unlabel-requires c = record { queued = c.requires.ready.1.queued }
+-- With other free slots the network and the ends are the same.
+same : (c : Start) {new : Way} (slots : List Slot) → new ≡ with_slots (way_of c.args.trail.now) slots
+    → (told (residual_of c.args.links.now) new ≡ residual_of c.args.links.now)
+    × (sought (residual_of c.args.links.now) new ≡ sought (residual_of c.args.links.now) (way_of c.args.trail.now))
+same c slots way =
+    let r = residual_of c.args.links.now in
+    let w = way_of c.args.trail.now in
+    (ap (told r) way ∙ told-free r w slots, sought-free r w slots way ∙ (λ i. plainly (sym c.requires.settled i) w))
 
 pub label_anew-requires : goal.label_anew-requires
 label_anew-requires c =
-    let a = c.requires.searching.aimed in
-    let is = ready-at c.args.links.now.table.value.nodes c.args.levels.now c.requires.ready a.one_label_each in
+    let a = c.requires.goes.searching.aimed in
+    let is = ready-at c.args.links.now.table.value.nodes c.args.levels.now c.requires.goes.ready a.one_label_each in
     record {
-      near_is = record {
-        labels_are = c.unlabel.ensures.labels ∙ ap (λ n. replicate n no_label) is.one_label_each;
-        capacity = omega (arith, c.unlabel.ensures.capacity, is.capacity);
-      };
-      far_is = is.idle;
+      near_is = ap (λ (f : Reach). f.labels) c.unlabel.ensures ∙ ap (λ n. replicate n no_label) is.one_label_each;
+      far_is = is.far_is;
       start_is = a.start_is;
       goal_is = a.goal_is;
       apart = a.apart;
@@ -33,108 +40,109 @@ label_anew-requires c =
 
 pub make_fresh-requires : goal.make_fresh-requires
 make_fresh-requires c = record {
-  ready = rw c.deref.ensures c.label_anew.ensures.ready;
-  start = rw c.deref.ensures c.requires.searching.aimed.start_is;
-  goal = rw c.deref.ensures c.requires.searching.aimed.goal_is;
+  ready = rw c.deref.ensures c.label_anew.ensures.relabelled.ready;
+  start = rw c.deref.ensures c.requires.goes.searching.aimed.start_is;
+  goal = rw c.deref.ensures c.requires.goes.searching.aimed.goal_is;
 }
 
 pub returns-then-not-label_anew : goal.returns-then-not-label_anew
 returns-then-not-label_anew c =
-    let a = c.requires.searching.aimed in
+    let a = c.requires.goes.searching.aimed in
     let m = rw c.deref.ensures at c.make_fresh.ensures in
     let w = way_of c.args.trail.now in
-    let current = subst (AreCurrent (links_of c.args.links.now.table.value)) (sym (ap (λ v. v.items) (m.current ∙ c.label_anew.ensures.current)))
-    c.requires.searching.under_way.walking.current_is in
-    let anew = searching-anew (labelling_of c.make_fresh.new.levels) c.requires.searching a.start_is a.goal_is a.apart m.labels current m.way in
+    let current = subst (AreCurrent (links_of c.args.links.now.table.value)) (sym (ap (λ v. v.items) (m.current ∙ c.label_anew.ensures.relabelled.current)))
+    c.requires.goes.searching.under_way.walking.current_is in
+    let still = same (goal.at.returns-then-not-label_anew c).Start [] m.way in
+    let anew = searching-anew (labelling_of c.make_fresh.new.levels) c.requires.goes.searching a.start_is a.goal_is a.apart m.labels current m.way in
     record {
-      searching = anew.0;
-      ready = (c.args.links.now.table.value.nodes, m.ready);
-      lasting = λ e. let no = m.all in absurd (cc);
-      fit = c.requires.fit;
-      around = λ some. c.requires.around some ∙ sym (ap (λ (u : Way). u.goal) m.way);
-      way = m.way ∙ ap (with_slots w) (sym (ap (λ (u : Way). u.slots) m.way));
+      goes = record {
+        searching = anew.0;
+        ready = (c.args.links.now.table.value.nodes, m.ready);
+        lasting = λ e. let no = m.all in absurd (cc);
+        fit = subst (IsFit c.args.ball.now) (c.requires.settled ∙ sym still.0) c.requires.goes.fit;
+        around = λ some. c.requires.goes.around some ∙ sym (ap (λ (u : Way). u.goal) m.way);
+      };
+      same = still.1;
       labelled = λ e. absurd (cc);
-      none = λ e. c.label_anew.ensures.none c.if-not-label_anew.true;
+      none = λ e. c.label_anew.ensures.relabelled.none c.if-not-label_anew.true;
     }
 
 pub set_current-requires : goal.set_current-requires
 set_current-requires c =
-    let is = c.label_anew.ensures.ready in
-    let same = ap (λ v. v.items) c.label_anew.ensures.current in
+    let is = c.label_anew.ensures.relabelled.ready in
+    let same = ap (λ v. v.items) c.label_anew.ensures.relabelled.current in
     record {
-      nodes = rw (c.deref-2.ensures, c.deref-3.ensures.value) (λ i before. omega (arith, is.queued.within i before, is.one_label_each));
+      nodes = rw (c.deref-2.ensures, c.queue.ensures.value) (λ i before. omega (arith, c.queue.ensures.queued.within i before, is.one_label_each));
       current = rw c.deref-2.ensures (subst (AreCurrent (links_of c.args.links.now.table.value)) (sym (c.deref_mut.ensures.value ∙ same))
-          c.requires.searching.under_way.walking.current_is);
+          c.requires.goes.searching.under_way.walking.current_is);
     }
 
 -- the labels of the start and of the goal are read
-read : (c : After-index-goal_label) → (c.index-start_label.result.now ≡ get_or c.label_anew.new.levels.near.labels.items c.args.trail.now.start 0)
-    × (c.index-goal_label.result.now ≡ get_or c.label_anew.new.levels.near.labels.items c.args.trail.now.goal 0)
-read c =
-    let labels = c.label_anew.new.levels.near.labels.items in
-    let long = c.label_anew.ensures.ready.one_label_each in
-    let a = c.requires.searching.aimed in (
-      c.index-start_label.ensures ∙ sym (get_or_default labels c.args.trail.now.start 0 _ (omega (arith, long, a.start_is.to_last))),
-      c.index-goal_label.ensures ∙ sym (get_or_default labels c.args.trail.now.goal 0 _ (omega (arith, long, a.goal_is.to_last))),
-    )
+read : (c : After-label-goal_label) → (c.label-start_label.result ≡ get_or c.label_anew.new.levels.near.labels c.args.trail.now.start 0)
+    × (c.label-goal_label.result ≡ get_or c.label_anew.new.levels.near.labels c.args.trail.now.goal 0)
+read c = (c.label-start_label.ensures, c.label-goal_label.ensures)
 
 -- The goal is not above the start.
-low : (c : After-index-goal_label) → c.label_anew.result ≡ true → c.index-goal_label.result.now ≤ c.index-start_label.result.now
+low : (c : After-label-goal_label) → c.label_anew.result ≡ true → c.label-goal_label.result ≤ c.label-start_label.result
 low c labelled =
-    let walk = (c.label_anew.ensures.labelled labelled).walk in
-    let long = walk-path (links_of c.args.links.now.table.value) c.args.links.now.rooms.items c.label_anew.new.levels.near.labels.items
+    let walk = (c.label_anew.ensures.relabelled.labelled labelled).walk in
+    let long = walk-path (links_of c.args.links.now.table.value) c.args.links.now.rooms.items c.label_anew.new.levels.near.labels
     c.args.trail.now.goal c.args.trail.now.start walk.0 walk.1 in
     omega (arith, read c, long.1)
 
 pub overflow_sub-start_label : goal.overflow_sub-start_label
-overflow_sub-start_label c = low (goal.at.overflow_sub-start_label c).After-index-goal_label c.if-not-label_anew.false
+overflow_sub-start_label c = low (goal.at.overflow_sub-start_label c).After-label-goal_label c.if-not-label_anew.false
 
 pub free-requires : goal.free-requires
 free-requires c =
-    let labelled = c.label_anew.ensures.labelled c.if-not-label_anew.false in
-    let read = (read (goal.at.free-requires c).After-index-goal_label).0 in
-    record { capacity = omega (arith, read, labelled.start_label, c.requires.searching.aimed.capacity_is) }
+    let labelled = c.label_anew.ensures.relabelled.labelled c.if-not-label_anew.false in
+    let read = (read (goal.at.free-requires c).After-label-goal_label).0 in
+    record { capacity = omega (arith, read, labelled.start_label, c.requires.goes.searching.aimed.capacity_is) }
 
 pub returns : goal.returns
 returns c =
-    let a = c.requires.searching.aimed in
+    let a = c.requires.goes.searching.aimed in
     let links = c.args.links.now in
     let l = links_of links.table.value in
     let w = way_of c.args.trail.now in
     let levels = c.label_anew.new.levels in
-    let is = c.label_anew.ensures.ready in
-    let labelled = c.label_anew.ensures.labelled c.if-not-label_anew.false in
+    let is = c.label_anew.ensures.relabelled.ready in
+    let labelled = c.label_anew.ensures.relabelled.labelled c.if-not-label_anew.false in
     let slots = c.free.new.self.slots.items in
     let current = with_items_is levels.current c.set_current.new.current (c.set_current.auto.current ∙ c.deref_mut.ensures.len) in
-    let first = first-queued l levels.near.labels.items levels.near.queue.items c.set_current.new.current is.one_label_each is.queued
-    (rw (c.deref-2.ensures, c.deref-3.ensures.value) at c.set_current.ensures.first) in
-    let skipped : AreSkipped l levels.near.labels.items links.rooms.items c.set_current.new.current = skipped-first l levels.near.labels.items links.rooms.items c.set_current.new.current a.links labelled.sound.small first in
+    let first = first-queued l levels.near.labels levels.near.queue c.set_current.new.current is.one_label_each c.queue.ensures.queued
+    (rw (c.deref-2.ensures, c.queue.ensures.value) at c.set_current.ensures.first) in
+    let skipped : AreSkipped l levels.near.labels links.rooms.items c.set_current.new.current = skipped-first l levels.near.labels links.rooms.items c.set_current.new.current a.links labelled.sound.small first in
     let aimed = aimed-with (residual_of links) w a labelled.start_label labelled.sound in
-    let v : Labelling = record { labels = levels.near.labels.items; current = c.set_current.new.current } in
-    let searching = searching-free (residual_of links) v w slots aimed links.rooms_are c.requires.searching.holding.small
+    let v : Labelling = record { labels = levels.near.labels; current = c.set_current.new.current } in
+    let searching = searching-free (residual_of links) v w slots aimed links.rooms_are c.requires.goes.searching.holding.small
     (rw c.deref-2.ensures at c.set_current.ensures.current)
     (λ v p ps node lies before walk. skipped v p node lies before walk.0)
     (omega (
       arith,
       c.free.ensures.count,
-      read (goal.at.returns c).After-index-goal_label,
-      low (goal.at.returns c).After-index-goal_label
+      read (goal.at.returns c).After-label-goal_label,
+      low (goal.at.returns c).After-label-goal_label
           c.if-not-label_anew.false,
     )) in
+    let still = same (goal.at.returns c).Start slots c.free.ensures.way in
+    let lasting : levels.all ≡ true → AreLasting v c.clear.new.self (residual_of links) = λ all. record {
+      whole = c.label_anew.ensures.whole c.if-not-label_anew.false all;
+      skipped = λ known. rw c.clear.ensures.none
+          (record { within = λ i x none. absurd (omega (arith, none)); each = λ v p node lies before can. absurd (skipped v p node lies before can) });
+    } in
     record {
-      searching = rw (current, c.free.ensures.way) searching;
-      ready = (links.table.value.nodes, is);
-      lasting = λ all. record {
-        whole = c.label_anew.ensures.lasting c.if-not-label_anew.false all;
-        skipped = λ known. rw (current, c.clear.ensures.none)
-            (record { within = λ i x none. absurd (omega (arith, none)); each = λ v p node lies before can. absurd (skipped v p node lies before can) });
+      goes = record {
+        searching = rw (current, c.free.ensures.way) searching;
+        ready = (links.table.value.nodes, is);
+        lasting = λ all. rw current (subst (AreLasting v c.clear.new.self) (sym still.0) (lasting all));
+        fit = subst (IsFit c.renew.new.self) (sym still.0) c.renew.ensures.fit;
+        around = λ some. c.renew.ensures.around some ∙ sym (ap (λ (u : Way). u.goal) c.free.ensures.way);
       };
-      fit = c.renew.ensures.fit;
-      around = λ some. c.renew.ensures.around some ∙ sym (ap (λ (u : Way). u.goal) c.free.ensures.way);
-      way = c.free.ensures.way;
+      same = still.1;
       labelled = λ yes. labelled.walk;
       none = λ e. absurd (cc);
     }
 
 pub renew-requires : goal.renew-requires
-renew-requires c = record { fit = c.requires.fit; around = c.requires.around; goal = c.requires.searching.aimed.goal_is }
+renew-requires c = record { fit = subst (IsFit c.args.ball.now) c.requires.settled c.requires.goes.fit; around = c.requires.goes.around; goal = c.requires.goes.searching.aimed.goal_is }

@@ -13,9 +13,10 @@ returns-clause-kept c =
     let e = rw (c.deref.ensures, c.deref-2.ensures.value, c.deref_mut.ensures.value) at c.bring_back.ensures in
     let current = c.bring_back.new.current in
     let current_is = with_items_is levels.current current (c.bring_back.auto.current ∙ c.deref_mut.ensures.len) in
-    let none = none-noted current (was.lasting.skipped known) e.less e.back in
+    let lasting = was.refitted.lasting in
+    let none = none-noted current (lasting.skipped known) e.less e.back in
     record {
-      lasting = record { whole = was.lasting.whole; skipped = λ known. rw (current_is, c.clear.ensures.none) none };
+      lasting = record { whole = lasting.whole; skipped = λ known. rw (current_is, c.clear.ensures.none) none };
       current_is = rw current_is e.current;
       passed = rw current_is (none-passed c.args.goal none);
     }

@@ -1,16 +1,18 @@
-use Rattle.std.proofs.Common.{arith}
+-- The start has a label then, or none.
+use Rattle.std.proofs.Common.{refl, arith}
 use Rattle.dmf_path.proofs.Labelled.{labelled-one}
 use Rattle.dmf_path.proofs.Reaching.{separated-unlabelled}
 use Rattle.dmf_path.proofs.relabel.label_from_goal.Goals as goal
 
-pub returns-clause-labelled : goal.returns-clause-labelled
-returns-clause-labelled c has =
+pub returns-clause-relabelled : goal.returns-clause-relabelled
+returns-clause-relabelled c =
     let links = c.args.links.now in
-    labelled-one links.rooms.items links.flags.items links.table.value.are links.flags_are
-    (rw (c.deref.ensures, c.deref-2.ensures.value) at c.label_nodes.ensures.labels) c.requires.start has (omega arith)
-
-pub returns-clause-none : goal.returns-clause-none
-returns-clause-none c none =
-    let links = c.args.links.now in
-    separated-unlabelled links.rooms.items links.flags.items links.table.value.are links.flags_are
-    (rw (c.deref.ensures, c.deref-2.ensures.value) at c.label_nodes.ensures.labels) none none
+    let are = rw (c.deref.ensures, c.deref-2.ensures.value) at c.label_from.ensures in
+    let told = c.has_label.ensures in
+    record {
+      ready = record { one_label_each = are.one_each; far_is = c.requires.far_is };
+      labelled = λ yes. labelled-one links.rooms.items links.flags.items links.table.value.are links.flags_are are c.requires.start_is (told.has yes)
+          (omega arith);
+      none = λ no. separated-unlabelled links.rooms.items links.flags.items links.table.value.are links.flags_are are (told.none no) (told.none no);
+      current = refl;
+    }

@@ -31,7 +31,7 @@ returns-else-falls-clause-off c =
     let is = c.requires.searching in
     let r = residual_of c.args.links.now in
     let w = way_of c.args.trail.now in
-    let rises = rw (c.deref.ensures, c.deref-else-links.ensures.value) at c.if-falls.ensures in
+    let rises = rw (c.deref.ensures, c.labels.ensures) at c.if-falls.ensures in
     off-slots c.args.place is.aimed.links is.aimed.start_is is.under_way (eqb-false _ _ (sym rises))
 
 pub returns-else-falls-clause-room : goal.returns-else-falls-clause-room

@@ -1,9 +1,10 @@
 -- Where the walk begins, a turn that goes on, one that steps back, and what the work is each time.
-use Rattle.std.proofs.Common.{◌≡◌, ◌+◌, ◌<◌, false, true, inl, inr, set, get_or, refl, ap, sym, subst, ◌∙◌, arith, length}
+use Rattle.std.proofs.Common.{◌≡◌, ◌+◌, ◌<◌, false, true, inl, inr, set, get_or, refl, ap, sym, subst, ◌∙◌, arith}
 use Rattle.std.proofs.lemmas.List.{get_or_default}
 use Rattle.dmf_node.specs.Node.{IsNode}
 use Rattle.dmf_links.specs.Links.{tail_of}
 use Rattle.dmf_links.specs.LinkTable.{links_of}
+use Rattle.dmf_path.specs.Ball.{AreNodes}
 use Rattle.dmf_path.specs.Held.{Way, way_of}
 use Rattle.dmf_path.specs.Residual.{Residual, residual_of, told}
 use Rattle.dmf_path.specs.Walk.{IsWalk}
@@ -34,9 +35,16 @@ loop-node-init c = record {
   capacity = refl;
 }
 
-pub first_leading-look-requires-clause-one_label_each : goal.first_leading-look-requires-clause-one_label_each
-first_leading-look-requires-clause-one_label_each c =
-    subst (λ (x : Residual). length c.args.labels.now ≡ x.links.nodes + 1) (sym c.loop-node.invariant.on.same) c.requires.searching.aimed.one_label_each
+pub first_leading-look-requires-clause-seen : goal.first_leading-look-requires-clause-seen
+first_leading-look-requires-clause-seen c =
+    let nodes = ap (λ (x : Residual). x.links.nodes) c.loop-node.invariant.on.same in
+    let fit = c.requires.fit in
+    record {
+      one_label_each = omega (arith, nodes, c.requires.searching.aimed.one_label_each);
+      one_each = λ some. omega (arith, nodes, (fit.known some).near.one_each);
+      nodes = λ some. subst (λ n. AreNodes n c.args.ball.now.around.queue c.args.ball.now.around.done) (sym nodes) (fit.known some).nodes;
+      inside = fit.tidy;
+    }
 
 -- the turn
 abbrev turn : (c : After-first_leading-look) → Turn
@@ -64,8 +72,8 @@ turn c =
           let known = c.requires.fit.known some in
           let is : c.args.ball.now.around.root ≡ c.loop-node.trail.goal = c.requires.around some ∙ sym c.loop-node.invariant.goal in
           rw is at known.near;
-      from = omega (arith, found.from, found.order);
-      skipped = found.from;
+      from = omega (arith, found.from_first, found.order);
+      skipped = found.from_first;
       order = found.order;
       to = found.to;
       first = found.first;

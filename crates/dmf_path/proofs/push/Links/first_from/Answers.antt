@@ -44,5 +44,5 @@ returns-clause-first c =
     let are = c.args.self.now.table.value.are in
     let end : c.places_at-places.result.end ≡ get_or l.first (c.args.head + 1) 0 =
     (rw c.deref.ensures at c.places_at-places.ensures.end) in
-    first-last c.loop-place.invariant c.args.self.now.table.value.are c.args.self.now.flags_are c.requires.node
-    (omega (arith, end, c.loop-place-test.false)) c.requires.from (omega (arith, c.requires.end))
+    first-last c.loop-place.invariant c.args.self.now.table.value.are c.args.self.now.flags_are c.requires.links.node_is
+    (omega (arith, end, c.loop-place-test.false)) c.requires.links.from_first c.requires.links.to_last

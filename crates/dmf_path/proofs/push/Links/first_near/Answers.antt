@@ -6,4 +6,10 @@ use Rattle.dmf_path.proofs.push.Links.first_near.Goals as goal
 pub look-look-requires-clause-links : goal.look-look-requires-clause-links
 look-look-requires-clause-links c =
     let are = c.args.self.now.table.value.are in
-    omega (arith, c.few-few.ensures.to, c.requires.end, last-within (links_of c.args.self.now.table.value) c.args.node are c.requires.node.to_last)
+    omega (
+      arith,
+      c.few-few.ensures.to,
+      c.requires.links.to_last,
+      last-within (links_of c.args.self.now.table.value) c.args.node are
+          c.requires.links.node_is.to_last,
+    )

@@ -27,7 +27,14 @@ use Rattle.dmf_path.proofs.search.Search.augment.Goals as goal
 use Rattle.dmf_path.proofs.search.Search.augment.Goals.{After-bottleneck-amount, After-split}
 
 pub find-requires : goal.find-requires
-find-requires c = record { searching = c.self.invariant.1.searching; ready = c.self.invariant.0.0; lasting = λ e. (c.self.invariant.0.2 e).1; fit = c.self.invariant.0.4 }
+find-requires c = record {
+  keeps = record {
+    searching = c.self.invariant.1.searching;
+    ready = c.self.invariant.0.0;
+    lasting = λ e. (c.self.invariant.0.2 e).1;
+    fit = c.self.invariant.0.4;
+  };
+}
 
 pub invariant_of-self : goal.invariant_of-self
 invariant_of-self c =
@@ -35,13 +42,13 @@ invariant_of-self c =
     let i = c.self.invariant in
     let e = c.find.ensures in (
       (
-        e.ready,
+        e.keeps.ready,
         subst (λ (s : Sought). MayBeNumbered s.residual.links of.places.value of.numbers) (sym e.same) i.0.1,
-        λ all. (refl, e.lasting all),
+        λ all. (refl, e.keeps.lasting all),
         subst (λ (s : Sought). AreAside of.asides.items s.residual) (sym e.same) i.0.3,
-        e.fit,
+        e.keeps.fit,
       ),
-      search-next i.1 (ap (λ (s : Sought). s.residual.links) e.same) e.searching (begun refl),
+      search-next i.1 (ap (λ (s : Sought). s.residual.links) e.same) e.keeps.searching (begun refl),
     )
 
 pub returns-then-not-find-clause-found : goal.returns-then-not-find-clause-found
@@ -73,11 +80,11 @@ numbered c = subst (λ (s : Sought). MayBeNumbered s.residual.links c.self.insid
 -- So much can be sent along the path that was found.
 can : (c : After-bottleneck-amount) → CanAugment (residual_of c.find.new.links) c.self.inside.places.value (labelling_of c.find.new.levels)
     (way_of c.find.new.trail) c.args.limit c.bottleneck-amount.result
-can c = can-augment c.args.limit (are c) c.find.ensures.searching (c.find.ensures.found c.if-not-find.false) c.bottleneck-amount.ensures
+can c = can-augment c.args.limit (are c) c.find.ensures.keeps.searching (c.find.ensures.found c.if-not-find.false) c.bottleneck-amount.ensures
 
 -- The slots have links of the table.
 within : (c : After-bottleneck-amount) → AreWithin (residual_of c.find.new.links).links (way_of c.find.new.trail).slots
-within c = λ i inside. slot-within (residual_of c.find.new.links).links c.find.new.levels.near.labels.items _ _ (way_of c.find.new.trail).slots i
+within c = λ i inside. slot-within (residual_of c.find.new.links).links c.find.new.levels.near.labels _ _ (way_of c.find.new.trail).slots i
     (can c).descends inside
 
 pub touch-requires : goal.touch-requires
@@ -90,7 +97,7 @@ pub split-requires-clause-can : goal.split-requires-clause-can
 split-requires-clause-can c =
     let e = c.find.ensures in
     let can = can (goal.at.split-requires-clause-can c).After-bottleneck-amount in
-    λ first behind less within. (middle-leaves e.searching (e.found c.if-not-find.false) can first behind less).1.can
+    λ first behind less within. (middle-leaves e.keeps.searching (e.found c.if-not-find.false) can first behind less).1.can
 
 pub split-requires-clause-places : goal.split-requires-clause-places
 split-requires-clause-places c = within (goal.at.split-requires-clause-places c).After-bottleneck-amount
@@ -100,7 +107,7 @@ split : (c : After-split) → IsOn (residual_of c.find.new.links) (labelling_of 
     (residual_of c.split.new.links) (way_of c.split.new.self)
 split c =
     let e = c.find.ensures in
-    split-on e.searching (e.found c.if-not-find.false) (can (goal.at.After-split c).After-bottleneck-amount) c.split.ensures c.split.new.links.rooms_are
+    split-on e.keeps.searching (e.found c.if-not-find.false) (can (goal.at.After-split c).After-bottleneck-amount) c.split.ensures c.split.new.links.rooms_are
 
 pub invariant_of-self-2 : goal.invariant_of-self-2
 invariant_of-self-2 c =
@@ -114,18 +121,18 @@ invariant_of-self-2 c =
     let before = told (residual_of c.find.new.links) (way_of c.find.new.trail) in
     let sent = (sent_along (residual_of c.find.new.links) (sent_on (way_of c.find.new.trail) c.bottleneck-amount.result)).rooms in
     let of = c.self.inside in
-    let aside = aside-falls of.asides.items before sent e.searching.aimed.links can.none
+    let aside = aside-falls of.asides.items before sent e.keeps.searching.aimed.links can.none
     (subst (λ (s : Sought). AreAside of.asides.items s.residual) (sym e.same) i.0.3) in (
       (
-        e.ready,
+        e.keeps.ready,
         subst (λ l. MayBeNumbered l of.places.value of.numbers) (sym links) i.0.1,
         λ all. (
           refl,
           subst (λ (s : Sought). AreLasting (labelling_of levels) levels.noted s.residual) (sym on.same)
-              (lasting-opens (labelling_of levels) levels.noted before sent can.opens (e.lasting all)),
+              (lasting-opens (labelling_of levels) levels.noted before sent can.opens (e.keeps.lasting all)),
         ),
         subst (λ (s : Sought). AreAside of.asides.items s.residual) (sym on.same) aside,
-        subst (λ (s : Sought). IsFit c.find.new.ball s.residual) (sym on.same) (fit-falls c.find.new.ball before sent can.none e.fit),
+        subst (λ (s : Sought). IsFit c.find.new.ball s.residual) (sym on.same) (fit-falls c.find.new.ball before sent can.none e.keeps.fit),
       ),
       search-next i.1 links on.searching (begun refl),
     )
@@ -152,7 +159,7 @@ returns-clause-touched c =
     let places = of.places.value in
     let old = c.args.touched.now in
     let touched = c.touch.new.self in
-    let is = c.find.ensures.searching in
+    let is = c.find.ensures.keeps.searching in
     let pairs_of : Sought → List (Option Pair) = λ s. pairs_at s.residual.links places s.residual.rooms in
     let lists : Lists of.numbers w.slots old touched = rw c.deref.ensures.value at c.touch.ensures in
     let kept = kept-untouched r.takes_back r.rooms w.sent (sent_on w c.bottleneck-amount.result).sent is.aimed.links (are at) (numbered at)

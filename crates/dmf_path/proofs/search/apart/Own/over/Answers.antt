@@ -31,7 +31,7 @@ invariant_of-result c =
         c.forget.ensures.fit _,
       ),
       subst (λ (labels : List ℕ). IsSearch next places (record { labels = labels; current = current }) (way_of own.trail) true)
-          (ap (λ near. near.labels.items) (sym o.near)) (record { places_are = c.requires.shared.places; searching = found.0; marked = fresh found.1 }),
+          (ap (λ near. near.labels) (sym o.near)) (record { places_are = c.requires.shared.places; searching = found.0; marked = fresh found.1 }),
     )
 
 pub returns : goal.returns
