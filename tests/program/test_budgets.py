@@ -90,7 +90,7 @@ def instructions(folder: Path, text: str, commands: str) -> int:
     """How many instructions a session takes for these commands."""
     file = folder / "problem.max"
     file.write_text(text)
-    words = ["valgrind", "--tool=callgrind", "--callgrind-out-file=/dev/null", BUILT, "session", "--brief", file]
+    words = ["valgrind", "--tool=callgrind", "--callgrind-out-file=/dev/null", str(BUILT), "session", "--brief", str(file)]
     run = subprocess.run(words, input=commands.encode(), capture_output=True, check=True)
     assert run.stdout.count(b"c solve value") == 1, run.stdout
     found = COLLECTED.search(run.stderr)
