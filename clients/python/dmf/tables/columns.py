@@ -276,7 +276,8 @@ class _Guess:
         for column, place in at.items():
             if column != self.form.label and texts[place] and texts.count(texts[place]) > 1:
                 places = [str(other + 1) for other, text in enumerate(texts) if text == texts[place]]
-                raise TableFault(f"the columns {' and '.join(places)} have one title, {shown(texts[place])}: which is the {column}? Give the others another", self.line)
+                told = f"the columns {' and '.join(places)} have one title, {shown(texts[place])}: which is the {column}? Give the others another"
+                raise TableFault(told, self.line)
 
     def _place(self, column: str, at: Mapping[str, int]) -> int:
         """The column of a place that no title tells: where it usually stands, or the next that has no numbers."""
