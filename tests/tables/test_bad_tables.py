@@ -119,11 +119,35 @@ def test_read_rightly(text: str, wanted: list[tuple[str, str, int]]) -> None:
     [
         ("from,to,x,y\nA,B,,1\nA,C,,2\n", "line 1: which column is the capacity?"), ("id,weight,length\n1,2,3\n", "line 1: which column is the "),
         ("from,to,cap\nA,B," + "9" * 1_000_000, "line 2, column 3: the capacity"), ("from,to,cap\nA," + "b" * 1_000_000 + ",3\n", "line 2, column 2: the head has 1000000 characters"),
+        ("von;nach;Kapazit\xe4t;Kapazit\xe4t\nA;B;3;4\n", "line 1: the columns 3 and 4 have one title, 'Kapazit\xe4t': which is the capacity?"),
+        ("von;von;nach;Kap\nA;B;C;3\n", "line 1: the columns 1 and 2 have one title, 'von': which is the tail?"),
+        ("von;nach;Pumpen\nA;B;3 l/s\nB;C;4 m3/h\nB;D;5\n", "line 3, column 3: a capacity has the unit 'm3/h', and line 2 has 'l/s'"),
+        ("von;nach;Pumpen\nA;B;3 l/s\nB;C;4\n", "line 3, column 3: a capacity has no unit, and line 2 has 'l/s'"),
         ("from,to,cap\nA,B,=1+2\n", "line 2, column 3: the capacity '=1+2' is no number"), ("from,to,cap\nA,B,inf\n", "line 2, column 3: the capacity 'inf' is no number"),
     ],
 )  # fmt: skip
 def test_refused(text: str, told: str) -> None:
     assert faults(text.encode())[0].startswith(told)
+
+
+@pytest.mark.parametrize(
+    ("title", "cells", "unit"),
+    [
+        ("Kap", ["3", "4"], ""), ("Kap", ["3 l/s", "4 l/s"], "l/s"), ("Pumpen", ["3 l/s", "4 l/s"], "l/s"), ("Pumpen", ["3", "4"], "Pumpen"),
+        ("Pumpen", ["3 Pumpen", "4"], "Pumpen"), ("Kap (m\xb3/h)", ["3 m3/h", "4 m^3 / h"], "m\xb3/h"), ("Kap in l/s", ["3", "4 l/s"], "l/s"),
+    ],
+)  # fmt: skip
+def test_units(title: str, cells: list[str], unit: str) -> None:
+    """A unit that the title names, or the cells; a word in the title counts where neither does."""
+    data = f"von;nach;{title}\nA;B;{cells[0]}\nB;C;{cells[1]}\n".encode()
+    amounts = plan_of(Wanted(), "t", data).arcs.amounts
+    assert (amounts.unit, [*amounts.numbers]) == (unit, [3, 4])
+
+
+def test_numbers_for_names_are_told() -> None:
+    """A fourth column of numbers with a title that says nothing is read as names, and that is told; names are not."""
+    notes = [plan_of(Wanted(), "t", f"von;nach;Menge;Lkw\nA;B;3;{cell}\n".encode()).notes for cell in ("4", "blau")]
+    assert notes == [["read 'von' as tail, 'nach' as head, 'Menge' as capacity, 'Lkw' as name"], []]
 
 
 def test_workbooks() -> None:

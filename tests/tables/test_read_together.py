@@ -7,15 +7,19 @@ import csv
 import io
 from array import array
 from collections import Counter
+from collections.abc import Iterator
+from contextlib import contextmanager
 from decimal import Decimal
 from fractions import Fraction
 
 import pytest
 from dmf import arrays
-from dmf.tables import file
+from dmf.tables import file, quantities
 from dmf.tables.ends import ends_alone
+from dmf.tables.faults import TableFault
 from dmf.tables.quantities import _plain
-from dmf.tables.rows import _Numbers, name_of
+from dmf.tables.rows import Reading, _Numbers, name_of, read_arcs
+from dmf.tables.spans import Spans, spans_of
 from dmf.tables.warnings import _alike
 from hypothesis import given
 from hypothesis import strategies as some
@@ -23,33 +27,121 @@ from hypothesis import strategies as some
 LINES = some.lists(some.text("ab;,\u00e9 '\t", max_size=6), max_size=12)
 
 
-@given(LINES, some.sampled_from(["\n", "\r\n"]), some.booleans(), some.sampled_from(["utf-8", "utf-8-sig", "cp1252"]), some.sampled_from([1, 7, 1 << 16]))
-def test_rows_without_quotes(lines: list[str], end: str, is_ended: bool, encoding: str, piece: int) -> None:
+@contextmanager
+def pieces_of(size: int, *, by_numpy: bool) -> Iterator[None]:
+    """Reads rows in pieces of so many bytes, by numpy or without it."""
+    with pytest.MonkeyPatch.context() as patch:
+        patch.setattr(file, "PIECE_BYTES", size)
+        patch.setattr(file, "LARGE_PIECE_BYTES", 3 * size)
+        patch.setattr(file, "LEAST_LINES", 0)
+        patch.setattr(quantities, "LEAST_BY_NUMPY", 0)
+        patch.setattr(arrays, "numpy_for", lambda _: pytest.importorskip("numpy") if by_numpy else None)
+        patch.setattr(arrays, "loaded", lambda: pytest.importorskip("numpy") if by_numpy else None)
+        yield
+
+
+@given(
+    LINES, some.sampled_from(["\n", "\r\n"]), some.booleans(), some.sampled_from(["utf-8", "utf-8-sig", "cp1252"]), some.sampled_from([1, 7, 1 << 16]),
+    some.booleans(),
+)  # fmt: skip
+def test_rows_without_quotes(lines: list[str], end: str, is_ended: bool, encoding: str, piece: int, by_numpy: bool) -> None:
     """The same rows in the same lines as a reader of CSV finds, whatever pieces they are read in."""
     text = end.join(lines) + end * is_ended
-    before, file.PIECE_BYTES = file.PIECE_BYTES, piece
-    try:
+    with pieces_of(piece, by_numpy=by_numpy):
         found = [(line, row) for rows in file._rows_of(text.encode(encoding), encoding, ";") for line, row in zip(*rows)]
-    finally:
-        file.PIECE_BYTES = before
     assert found == list(enumerate(csv.reader(io.StringIO(text, newline=""), delimiter=";", strict=True), 1))
 
 
-@given(some.lists(some.tuples(some.integers(0, 10**12), some.integers(0, 17)), min_size=1, max_size=8), some.sampled_from(".,"))
-def test_decimals(numbers: list[tuple[int, int]], sign: str) -> None:
+@given(
+    some.integers(2, 4).flatmap(lambda width: some.lists(some.lists(some.text("ab\u00e9' ", max_size=20), min_size=width, max_size=width), min_size=1, max_size=9)),
+    some.sampled_from(["\n", "\r\n"]), some.booleans(), some.sampled_from(["utf-8", "cp1252"]),
+)  # fmt: skip
+def test_columns_by_numpy(rows: list[list[str]], end: str, is_ended: bool, encoding: str) -> None:
+    """Columns as texts, and the different texts of two of them; also of the rows but the first."""
+    np = pytest.importorskip("numpy")
+    text = end.join(map(";".join, rows)) + end * is_ended
+    spans = spans_of(np, text.encode(encoding), encoding, ";", 1)
+    for begin, read in (0, spans), (1, spans and spans.after_first()):
+        assert read is not None and read.cells == rows[begin:] and [*read.lines] == [*range(begin + 1, len(rows) + 1)]
+        assert [row for fewer in read.smaller() for row in fewer.cells] in ([], rows[begin:])
+        if not rows[begin:]:
+            continue
+        for place, column in enumerate(zip(*rows[begin:])):
+            assert isinstance(read, Spans)
+            assert read.text(place) == "\n".join(column) and read.column(place) == [*column]
+            assert [read.has(place, cell) for cell in ("a", "", column[0])] == [cell in column for cell in ("a", "", column[0])]
+            assert read.has_something(place) == any(map(str.strip, column))
+        names, found = read.named([1, 0])
+        cells = [cell for row in rows[begin:] for cell in (row[1], row[0])]
+        assert names == [*dict.fromkeys(cells)] and [names[at] for at in found] == cells
+        numbers = [7 * at for at, _ in enumerate(names)]
+        assert [*zip(*read.spread(numbers, found))] == [(7 * names.index(row[1]), 7 * names.index(row[0])) for row in rows[begin:]]
+
+
+def test_long_names_by_numpy() -> None:
+    """Names past a bound, and names that only their last letters tell apart."""
+    np = pytest.importorskip("numpy")
+    for size in 0, 7, 8, 9, 16, 63, 64, 65, 1000:
+        rows = [["a" * size + "bc"[row % 2], "a" * size] for row in range(9)]
+        spans = spans_of(np, "\n".join(map(";".join, rows)).encode(), "utf-8", ";", 1)
+        assert spans
+        names, found = spans.named([0, 1])
+        cells = [cell for row in rows for cell in row]
+        assert ([names[at] for at in found] if found is not None else names) == cells
+
+
+@pytest.mark.parametrize("text", ["a", "a\nb\n", "a;b\nc\n", "a;b\n\nc;d", "a;b\nc;d;e\nf\n", ";;\n;\n", "a;b;c\nd\ne;f\n"])
+def test_no_columns(text: str) -> None:
+    """Rows of several widths, blank ones, and those of one column are read by themselves."""
+    assert spans_of(pytest.importorskip("numpy"), text.encode(), "utf-8", ";", 1) is None
+
+
+NAMES = some.sampled_from(["A", "B", "\u00c4rger", "a  b", " A", "'=x", "", "D" * 70, "\u00a0", "7", "E\x07"])
+AMOUNTS = some.sampled_from(["1", "2,5", "0,125", " 3", "1.200,5", "12 l/s", "-1", "", "x", "007", "4,", ",", "1,2,3", "123456789012345,6", "1" * 19])
+ROWS = some.lists(some.tuples(NAMES, NAMES, AMOUNTS, some.sampled_from(["", "r1", " r2", "'-r", "von"]), some.sampled_from(["", "x"])), min_size=1, max_size=12)
+
+
+@given(ROWS, some.lists(some.integers(0, 12), max_size=2), some.sampled_from(["\n", "\r\n"]), some.integers(1, 60), some.booleans())
+def test_tables_by_numpy(rows: list[tuple[str, ...]], gaps: list[int], end: str, size: int, has_titles: bool) -> None:
+    """Whole tables, with odd rows among others: the same rows, names, notes and faults as without numpy."""
+    lines = [*map(";".join, rows)]
+    for gap in gaps:
+        lines.insert(gap, ["", "von;nach;kap;rohr;rest", ";;;;"][gap % 3])
+    lines = ["von;nach;kap;rohr;rest"] * has_titles + lines
+    found = [read(end.join(lines), size, by_numpy=by_numpy) for by_numpy in (True, False)]
+    assert found[0] == found[1]
+
+
+def read(text: str, size: int, *, by_numpy: bool) -> list[object]:
+    """All that is read of a table, or what is wrong with it."""
+    with pieces_of(size, by_numpy=by_numpy):
+        try:
+            table = read_arcs(file.csv_sheet(text.encode(), "t", None, 3), Reading())
+        except TableFault as fault:
+            return [*fault.lines()]
+        amounts = [table.amounts.quantity(row) for row in range(len(table.tails))]
+        labels = table.labels or [""] * len(amounts)
+        return [*table.places, *table.tails, *table.heads, *table.lines, *amounts, *labels, *table.notes, *sorted(table.others), table.amounts.unit]
+
+
+@given(some.lists(some.tuples(some.integers(0, 10**12), some.integers(0, 17)), min_size=1, max_size=8), some.sampled_from(".,"), some.booleans())
+def test_decimals(numbers: list[tuple[int, int]], sign: str, by_numpy: bool) -> None:
     """Each number is exact, also where floats would not have it."""
     cells = [f"{number}".rjust(places + 1, "0") for number, places in numbers]
     cells = [f"{cell[: len(cell) - places]}{sign}{cell[len(cell) - places :]}" for cell, (_, places) in zip(cells, numbers)]
-    piece = _plain(0, cells)
+    with pieces_of(1, by_numpy=by_numpy):
+        piece = _plain(0, cells)
     if piece is None:
         assert max(map(len, cells)) > 18
         return
     assert [Fraction(number, 10**piece.decimals) for number in piece.numbers] == [Fraction(number, 10**places) for number, places in numbers]
 
 
+@pytest.mark.parametrize("by_numpy", [True, False])
 @pytest.mark.parametrize("cells", [["1125899906842623.5", "0.5"], ["1125899906842624.5", "0.25"], ["0.3000000000000004", "1.1"], ["9007199254740993.0", "0.1"]])
-def test_decimals_past_floats(cells: list[str]) -> None:
-    piece = _plain(0, cells)
+def test_decimals_past_floats(cells: list[str], by_numpy: bool) -> None:
+    with pieces_of(1, by_numpy=by_numpy):
+        piece = _plain(0, cells)
     assert piece and [Decimal(number).scaleb(-piece.decimals) for number in piece.numbers] == [*map(Decimal, cells)]
 
 

@@ -22,7 +22,7 @@ _WORDS = {
     "upstream src",
     HEAD: "to head nach a vers hasta target sink destination end ziel senke destino endknoten zielknoten ende bis arrivee aval fin "
     "downstream dst",
-    CAPACITY: "capacity cap kapazitat kapazitaet capacite capacidad max maximum maximo maximal durchfluss debit caudal throughput bandwidth "
+    CAPACITY: "capacity cap kap kapazitat kapazitaet capacite capacidad max maximum maximo maximal durchfluss debit caudal throughput bandwidth "
     "amount menge quantite cantidad weight gewicht poids peso limit limite grenze",
     NAME: "name label bezeichnung nom nombre etiquette etiqueta arc kante arete arco edge pipe rohr leitung tuyau tubo tuberia road strasse "
     "route calle id key nr no number numero nummer",
@@ -260,13 +260,24 @@ class _Guess:
             if column not in at:
                 at[column] = self._place(column, at)
         usual = form.order.get(form.label, -1)
+        is_sure = any(column in self.known for column in form.amounts) or len(self.numeric) < 2
         in_order = all(at.get(column, place) == place for column, place in form.order.items() if column != form.label)
         if form.label and form.label not in at and usual in self.free and in_order and self.titles[usual].word not in OTHERS:
             at[form.label] = usual
+            is_sure = is_sure and usual not in self.numeric
+        self._judge_twice(at)
         ordered = {column: at[column] for column in dict.fromkeys((*form.order, *at)) if column in at}
-        is_sure = any(column in self.known for column in form.amounts) or len(self.numeric) < 2
         is_usual = in_order and is_sure and len(self.titles) <= len(form.order) and ordered.keys() <= form.order.keys()
         return Layout(ordered, self.titles, self.line, is_usual)
+
+    def _judge_twice(self, at: Mapping[str, int]) -> None:
+        """Raises a `TableFault` if a column that is needed has the title of another one, since each may be meant."""
+        texts = [title.text for title in self.titles]
+        for column, place in at.items():
+            if column != self.form.label and texts[place] and texts.count(texts[place]) > 1:
+                places = [str(other + 1) for other, text in enumerate(texts) if text == texts[place]]
+                told = f"the columns {' and '.join(places)} have one title, {shown(texts[place])}: which is the {column}? Give the others another"
+                raise TableFault(told, self.line)
 
     def _place(self, column: str, at: Mapping[str, int]) -> int:
         """The column of a place that no title tells: where it usually stands, or the next that has no numbers."""

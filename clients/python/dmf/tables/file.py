@@ -7,26 +7,38 @@ line. A file of another kind is named for what it is.
 from __future__ import annotations
 
 import codecs
+import contextlib
 import csv
 import io
 import re
+from array import array
 from collections.abc import Callable, Iterator, Sequence
 from dataclasses import dataclass
 from decimal import Context
+from functools import partial
 from itertools import islice, zip_longest
-from typing import Any, Optional
+from typing import TYPE_CHECKING, Any, Optional
 
+from .. import arrays
+from ..numbering import NODES
 from ..quantity import plain_text, readings
 from ..text import fields
 from .faults import TableFault
+
+if TYPE_CHECKING:
+    from .quantities import Amounts
+    from .spans import Spans
 
 DELIMITERS = ",;\t|"
 # How many rows the search for the delimiter reads, of how many bytes; and how many rows are read at once.
 SAMPLE, SAMPLE_BYTES = 20, 1 << 18
 PIECE = 1 << 10
-# The same in bytes where rows have no quotes; and encodings in which the byte of an end of a line is nothing else.
+# The same in bytes where rows have no quotes; and encodings in which the byte of an end of a line is nothing else, with
+# what they are after the first bytes.
 PIECE_BYTES = 1 << 16
-BARE_ENCODINGS = {"utf-8", "utf-8-sig", "cp1252"}
+BARE_ENCODINGS = {"utf-8": "utf-8", "utf-8-sig": "utf-8", "cp1252": "cp1252"}
+# The same where numpy reads them, and of how many lines a table is worth it.
+LARGE_PIECE_BYTES, LEAST_LINES = 1 << 24, 10_000
 # The most bytes that a workbook may unpack to.
 LARGEST_WORKBOOK = 1 << 30
 BYTE_ORDER_MARKS = {
@@ -100,6 +112,39 @@ class Rows:
             return self._columns
         return list(zip_longest(*self._cells, fillvalue="") if len(self.widths()) > 1 else zip(*self._cells))
 
+    def column(self, place: int) -> list[str]:
+        """The cells of a column."""
+        columns = self.columns()
+        return [*columns[place]] if place < len(columns) else [""] * len(self)
+
+    def has(self, place: int, cell: str) -> bool:
+        """Whether this cell stands in a column."""
+        return cell in self.columns()[place]
+
+    def has_something(self, place: int) -> bool:
+        """Whether a cell of a column is not blank."""
+        return any(map(str.strip, self.columns()[place]))
+
+    def named(self, places: Sequence[int]) -> tuple[list[str], Any]:
+        """The cells of these columns, row by row, with what `spread` needs to tell which is which."""
+        columns = self.columns()
+        cells = [""] * (len(places) * len(self))
+        for at, place in enumerate(places):
+            cells[at :: len(places)] = columns[place]
+        return cells, None
+
+    def spread(self, numbers: Sequence[int], found: Any) -> tuple[array[int], array[int]]:
+        """The numbers of the cells of two columns, by those of what `named` gave."""
+        return array(NODES, numbers[0::2]), array(NODES, numbers[1::2])
+
+    def put_amounts(self, amounts: Amounts, place: int) -> None:
+        """Adds the cells of a column to amounts."""
+        amounts.add(self.column(place))
+
+    def smaller(self) -> Iterator[Rows]:
+        """The same rows, fewer at once, if there are many."""
+        return iter(())
+
     def after_first(self) -> Rows:
         """The rows but the first."""
         if self._cells is None:
@@ -153,7 +198,7 @@ def csv_sheet(data: bytes, path: str, encoding: Optional[str], width: int) -> Sh
     skipped = _SEPARATOR.match(data)
     body = data[skipped.end() :] if skipped else data
     delimiter = skipped[1].decode() if skipped else _delimiter_of(data[:SAMPLE_BYTES], found, width)
-    return Sheet(path, lambda: _rows_of(body, found, delimiter, 2 if skipped else 1), (note,) if note else ())
+    return Sheet(path, _reader(body, found, delimiter, 2 if skipped else 1), (note,) if note else ())
 
 
 def _other_kind(data: bytes) -> str:
@@ -236,9 +281,20 @@ def _judge_bytes(data: bytes, encoding: str) -> None:
 
 def _rows_of(data: bytes, encoding: str, delimiter: str, line: int = 1) -> Iterator[Rows]:
     """The rows of a table, some thousands at once, blank ones too. Raises a `TableFault` if a quote is wrong, or a byte."""
-    if encoding in BARE_ENCODINGS and _is_bare(data):
-        yield from _bare_rows(data, encoding, delimiter, line)
-        return
+    return _reader(data, encoding, delimiter, line)()
+
+
+def _reader(data: bytes, encoding: str, delimiter: str, line: int) -> Callable[[], Iterator[Rows]]:
+    """What reads the rows, as often as it is called."""
+    if encoding not in BARE_ENCODINGS or not _is_bare(data):
+        return partial(_quoted_rows, data, encoding, delimiter, line)
+    count = data.count(b"\n")
+    np = arrays.numpy_for(count) if count >= LEAST_LINES else None
+    return partial(_bare_rows, data, encoding, delimiter, line, np)
+
+
+def _quoted_rows(data: bytes, encoding: str, delimiter: str, line: int) -> Iterator[Rows]:
+    """The rows of a table that has quotes, or other odd bytes."""
     csv.field_size_limit(max(csv.field_size_limit(), len(data) + 1))
     reader = csv.reader(io.TextIOWrapper(io.BytesIO(data), encoding, newline=""), delimiter=delimiter, strict=True)
     cells: list[list[str]] = [[]]
@@ -268,14 +324,38 @@ def _is_bare(data: bytes) -> bool:
     return b'"' not in data and b"\0" not in data and (b"\r" not in data or data.count(b"\r") == data.count(b"\r\n"))
 
 
-def _bare_rows(data: bytes, encoding: str, delimiter: str, line: int) -> Iterator[Rows]:
-    """The same of a table without quotes, in which each line is a row, and each delimiter is between two cells: column by column where
-    all lines have as many, which is twice as fast as a reader of CSV."""
+def _bare_rows(data: bytes, encoding: str, delimiter: str, line: int, np: Any) -> Iterator[Rows]:
+    """The same of a table without quotes, in which each line is a row, and each delimiter is between two cells: by numpy where it is there and
+    the table is long. The first rows come alone, since a table is looked at before it is read."""
+    begin, size = 0, PIECE_BYTES if np is not None else len(data)
+    while begin < len(data):
+        end = data.find(b"\n", begin + size) + 1 or len(data)
+        spans = None if begin == 0 else _spans(np, data[begin:end], encoding, delimiter, line)
+        for rows in [spans] if spans else small_rows(data[begin:end], encoding if begin == 0 else BARE_ENCODINGS[encoding], delimiter, line):
+            line += len(rows)
+            yield rows
+        begin, size = end, LARGE_PIECE_BYTES
+
+
+def _spans(np: Any, data: bytes, encoding: str, delimiter: str, line: int) -> Optional[Spans]:
+    from .spans import spans_of
+
+    encoding = BARE_ENCODINGS[encoding]
+    with contextlib.suppress(UnicodeError):
+        # The bytes are judged here, and no text is kept.
+        if data.isascii() or data.decode(encoding):
+            return spans_of(np, data, encoding, delimiter, line)
+    return None
+
+
+def small_rows(data: bytes, encoding: str, delimiter: str, line: int) -> Iterator[Rows]:
+    """The rows of a table without quotes, some thousands at once: column by column where all lines have as many, which is twice as fast as a
+    reader of CSV."""
     begin = len(codecs.BOM_UTF8) if encoding == "utf-8-sig" and data.startswith(codecs.BOM_UTF8) else 0
     while begin < len(data):
         end = data.find(b"\n", begin + PIECE_BYTES) + 1 or len(data)
         try:
-            text = data[begin:end].decode("utf-8" if encoding == "utf-8-sig" else encoding)
+            text = data[begin:end].decode(BARE_ENCODINGS[encoding])
         except UnicodeError:
             _judge_bytes(data, encoding)
             raise

@@ -5,15 +5,17 @@ column: the decimal sign is the one that every cell admits, and the unit the one
 from __future__ import annotations
 
 import re
+import unicodedata
 from array import array
 from collections.abc import Iterator, Sequence
 from dataclasses import dataclass, field
-from decimal import Decimal, InvalidOperation
+from decimal import Decimal
 from itertools import repeat
 from math import gcd
 from operator import mul
 from typing import Optional
 
+from .. import arrays
 from ..numbering import AMOUNTS
 from ..quantity import COMMA, EXACT, LARGEST, LONGEST_NUMBER, POINT, SIGNS, Measure, decimals, plain_text, readings
 from .cells import shown
@@ -22,12 +24,17 @@ from .file import Exact
 
 # The most characters of a number that is read together with others.
 PLAIN_LENGTH = 18
+# From how many numbers on numpy reads them, if it is loaded; and up to where floats have each whole number and a bit more.
+LEAST_BY_NUMPY, LARGEST_EXACT = 1000, 1 << 50
 # A cell of digits and one kind of sign in which that sign does not stand between thousands.
 _UNGROUPED = {sign: re.compile(rf"^(?![1-9][0-9]{{0,2}}(?:{re.escape(sign)}[0-9]{{3}})+$)[0-9{sign}]*{re.escape(sign)}", re.MULTILINE) for sign in SIGNS}
-_WITH_UNIT = re.compile(r"(.*[0-9.,])\s+([^\s\d.,'+-][^\d]*(?:[23\xb2\xb3][^\d]*)?)", re.DOTALL)
+_WITH_UNIT = re.compile(r"(.*?[0-9.,])\s+([^\s\d.,'+-][^\d]*(?:[23\xb2\xb3][^\d]*)?)", re.DOTALL)
 _DATE = re.compile(r"[0-9]{1,4}[./-](?:[0-9]{1,2}|[^\W\d]{3,9})[./-][0-9]{2,4}(?:[ T][0-9:.]+)?|[0-9]{4}-[0-9]{2}-[0-9]{2}.*")
 _ENDLESS = re.compile(r"[+-]?(?:nan|inf(?:inity)?|\u221e|unlimited|unendlich|unbegrenzt)", re.IGNORECASE)
 # Cells of at least 1 decimal, 2 and so on.
+# Cells without a digit, or with two signs, among cells of digits and signs.
+_EMPTY = re.compile(r"^$", re.MULTILINE)
+_NO_NUMBER = {sign: re.compile(rf"^{re.escape(sign)}?$|{re.escape(sign)}[0-9]*{re.escape(sign)}", re.MULTILINE) for sign in SIGNS}
 _DECIMALS = {sign: [re.compile(rf"{re.escape(sign)}[0-9]{{{count}}}") for count in range(1, PLAIN_LENGTH + 1)] for sign in SIGNS}
 OTHER = {POINT: COMMA, COMMA: POINT}
 NAMES = {POINT: "point", COMMA: "comma"}
@@ -66,7 +73,7 @@ class _Piece:
     cells: Optional[list[str]] = None
     sign: str = ""
     decimals: int = 0
-    numbers: list[int] = field(default_factory=list)
+    numbers: Sequence[int] = field(default_factory=list)
 
     def all_cells(self) -> list[str]:
         return self.text.split("\n") if self.cells is None else self.cells
@@ -97,6 +104,15 @@ class Amounts:
         piece = _plain(self._count, cells)
         self._count += len(cells)
         self._pieces.append(piece or _Piece(self._count - len(cells), "", [it if isinstance(it, Exact) else it.strip() for it in cells]))
+
+    def add_text(self, text: str, count: int, longest: int) -> None:
+        """Takes in so many cells, each in a line, of which the longest has so many characters at most."""
+        piece = _plain_text(self._count, text, count) if longest <= PLAIN_LENGTH else None
+        if piece is None:
+            self.add(text.split("\n"))
+        else:
+            self._count += count
+            self._pieces.append(piece)
 
     @property
     def named_unit(self) -> str:
@@ -199,12 +215,14 @@ class Amounts:
                 if found and (unit or any(found.values())):
                     units.setdefault(unit, place)
         named = {unit: place for unit, place in units.items() if unit}
-        wanted = self.unit or next(iter(named), "")
+        # A word in the title that need be no unit gives way to the unit of the cells.
+        of_title = self.unit if self.named_unit or _folded(self.unit) in map(_folded, named) else ""
+        wanted = of_title or next(iter(named), self.unit)
         for unit, place in named.items():
             if _folded(unit) != _folded(wanted):
-                where = "the title" if self.unit else f"line {self.lines[named[wanted]]}"
+                where = "the title" if of_title else f"line {self.lines[named[wanted]]}"
                 faults.add(f"a {self.what} has the unit {shown(unit)}, and {where} has {shown(wanted)}", self.lines[place], self.column)
-        if named and "" in units and not self.unit:
+        if named and "" in units and not of_title:
             told = f"a {self.what} has no unit, and line {self.lines[named[wanted]]} has {shown(wanted)}"
             faults.add(told, self.lines[units[""]], self.column)
         self.unit = wanted
@@ -272,7 +290,8 @@ class Amounts:
 
 
 def _folded(unit: str) -> str:
-    return "".join(unit.split())
+    """A unit without what is only another way to write it: `m3/h` for `m\xb3 / h` and for `m^3/h`."""
+    return "".join(unicodedata.normalize("NFKC", unit).replace("^", "").split())
 
 
 def _plain(first: int, cells: list[str]) -> _Piece | None:
@@ -283,30 +302,50 @@ def _plain(first: int, cells: list[str]) -> _Piece | None:
     if " " in text:
         cells = list(map(str.strip, cells))
         text = "\n".join(cells)
-    if not text or max(map(len, cells)) > PLAIN_LENGTH or not text.isascii() or text.count("\n") >= len(cells):
+    return _plain_text(first, text, len(cells)) if max(map(len, cells)) <= PLAIN_LENGTH else None
+
+
+def _plain_text(first: int, text: str, count: int) -> _Piece | None:
+    """The same of so many cells, each in a line."""
+    if not text or not text.isascii() or text.count("\n") >= count:
         return None
     digits = text.replace("\n", "")
     if digits.isdigit():
-        return _Piece(first, text, numbers=list(map(int, cells))) if all(cells) else None
+        return None if _EMPTY.search(text) else _Piece(first, text, numbers=_wholes(text, count))
     for sign in SIGNS:
         if digits.replace(sign, "").isdigit():
-            return _plain_decimals(first, text, sign)
+            return None if _NO_NUMBER[sign].search(text) else _plain_decimals(first, text, sign, count)
     return None
 
 
-def _plain_decimals(first: int, text: str, sign: str) -> _Piece | None:
+def _wholes(text: str, count: int) -> Sequence[int]:
+    np = arrays.loaded()
+    if np is None or count < LEAST_BY_NUMPY:
+        return [*map(int, text.split("\n"))]
+    return array(AMOUNTS, np.fromstring(text, np.uint64, sep="\n").tobytes())
+
+
+def _plain_decimals(first: int, text: str, sign: str, count: int) -> _Piece:
     most = 0
     while _DECIMALS[sign][most].search(text):
         most += 1
-    cells = (text if sign == POINT else text.replace(sign, POINT)).split("\n")
-    try:
-        # A number whose digits are below 2^50 is exact: each step is off by less than its 2^52nd part.
-        numbers: list[int] = list(map(round, map(mul, map(float, cells), repeat(10.0**most))))
-        if max(numbers) >= 1 << 50:
-            numbers = list(map(int, map(mul, map(Decimal, cells), repeat(Decimal(10) ** most))))
-    except (ValueError, InvalidOperation):
-        return None
-    return _Piece(first, text, None, sign, most, numbers)
+    pointed = text if sign == POINT else text.replace(sign, POINT)
+    return _Piece(first, text, None, sign, most, _scaled(pointed, most, count))
+
+
+def _scaled(text: str, most: int, count: int) -> Sequence[int]:
+    """The decimal numbers in the lines of a text, times ten to this power."""
+    # A number whose digits are below 2^50 is exact: each step is off by less than its 2^52nd part.
+    np = arrays.loaded()
+    if np is not None and count >= LEAST_BY_NUMPY:
+        found = np.rint(np.fromstring(text, sep="\n") * 10.0**most)
+        if len(found) == count and found.max() < LARGEST_EXACT:
+            return array(AMOUNTS, found.astype(np.uint64).tobytes())
+    cells = text.split("\n")
+    numbers: list[int] = list(map(round, map(mul, map(float, cells), repeat(10.0**most))))
+    if max(numbers) >= LARGEST_EXACT:
+        numbers = list(map(int, map(mul, map(Decimal, cells), repeat(Decimal(10) ** most))))
+    return numbers
 
 
 def _zeros(piece: _Piece) -> int:
@@ -317,7 +356,7 @@ def _zeros(piece: _Piece) -> int:
     return next(zeros for zeros in range(piece.decimals, -1, -1) if common % 10**zeros == 0)
 
 
-def _over(piece: _Piece, most: int) -> list[int]:
+def _over(piece: _Piece, most: int) -> Sequence[int]:
     """The numbers of a piece, over ten to this power."""
     if piece.decimals == most:
         return piece.numbers

@@ -6,7 +6,7 @@ from __future__ import annotations
 import unicodedata
 from array import array
 from collections import defaultdict
-from collections.abc import Mapping, Sequence
+from collections.abc import Iterable, Mapping
 from dataclasses import dataclass, field
 from itertools import count, islice
 from typing import NamedTuple, Union
@@ -95,7 +95,9 @@ def are_plain(cells: list[str]) -> bool:
     """Whether each of these cells is a name as it stands."""
     text = "\n".join(("", *cells, ""))
     is_cleaned = not any(odd in text for odd in ("  ", "\n ", " \n", "\n'"))
-    return is_cleaned and text.replace("\n", "").isprintable() and text.count("\n") == len(cells) + 1 and len(text) <= LONGEST_CELL
+    return is_cleaned and text.replace("\n", "").isprintable() and text.count("\n") == len(cells) + 1 and (
+        len(text) <= LONGEST_CELL or max(map(len, cells)) <= LONGEST_CELL
+    )
 
 
 class _Numbers:
@@ -230,42 +232,46 @@ class _ArcReader(Reader):
         """Takes rows: all together if they are plain, which is several times as fast."""
         if rows.lines and rows.lines[0] == self.layout.line:
             rows = rows.after_first()
-        if rows.lines and not self._take_together(rows):
-            for line, row in zip(*rows):
-                self._take_row(line, row)
+        if not rows.lines or self._take_together(rows):
+            return
+        is_many = False
+        for fewer in rows.smaller():
+            is_many = True
+            self.take(fewer)
+        for line, row in () if is_many else zip(*rows):
+            self._take_row(line, row)
 
     def _take_together(self, rows: Rows) -> bool:
-        widths, lines = rows.widths(), rows.lines
+        widths, lines, at = rows.widths(), rows.lines, self.layout.at
         if min(widths) <= self.needed or self.width is not None and max(widths) > self.width or not isinstance(lines, range):
             return False
-        columns = rows.columns()
-        amounts = columns[self.layout.at[CAPACITY]]
-        named = [""] * (2 * len(rows))
-        named[0::2], named[1::2] = columns[self.layout.at[TAIL]], columns[self.layout.at[HEAD]]
-        if "" in named or self.heading and self.heading[self.layout.at[CAPACITY]] in amounts:
+        names, found = rows.named((at[TAIL], at[HEAD]))
+        if "" in names or self.heading and rows.has(at[CAPACITY], self.heading[at[CAPACITY]]):
             return False
-        ends = self.numbers.of(named)
-        if ends is None:
+        labels = [] if self.label is None else self._labels(rows.column(self.label))
+        numbers = None if labels is None else self.numbers.of(names)
+        if numbers is None:
             return False
-        if self.label is not None:
-            labels = list(columns[self.label]) if self.label < len(columns) else [""] * len(rows)
-            if not are_plain(labels):
-                if max(map(len, labels)) > LONGEST_CELL or not "".join(labels).isprintable():
-                    return False
-                labels = [cleaned(name_in(it.strip(), is_raw=self.reading.raw_names)) for it in labels]
-            self._put_labels(labels)
-        self.table.tails.extend(array(NODES, ends[0::2]))
-        self.table.heads.extend(array(NODES, ends[1::2]))
+        self._put_labels(labels or [""] * len(rows))
+        for column, more in zip((self.table.tails, self.table.heads), rows.spread(numbers, found)):
+            column.extend(more)
         self.table.add_lines(lines)
-        self.table.amounts.add(list(amounts))
-        self._keep(columns)
+        rows.put_amounts(self.table.amounts, at[CAPACITY])
+        if self.width is None:
+            self._keep(place for place in range(max(widths)) if rows.has_something(place))
         return True
 
-    def _keep(self, columns: Sequence[Sequence[str]]) -> None:
-        """Notes which of these columns of a table without titles are read for nothing, and have something."""
-        if self.width is None:
-            known = {*self.layout.at.values(), *self.table.others}
-            self.table.others |= {place for place, column in enumerate(columns) if place not in known and any(map(str.strip, column))}
+    def _labels(self, labels: list[str]) -> list[str] | None:
+        """The names in these cells; None if one cannot be read."""
+        if are_plain(labels):
+            return labels
+        if max(map(len, labels)) > LONGEST_CELL or not "".join(labels).isprintable():
+            return None
+        return [cleaned(name_in(it.strip(), is_raw=self.reading.raw_names)) for it in labels]
+
+    def _keep(self, places: Iterable[int]) -> None:
+        """Notes which columns of a table without titles have something, and are read for nothing."""
+        self.table.others.update({*places} - {*self.layout.at.values()})
 
     def _put_labels(self, labels: list[str]) -> None:
         if any(labels) or self.table.labels:
@@ -294,7 +300,8 @@ class _ArcReader(Reader):
         self.table.heads.append(numbers[1])
         self.table.add_lines(range(line, line + 1))
         self.table.amounts.add([amount if isinstance(amount, Exact) else amount.strip()])
-        self._keep([[cell] for cell in row])
+        if self.width is None:
+            self._keep(place for place, cell in enumerate(row) if cell.strip())
 
     def _is_of_place(self, line: int, row: list[str]) -> bool:
         """Whether a row is of a place, which has no head and no capacity. If so, takes it."""

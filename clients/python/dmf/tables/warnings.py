@@ -9,7 +9,7 @@ from array import array
 from collections import Counter, defaultdict
 from collections.abc import Collection, Iterable, Iterator, Sequence
 from itertools import compress, count, islice
-from operator import eq
+from operator import eq, not_
 from typing import Any
 
 from .. import arrays
@@ -87,10 +87,10 @@ def _lone_first_row(plan: Plan) -> Iterator[str]:
 def _rows(plan: Plan) -> Iterator[str]:
     """Self loops, capacities of 0, and rows that are the same."""
     table = plan.arcs
-    if any(map(eq, table.tails, table.heads)):
-        yield f"tail and head are the same place: {_lines([line for tail, head, line in zip(table.tails, table.heads, table.lines) if tail == head])}"
+    if loops := [*compress(table.lines, map(eq, table.tails, table.heads))]:
+        yield f"tail and head are the same place: {_lines(loops)}"
     if 0 in table.amounts.numbers:
-        yield f"the capacity is 0: {_lines([line for line, number in zip(table.lines, table.amounts.numbers) if not number])}"
+        yield f"the capacity is 0: {_lines([*compress(table.lines, map(not_, table.amounts.numbers))])}"
     yield from _same_rows(plan)
 
 
