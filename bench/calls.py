@@ -87,7 +87,7 @@ def spent(child: int = 0) -> float:
 def child_of(made: Any) -> int:
     """The process of a network's session; 0 if that runs by the library."""
     process = getattr(made._session, "process", None)
-    return process.pid if process else 0
+    return int(process.pid) if process else 0
 
 
 def measured(act: Callable[[], object], child: int = 0) -> Took:
