@@ -17,6 +17,8 @@ from setting import BENCH, CACHE, DMF
 
 sys.path.insert(0, str(BENCH.parent / "clients" / "python"))
 os.environ.setdefault("DMF", str(DMF))
+# The program is measured, unless `by_library` is called.
+os.environ["DMF_LIBRARY"] = ""
 CASES = 50
 
 
@@ -28,6 +30,12 @@ class Took(NamedTuple):
     memory: int = 0
     before: int = 0
     value: int = 0
+
+
+def by_library() -> None:
+    """Has networks of this process run by the C library."""
+    told = subprocess.run([BENCH.parent / "tools/prebuilt", "library"], stdout=subprocess.PIPE, text=True, check=True)
+    os.environ["DMF_LIBRARY"] = told.stdout.rstrip("\n")
 
 
 def drawn(arcs: int) -> Iterator[tuple[int, int, int]]:
@@ -77,7 +85,9 @@ def spent(child: int = 0) -> float:
 
 
 def child_of(made: Any) -> int:
-    return int(made._child.process.pid)
+    """The process of a network's session; 0 if that runs by the library."""
+    process = getattr(made._session, "process", None)
+    return int(process.pid) if process else 0
 
 
 def measured(act: Callable[[], object], child: int = 0) -> Took:
