@@ -71,9 +71,21 @@ class Page:
 
     def press(self, word: str) -> None:
         """Presses the button of this text, once it is there."""
+        from selenium.common.exceptions import StaleElementReferenceException
+
         found = f"//button[text()={word!r}]"
-        self.wait(lambda: self.driver.find_elements("xpath", found))
-        self.driver.find_element("xpath", found).click()
+
+        def is_pressed() -> bool:
+            buttons = self.driver.find_elements("xpath", found)
+            try:
+                for button in buttons[:1]:
+                    button.click()
+            except StaleElementReferenceException:
+                # What stands there was shown anew meanwhile.
+                return False
+            return bool(buttons)
+
+        self.wait(is_pressed)
 
     def write(self, place: str, text: str) -> None:
         field = self.driver.find_element("css selector", place)

@@ -3,6 +3,7 @@
 from __future__ import annotations
 
 import random
+from collections.abc import Callable
 
 import pytest
 from desk_shared import desk_of
@@ -56,13 +57,14 @@ def test_nearby(seed: int) -> None:
     numbers = set()
     for turn in range(60):
         arc, node = chance.choice(desk.pictured()), chance.randint(1, 36)
-        places = [desk.names.place_of(chance.randint(1, 36)) for _ in range(2)]
+        place, other = (desk.names.place_of(chance.randint(1, 36)) for _ in range(2))
+        acts: list[Callable[[], object]] = [
+            lambda: desk.close(arc), lambda: desk.open(arc), lambda: desk.double(arc), lambda: desk.cap(arc, chance.randint(0, 30)),
+            lambda: desk.shut(place), lambda: desk.open_place(place), lambda: desk.add(place, other, 5),
+            lambda: desk.go_to(chance.randint(1, len(desk.steps))),
+        ]  # fmt: skip
         try:
-            chance.choice((
-                lambda: desk.close(arc), lambda: desk.open(arc), lambda: desk.double(arc), lambda: desk.cap(arc, chance.randint(0, 30)),
-                lambda: desk.shut(places[0]), lambda: desk.open_place(places[0]), lambda: desk.add(*places, 5),
-                lambda: desk.go_to(chance.randint(1, len(desk.steps))),
-            ))()  # fmt: skip
+            chance.choice(acts)()
         except DeskFault:
             continue
         for nodes in (), tuple(desk.names.place_of(node)):
