@@ -57,7 +57,7 @@ class Spans(Rows):
         return f"\n{cell}\n" in f"\n{self.text(place)}\n"
 
     def column(self, place: int) -> list[str]:
-        return self.text(place).split("\n")
+        return self.text(place).split("\n") if place < self._starts.shape[1] else [""] * len(self)
 
     def put_amounts(self, amounts: Amounts, place: int) -> None:
         amounts.add_text(self.text(place), len(self), int(self._sizes[:, place].max()))
