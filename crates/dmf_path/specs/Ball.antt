@@ -1,6 +1,6 @@
 -- The nodes near a goal, as a breadth-first search from it finds them backwards.
 -- Private: only contracts inside the crate and proofs use this.
-use Rattle.std.specs.Prelude.{ℕ, ◌≡◌, ◌+◌, ◌<◌, ◌≤◌, true, false, Bool, List, length, slice_index}
+use Rattle.std.specs.Prelude.{ℕ, ◌≡◌, ◌+◌, ◌<◌, ◌≤◌, false, List, length, slice_index}
 use Rattle.dmf_node.specs.Node.{IsNode}
 use Rattle.dmf_links.specs.Links.{Links, LiesAt}
 use Rattle.dmf_path.specs.declared.ball.Ball.{Ball}
@@ -41,7 +41,7 @@ pub record IsFit (ball : Ball) (r : Residual) : Type 0 where
 abbrev pub IsAround : Ball → ℕ → Type 0
 IsAround ball goal = 0 < ball.radius → ball.around.root ≡ goal
 
--- What is known is right, and about this goal where it was looked for.
-pub record IsFitAround (ball : Ball) (r : Residual) (goal : ℕ) (is_looked_for : Bool) : Type 0 where
+-- What is known is right, and about this goal.
+pub record IsFitFor (ball : Ball) (r : Residual) (goal : ℕ) : Type 0 where
   pub fit : IsFit ball r
-  pub around : is_looked_for ≡ true → IsAround ball goal
+  pub around : IsAround ball goal

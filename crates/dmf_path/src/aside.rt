@@ -3,6 +3,7 @@ ghost use Rattle.std.specs.Prelude.{◌≡◌};
 ghost use Rattle.dmf_path.specs.Residual.{Residual};
 ghost use Rattle.dmf_path.specs.Searching.{AreAside, AreUsable};
 
+use crate::course::Kept;
 use crate::levels::Levels;
 use std::mem::{replace, swap};
 
@@ -25,6 +26,17 @@ pub struct Aside {
 }
 
 impl Ends {
+    /// Which of these ends the next ones have too.
+    pub fn kept_by(self, next: Ends) -> Kept {
+        if self.start == next.start {
+            return Kept::Start;
+        }
+        if self.goal == next.goal {
+            return Kept::Goal;
+        }
+        Kept::Neither
+    }
+
     /// Whether both have the same start or the same goal.
     pub fn share_one(self, other: Ends) -> bool {
         self.start == other.start || self.goal == other.goal

@@ -2,7 +2,7 @@
 ghost use Rattle.std.specs.Prelude.{◌≡◌, ◌≤◌, ◌<◌, ◌^◌, length, slice_index, IfOk};
 ghost use Rattle.dmf_node.specs.Node.{IsNode};
 ghost use Rattle.dmf_links.specs.LinkTable.{links_of};
-ghost use Rattle.dmf_path.specs.Ball.{AreInside, AreNear, AreNodes, IsAround, IsFit};
+ghost use Rattle.dmf_path.specs.Ball.{AreInside, AreNear, AreNodes, IsAround, IsFit, IsFitFor};
 ghost use Rattle.dmf_path.specs.Frontier.{IsClean};
 ghost use Rattle.dmf_path.specs.Residual.{Residual, residual_of};
 
@@ -52,8 +52,7 @@ impl Ball {
     /// Looks for the nodes near this goal, if there is memory for them, and no push is taken back.
     pub fn surround(&mut self, links: &Links, goal: u32)
         requires { IsNode links.now.table.value.nodes goal }
-        ensures fit { IsFit self.new (residual_of links.now) }
-        ensures around { IsAround self.new goal }
+        ensures { IsFitFor self.new (residual_of links.now) goal }
     {
         self.around.unlabel();
         self.radius = 0;
@@ -65,11 +64,9 @@ impl Ball {
 
     /// Looks for them anew, if that is wanted.
     pub fn renew(&mut self, links: &Links, goal: u32, is_wanted: bool)
-        requires fit { IsFit self.old (residual_of links.now) }
-        requires around { IsAround self.old goal }
+        requires fit { IsFitFor self.old (residual_of links.now) goal }
         requires goal { IsNode links.now.table.value.nodes goal }
-        ensures fit { IsFit self.new (residual_of links.now) }
-        ensures around { IsAround self.new goal }
+        ensures { IsFitFor self.new (residual_of links.now) goal }
     {
         if is_wanted {
             self.surround(links, goal);

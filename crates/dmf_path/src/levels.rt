@@ -4,6 +4,7 @@ ghost use Rattle.dmf_links.specs.LinkTable.{links_of};
 ghost use Rattle.dmf_path.specs.Searching.{IsReady};
 ghost use Rattle.dmf_path.specs.Walk.{AreCurrent};
 
+use crate::course::Course;
 use crate::frontier::Frontier;
 use crate::noted::Noted;
 use dmf_links::LinkTable;
@@ -18,20 +19,12 @@ pub struct Levels {
     pub far: Frontier,
     /// The place of each node's current link.
     pub current: Vec<u32>,
-    /// Whether nodes are labelled from both ends, and not from the goal alone.
-    pub both: bool,
-    /// How many links the last labelling from the goal alone looked at.
-    pub looked: u64,
+    /// How the nodes are labelled next.
+    pub course: Course,
     /// Whether all nodes from which paths lead to the goal have labels, so that a search from another start may keep the labels.
     pub all: bool,
     /// The admissible links before current ones.
     pub noted: Noted,
-    /// Whether the search was aimed twice in turn, with these labels, at the same goal or from the same start.
-    pub again: bool,
-    /// Whether the start was the same.
-    pub from_start: bool,
-    /// How many links labelling from both ends has looked at since all nodes got a label, or since both ends of the search changed.
-    pub spent: u64,
 }
 
 impl Levels {
@@ -45,13 +38,9 @@ impl Levels {
             near: Frontier::new(alloc, table.nodes)?,
             far: Frontier::new(alloc, table.nodes)?,
             current: Vec::from_slice(alloc, &table.first[..table.nodes as usize + 1])?,
-            both: false,
-            looked: 0,
+            course: Course::FromGoal { looked: 0 },
             all: false,
             noted: Noted::none(alloc),
-            again: false,
-            from_start: false,
-            spent: 0,
         })
     }
 

@@ -7,6 +7,7 @@ pub use touched::{Indices, Touched};
 
 mod aside;
 mod ball;
+mod course;
 mod frontier;
 mod label;
 mod levels;

@@ -89,7 +89,7 @@ fn mend(links: &Links, levels: &mut Levels, ball: &mut Ball, trail: &mut Trail) 
     ensures goes { Goes links.now levels.new ball.new trail.new }
     ensures same { sought (residual_of links.now) (way_of trail.new) ≡ sought (residual_of links.now) (way_of trail.old) }
 {
-    if !levels.all || !levels.from_start || levels.noted.lost {
+    if !levels.all || !levels.course.is_from_start() || levels.noted.lost {
         return false;
     }
     let before = levels.near.label(trail.goal);
@@ -117,7 +117,8 @@ fn relabel(links: &Links, levels: &mut Levels, ball: &mut Ball, trail: &mut Trai
     }
     set_current(&links.table, levels.near.queue(), &mut levels.current);
     levels.noted.clear();
-    ball.renew(links, trail.goal, levels.all && levels.from_start);
+    let is_wanted = levels.all && levels.course.is_from_start();
+    ball.renew(links, trail.goal, is_wanted);
     let start_label = levels.near.label(trail.start);
     let goal_label = levels.near.label(trail.goal);
     trail.free(start_label - goal_label);
@@ -137,7 +138,7 @@ pub fn begin_anew(links: &mut Links, levels: &mut Levels, trail: &mut Trail)
 {
     trail.settle(links);
     make_fresh(&links.table, levels, trail);
-    levels.both = true;
+    levels.course = levels.course.from_both();
 }
 
 /// Restarts the search between other nodes: applies the held pushes, takes up the labels that fit these nodes, and keeps them if they can
@@ -165,8 +166,7 @@ pub fn aim(
         goal: trail.goal,
     };
     let used = take_up(asides, levels, before, ends);
-    levels.again = used.share_one(ends);
-    levels.from_start = used.start == ends.start;
+    levels.course = levels.course.keeping(used.kept_by(ends));
     trail.start = ends.start;
     trail.goal = ends.goal;
     if redirect(links, levels, ball, used.goal, ends.start, ends.goal) {
@@ -176,7 +176,6 @@ pub fn aim(
         return false;
     }
     make_fresh(&links.table, levels, trail);
-    levels.both = true;
     true
 }
 

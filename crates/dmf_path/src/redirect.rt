@@ -4,7 +4,7 @@ ghost use Rattle.std.specs.List.{All};
 ghost use Rattle.dmf_node.specs.Node.{IsNode};
 ghost use Rattle.dmf_links.specs.Links.{tail_of};
 ghost use Rattle.dmf_links.specs.LinkTable.{links_of};
-ghost use Rattle.dmf_path.specs.Ball.{IsFit, IsFitAround};
+ghost use Rattle.dmf_path.specs.Ball.{IsFit, IsFitFor};
 ghost use Rattle.dmf_path.specs.BothEnds.{AreWhole};
 ghost use Rattle.dmf_path.specs.Residual.{residual_of};
 ghost use Rattle.dmf_path.specs.Searching.{labelling_of, AreKeptFor, AreLowered, AreRedirected, AreUsable, HaveFallen, IsReady, MayBeRefitted};
@@ -61,7 +61,7 @@ pub fn refit(links: &Links, levels: &mut Levels, ball: &mut Ball, start: u32, go
     ensures ready { IsReady links.now.table.value.nodes levels.new.near levels.new.far }
     ensures kept { AreKeptFor (labelling_of levels.new) levels.new.noted (residual_of links.now) goal }
     ensures fallen { HaveFallen levels.old levels.new start goal }
-    ensures fit { IsFitAround ball.new (residual_of links.now) goal levels.old.from_start }
+    ensures fit { IsFitFor ball.new (residual_of links.now) goal }
 {
     lower_from_start(links, levels, ball, start, goal);
     bring_back(&links.table, &levels.noted.places, &mut levels.current);
@@ -76,9 +76,10 @@ fn lower_from_start(links: &Links, levels: &mut Levels, ball: &mut Ball, start: 
     ensures refitted { MayBeRefitted levels.new (residual_of links.now) }
     ensures noted { levels.new.noted ≡ levels.old.noted }
     ensures fallen { HaveFallen levels.old levels.new start goal }
-    ensures fit { IsFitAround ball.new (residual_of links.now) goal levels.old.from_start }
+    ensures fit { IsFitFor ball.new (residual_of links.now) goal }
 {
-    if !levels.from_start {
+    if !levels.course.is_from_start() {
+        ball.keep_for(goal);
         return;
     }
     ball.surround(links, goal);

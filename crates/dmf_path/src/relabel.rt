@@ -4,6 +4,7 @@ ghost use Rattle.dmf_links.specs.LinkTable.{links_of};
 ghost use Rattle.dmf_path.specs.BothEnds.{AreWhole};
 ghost use Rattle.dmf_path.specs.Searching.{IsRelabelled, IsSeparated, MayBeLabelled};
 
+use crate::course::Course;
 use crate::levels::Levels;
 use crate::meet::meet;
 use crate::open::{Flagged, Roomy};
@@ -18,21 +19,23 @@ pub fn label_anew(links: &Links, levels: &mut Levels, start: u32, goal: u32) -> 
     ensures relabelled { IsRelabelled links.now levels.old levels.new start goal result }
     ensures whole { result ≡ true → levels.new.all ≡ true → AreWhole (links_of links.now.table.value) levels.new.near.labels links.now.rooms.items }
 {
-    levels.all = levels.again && levels.spent > links.table.heads.len() as u64;
+    levels.all = levels.course.is_to_all(links.table.heads.len() as u64);
     if levels.all {
-        levels.spent = 0;
-        if levels.from_start {
+        levels.course = levels.course.with_all();
+        if levels.course.is_from_start() {
             return label_all_from(links, levels, start, goal);
         }
         return label_all(links, levels, start, goal);
     }
-    if levels.both {
-        return label_from_both(links, levels, start, goal);
+    match levels.course {
+        Course::FromGoal { looked } => {
+            if is_enclosed(links, levels, start, goal, looked / 32) {
+                return false;
+            }
+            label_from_goal(links, levels, start, goal)
+        }
+        Course::FromBoth { .. } => label_from_both(links, levels, start, goal),
     }
-    if is_enclosed(links, levels, start, goal) {
-        return false;
-    }
-    label_from_goal(links, levels, start, goal)
 }
 
 /// Labels the nodes from the goal, until the start has a label.
@@ -43,7 +46,9 @@ fn label_from_goal(links: &Links, levels: &mut Levels, start: u32, goal: u32) ->
 {
     let near = &mut levels.near;
     near.label_from(&links.table, &Flagged(&links.flags), goal, start);
-    levels.looked = near.looked();
+    levels.course = Course::FromGoal {
+        looked: near.looked(),
+    };
     near.has_label(start)
 }
 
@@ -76,18 +81,17 @@ fn label_all_from(links: &Links, levels: &mut Levels, start: u32, goal: u32) -> 
     true
 }
 
-/// Searches from the start over links with room, and gives up after a 32nd of the links that the last labelling looked at. Returns
-/// whether the search ended before that without the goal: then no path is left. If not, removes all labels again.
+/// Searches from the start over links with room, and gives up after `few` links. Returns whether the search ended before that without
+/// the goal: then no path is left. If not, removes all labels again.
 ///
 /// If no path is left, labelling from the goal would often look at nearly all links.
-fn is_enclosed(links: &Links, levels: &mut Levels, start: u32, goal: u32) -> bool
+fn is_enclosed(links: &Links, levels: &mut Levels, start: u32, goal: u32, few: u64) -> bool
     requires { MayBeLabelled links.now.table.value.nodes levels.old.near levels.old.far start goal }
     ensures enclosed { result ≡ true → IsRelabelled links.now levels.old levels.new start goal false }
     ensures clean { result ≡ false → MayBeLabelled links.now.table.value.nodes levels.new.near levels.new.far start goal }
     ensures all { levels.new.all ≡ levels.old.all }
     ensures current { levels.new.current ≡ levels.old.current }
 {
-    let few = levels.looked / 32;
     let near = &mut levels.near;
     near.begin(start);
     let ended = near.label_within(&links.table, &Roomy(&links.rooms), goal, few);
@@ -117,7 +121,6 @@ fn label_from_both(links: &Links, levels: &mut Levels, start: u32, goal: u32) ->
     let looked = near.looked().saturating_add(far.looked());
     near.join(far, long);
     far.unlabel();
-    let before = if levels.again { levels.spent } else { 0 };
-    levels.spent = before.saturating_add(looked);
+    levels.course = levels.course.after(looked);
     true
 }

@@ -67,7 +67,7 @@ returns-clause-goes c =
       ready = (links.table.value.nodes, c.refit.ensures.ready);
       lasting = λ all. subst (AreLasting (labelling_of levels) levels.noted) (sym free) kept.lasting;
       fit = subst (IsFit c.refit.new.ball) (sym free) c.refit.ensures.fit.fit;
-      around = λ some. c.refit.ensures.fit.around c.if-not-levels-2.false some ∙ sym (ap (λ (u : Way). u.goal) c.free.ensures.way);
+      around = λ some. c.refit.ensures.fit.around some ∙ sym (ap (λ (u : Way). u.goal) c.free.ensures.way);
     }
 
 pub returns-clause-same : goal.returns-clause-same

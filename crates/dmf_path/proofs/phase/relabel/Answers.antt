@@ -145,4 +145,4 @@ returns c =
     }
 
 pub renew-requires : goal.renew-requires
-renew-requires c = record { fit = subst (IsFit c.args.ball.now) c.requires.settled c.requires.goes.fit; around = c.requires.goes.around; goal = c.requires.goes.searching.aimed.goal_is }
+renew-requires c = record { fit = record { fit = subst (IsFit c.args.ball.now) c.requires.settled c.requires.goes.fit; around = c.requires.goes.around }; goal = c.requires.goes.searching.aimed.goal_is }

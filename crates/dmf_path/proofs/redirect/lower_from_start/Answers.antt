@@ -18,5 +18,5 @@ returns-clause-refitted c =
 pub returns-clause-fallen : goal.returns-clause-fallen
 returns-clause-fallen c = record { all = refl; start_label = c.lower_labels.ensures.start; less = c.lower_labels.ensures.lowered.less c.args.goal }
 
-pub returns-clause-fit : goal.returns-clause-fit
-returns-clause-fit c = record { fit = c.surround.ensures.fit; around = λ _. c.surround.ensures.around }
+pub returns-then-not-is_from_start-clause-fit : goal.returns-then-not-is_from_start-clause-fit
+returns-then-not-is_from_start-clause-fit c = record { fit = c.keep_for.ensures.fit _ c.requires.fit; around = c.keep_for.ensures.around }

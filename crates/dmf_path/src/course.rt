@@ -1,0 +1,109 @@
+//! How the nodes are labelled next.
+
+/// Which end of a search stayed the same when it was aimed last.
+#[derive(Clone, Copy)]
+pub enum Kept {
+    /// None did.
+    Neither,
+    /// The goal did, and not the start.
+    Goal,
+    /// The start did.
+    Start,
+}
+
+/// From where the nodes are labelled next.
+#[derive(Clone, Copy)]
+pub enum Course {
+    /// From the goal alone. The last labelling looked at so many links.
+    FromGoal {
+        /// The number of links.
+        looked: u64,
+    },
+    /// From both ends, until that has looked at more links than there are and an end was kept: then all nodes get a label.
+    FromBoth {
+        /// The end that was kept.
+        kept: Kept,
+        /// So many links were looked at since all nodes got a label, or since both ends of the search changed.
+        spent: u64,
+    },
+}
+
+impl Course {
+    /// Whether all nodes get a label next, among so many links.
+    pub fn is_to_all(self, links: u64) -> bool {
+        match self {
+            Course::FromGoal { .. } => false,
+            Course::FromBoth { kept, spent } => kept.is_one() && spent > links,
+        }
+    }
+
+    /// Whether all nodes get the labels that distances from the start give.
+    pub fn is_from_start(self) -> bool {
+        match self {
+            Course::FromGoal { .. } => false,
+            Course::FromBoth { kept, .. } => kept.is_start(),
+        }
+    }
+
+    /// From both ends from now on.
+    pub fn from_both(self) -> Course {
+        match self {
+            Course::FromGoal { .. } => Course::FromBoth {
+                kept: Kept::Neither,
+                spent: 0,
+            },
+            Course::FromBoth { kept, spent } => Course::FromBoth { kept, spent },
+        }
+    }
+
+    /// The same after the search was aimed, and kept this end.
+    pub fn keeping(self, kept: Kept) -> Course {
+        match self {
+            Course::FromGoal { .. } => Course::FromBoth { kept, spent: 0 },
+            Course::FromBoth { spent, .. } => Course::FromBoth { kept, spent },
+        }
+    }
+
+    /// The same after all nodes got a label.
+    pub fn with_all(self) -> Course {
+        match self {
+            Course::FromGoal { looked } => Course::FromGoal { looked },
+            Course::FromBoth { kept, .. } => Course::FromBoth { kept, spent: 0 },
+        }
+    }
+
+    /// The same after labelling from both ends looked at so many links.
+    pub fn after(self, looked: u64) -> Course {
+        match self {
+            Course::FromGoal { .. } => Course::FromBoth {
+                kept: Kept::Neither,
+                spent: looked,
+            },
+            Course::FromBoth { kept, spent } => {
+                let before = if kept.is_one() { spent } else { 0 };
+                Course::FromBoth {
+                    kept,
+                    spent: before.saturating_add(looked),
+                }
+            }
+        }
+    }
+}
+
+impl Kept {
+    /// Whether an end was kept.
+    fn is_one(self) -> bool {
+        match self {
+            Kept::Neither => false,
+            Kept::Goal | Kept::Start => true,
+        }
+    }
+
+    /// Whether the start was kept.
+    fn is_start(self) -> bool {
+        match self {
+            Kept::Neither | Kept::Goal => false,
+            Kept::Start => true,
+        }
+    }
+}
