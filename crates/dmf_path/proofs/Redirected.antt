@@ -1,9 +1,8 @@
 -- Labels that lead to one goal lead to another, once the noted links are current again.
-use Rattle.std.proofs.Common.{ℕ, ◌≡◌, ◌≢◌, ◌+◌, ◌<◌, ◌≤◌, inl, inr, List, [], length, get_or, set, ap, ◌∙◌, arith}
+use Rattle.std.proofs.Common.{ℕ, ◌≡◌, ◌+◌, ◌<◌, ◌≤◌, inl, inr, List, [], length, get_or, set, ap, ◌∙◌, arith}
 use Rattle.std.proofs.lemmas.List.{get_or-set_same, get_or_default}
 use Rattle.std.proofs.lemmas.Bool.{cases_eq}
 use Rattle.dmf_links.specs.Links.{Links, AreLinks, tail_of}
-use Rattle.dmf_path.specs.Labels.{no_label, AreQueued}
 use Rattle.dmf_path.specs.Walk.{AreCurrent, ArePassed}
 use Rattle.dmf_path.specs.Searching.{AreNoted, IsNoted}
 use Rattle.dmf_path.proofs.Spreading.{cases-set}
@@ -67,11 +66,3 @@ none-noted {l = l} {noted = noted} current are less back = record {
 -- So no walk to any goal begins with a passed link.
 pub none-passed : {l : Links} {labels rooms current : List ℕ} (goal : ℕ) → AreNoted l labels rooms current [] → ArePassed l labels rooms goal current
 none-passed goal are v p ps node lies before walk = not-noted v p (are.each v p node lies before walk.0)
-
--- Lowered labels are those of the same nodes, so the queue has these nodes.
-pub queued-less : {old new queue : List ℕ} → length new ≡ length old → ((v : ℕ) → get_or new v 0 ≢ no_label → get_or old v 0 ≢ no_label)
-    → AreQueued old queue → AreQueued new queue
-queued-less long labelled queued = record {
-  within = λ k before. omega (arith, long, queued.within k before);
-  listed = λ v within has. queued.listed v (omega (arith, within, long)) (labelled v has);
-}
