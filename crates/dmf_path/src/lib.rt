@@ -12,6 +12,7 @@ mod label;
 mod levels;
 mod look;
 mod lower;
+mod mark;
 mod meet;
 mod noted;
 mod open;
