@@ -5,6 +5,7 @@ pub mod LinkSteps
 pub mod OpenPaths
 pub mod LeastTrail
 pub mod Reaching
+pub mod Parted
 pub mod RoomLeft
 pub mod Descending
 pub mod Settled

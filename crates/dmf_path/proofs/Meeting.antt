@@ -1,5 +1,5 @@
 -- Two searches meet: what their labels say then, and that a path has no more links than there are nodes.
-use Rattle.std.proofs.Common.{ℕ, ◌≡◌, ◌≢◌, ◌+◌, ◌≤◌, ◌<◌, ◌⊎◌, inl, inr, List, [], ◌∷◌, Option, None, length, get_or, set, replicate, map, suc, refl, ap, sym, ◌∙◌, arith}
+use Rattle.std.proofs.Common.{Bool, ℕ, ◌≡◌, ◌≢◌, ◌+◌, ◌≤◌, ◌<◌, ◌⊎◌, inl, inr, List, [], ◌∷◌, Option, None, length, get_or, set, replicate, map, suc, refl, ap, sym, ◌∙◌, arith}
 use Rattle.std.proofs.Common.{◌==◌, cond}
 use Rattle.std.proofs.lemmas.Bool.{cases_lt}
 use Rattle.std.proofs.lemmas.Bool.Decides.{nat_tests}
@@ -10,15 +10,15 @@ use Rattle.dmf_path.specs.Reach.{Reach}
 use Rattle.dmf_path.specs.declared.push.Links.{Links as Roomy}
 use Rattle.dmf_links.specs.Links.{Links, LiesAt, AreLinks, open_flag, tail_of}
 use Rattle.dmf_links.specs.LinkTable.{links_of}
-use Rattle.dmf_path.specs.Labels.{no_label, unlabelled_count}
+use Rattle.dmf_path.specs.Labels.{no_label, unlabelled_count, MarksLabelled, MarksUnlabelled}
 use Rattle.dmf_path.specs.BothEnds.{AreLevels, AreNearing, HasMetAt, HaveGoneOn}
-use Rattle.dmf_path.specs.Searching.{IsSeparated}
+use Rattle.dmf_path.specs.Searching.{IsParted}
 use Rattle.dmf_path.specs.Frontier.{AreSpread, IsAtRest, AreApart, MeetBeyond, next_label}
 use Rattle.dmf_links.proofs.LinkPlaces.{lies-partner}
 use Rattle.dmf_path.proofs.Labelling.{queued-at, labels-spread}
 use Rattle.dmf_path.proofs.Spreading.{cases-set}
 use Rattle.dmf_path.proofs.Expanding.{level-first, level-labels}
-use Rattle.dmf_path.proofs.Reaching.{AreOpen-map, separated-unlabelled, separated-labelled}
+use Rattle.dmf_path.proofs.Reaching.{AreOpen-map, parted-unlabelled, parted-labelled}
 
 -- Where a search goes on and meets another one, which is at rest on level `far` and comes over the same links from their other ends, the
 -- node has that label of the latter.
@@ -171,20 +171,22 @@ on-again on next = record {
 
 module _ {links : Roomy} {g s : Reach} (are : AreNearing links g s) where
   -- All nodes that lead to the goal have labels, and the start has none.
-  pub goal-used_up : length g.queue ≤ g.done → IsSeparated (links_of links.table.value) links.rooms.items s.root g.root
-  goal-used_up all =
+  pub goal-used_up : length g.queue ≤ g.done → (marks : List Bool) → MarksUnlabelled g.labels marks
+      → IsParted (links_of links.table.value) links.rooms.items s.root g.root marks
+  goal-used_up all marks marked =
       let side = are.goal_side in
       let whole = links.table.value.are in
       let unset : get_or g.labels s.root 0 ≡ no_label =
       omega (arith, are.apart s.root (omega (arith, are.start.to_last, side.one_each)), are.start_side.root_is) in
-      separated-unlabelled links.rooms.items links.flags.items whole links.flags_are
-      (labels-spread side s.root whole are.start.to_last (inl (omega (arith, all, side.come)))) unset unset
+      parted-unlabelled links.rooms.items links.flags.items whole links.flags_are
+      (labels-spread side s.root whole are.start.to_last (inl (omega (arith, all, side.come)))) unset unset marks marked
 
   -- All nodes to which the start leads have labels, and the goal has none.
-  pub start-used_up : length s.queue ≤ s.done → IsSeparated (links_of links.table.value) links.rooms.items s.root g.root
-  start-used_up all =
+  pub start-used_up : length s.queue ≤ s.done → (marks : List Bool) → MarksLabelled s.labels marks
+      → IsParted (links_of links.table.value) links.rooms.items s.root g.root marks
+  start-used_up all marks marked =
       let side = are.start_side in
       let whole = links.table.value.are in
       let either = are.apart g.root (omega (arith, are.goal.to_last, are.goal_side.one_each)) in
-      separated-labelled links.rooms.items whole (AreOpen-map (links_of links.table.value) links.rooms.items (opens_of links) links.rooms_are refl)
-      (labels-spread side g.root whole are.goal.to_last (inl (omega (arith, all, side.come)))) (omega (arith, either, are.goal_side.root_is))
+      parted-labelled links.rooms.items whole (AreOpen-map (links_of links.table.value) links.rooms.items (opens_of links) links.rooms_are refl)
+      (labels-spread side g.root whole are.goal.to_last (inl (omega (arith, all, side.come)))) (omega (arith, either, are.goal_side.root_is)) marks marked

@@ -7,8 +7,8 @@ use Rattle.dmf_node.specs.Node.{IsNode}
 use Rattle.dmf_path.specs.Path.{HasNoPath, IsReachable}
 use Rattle.dmf_path.specs.Pair.{steps_of}
 use Rattle.dmf_links.specs.Links.{Links, LiesAt, AreLinks, ArePlaces, AreRooms, AreFlags, open_flag, pairs_at, tail_of}
-use Rattle.dmf_path.specs.Labels.{AreLabels, no_label, is_label}
-use Rattle.dmf_path.specs.Searching.{IsClosed, IsSeparated}
+use Rattle.dmf_path.specs.Labels.{AreLabels, MarksLabelled, MarksUnlabelled, no_label, is_label}
+use Rattle.dmf_path.specs.Searching.{IsClosed, IsSeparated, IsParted}
 use Rattle.dmf_links.proofs.Flags.{room-of_flag, flag-of_room}
 use Rattle.dmf_links.proofs.LinkPlaces.{lies-within}
 use Rattle.dmf_path.proofs.Labelled.{valid-labelled}
@@ -48,6 +48,16 @@ separated-unlabelled {l = l} rooms flags {labels = labels} {start = start} {goal
       let small = are.small head (links.each p (lies-within l v p links node lies)).head in
       eq-eqb (get_or labels head 0) no_label
       (grind (arith, valid, small, unlabelled, eqb-true (get_or labels v 0) no_label within, links.at_most_nodes));
+}
+
+-- The marks of these nodes are those of the set.
+pub parted-unlabelled : {l : Links} (rooms flags : List ℕ) {labels : List ℕ} {start goal stop : ℕ} → AreLinks l → AreFlags l rooms flags
+    → AreLabels l flags goal stop labels → get_or labels stop 0 ≡ no_label → get_or labels start 0 ≡ no_label
+    → (marks : List Bool) → MarksUnlabelled labels marks → IsParted l rooms start goal marks
+unfolding separated-unlabelled
+parted-unlabelled rooms flags links told are unlabelled outside marks marked = record {
+  separated = separated-unlabelled rooms flags links told are unlabelled outside;
+  marked = λ long v node. marked (omega (arith, are.one_each, long)) v (subst (λ n. IsNode n v) (sym long) node);
 }
 
 -- ---- the search forwards from a root
@@ -92,6 +102,14 @@ module _ {l : Links} (rooms : List ℕ) {opens labels : List ℕ} {root stop : �
     start_in = label-to (get_or labels root 0) (omega (arith, are.root_is));
     goal_out = rw (eq-eqb (get_or labels stop 0) no_label unlabelled) refl;
     closed = closed-labelled unlabelled;
+  }
+
+  -- The marks of the nodes with a label are those of the set.
+  pub parted-labelled : get_or labels stop 0 ≡ no_label → (marks : List Bool) → MarksLabelled labels marks → IsParted l rooms root stop marks
+  unfolding separated-labelled
+  parted-labelled unlabelled marks marked = record {
+    separated = separated-labelled unlabelled;
+    marked = λ long v node. marked (omega (arith, are.one_each, long)) v (subst (λ n. IsNode n v) (sym long) node);
   }
 
   -- A path leads from the root to each node with a label.

@@ -2,6 +2,7 @@
 -- Private: only contracts inside the crate and proofs use this.
 use Rattle.std.specs.Prelude.{ℕ, ◌≡◌, ◌≢◌, ◌+◌, ◌<◌, ◌≤◌, ◌⊎◌, ◌==◌, not, Bool, List, length, slice_index, count_by, Contains}
 use Rattle.dmf_node.specs.Node.{IsNode}
+use Rattle.dmf_path.specs.ClosedSide.{is_marked}
 use Rattle.dmf_links.specs.Links.{Links, LiesAt, tail_of}
 
 -- the number that stands for no label; it exceeds any label
@@ -58,3 +59,13 @@ pub record Spreads (heads opens : List ℕ) (from end label : ℕ) (old new fres
   pub labelled : (v : ℕ) → Contains fresh v → slice_index new v ≡ label
   pub led_to : (v : ℕ) → Contains fresh v → IsLedTo heads opens from end v
   pub counted : length fresh + unlabelled_count new ≡ unlabelled_count old
+
+-- If there is a mark for each node, the first for node 1, those of the nodes with a label say so.
+abbrev pub MarksLabelled : List ℕ → List Bool → Type 0
+MarksLabelled labels marks =
+    length labels ≡ length marks + 1 → (v : ℕ) → IsNode (length marks) v → is_marked marks v ≡ is_label (slice_index labels v)
+
+-- The same of the nodes without one.
+abbrev pub MarksUnlabelled : List ℕ → List Bool → Type 0
+MarksUnlabelled labels marks =
+    length labels ≡ length marks + 1 → (v : ℕ) → IsNode (length marks) v → is_marked marks v ≡ (slice_index labels v == no_label)

@@ -18,3 +18,4 @@ pub mod BothEnds
 pub mod Frontier
 pub mod Touching
 pub mod Apart
+pub mod ClosedSide

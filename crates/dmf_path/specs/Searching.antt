@@ -16,6 +16,7 @@ use Rattle.dmf_links.specs.Links.{Links, LiesAt, AreLinks, ArePlaces, AreRooms, 
 use Rattle.dmf_path.specs.Walk.{AreCurrent, ArePassed, IsAdmissible, IsTrail, IsWalking, end_of}
 use Rattle.dmf_path.specs.Held.{Way, places_of, walked_slots, rest_slots, filled_slots, HaveLeft}
 use Rattle.dmf_path.specs.Residual.{Residual, told}
+use Rattle.dmf_path.specs.ClosedSide.{is_marked}
 use Rattle.dmf_path.specs.Search.{Searched}
 
 -- How far the search for the next path has come: the walk, and the rest of the last path, which leads on to the goal along admissible
@@ -207,9 +208,15 @@ pub record IsSeparated (l : Links) (rooms : List ℕ) (start goal : ℕ) : Type 
   pub goal_out : inside goal ≡ false
   pub closed : IsClosed l rooms inside
 
--- The nodes have new labels, by which a walk leads from the start to the goal; or no path is left.
-pub record IsRelabelled (links : Roomy) (old new : Levels) (start goal : ℕ) (found : Bool) : Type 0 where
+-- The marks, if there is one for each node, are those of such a set.
+pub record IsParted (l : Links) (rooms : List ℕ) (start goal : ℕ) (marks : List Bool) : Type 0 where
+  pub separated : IsSeparated l rooms start goal
+  pub marked : length marks ≡ l.nodes → (v : ℕ) → IsNode l.nodes v → is_marked marks v ≡ separated.inside v
+
+-- The nodes have new labels, by which a walk leads from the start to the goal; or no path is left, and
+-- the nodes on the start's side are marked.
+pub record IsRelabelled (links : Roomy) (old new : Levels) (start goal : ℕ) (found : Bool) (marks : List Bool) : Type 0 where
   pub ready : IsReady links.table.value.nodes new.near new.far
   pub labelled : found ≡ true → IsLabelled (links_of links.table.value) links.rooms.items new.near.labels start goal
-  pub none : found ≡ false → IsSeparated (links_of links.table.value) links.rooms.items start goal
+  pub none : found ≡ false → IsParted (links_of links.table.value) links.rooms.items start goal marks
   pub current : new.current ≡ old.current

@@ -13,6 +13,7 @@ mod label;
 mod levels;
 mod look;
 mod lower;
+mod mark;
 mod meet;
 mod noted;
 mod open;

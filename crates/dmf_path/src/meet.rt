@@ -4,27 +4,38 @@ ghost use Rattle.dmf_links.specs.LinkTable.{links_of};
 ghost use Rattle.dmf_path.specs.BothEnds.{AreNearing, HasExpandedLevel, HaveGoneOn};
 ghost use Rattle.dmf_path.specs.Frontier.{AreApart, IsAtRest, IsSpread};
 ghost use Rattle.dmf_path.specs.Labels.{no_label};
-ghost use Rattle.dmf_path.specs.Searching.{IsSeparated};
+ghost use Rattle.dmf_path.specs.Searching.{IsParted};
 
 use crate::frontier::Frontier;
 use crate::label::NO_LABEL;
+use crate::mark::{mark_labelled, mark_unlabelled};
 use crate::open::{Flagged, OpenLinks, Roomy};
 use crate::push::Links;
 use dmf_links::LinkTable;
 
 /// Labels the nodes from both ends until a node has a label of both searches. Returns that node, or `None` if no path leads from the
-/// start to the goal.
-pub fn meet(links: &Links, to_goal: &mut Frontier, from_start: &mut Frontier) -> Option<u32>
+/// start to the goal: then marks the nodes on the start's side.
+pub fn meet(
+    links: &Links,
+    to_goal: &mut Frontier,
+    from_start: &mut Frontier,
+    marks: &mut [bool],
+) -> Option<u32>
     requires { AreNearing links.now to_goal.old from_start.old }
     ensures on { HaveGoneOn links.now to_goal.old from_start.old to_goal.new from_start.new result }
-    ensures none { result ≡ None → IsSeparated (links_of links.now.table.value) links.now.rooms.items from_start.old.root to_goal.old.root }
+    ensures none { result ≡ None → IsParted (links_of links.now.table.value) links.now.rooms.items from_start.old.root to_goal.old.root marks.new }
 {
-    while to_goal.has_next() && from_start.has_next() {
+    while to_goal.has_next() {
+        if !from_start.has_next() {
+            mark_labelled(from_start.labels(), marks);
+            return None;
+        }
         let met = expand_one(links, to_goal, from_start);
         if met.is_some() {
             return met;
         }
     }
+    mark_unlabelled(to_goal.labels(), marks);
     None
 }
 

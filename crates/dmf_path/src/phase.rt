@@ -6,7 +6,7 @@ ghost use Rattle.dmf_path.specs.Going.{Goes, IsAimedAnew, Keeps};
 ghost use Rattle.dmf_path.specs.Walk.{IsWalk};
 ghost use Rattle.dmf_path.specs.Held.{way_of, with_slots};
 ghost use Rattle.dmf_path.specs.Residual.{residual_of, told};
-ghost use Rattle.dmf_path.specs.Searching.{labelling_of, sought, AreAside, AreReady, IsSearching, IsFound, IsFresh, IsReady, IsSeparated, fresh_labels};
+ghost use Rattle.dmf_path.specs.Searching.{labelling_of, sought, AreAside, AreReady, IsSearching, IsFound, IsFresh, IsReady, IsParted, fresh_labels};
 
 use crate::aside::{Aside, Ends, take_up};
 use crate::ball::Ball;
@@ -19,14 +19,20 @@ use crate::walk::walk;
 use dmf_links::LinkTable;
 
 /// Finds the least path from the start to the goal: goes on with the walk, and if none is left, lowers labels near the goal or labels the
-/// nodes anew, and walks again.
-pub fn find(links: &mut Links, levels: &mut Levels, ball: &mut Ball, trail: &mut Trail) -> bool
+/// nodes anew, and walks again. If there is none, marks the nodes on the start's side, if there is a mark for each node.
+pub fn find(
+    links: &mut Links,
+    levels: &mut Levels,
+    ball: &mut Ball,
+    trail: &mut Trail,
+    marks: &mut [bool],
+) -> bool
     requires keeps { Keeps links.old levels.old ball.old trail.old }
     ensures keeps { Keeps links.new levels.new ball.new trail.new }
     ensures same { sought (residual_of links.new) (way_of trail.new) ≡ sought (residual_of links.old) (way_of trail.old) }
     ensures found { result ≡ true → IsFound (residual_of links.new) (way_of trail.new) }
-    ensures none { result ≡ false → IsSeparated (links_of links.old.table.value)
-        (told (residual_of links.old) (way_of trail.old)).rooms trail.old.start trail.old.goal }
+    ensures none { result ≡ false → IsParted (links_of links.old.table.value)
+        (told (residual_of links.old) (way_of trail.old)).rooms trail.old.start trail.old.goal marks.new }
 {
     ball.keep_for(trail.goal);
     if go_on(links, levels, ball, trail) {
@@ -35,7 +41,7 @@ pub fn find(links: &mut Links, levels: &mut Levels, ball: &mut Ball, trail: &mut
     if go_on_mended(links, levels, ball, trail) {
         return true;
     }
-    go_on_anew(links, levels, ball, trail)
+    go_on_anew(links, levels, ball, trail, marks)
 }
 
 /// Lowers labels near the goal, and walks again if this helps. Whether the walk comes to the goal.
@@ -50,16 +56,22 @@ fn go_on_mended(links: &mut Links, levels: &mut Levels, ball: &mut Ball, trail: 
 }
 
 /// Labels the nodes anew, and walks again. Whether the walk comes to the goal; if not, no path is left.
-fn go_on_anew(links: &mut Links, levels: &mut Levels, ball: &mut Ball, trail: &mut Trail) -> bool
+fn go_on_anew(
+    links: &mut Links,
+    levels: &mut Levels,
+    ball: &mut Ball,
+    trail: &mut Trail,
+    marks: &mut [bool],
+) -> bool
     requires goes { Goes links.old levels.old ball.old trail.old }
     ensures goes { Goes links.new levels.new ball.new trail.new }
     ensures same { sought (residual_of links.new) (way_of trail.new) ≡ sought (residual_of links.old) (way_of trail.old) }
     ensures found { result ≡ true → IsFound (residual_of links.new) (way_of trail.new) }
-    ensures none { result ≡ false → IsSeparated (links_of links.old.table.value)
-        (told (residual_of links.old) (way_of trail.old)).rooms trail.old.start trail.old.goal }
+    ensures none { result ≡ false → IsParted (links_of links.old.table.value)
+        (told (residual_of links.old) (way_of trail.old)).rooms trail.old.start trail.old.goal marks.new }
 {
     trail.settle(links);
-    relabel(links, levels, ball, trail) && go_on(links, levels, ball, trail)
+    relabel(links, levels, ball, trail, marks) && go_on(links, levels, ball, trail)
 }
 
 /// Goes on with the walk. Returns whether it comes to the goal.
@@ -101,17 +113,23 @@ fn mend(links: &Links, levels: &mut Levels, ball: &mut Ball, trail: &mut Trail) 
 }
 
 /// Labels the nodes anew, and frees the slots; no push is held. Returns whether the start has a label, so that a path is left.
-fn relabel(links: &Links, levels: &mut Levels, ball: &mut Ball, trail: &mut Trail) -> bool
+fn relabel(
+    links: &Links,
+    levels: &mut Levels,
+    ball: &mut Ball,
+    trail: &mut Trail,
+    marks: &mut [bool],
+) -> bool
     requires goes { Goes links.now levels.old ball.old trail.old }
     requires settled { told (residual_of links.now) (way_of trail.old) ≡ residual_of links.now }
     ensures goes { Goes links.now levels.new ball.new trail.new }
     ensures same { sought (residual_of links.now) (way_of trail.new) ≡ sought (residual_of links.now) (way_of trail.old) }
     ensures labelled { result ≡ true → (ps : List ℕ) × IsWalk (links_of links.now.table.value) levels.new.near.labels links.now.rooms.items
         trail.old.goal trail.old.start ps }
-    ensures none { result ≡ false → IsSeparated (links_of links.now.table.value) links.now.rooms.items trail.old.start trail.old.goal }
+    ensures none { result ≡ false → IsParted (links_of links.now.table.value) links.now.rooms.items trail.old.start trail.old.goal marks.new }
 {
     levels.near.unlabel();
-    if !label_anew(links, levels, trail.start, trail.goal) {
+    if !label_anew(links, levels, trail.start, trail.goal, marks) {
         make_fresh(&links.table, levels, trail);
         return false;
     }

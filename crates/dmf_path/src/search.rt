@@ -1,6 +1,8 @@
 //! The search for least paths, one after the other, from one node to another.
-ghost use Rattle.std.specs.Prelude.{if◌then◌else◌, ◌≡◌, ◌≢◌, ℕ, ◌+◌, ◌-◌, ◌^◌, ◌<◌, ◌↔◌, false, IsTrue, length, slice_index_or, IfOk, MatchOption};
+ghost use Rattle.std.specs.Prelude.{if◌then◌else◌, ◌≡◌, ◌≢◌, ℕ, ◌+◌, ◌-◌, ◌^◌, ◌<◌, ◌↔◌, false, None, IsTrue, length, slice_index_or, IfOk, IfSome, MatchOption};
 ghost use Rattle.dmf_node.specs.Node.{IsNode};
+ghost use Rattle.dmf_links.specs.Pair.{IsPair, pair_number};
+ghost use Rattle.dmf_path.specs.ClosedSide.{IsClosedSide};
 ghost use Rattle.dmf_path.specs.Path.{HasNoPath, IsReachable};
 ghost use Rattle.dmf_path.specs.Pair.{steps_of};
 ghost use Rattle.dmf_path.specs.Search.{Augments, HasAlong, along_at, against_at};
@@ -17,7 +19,7 @@ use crate::reach::{labelled, labels_from_start};
 use crate::release::release;
 use crate::touched::Touched;
 use crate::trail::Trail;
-use dmf_links::{Places, number_links};
+use dmf_links::{Pair, Places, number_links};
 use std::alloc::{AllocError, Global};
 use std::marker::Model;
 use std::rc::Rc;
@@ -87,12 +89,31 @@ impl Search {
             (λ found. Augments limit found self.old self.new) }
         ensures touched { Touches touched.old touched.new self.old.pairs self.new.pairs }
     {
+        self.augment_or_mark(limit, touched, &mut [])
+    }
+
+    /// Pushes along the same path. If no path is left, marks a closed side: a mark for each node says whether it is on the side of the
+    /// start. Takes no memory.
+    pub fn augment_or_mark(
+        &mut self,
+        limit: u64,
+        touched: &mut Touched,
+        marks: &mut [bool],
+    ) -> Option<AugmentingPath>
+        ensures found { MatchOption result
+            (HasNoPath (steps_of self.old.pairs) self.old.start self.old.goal × (self.new ≡ self.old))
+            (λ found. Augments limit found self.old self.new) }
+        ensures touched { Touches touched.old touched.new self.old.pairs self.new.pairs }
+        ensures side { length marks.old ≡ self.old.nodes → result ≡ None
+            → IsClosedSide (steps_of self.old.pairs) self.old.start self.old.goal marks.new }
+    {
         self.is_fresh = false;
         if !find(
             &mut self.links,
             &mut self.levels,
             &mut self.ball,
             &mut self.trail,
+            marks,
         ) {
             return None;
         }
@@ -161,6 +182,24 @@ impl Search {
         ensures { result ≡ along_at self.now.pairs k }
     {
         self.room(k, false)
+    }
+
+    /// The pair at index `k` with its present rooms. `None` if there is no pair. Takes no memory.
+    pub fn pair(&self, k: usize) -> Option<Pair>
+        ensures pair { result ≡ pair_number self.now.pairs k }
+        ensures valid { IfSome result (IsPair self.now.nodes) }
+    {
+        if k >= self.places.len() {
+            return None;
+        }
+        let place = self.places.place_of(k)?;
+        let links = &self.links;
+        Some(Pair {
+            tail: links.table.tail(place),
+            head: links.table.heads[place as usize],
+            along: links.settled_room(&self.trail, place),
+            against: links.opposite_room(&self.trail, place),
+        })
     }
 
     /// The room of one of the two links of the pair at index `k`: of that against it where `against` says so.

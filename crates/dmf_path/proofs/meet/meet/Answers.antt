@@ -15,14 +15,16 @@ loop-from_start-preserved c =
 pub returns-then-is_some-clause-on : goal.returns-then-is_some-clause-on
 returns-then-is_some-clause-on c = on-again c.loop-from_start.invariant.on c.expand_one-met.ensures.on
 
-pub returns-else-has_next-clause-none : goal.returns-else-has_next-clause-none
-returns-else-has_next-clause-none c is =
+pub returns-then-not-has_next-clause-none : goal.returns-then-not-has_next-clause-none
+returns-then-not-has_next-clause-none c is =
     let i = c.loop-from_start.invariant in
     rw (← i.on.goal_root, ← i.on.start_root)
-    (start-used_up i.nearing (c.has_next-in-loop-from_start.ensures.none c.if-has_next.false))
+    (start-used_up i.nearing (c.has_next-in-loop-from_start.ensures.none c.if-not-has_next.true) c.mark_labelled.new.marks
+    (rw c.labels.ensures at c.mark_labelled.ensures))
 
-pub returns-after-loop-from_start-clause-none : goal.returns-after-loop-from_start-clause-none
-returns-after-loop-from_start-clause-none c is =
+pub returns-clause-none : goal.returns-clause-none
+returns-clause-none c is =
     let i = c.loop-from_start.invariant in
     rw (← i.on.goal_root, ← i.on.start_root)
-    (goal-used_up i.nearing (c.has_next.ensures.none c.loop-from_start-test.false))
+    (goal-used_up i.nearing (c.has_next.ensures.none c.loop-from_start-test.false) c.mark_unlabelled.new.marks
+    (rw c.labels-2.ensures at c.mark_unlabelled.ensures))

@@ -1,6 +1,6 @@
 -- What is known of other goals is forgotten first; where no walk is left, no path is.
 use Rattle.std.proofs.Common.{subst, ◌∙◌}
-use Rattle.dmf_path.specs.Searching.{Sought, IsSeparated}
+use Rattle.dmf_path.specs.Searching.{Sought, IsParted}
 use Rattle.dmf_path.proofs.phase.find.Goals as goal
 
 pub go_on-requires : goal.go_on-requires
@@ -16,5 +16,6 @@ go_on-requires c = record {
 
 pub returns-clause-none : goal.returns-clause-none
 returns-clause-none c ended =
-    subst (λ (s : Sought). IsSeparated s.residual.links s.residual.rooms s.start s.goal) (c.go_on_mended.ensures.same ∙ c.go_on.ensures.same)
+    subst (λ (s : Sought). IsParted s.residual.links s.residual.rooms s.start s.goal c.go_on_anew.new.marks)
+    (c.go_on_mended.ensures.same ∙ c.go_on.ensures.same)
     (c.go_on_anew.ensures.none ended)

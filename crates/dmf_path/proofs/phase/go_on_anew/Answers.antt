@@ -3,7 +3,7 @@ use Rattle.std.proofs.Common.{◌≡◌, sym, subst, ◌∙◌}
 use Rattle.dmf_path.specs.Going.{Goes}
 use Rattle.dmf_path.specs.Held.{way_of}
 use Rattle.dmf_path.specs.Residual.{residual_of}
-use Rattle.dmf_path.specs.Searching.{Sought, sought, IsSeparated}
+use Rattle.dmf_path.specs.Searching.{Sought, sought, IsParted}
 use Rattle.dmf_path.specs.Walk.{IsWalk}
 use Rattle.dmf_path.proofs.Going.{goes-settled}
 use Rattle.dmf_path.proofs.Settling.{can-settle}
@@ -56,5 +56,5 @@ returns-else-relabel-clause-same c = plain (goal.at.returns-else-relabel-clause-
 pub returns-else-relabel-clause-none : goal.returns-else-relabel-clause-none
 returns-else-relabel-clause-none c =
     let at = (goal.at.returns-else-relabel-clause-none c).After-relabel in
-    λ ended. subst (λ (s : Sought). IsSeparated s.residual.links s.residual.rooms s.start s.goal) (sym (free at) ∙ plain at)
+    λ ended. subst (λ (s : Sought). IsParted s.residual.links s.residual.rooms s.start s.goal c.relabel.new.marks) (sym (free at) ∙ plain at)
     (c.relabel.ensures.none c.if-relabel.false)

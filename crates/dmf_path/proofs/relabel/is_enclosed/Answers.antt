@@ -4,7 +4,7 @@ use Rattle.std.proofs.lemmas.List.{length-map}
 use Rattle.dmf_links.specs.Links.{open_flag}
 use Rattle.dmf_links.specs.LinkTable.{links_of}
 use Rattle.dmf_path.proofs.Labelling.{starts-spread}
-use Rattle.dmf_path.proofs.Reaching.{AreOpen-map, separated-labelled}
+use Rattle.dmf_path.proofs.Reaching.{AreOpen-map, parted-labelled}
 use Rattle.dmf_path.proofs.relabel.is_enclosed.Goals as goal
 
 pub label_within-ended-requires-clause-so_far : goal.label_within-ended-requires-clause-so_far
@@ -22,7 +22,7 @@ returns-then-not-has_label-clause-enclosed c _ =
     record {
       ready = record { one_label_each = are.one_each; far_is = c.requires.far_is };
       labelled = λ found. absurd (cc);
-      none = λ _. separated-labelled rooms links.table.value.are (AreOpen-map l rooms (map open_flag rooms) links.rooms_are refl) are
-          (c.has_label.ensures.none c.if-not-has_label.true);
+      none = λ _. parted-labelled rooms links.table.value.are (AreOpen-map l rooms (map open_flag rooms) links.rooms_are refl) are
+          (c.has_label.ensures.none c.if-not-has_label.true) c.mark_labelled.new.marks (rw c.labels.ensures at c.mark_labelled.ensures);
       current = refl;
     }

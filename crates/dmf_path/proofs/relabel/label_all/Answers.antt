@@ -3,7 +3,7 @@ use Rattle.std.proofs.Common.{refl, arith}
 use Rattle.dmf_links.specs.LinkTable.{links_of}
 use Rattle.dmf_path.specs.Labels.{AreLabels}
 use Rattle.dmf_path.proofs.Labelled.{labelled-one, whole-labelled}
-use Rattle.dmf_path.proofs.Reaching.{separated-unlabelled}
+use Rattle.dmf_path.proofs.Reaching.{parted-unlabelled}
 use Rattle.dmf_path.proofs.relabel.label_all.Goals as goal
 use Rattle.dmf_path.proofs.relabel.label_all.Goals.{After-label_from}
 
@@ -21,13 +21,14 @@ pub returns-clause-relabelled : goal.returns-clause-relabelled
 returns-clause-relabelled c =
     let links = c.args.links.now in
     let are = labels (goal.at.returns-clause-relabelled c).After-label_from in
-    let told = c.has_label.ensures in
+    let told = c.has_label_or_mark.ensures in
     record {
       ready = record { one_label_each = are.one_each; far_is = c.requires.far_is };
       labelled = λ yes.
           let has = told.has yes in
           labelled-one links.rooms.items links.flags.items links.table.value.are links.flags_are are c.requires.start_is has
           (omega (arith, has, are.small c.args.start c.requires.start_is, are.zero, links.table.value.are.at_most_nodes));
-      none = λ no. separated-unlabelled links.rooms.items links.flags.items links.table.value.are links.flags_are are are.zero (told.none no);
+      none = λ no. parted-unlabelled links.rooms.items links.flags.items links.table.value.are links.flags_are are are.zero (told.none no)
+          c.has_label_or_mark.new.marks (told.marks no);
       current = refl;
     }

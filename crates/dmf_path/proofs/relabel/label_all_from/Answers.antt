@@ -7,7 +7,7 @@ use Rattle.dmf_path.specs.BothEnds.{AreTurned}
 use Rattle.dmf_path.specs.Labels.{AreLabels, no_label}
 use Rattle.dmf_path.specs.Reach.{Reach}
 use Rattle.dmf_path.proofs.FromStart.{whole-turned, labelled-turned}
-use Rattle.dmf_path.proofs.Reaching.{AreOpen, AreOpen-map, separated-labelled}
+use Rattle.dmf_path.proofs.Reaching.{AreOpen, AreOpen-map, parted-labelled}
 use Rattle.dmf_path.proofs.relabel.label_all_from.Goals as goal
 use Rattle.dmf_path.proofs.relabel.label_all_from.Goals.{After-label_from, After-turn}
 
@@ -42,7 +42,8 @@ returns-then-not-has_label-clause-relabelled c =
         far_is = ap (λ (f : Reach). f.labels) c.unlabel.ensures ∙ ap (λ n. replicate n no_label) are.one_each;
       };
       labelled = λ found. absurd (cc);
-      none = λ _. separated-labelled links.rooms.items links.table.value.are (opened at) all unset;
+      none = λ _. parted-labelled links.rooms.items links.table.value.are (opened at) all unset c.mark_labelled.new.marks
+          (rw c.labels.ensures at c.mark_labelled.ensures);
       current = refl;
     }
 

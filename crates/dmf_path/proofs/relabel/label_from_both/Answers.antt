@@ -90,3 +90,17 @@ returns-clause-relabelled c =
       none = λ lost. absurd (cc);
       current = refl;
     }
+
+pub returns-in_default-clause-relabelled : goal.returns-in_default-clause-relabelled
+returns-in_default-clause-relabelled c =
+    let links = c.args.links.now in
+    let on = c.in_default.ensures.on in
+    record {
+      ready = record {
+        one_label_each = on.goal_side.one_each;
+        far_is = ap (λ (f : Reach). f.labels) c.unlabel.ensures ∙ ap (λ n. replicate n no_label) on.start_side.one_each;
+      };
+      labelled = λ found. absurd (cc);
+      none = λ _. rw (c.begin.ensures, c.begin-2.ensures) at (c.in_default.ensures.none refl);
+      current = refl;
+    }

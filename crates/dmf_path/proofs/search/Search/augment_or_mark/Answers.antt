@@ -20,11 +20,12 @@ use Rattle.dmf_path.proofs.Splitting.{IsOn, middle-leaves, split-on}
 use Rattle.dmf_path.proofs.Asides.{aside-falls}
 use Rattle.dmf_path.proofs.Lasting.{lasting-opens}
 use Rattle.dmf_path.proofs.Searching.{sent_on, sent_along, CanAugment, can-augment}
+use Rattle.dmf_path.proofs.Parted.{closed-parted}
 use Rattle.dmf_path.proofs.Reaching.{no_path-separated}
 use Rattle.dmf_path.proofs.SearchTurns.{search-next}
 use Rattle.dmf_path.proofs.Untouched.{AreWithin, kept-untouched, touched-more, touched-below}
-use Rattle.dmf_path.proofs.search.Search.augment.Goals as goal
-use Rattle.dmf_path.proofs.search.Search.augment.Goals.{After-bottleneck-amount, After-split}
+use Rattle.dmf_path.proofs.search.Search.augment_or_mark.Goals as goal
+use Rattle.dmf_path.proofs.search.Search.augment_or_mark.Goals.{After-bottleneck-amount, After-split}
 
 pub find-requires : goal.find-requires
 find-requires c = record {
@@ -58,9 +59,20 @@ returns-then-not-find-clause-found c =
     let s = sought (residual_of of.links) (way_of of.trail) in
     rw (← c.self.view_is) (
       no_path-separated s.residual.links of.places.value s.residual.rooms s.start s.goal i.searching.aimed.links i.places_are i.searching.aimed.start_is
-          (c.find.ensures.none c.if-not-find.true),
+          (c.find.ensures.none c.if-not-find.true).separated,
       ap (λ (s : Sought). searched s of.places.value) c.find.ensures.same,
     )
+
+pub returns-then-not-find-clause-side : goal.returns-then-not-find-clause-side
+returns-then-not-find-clause-side c = λ long none.
+    let i = c.self.invariant.1 in
+    let of = c.self.inside in
+    let s = sought (residual_of of.links) (way_of of.trail) in
+    let a = i.searching.aimed in
+    rw (← c.self.view_is)
+    (closed-parted s.residual.links of.places.value s.residual.rooms s.start s.goal c.find.new.marks a.links i.places_are a.start_is a.goal_is
+    (c.find.auto.marks ∙ long ∙ ap (λ (x : Searched). x.nodes) (sym c.self.view_is))
+    (c.find.ensures.none c.if-not-find.true))
 
 pub returns-then-not-find-clause-touched : goal.returns-then-not-find-clause-touched
 returns-then-not-find-clause-touched c = record {

@@ -1,0 +1,7 @@
+use Rattle.std.proofs.Common.{ℕ, ◌≡◌, ◌+◌, ◌<◌, false, slice_index, slice_index_or}
+use Rattle.std.proofs.Common.{◌==◌}
+use Rattle.dmf_path.specs.Labels.{no_label}
+use Rattle.dmf_path.proofs.mark.mark_unlabelled.Given as goal
+
+abbrev pub invariant-loop-k : goal.invariant-loop-k
+invariant-loop-k l = (j : ℕ) → j < l.k → slice_index_or l.marks j false ≡ (slice_index l.labels (j + 1) == no_label)
