@@ -31,6 +31,8 @@ pub mod Enclosing
 pub mod FlowsRead
 pub mod SolvingSearch
 pub mod SolvedEdit
+pub mod AtOnce
+pub mod Gates
 pub mod Followed
 pub mod CarryingPairs
 pub mod CarryingFollowed

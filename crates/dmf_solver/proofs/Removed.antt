@@ -33,6 +33,12 @@ module _ (s : NetworkState) (arc : Arc) (state : IsState s) where
       made ∙ ap (λ (x : Searched). with_pairs x (remove x.pairs (length x.pairs - 2))) is
       ∙ ap (with_pairs old) (pairs-removed by_residual_pair s.network.arcs s.flows arc (closed_return s.network) one_each)
 
+-- There is a pair for each arc, and one more.
+pub long-network : (s : NetworkState) (search : Searched) → IsState s → search ≡ residual_search s.network s.flows
+    → length search.pairs ≡ length s.network.arcs + 1
+long-network s search state is =
+    ap (λ (x : Searched). length x.pairs) is ∙ length-network_pairs s.network s.flows (AllZip-long _ s.network.arcs s.flows state.flow.within)
+
 -- A state that has an idle last arc.
 module _ (t : NetworkState) (has : HasIdleLast t) where
   with-last : (search : Searched) → search ≡ residual_search t.network t.flows

@@ -1,6 +1,6 @@
 -- Augmenting along least paths, one after the other: the flow stays a flow, and its value grows up to a bound.
 use Rattle.std.proofs.Common.{ℕ, ◌≡◌, List, [], ◌∷◌, ◌++◌, length, Option, Some, None, Result, Ok, Err, MatchResult, ap, subst, sym, ◌∙◌, arith, append_assoc, append-nil}
-use Rattle.std.specs.Prelude.{IsErr}
+use Rattle.std.specs.Prelude.{IfErr, IfOk, IsErr, IsErrAnd}
 use Rattle.std.proofs.lemmas.Bool.{false≢true}
 use Rattle.std.proofs.lemmas.Int.{ints}
 use Rattle.dmf_path.specs.Step.{Step}
@@ -68,6 +68,17 @@ AreTold-trans (Some x) (Some y) (Some z) these more p q = q ∙ ap (λ told. tol
 pub AreTold-none : {A : Type 0} (a : Option (List A)) → AreTold a a []
 AreTold-none None = tt
 AreTold-none (Some x) = sym (append-nil x)
+
+-- What holds of each result, and of a refusal.
+pub told-either : {A E : Type 0} (result : Result A E) (P R : A → Type 0) (Q : Type 0) → IfOk result P → ((x : A) → P x → R x) → Q
+    → MatchResult result R (λ _. Q)
+told-either (Ok x) P R Q is weaker refused = weaker x is
+told-either (Err fault) P R Q is weaker refused = refused
+
+-- What is known of a fault holds of it.
+pub fault-only : {A E : Type 0} (result : Result A E) (P : E → Type 0) → IsErrAnd result P → IfErr result P
+fault-only (Ok x) P is = tt
+fault-only (Err fault) P is = is
 
 -- What was reported before a refusal is what holds for the refusal.
 pub told-refused : {A E : Type 0} (result : Result A E) (P : A → Type 0) (Q : Type 0) → IsErr result → Q → MatchResult result P (λ _. Q)

@@ -129,7 +129,7 @@ solving-more s limit value found old new all is augments =
 module _ (s : NetworkState) (value : ℕ) (old new : Searched) (state : IsState s) (is : IsSolving s old value)
     (none : HasNoPath (steps_of old.pairs) old.start old.goal) (same : new ≡ old) where
   -- The flows that are read from it are those that it has reached.
-  solving-read : is.flows ≡ reached_flows s new
+  pub solving-read : is.flows ≡ reached_flows s new
   solving-read =
       sym (ap (reached_flows s) (same ∙ is.search_is) ∙ read-flows by_residual_pair s.network s.flows is.flows (closed_return s.network ∷ [])
       (AllZip-long _ s.network.arcs s.flows state.flow.within) (AllZip-long _ s.network.arcs is.flows is.reached.state.flow.within) is.kept)

@@ -15,3 +15,4 @@ pub mod Moves
 pub mod Planning
 pub mod SmallestSide
 pub mod Enclosed
+pub mod Gates

@@ -88,6 +88,10 @@ pub record IsSolved (s : NetworkState) (solved : Solved) : Type 0 where
   pub below : AreBelow (length s.network.arcs + 1) solved.touched
   pub ascend : IfSome solved.touched IsStrictlyIncreasing
 
+-- The search has reached the outcome of solving, whose value is this, whatever pairs were touched.
+abbrev pub IsAtEnd : NetworkState → Searched → ℕ → Type 0
+IsAtEnd s search value = (touched : Option (List ℕ)) × IsSolved s (record { search = search; value = value; touched = touched })
+
 -- The side has the nodes to which paths of the search lead, and no others, in ascending order, and this capacity.
 pub record IsReachedSide (search : Searched) (capacity : ℕ) (side : CutSide) : Type 0 where
   pub capacity_is : side.capacity ≡ capacity

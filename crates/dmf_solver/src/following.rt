@@ -8,6 +8,7 @@ ghost use Rattle.dmf_solver.specs.CarryingNetwork.{MayCarry};
 ghost use Rattle.dmf_solver.specs.Pairs.{with_capacity};
 ghost use Rattle.dmf_solver.specs.ResidualNetwork.{residual_search, IsResidualOf};
 
+use crate::closed_side::SidedSearch;
 use dmf_path::Search;
 use dmf_state::{Direction, Edit, Move, State};
 
@@ -25,7 +26,7 @@ pub fn moves_of(edit: &Edit) -> &[Move]
 }
 
 /// Gives the links of each arc that the moves name the rooms for its flow after the moves are made, or reverted.
-pub fn put_flows(search: &mut Search, state: &State, moves: &[Move], direction: Direction)
+pub fn put_flows(search: &mut SidedSearch, state: &State, moves: &[Move], direction: Direction)
     requires residual { IsResidualOf state.now search.old }
     requires fit { MovesFit 0 (along direction moves.now) state.now.flows }
     ensures flows { search.new ≡ residual_search state.now.network (moved (along direction moves.now) state.now.flows) }
@@ -63,7 +64,7 @@ pub fn carry_flows(
 
 /// Gives the link along each arc whose capacity the edit changes the room for its new capacity, or for its old one if the edit is
 /// reverted.
-pub fn put_capacities(search: &mut Search, state: &State, edit: &Edit, direction: Direction)
+pub fn put_capacities(search: &mut SidedSearch, state: &State, edit: &Edit, direction: Direction)
     requires fits { FitsAlong direction edit.now state.now }
     requires adds_none { ¬ AddsArc edit.now }
     requires one_each { length search.old.pairs ≡ length state.now.network.arcs + 1 }
@@ -83,13 +84,13 @@ pub fn put_capacities(search: &mut Search, state: &State, edit: &Edit, direction
 }
 
 /// Gives the link along the pair of arc number `j` the room for this capacity, if there is a pair.
-fn put_capacity(search: &mut Search, j: u32, cap: u64)
+fn put_capacity(search: &mut SidedSearch, j: u32, cap: u64)
     requires from_one { 1 ≤ j }
     requires within { j - 1 < length search.old.pairs }
     ensures { search.new ≡ with_pairs search.old (with_capacity search.old.pairs (j - 1) cap) }
 {
     let k = j as usize - 1;
-    if let Some(flow) = search.against(k) {
+    if let Some(flow) = search.as_search().against(k) {
         // No clause of the search says that the flow is within the new capacity, so the room is 0 where it would not be.
         search.set_rooms(k, cap.saturating_sub(flow), flow);
     }

@@ -18,6 +18,7 @@ pub use watch::{Turn, Unwatched, Watch};
 
 mod arc_flow;
 mod carrying_pairs;
+mod closed_side;
 mod drain;
 mod drained_flows;
 mod enclosed;

@@ -1,4 +1,4 @@
-ghost use Rattle.std.specs.Prelude.{◌≡◌, [], None, pos, IfOk, IfSome, IsOkUnless, MatchResult};
+ghost use Rattle.std.specs.Prelude.{◌≡◌, [], List, None, Option, pos, IfOk, IfSome, IsOkUnless, MatchResult};
 ghost use Rattle.dmf_state.specs.Direction.{edited_along, FitsAlong, HasIdleLast};
 ghost use Rattle.dmf_state.specs.Edit.{applied, differences, AddsArc};
 ghost use Rattle.dmf_state.specs.Flow.{flow_value};
@@ -10,9 +10,12 @@ ghost use Rattle.dmf_solver.specs.KeptNetwork.{IsNetworkOf, Keeps};
 ghost use Rattle.dmf_solver.specs.ResidualNetwork.{IsResidualOf};
 ghost use Rattle.dmf_state.specs.Revert.{without_last};
 ghost use Rattle.dmf_solver.specs.SmallestSide.{TellsSide};
-ghost use Rattle.dmf_solver.specs.Told.{AreTold, TellsSolve, MayTellSolve};
+ghost use Rattle.dmf_path.specs.Pair.{steps_of};
+ghost use Rattle.dmf_path.specs.Path.{HasNoPath};
+ghost use Rattle.dmf_solver.specs.Told.{AreTold, TellsSolve, MayTellSolve, Told};
 
 use crate::carrying_pairs::CarryingPairs;
+use crate::closed_side::SidedSearch;
 use crate::fault::{CutFault, PlanFault};
 use crate::following::{carry_flows, moves_of, put_capacities, put_flows};
 use crate::moves::list_moves;
@@ -36,8 +39,8 @@ const MOST_LOOKS: u32 = 8;
 /// links for drains, so no drain has to make them anew.
 #[derive(Drop)]
 pub struct ResidualNetwork {
-    /// The search for augmenting paths.
-    search: Search,
+    /// The search for augmenting paths, with the side to which the last solve led.
+    search: SidedSearch,
     /// The search over carrying steps, if it is made.
     carrying: Option<Search>,
     /// How many solves and drains have looked at all arcs for their moves.
@@ -64,6 +67,9 @@ impl ResidualNetwork {
     /// Plans what [`plan_solve_watched`](crate::plan_solve_watched) plans, and returns the residual network of the state after the
     /// edit.
     ///
+    /// If no edit since the last solve gave room to a link that leads out of the side to which that solve led, the flow is greatest, and
+    /// the plan looks at no arc but those that were changed.
+    ///
     /// The first solves and drains look at all arcs for their moves. Then the links get numbers, and each later one looks only at the
     /// arcs of its paths, unless these have an eighth as many links as there are nodes.
     ///
@@ -71,6 +77,55 @@ impl ResidualNetwork {
     /// numbers the links takes memory for a number a link, and each later one for an eighth of a number a node. If memory is refused,
     /// fails with [`PlanFault::NoMemory`].
     pub fn plan_solve<W: Watch>(
+        mut self,
+        alloc: Global,
+        state: &State,
+        want_side: bool,
+        watch: &mut W,
+    ) -> Result<(Edit, Option<Side>, ResidualNetwork), PlanFault>
+        requires { IsNetworkOf state.now self }
+        ensures refused { IsOkUnless result PlanFault.NoMemory }
+        ensures edit { IfOk result (λ planned. PlansSolve state.now planned.0) }
+        ensures side { IfOk result (λ planned. IsSideWanted want_side state.now.network planned.1) }
+        ensures value { IfOk result (λ planned.
+            IfSome planned.1 (λ side. pos side.capacity ≡ flow_value state.now.network (applied planned.0 state.now).flows)) }
+        ensures kept { IfOk result (λ planned. IsNetworkOf (applied planned.0 state.now) planned.2) }
+        ensures told { MatchResult result
+            (λ planned. TellsSolve state.now (applied planned.0 state.now).flows (W.told watch.old) (W.told watch.new))
+            (λ _. MayTellSolve state.now (W.told watch.old) (W.told watch.new)) }
+        ensures drained { AreTold (W.drained watch.old) (W.drained watch.new) [] }
+    {
+        if self.search.is_closed() {
+            return self.plan_nothing(alloc, state, want_side);
+        }
+        self.plan_paths(alloc, state, want_side, watch)
+    }
+
+    /// Plans the solve of a state whose flow is greatest: no path is left.
+    fn plan_nothing(
+        self,
+        alloc: Global,
+        state: &State,
+        want_side: bool,
+    ) -> Result<(Edit, Option<Side>, ResidualNetwork), PlanFault>
+        requires network { IsNetworkOf state.now self }
+        requires closed { HasNoPath (steps_of self.residual.pairs) self.residual.start self.residual.goal }
+        ensures refused { IsOkUnless result PlanFault.NoMemory }
+        ensures edit { IfOk result (λ planned. PlansSolve state.now planned.0) }
+        ensures side { IfOk result (λ planned. IsSideWanted want_side state.now.network planned.1) }
+        ensures value { IfOk result (λ planned.
+            IfSome planned.1 (λ side. pos side.capacity ≡ flow_value state.now.network (applied planned.0 state.now).flows)) }
+        ensures kept { IfOk result (λ planned. IsNetworkOf (applied planned.0 state.now) planned.2) }
+        ensures told { IfOk result (λ planned. (told : Option (List Told)) → TellsSolve state.now (applied planned.0 state.now).flows told told) }
+    {
+        let search = self.search.as_search();
+        let side = wanted_side(alloc, state, search, state.value(), want_side)?;
+        let moves = Vec::new(alloc);
+        Ok((Edit::Solve { moves }, side, self))
+    }
+
+    /// Plans the solve of a state by a search for paths, and keeps the side to which it leads.
+    fn plan_paths<W: Watch>(
         self,
         alloc: Global,
         state: &State,
@@ -95,14 +150,15 @@ impl ResidualNetwork {
             looks,
         } = self;
         let looks = look_or_number(alloc, &mut search, looks)?;
+        let search = search.into_search();
         let touched = search.none_touched(alloc, state.nodes() as usize / 8)?;
-        let solved = solve(search, state, touched, watch);
-        let side = wanted_side(alloc, state, &solved, want_side)?;
+        let mut marks = marks_or_none(alloc, state.nodes());
+        let solved = solve(search, state, touched, &mut marks, watch);
+        let side = wanted_side(alloc, state, &solved.search, solved.value, want_side)?;
         let moves = touched_moves(alloc, state, &solved)?;
-        let Solved { search, .. } = solved;
         let carrying = carry_flows(carrying, state, &moves, Direction::Forward);
         let kept = ResidualNetwork {
-            search,
+            search: SidedSearch::at_end(alloc, solved.search, state.nodes(), marks),
             carrying,
             looks,
         };
@@ -118,7 +174,7 @@ impl ResidualNetwork {
         requires { IsNetworkOf state.now self.now }
         ensures { TellsSide state.now result }
     {
-        side_along(alloc, &self.search, state)
+        side_along(alloc, self.search.as_search(), state)
     }
 
     /// The residual network of the state to which an edit leads: forward the state after the edit, which fits this one, and back the
@@ -166,7 +222,7 @@ impl ResidualNetwork {
             along: 0,
             against: 0,
         };
-        let (search, carrying) = search.insert(alloc, pair, carrying, idle)?;
+        let (search, carrying) = search.insert(alloc, state.arcs().len(), pair, carrying, idle)?;
         Some(ResidualNetwork {
             search,
             carrying,
@@ -185,7 +241,7 @@ impl ResidualNetwork {
             carrying,
             looks,
         } = self;
-        let (search, carrying) = search.remove(carrying)?;
+        let (search, carrying) = search.remove(state.arcs().len() - 1, carrying)?;
         Some(ResidualNetwork {
             search,
             carrying,
@@ -237,9 +293,9 @@ impl ResidualNetwork {
         self.looks = look_or_number(alloc, &mut self.search, self.looks)?;
         let mut carrying = match self.carrying.take() {
             Some(search) => with_value(search, state),
-            None => carrying_twin(alloc, state, &self.search)?,
+            None => carrying_twin(alloc, state, self.search.as_search())?,
         };
-        carrying.share_numbers(&self.search)?;
+        carrying.share_numbers(self.search.as_search())?;
         Ok(carrying)
     }
 
@@ -272,14 +328,22 @@ pub fn kept_or_new(
     }
     let search = residual_search(alloc, state)?;
     Ok(ResidualNetwork {
-        search,
+        search: SidedSearch::new(search),
         carrying: None,
         looks: 0,
     })
 }
 
+/// A mark for each of so many nodes, or none if memory for them is refused.
+fn marks_or_none(alloc: Global, nodes: u32) -> Vec<bool> {
+    match vec![in alloc; false; nodes as usize] {
+        Ok(marks) => marks,
+        Err(_) => Vec::new(alloc),
+    }
+}
+
 /// Counts one more look at all arcs, or after enough of them numbers the links. Returns how many looks there were.
-fn look_or_number(alloc: Global, search: &mut Search, looks: u32) -> Result<u32, AllocError>
+fn look_or_number(alloc: Global, search: &mut SidedSearch, looks: u32) -> Result<u32, AllocError>
     ensures { search.new ≡ search.old }
 {
     if looks < MOST_LOOKS {

@@ -5,14 +5,13 @@ ghost use Rattle.dmf_node.specs.Node.{IsNode};
 ghost use Rattle.dmf_state.specs.Edit.{applied, Fits};
 ghost use Rattle.dmf_state.specs.Flow.{flow_value};
 ghost use Rattle.dmf_state.specs.Side.{has_node};
-ghost use Rattle.dmf_solver.specs.Pairs.{IsReachedSide, IsSolved, reached_flows};
+ghost use Rattle.dmf_solver.specs.Pairs.{IsAtEnd, IsReachedSide, reached_flows};
 ghost use Rattle.dmf_solver.specs.Planning.{IsSideWanted};
 ghost use Rattle.dmf_solver.specs.ResidualNetwork.{IsResidualOf};
 ghost use Rattle.dmf_solver.specs.SmallestSide.{TellsSide};
 
 use crate::fault::CutFault;
 use crate::residual::residual_search;
-use crate::solve::Solved;
 use dmf_path::Search;
 use dmf_state::{Edit, Side, State};
 use std::alloc::{AllocError, Global};
@@ -53,19 +52,20 @@ pub fn side_after(alloc: Global, state: &State, edit: &Edit) -> Result<Side, Cut
     smallest_side(alloc, &after)
 }
 
-/// The smallest side of the network of a solved state, or `None` if it is not wanted.
+/// The smallest side of the network of a solved state, by the search that solved it to this value, or `None` if it is not wanted.
 pub fn wanted_side(
     alloc: Global,
     state: &State,
-    solved: &Solved,
+    search: &Search,
+    value: u64,
     want_side: bool,
 ) -> Result<Option<Side>, AllocError>
-    requires { IsSolved state.now solved.now }
+    requires { IsAtEnd state.now search.now value }
     ensures side { IfOk result (λ side. IsSideWanted want_side state.now.network side) }
-    ensures value { IfOk result (λ side. IfSome side (λ side. pos side.capacity ≡ flow_value state.now.network (reached_flows state.now solved.now.search))) }
+    ensures value { IfOk result (λ side. IfSome side (λ side. pos side.capacity ≡ flow_value state.now.network (reached_flows state.now search.now))) }
 {
     if want_side {
-        let side = reached_side(alloc, &solved.search, solved.value)?;
+        let side = reached_side(alloc, search, value)?;
         return Ok(Some(side));
     }
     Ok(None)

@@ -1,4 +1,6 @@
 ghost use Rattle.std.specs.Prelude.{◌≡◌, ◌+◌, ◌↔◌, false, [], length, IfOk, IsTrue};
+ghost use Rattle.dmf_path.specs.ClosedSide.{IsClosedSide};
+ghost use Rattle.dmf_path.specs.Pair.{steps_of};
 ghost use Rattle.dmf_path.specs.Touched.{AreBelow};
 ghost use Rattle.dmf_state.specs.NetworkState.{IsState};
 ghost use Rattle.dmf_solver.specs.Greatest.{IsGreatest, IsSurpassed};
@@ -22,11 +24,12 @@ pub struct Solved {
 }
 
 /// Augments the flow of the state along least paths until none is left, and reports each to the watch. Afterwards the pairs of these
-/// paths count as touched.
+/// paths count as touched. If there is a mark for each node, they are those of a closed side then.
 pub fn solve<W: Watch>(
     mut search: Search,
     state: &State,
     mut touched: Touched,
+    marks: &mut [bool],
     watch: &mut W,
 ) -> Solved
     requires residual { IsResidualOf state.now search }
@@ -34,10 +37,12 @@ pub fn solve<W: Watch>(
     ensures solved { IsSolved state.now result }
     ensures told { TellsSolve state.now (reached_flows state.now result.search) (W.told watch.old) (W.told watch.new) }
     ensures drained { AreTold (W.drained watch.old) (W.drained watch.new) [] }
+    ensures side { length marks.old ≡ result.search.nodes
+        → IsClosedSide (steps_of result.search.pairs) result.search.start result.search.goal marks.new }
     ensures state { IsState state.now }
 {
     let mut value = state.value();
-    while let Some(found) = search.augment(u64::MAX, &mut touched) {
+    while let Some(found) = search.augment_or_mark(u64::MAX, &mut touched, marks) {
         value += found.amount;
         watch.augmented(value, found.links);
     }

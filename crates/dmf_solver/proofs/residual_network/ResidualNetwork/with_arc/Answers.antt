@@ -29,10 +29,14 @@ are-few c =
 pub insert-requires-clause-pair : goal.insert-requires-clause-pair
 insert-requires-clause-pair c = is-pair (goal.at.insert-requires-clause-pair c).In_ok-pair
 
-pub insert-requires-clause-some : goal.insert-requires-clause-some
-insert-requires-clause-some c =
-    let at = (goal.at.insert-requires-clause-some c).In_ok-pair in
-    omega (arith, pairs-before c.args.state.now c.args.arc c.requires.state c.self.inside.search (before at).residual)
+pub insert-requires-clause-index : goal.insert-requires-clause-index
+insert-requires-clause-index c =
+    let at = (goal.at.insert-requires-clause-index c).In_ok-pair in
+    omega (
+      arith,
+      ap length c.arcs.ensures.value,
+      pairs-before c.args.state.now c.args.arc c.requires.state c.self.inside.search (before at).residual,
+    )
 
 pub insert-requires-clause-few : goal.insert-requires-clause-few
 insert-requires-clause-few c = are-few (goal.at.insert-requires-clause-few c).In_ok-pair

@@ -1,0 +1,54 @@
+-- No path is left, so the search has reached the outcome of solving.
+use Rattle.std.proofs.Common.{◌≡◌, ◌∙◌, subst, sym}
+use Rattle.dmf_path.specs.Pair.{steps_of}
+use Rattle.dmf_path.specs.Path.{HasNoPath}
+use Rattle.dmf_solver.specs.KeptNetwork.{KeptNetwork, IsNetworkOf}
+use Rattle.dmf_solver.specs.Pairs.{IsAtEnd}
+use Rattle.dmf_solver.specs.ResidualNetwork.{IsResidualOf}
+use Rattle.dmf_solver.proofs.AtOnce.{at_once, solved-at_once, end-at_once, told-at_once, listed-at_once}
+use Rattle.dmf_solver.proofs.SolvedEdit.{PlansSolve-listed, value-listed, told-listed}
+use Rattle.dmf_solver.proofs.residual_network.ResidualNetwork.plan_nothing.Goals.{After-value, After-new-moves}
+use Rattle.dmf_solver.proofs.residual_network.ResidualNetwork.plan_nothing.Goals as goal
+
+is : (c : After-value) → IsResidualOf c.args.state.now c.self.inside.search
+is c = (subst (IsNetworkOf c.args.state.now) (sym c.self.view_is) c.requires.network).residual
+
+none : (c : After-value) → HasNoPath (steps_of c.self.inside.search.pairs) c.self.inside.search.start c.self.inside.search.goal
+none c =
+    subst (λ (k : KeptNetwork). HasNoPath (steps_of k.residual.pairs) k.residual.start k.residual.goal) (sym c.self.view_is) c.requires.closed
+
+pub wanted_side-requires : goal.wanted_side-requires
+wanted_side-requires c =
+    let s = c.args.state.now in
+    subst (λ x. IsAtEnd s x c.value.result) (sym c.as_search-search.ensures)
+    (end-at_once s c.self.inside.search c.value.result c.value.ensures.state (is c) c.value.ensures.value (none c))
+
+-- The edit without moves is that of the search.
+pub returns-clause-edit : goal.returns-clause-edit
+returns-clause-edit c =
+    let s = c.args.state.now in
+    let at = (goal.at.returns-clause-edit c).After-value in
+    let of = c.self.inside.search in
+    let v = c.value.ensures in
+    PlansSolve-listed s _ c.new-moves.result v.state (solved-at_once s of c.value.result v.state (is at) v.value (none at))
+    (c.new-moves.ensures.items ∙ listed-at_once s of c.value.result v.state (is at) v.value (none at))
+
+pub returns-clause-value : goal.returns-clause-value
+returns-clause-value c =
+    let s = c.args.state.now in
+    let at = (goal.at.returns-clause-value c).After-value in
+    let of = c.self.inside.search in
+    let v = c.value.ensures in
+    value-listed s _ c.new-moves.result v.state (solved-at_once s of c.value.result v.state (is at) v.value (none at))
+    (c.new-moves.ensures.items ∙ listed-at_once s of c.value.result v.state (is at) v.value (none at))
+    c.in_ok-side.side (rw c.as_search-search.ensures at c.in_ok-side.ensures.value)
+
+pub returns-clause-told : goal.returns-clause-told
+returns-clause-told c = λ told.
+    let s = c.args.state.now in
+    let at = (goal.at.returns-clause-told c).After-value in
+    let of = c.self.inside.search in
+    let v = c.value.ensures in
+    told-listed s _ c.new-moves.result v.state (solved-at_once s of c.value.result v.state (is at) v.value (none at))
+    (c.new-moves.ensures.items ∙ listed-at_once s of c.value.result v.state (is at) v.value (none at))
+    told told (told-at_once s of c.value.result v.state (is at) v.value (none at) told)
