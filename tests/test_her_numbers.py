@@ -57,8 +57,9 @@ def number(cell: str) -> Fraction:
     return Fraction(cell.replace(",", "."))
 
 
-ROWS = csv.reader(TABLE.splitlines()[1:], delimiter=";")
+ROWS = [*csv.reader(TABLE.splitlines()[1:], delimiter=";")]
 PIPES = [Pipe(tail, head, number(amount), name) for tail, head, amount, name, _ in ROWS]
+REMARKS = {name: remark for *_, name, remark in ROWS}
 
 
 def greatest(pipes: list[Pipe], through: dict[str, Fraction] = LET_THROUGH) -> Fraction:
@@ -221,12 +222,13 @@ def judge_flows(flows: dict[str, str]) -> None:
 
 def judge_table(text: str) -> None:
     found = list(csv.DictReader(io.StringIO(text), delimiter=";"))
-    assert text.splitlines()[0] == "number;name;from;to;flow (l/s);capacity (l/s);full;in cut;supply (l/s);demand (l/s);limit (l/s)"
+    assert text.splitlines()[0] == "number;name;from;to;flow (l/s);capacity (l/s);full;in cut;supply (l/s);demand (l/s);limit (l/s);Bemerkung"
     rows, places = [row for row in found if row["to"]], [row for row in found if not row["to"]]
     flows = {row["name"]: row["flow (l/s)"].replace(",", ".") for row in rows}
     judge_flows(flows)
     # Below the pipes stand the places, and what they give, take and let through. The sink is no arc, so it has no number and no flow.
-    assert [[row["from"], *[*row.values()][5:]] for row in places] == [
+    assert {row["name"]: row["Bemerkung"] for row in rows} == REMARKS
+    assert [[row["from"], *[*row.values()][5:-1]] for row in places] == [
         ["Mill", "", "no", "no", "x", "", ""],
         ["New Mill", "", "yes" if Fraction(flows["Side"]) == GIVEN["New Mill"] else "no", "no", "20,05", "", ""],
         ["Sea", "", "", "", "", "x", ""],

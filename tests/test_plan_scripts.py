@@ -136,15 +136,24 @@ def test_what_is_typed_otherwise() -> None:
     assert (ran.returncode, values(ran.stdout)[1], len(ran.stdout.splitlines())) == (1, STORY[2], 6)
 
 
-def test_page() -> None:
-    """The session on the page of documents is one."""
+def test_page(tmp_path: Path) -> None:
+    """The sessions on the page of documents are some: the first one, and that of a table with costs."""
     lines = [line[4:] for line in (ROOT / "docs/PLAN.md").read_text().splitlines() if line.startswith("    ")]
-    typed = [line.partition("> ")[2] for line in lines if re.match("[0-9]+, .*greatest> ", line)]
+    prompt = re.compile("[0-9]+, .*greatest> ")
+    typed = [line.partition("> ")[2] for line in lines if prompt.match(line)]
+    assert len(typed) == 5 and typed[3:] == ["quit", "cost to 175"]
     # A terminal solves at first, and a script is told so.
-    ran = run("dmf-plan", PIPES, typed="".join(f"{line}\n" for line in ["solve", *typed]))
-    told = [line for line in lines if line.startswith(("value ", "  #"))]
+    ran = run("dmf-plan", PIPES, typed="".join(f"{line}\n" for line in ["solve", *typed[:4]]))
+    told = [line for line in lines if re.match("value |  #.*: closed ", line)]
     found = ran.stdout.replace(", 165 more", "", 1).splitlines()
-    assert (found, ran.returncode, len(typed)) == (told, 0, 4), f"the session of docs/PLAN.md: {ran}"
+    assert (found, ran.returncode) == (told, 0), f"the session of docs/PLAN.md: {ran}"
+    costs = {3: 4, 9: 9, 14: 6}
+    title, *rows = (ROOT / PIPES).read_text().splitlines()
+    table = [f"{title},cost", *(f"{row},{costs.get(number, 7)}" for number, row in enumerate(rows, 1))]
+    (tmp_path / "costs.csv").write_text("".join(f"{row}\n" for row in table))
+    ran = run("dmf-plan", str(tmp_path / "costs.csv"), typed="solve\ncost to 175\n")
+    told = [line for line in lines[lines.index("165, greatest> cost to 175") + 1 :] if line.startswith(("what one more ", "  ", "a cheap way"))]
+    assert (ran.stdout.splitlines()[1:], ran.returncode) == (told, 0), f"the second session of docs/PLAN.md: {ran}"
 
 
 def test_files() -> None:

@@ -106,8 +106,12 @@ PROBLEMS: list[tuple[Case, str]] = [
     # What ends a line, for whoever reads, is a space in a name.
     (Case('A,B b,3\nA,B b,4,"the\nlong\u2028way\x0c"\n', ("A", "B b")), NAMED),
     (Case('A,B b,3\nA,B b,4,"the\r\n\r\n\x85long\x0b \xa0way"\n', ("A", "B b")), NAMED),
-    (Case(GERMAN, (*BY_TITLE, "--name", "Rohr", "A", "B b")), NAMED),
-    (Case(GERMAN, ("A", *BY_TITLE, "B b")), NAMED.replace("c arc 2 the long way\n", "")),
+    # The columns that the tool does not read are kept.
+    (Case(GERMAN, (*BY_TITLE, "--name", "Rohr", "A", "B b")), NAMED.replace("p max", "c column 1 Nr\nc cell 1 1 1\nc cell 2 1 2\np max")),
+    (
+        Case(GERMAN, ("A", *BY_TITLE, "B b")),
+        NAMED.replace("c arc 2 the long way\n", "c column 1 Nr\nc column 2 Rohr\nc cell 1 1 1\nc cell 2 1 2\nc cell 2 2 the long way\n"),
+    ),
     (Case("from,to,2024\nA,B,3\n", ("--tail", "from", "--head", "to", "--capacity", "2024", "A", "B")), ARC),
     (Case("A,M\xfchle,3\n".encode("latin-1"), ("A", "M\xfchle", "--encoding", "latin-1")), ARC.replace("2 B", "2 M\xfchle")),
     (Case(f"A,B,{LARGEST}\n"), ARC.replace("2 3", f"2 {LARGEST}")),
