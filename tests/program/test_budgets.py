@@ -1,6 +1,6 @@
 """Counts the instructions of single commands by valgrind, so that none takes minutes where it should take a second: of a shut of a node that
-many carrying arcs enter or leave. Counts do not depend on the machine's load. A shut that looked through all links again for each arc
-would take ten times the budget and more."""
+many carrying arcs enter or leave, and of a solve that has nothing to do. Counts do not depend on the machine's load. A shut that looked
+through all links again for each arc would take ten times the budget and more, and so would a solve that searched."""
 
 from __future__ import annotations
 
@@ -18,6 +18,8 @@ from conftest import BUILT, ROOT
 ARCS = 40_000
 # The most instructions of a shut for each arc of the network: at 1,000,000 arcs 1 s, of hubs 3 s, by some 3,000,000,000 a second.
 BUDGET, HUBS_BUDGET = 3_000, 9_000
+# The most instructions of a close of an arc that carries nothing and a solve after it, of which a search on these networks takes more.
+IDLE_BUDGET = 60_000
 COLLECTED = re.compile(rb"Collected : ([0-9]+)")
 
 
@@ -92,7 +94,7 @@ def instructions(folder: Path, text: str, commands: str) -> int:
     file.write_text(text)
     words = ["valgrind", "--tool=callgrind", "--callgrind-out-file=/dev/null", str(BUILT), "session", "--brief", str(file)]
     run = subprocess.run(words, input=commands.encode(), capture_output=True, check=True)
-    assert run.stdout.count(b"c solve value") == 1, run.stdout
+    assert run.stdout.count(b"c solve value") == commands.count("solve"), run.stdout
     found = COLLECTED.search(run.stderr)
     assert found, run.stderr
     return int(found[1])
@@ -133,3 +135,18 @@ def test_sinks_of_families(family: str, maker: Path, tmp_path: Path) -> None:
     text = subprocess.run([maker, family, str(ARCS), "1990"], capture_output=True, check=True, text=True).stdout
     (sink,) = re.findall(r"^n ([0-9]+) t$", text, re.MULTILINE)
     assert 0 < shut_instructions(tmp_path, Network(text, int(sink))) < BUDGET
+
+
+@needs_valgrind
+@pytest.mark.seconds(3)
+@pytest.mark.parametrize("family", ["grid", "random"])
+def test_nothing_to_do(family: str, maker: Path, tmp_path: Path) -> None:
+    """A session keeps the cut of its last solve: while no change gives room to an arc out of it, the next solve looks at no link."""
+    text = subprocess.run([maker, family, str(ARCS), "1990"], capture_output=True, check=True, text=True).stdout
+    solution = subprocess.run([BUILT, "solve"], input=text, capture_output=True, check=True, text=True).stdout
+    idle = [number for number, line in enumerate(solution.splitlines()[1:], 1) if line.endswith(" 0")][:20]
+    assert len(idle) == 20
+    # The first change after a solve takes the labels off, so it is in both runs.
+    first, *others = (f"close {number}\nsolve\n" for number in idle)
+    before, after = (instructions(tmp_path, text, f"solve\n{first}{then}") for then in ("", "".join(others)))
+    assert (after - before) / len(others) < IDLE_BUDGET
