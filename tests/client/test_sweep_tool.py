@@ -182,7 +182,8 @@ def test_an_interrupt() -> None:
         programs = programs_of(process.pid)
         process.send_signal(signal.SIGINT)
         told = process.communicate(timeout=60)[1]
-    assert (process.returncode, told, len(programs)) == (130, b"", 3)
+    # The network's own, and one or two copies: the second begins once the first runs, and only if enough cases are left.
+    assert (process.returncode, told) == (130, b"") and len(programs) in (2, 3)
     assert not [program for program in programs if is_running(program)]
     text = table.read_text()
     rows = kept_rows(text)
