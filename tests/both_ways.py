@@ -6,7 +6,7 @@ import os
 from collections.abc import Iterator
 
 import pytest
-from c_library import library_folder
+from c_library import library_file
 
 os.environ["DMF_LIBRARY"] = ""
 # Where the way matters twice: what is asked of a session, what it refuses, what breaks it off, and what is tried on copies of it.
@@ -38,10 +38,16 @@ def way(request: pytest.FixtureRequest) -> Iterator[None]:
         return
     import dmf
 
-    library = str(library_folder() / "libdmf.so.0") if request.param == "library" else ""
+    library = library_file() if request.param == "library" else ""
     os.environ["DMF_LIBRARY"] = library
     try:
         assert dmf.library() == (library or None)
         yield
     finally:
         os.environ["DMF_LIBRARY"] = ""
+
+
+@pytest.fixture
+def by_library(monkeypatch: pytest.MonkeyPatch) -> None:
+    """Has networks whose program nobody names run by the library."""
+    monkeypatch.setenv("DMF_LIBRARY", library_file())

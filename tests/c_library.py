@@ -21,6 +21,11 @@ def library_folder() -> Path:
     return Path(taken.stdout.rstrip("\n")).parent
 
 
+def library_file() -> str:
+    """The library itself."""
+    return str(library_folder() / "libdmf.so.0")
+
+
 def compiled(compiler: list[str], source: Path, folder: Path, scratch: Path) -> Path:
     """A program in C or C++ that is linked with the library of this folder. It has no warning."""
     program = scratch / "caller"

@@ -102,6 +102,11 @@ def stop(process: int) -> None:
         time.sleep(0.001)
 
 
+def environment(**more: str) -> dict[str, str]:
+    """The variables of a process that uses the package of this checkout."""
+    return {**os.environ, "PYTHONPATH": CLIENT, **more}
+
+
 @contextlib.contextmanager
 def interrupted_soon(seconds: float = 0.05) -> Iterator[None]:
     """A block that is broken off after a moment as by Ctrl-C."""

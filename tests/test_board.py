@@ -22,7 +22,7 @@ from xml.etree import ElementTree
 import pytest
 from board_running import Board, board
 from built import BUILT
-from desk_shared import ODD, PIPES, SECONDS, run, stop_session, swept, wait_until_asked, without
+from desk_shared import ODD, PIPES, SECONDS, run, stop_session, wait_until_asked, without
 from dmf import Network, desk_sweep
 from dmf.board import Answer
 from dmf.board import Board as InBoard
@@ -203,63 +203,6 @@ def test_shut_places() -> None:
         for what, node, names in done:
             assert it.do(what=what, node=node)["value"] == str(without(*names)), (what, node)
             assert it.told("place?node=5")["shut"] == ("Mill pipe" in names)
-
-
-def test_sweep() -> None:
-    """A sweep comes in parts, and is that of all sets of places."""
-    with board(PIPES) as it:
-        left = list(range(1, 15))
-        rows: list[dict[str, str]] = []
-        while left:
-            told = json.loads(it.post("sweep", arcs=left)[1])
-            left, rows = told["left"], rows + told["trials"]
-        assert {row["name"]: (int(row["without"]), int(row["doubled"])) for row in rows} == swept()
-
-
-def portion(it: Board, arcs: list[int]) -> Any:
-    """The next results of a sweep."""
-    while True:
-        told = json.loads(it.post("sweep", arcs=arcs)[1])
-        if told["trials"]:
-            return told
-
-
-def test_sweep_in_portions(tmp_path: Path) -> None:
-    """The copies of the network go on from portion to portion, and end with the next change."""
-    table = tmp_path / "large.csv"
-    # A solve looks at all arcs of the source, so two portions do not reach the last case.
-    table.write_text("".join(f"S,P{n},{n % 7 + 1}\nP{n},T,{n % 5 + 1}\n" for n in range(40_000)))
-    count = 5_000
-    with board(str(table)) as it:
-        told = portion(it, list(range(1, count + 1)))
-        assert 0 < len(told["left"]) == count - len(told["trials"])
-        assert (copies := it.sessions()[1:])
-        again = portion(it, told["left"])
-        assert again["left"]
-        # Others may have begun meanwhile.
-        assert {*copies} <= {*it.sessions()[1:]} and again["trials"][0]["number"] == told["left"][0]
-        # What flows on an arc alone is what is lost without it.
-        value = int(told["value"])
-        for row in told["trials"] + again["trials"]:
-            assert int(row["without"]) == value - int(row["flow"])
-        # Where the copies come to no result, nobody waits for one.
-        stopped: set[int] = set()
-        try:
-            begin = time.monotonic()
-            while again["trials"]:
-                for copy in it.sessions()[1:]:
-                    stopped.add(copy)
-                    os.kill(copy, signal.SIGSTOP)
-                again = json.loads(it.post("sweep", arcs=again["left"])[1])
-            assert (again["left"][-1], it.do(what="close", arc=1)["at"], time.monotonic() - begin < 20) == (count, 1, True)
-        finally:
-            for copy in stopped:
-                with contextlib.suppress(ProcessLookupError):  # It was killed, if it did not end in time.
-                    os.kill(copy, signal.SIGCONT)
-        until = time.monotonic() + SECONDS
-        while len(it.sessions()) > 1:
-            assert time.monotonic() < until, "the copies go on after a change"
-            time.sleep(0.05)
 
 
 def test_session_that_ends() -> None:

@@ -39,7 +39,7 @@ def test_part(driver: Any, tmp_path: Path) -> None:
         driver.get("about:blank")
 
 
-# Two sources, of which one is unlimited, and a place that lets 55.5 litres through, as in tests/test_her_numbers.py.
+# Two sources, of which one is unlimited, and a place that lets 55.5 litres through, as in tests/her_table.py.
 NUMBERS = """c capacities are those of the table times 100
 c unit litres
 c table pipes.csv

@@ -1,4 +1,4 @@
-"""Sessions by the C library in this process: when it is taken, how its calls are broken off, and when it is freed."""
+"""Sessions by the C library in this process: what its calls answer, how they are broken off, and when it is freed."""
 
 from __future__ import annotations
 
@@ -7,8 +7,6 @@ import contextlib
 import gc
 import itertools
 import os
-import re
-import shutil
 import signal
 import subprocess
 import sys
@@ -21,10 +19,9 @@ from typing import Any
 import pytest
 from broken_off import CALLS, all_told, prepared
 from built import heed_interrupts
-from c_library import library_folder
-from client_shared import BUILT, CLIENT, PIPES, dmf, interrupted_soon, pipes, script
+from c_library import library_file
+from client_shared import BUILT, PIPES, dmf, environment, interrupted_soon, pipes, script
 from dmf import loaded, once
-from dmf.process import Child
 from tool_runs import wait_until_asleep
 
 SECONDS = 60
@@ -53,84 +50,7 @@ print(network.solve().value, network.undo(), time.monotonic() - began, flush=Tru
 print(dmf.value(grid(200), "s", "t"), flush=True)
 os._exit(0) if "now" in sys.argv else None
 """
-SILENT = """
-import sys
-begun = []
-sys.addaudithook(lambda event, _: begun.append(event) if event in ("subprocess.Popen", "os.fork", "os.posix_spawn", "os.exec") else None)
-import dmf
-network = dmf.Network([("a", "b", 3), ("b", "c", 2)], "a", "c")
-print(network.solve().value, dmf.value({"a": {"b": 3}, "b": {"c": 2}}, "a", "c"), begun)
-print({"dataclasses", "decimal", "inspect", "numpy", "queue", "subprocess", "tempfile", "threading"} & {*sys.modules})
-"""
-
-
-def library() -> str:
-    return str(library_folder() / "libdmf.so.0")
-
-
-@pytest.fixture(autouse=True)
-def by_library(monkeypatch: pytest.MonkeyPatch) -> None:
-    monkeypatch.setenv("DMF_LIBRARY", library())
-
-
-def environment(**more: str) -> dict[str, str]:
-    return {**os.environ, "PYTHONPATH": CLIENT, **more}
-
-
-def is_in_process(network: dmf.Network[Any]) -> bool:
-    return isinstance(network._session, loaded.InProcess)
-
-
-def test_which_is_taken(monkeypatch: pytest.MonkeyPatch) -> None:
-    with pipes() as network:
-        assert is_in_process(network) and dmf.library() == library()
-    with pipes(program=BUILT) as network:
-        assert isinstance(network._session, Child)
-    monkeypatch.setenv("DMF_LIBRARY", "")
-    with pipes() as network:
-        assert isinstance(network._session, Child) and dmf.library() is None
-    monkeypatch.delenv("DMF_LIBRARY")
-    # The tests name a program by DMF.
-    assert dmf.library() is None
-    monkeypatch.delenv("DMF")
-    found = dmf.library()
-    assert found is not None and Path(found).read_bytes() == Path(library()).read_bytes()
-
-
-def test_one_that_cannot_be_used(monkeypatch: pytest.MonkeyPatch, tmp_path: Path) -> None:
-    """One that is named, and cannot be loaded, is told; so is one of another version, here the library with another number."""
-    missing, text = tmp_path / "missing.so", tmp_path / "text.so"
-    text.write_text("no library\n")
-    for path in missing, text:
-        monkeypatch.setenv("DMF_LIBRARY", str(path))
-        with pytest.raises(dmf.NoProgram, match=f"^{re.escape(str(path))} cannot be loaded: "):
-            pipes()
-        with pytest.raises(dmf.NoProgram):
-            dmf.library()
-    monkeypatch.setenv("DMF_LIBRARY", library())
-    monkeypatch.setattr(dmf, "__version__", "0.1.7")
-    loaded.load.cache_clear()
-    with pytest.raises(dmf.NoProgram, match=r" is dmf 0\.1\.0, and this package needs dmf 0\.1\.7$"):
-        pipes()
-
-
-def test_one_that_is_found_and_cannot_be_used(tmp_path: Path) -> None:
-    """Inside the package, as pip puts it: the program is asked in its place."""
-    shutil.copytree(f"{CLIENT}/dmf", tmp_path / "dmf")
-    (tmp_path / "dmf/bin").mkdir()
-    (tmp_path / "dmf/bin/libdmf.so.0").write_text("of another machine\n")
-    ask = "import dmf; print(dmf.library(), dmf.Network([('a', 'b', 1)], 'a', 'b').solve().value)"
-    variables = {name: value for name, value in environment(PYTHONPATH=str(tmp_path)).items() if name not in ("DMF", "DMF_LIBRARY")}
-    path = f"{Path(BUILT).parent}:{variables['PATH']}"
-    variables["PATH"] = path
-    ran = subprocess.run([sys.executable, "-c", ask], env=variables, capture_output=True, text=True, cwd=tmp_path, timeout=SECONDS)
-    assert (ran.stdout, ran.stderr) == ("None 1\n", "")
-
-
-def test_no_process_is_begun() -> None:
-    """Nor is loaded what other calls need, which takes longer than all else together."""
-    ran = subprocess.run([sys.executable, "-c", SILENT], env=environment(), capture_output=True, text=True, timeout=SECONDS)
-    assert (ran.stdout, ran.stderr) == ("2 2 []\nset()\n", "")
+pytestmark = pytest.mark.usefixtures("by_library")
 
 
 @pytest.fixture(params=[0, 10**9], ids=["beside", "at once"])
@@ -145,7 +65,7 @@ def bound(request: pytest.FixtureRequest, monkeypatch: pytest.MonkeyPatch) -> in
 def test_each_call(bound: int, call: str) -> None:
     """As by the program, in each state that can be undone and redone."""
     with prepared() as network, prepared(program=BUILT) as other:
-        assert is_in_process(network) and not is_in_process(other)
+        assert [isinstance(it._session, loaded.InProcess) for it in (network, other)] == [True, False]
         CALLS[call](network)
         CALLS[call](other)
         assert all_told(network) == all_told(other)
@@ -179,7 +99,7 @@ def test_a_sweep(bound: int) -> None:
 def slow_solve(monkeypatch: pytest.MonkeyPatch) -> Iterator[tuple[threading.Event, threading.Event]]:
     """A block in which the next solve goes on until the second event comes, and begins with the first."""
     begun, until = threading.Event(), threading.Event()
-    commands: Any = loaded.load(library()).commands
+    commands: Any = loaded.load(library_file()).commands
     solve: Callable[[int], int] = commands["solve"]
 
     def slow(address: int) -> int:
@@ -198,7 +118,7 @@ def slow_solve(monkeypatch: pytest.MonkeyPatch) -> Iterator[tuple[threading.Even
 def counted(monkeypatch: pytest.MonkeyPatch) -> Iterator[list[int]]:
     """The addresses of the sessions that are freed in the block."""
     freed: list[int] = []
-    library_here = loaded.load(library())
+    library_here = loaded.load(library_file())
     free = library_here.free
 
     def noted(address: int) -> int:
@@ -382,7 +302,7 @@ def test_large_networks_are_solved_by_the_program(monkeypatch: pytest.MonkeyPatc
 
 def short(monkeypatch: pytest.MonkeyPatch, word: str, arc: int) -> None:
     """Lets the library answer that memory is short to a command about an arc, or to one about none."""
-    commands: Any = loaded.load(library()).commands
+    commands: Any = loaded.load(library_file()).commands
     call = commands[word]
 
     def refusing(address: int, *numbers: int) -> int:
@@ -413,7 +333,7 @@ def test_want_of_memory(monkeypatch: pytest.MonkeyPatch, bound: int) -> None:
                 network.begin_again()
         assert network.begin_again() == 3
         with monkeypatch.context() as patched:
-            patched.setattr(loaded.load(library()), "new", lambda *_: loaded.NO_MEMORY)
+            patched.setattr(loaded.load(library_file()), "new", lambda *_: loaded.NO_MEMORY)
             with pytest.raises(dmf.NoMemory, match="^no memory$"):
                 pipes()
 

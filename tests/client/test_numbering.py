@@ -22,12 +22,12 @@ rows = st.lists(st.one_of(st.tuples(few, few, few), st.tuples(nodes, nodes, few)
 def pieces_of_three() -> Any:
     """A few rows are more than are taken together."""
     with pytest.MonkeyPatch.context() as patch:
-        patch.setattr(dmf.kept, "PIECE", 3)
+        patch.setattr(dmf.rows, "PIECE", 3)
         yield
 
 
 def columns_of(rows: Any, nodes: Any) -> Any:
-    return dmf.kept.columns_of(rows, nodes)[0]
+    return dmf.rows.columns_of(rows, nodes)[0]
 
 
 def named(nodes: Any) -> list[tuple[type, Any]]:

@@ -8,7 +8,7 @@ import sys
 from pathlib import Path
 
 import pytest
-from c_library import ROOT, compiled, library_folder
+from c_library import ROOT, compiled, library_file, library_folder
 
 # In the gate, and by --long.
 STEPS, MANY = 30_000, 1_000_000
@@ -71,6 +71,6 @@ def test_a_program_in_c(steps: int, tmp_path: Path) -> None:
 @pytest.mark.seconds(3)
 def test_python(steps: int) -> None:
     """Pages of the whole process, which holds at most a twentieth more than after the first two tenths."""
-    environment = {"PYTHONPATH": str(ROOT / "clients/python"), "DMF_LIBRARY": str(library_folder() / "libdmf.so.0")}
+    environment = {"PYTHONPATH": str(ROOT / "clients/python"), "DMF_LIBRARY": library_file()}
     pages = tenths([sys.executable, "-c", TURNS, str(steps)], **environment)
     assert len(pages) == 10 and max(pages) <= 1.05 * max(pages[:2]), pages

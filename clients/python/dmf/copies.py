@@ -10,9 +10,10 @@ from typing import Any, NamedTuple, Tuple, Union
 
 from .arcs import Arc
 from .errors import Error, NoProgram, SessionEnded
-from .kept import Kept, whole
+from .kept import Kept
 from .network import Network
 from .lexical import LARGEST, MOST_ARCS
+from .rows import whole
 from .session import MOST_COMMANDS, Way
 from .session import Command as Numbered
 

@@ -2,168 +2,20 @@
 
 from __future__ import annotations
 
-import contextlib
-import operator
 from array import array
-from collections import defaultdict
-from collections.abc import Callable, Hashable, Iterable, Mapping, MappingView, Set
-from itertools import count, islice
-from typing import TYPE_CHECKING, Any, Generic, NoReturn, SupportsIndex, Union
+from collections.abc import Callable, Hashable, Iterable
+from typing import TYPE_CHECKING, Any, Generic
 
 from .arcs import Added, Arc, Columns, Handles, Node, OpenArcs, one_of
 from .changes import Change, Changes
-from .errors import ArcIsClosed, CountOutOfRange, NoSuchArc, NotAnArc, NotANumber, NumberTooLarge, shown
-from .lexical import LARGEST, MOST_NODES
-from .numbering import AMOUNTS, NODES, WholeNodes
+from .errors import ArcIsClosed, CountOutOfRange, NoSuchArc, NotAnArc, shown
+from .lexical import MOST_NODES
+from .numbering import AMOUNTS
+from .rows import is_missing
 from .session import Command
 
 if TYPE_CHECKING:
     from .tables.comments import Described
-
-# A whole number, which may also come as a float without a fraction.
-Whole = Union[SupportsIndex, float]
-# How many rows are taken together: the objects that they refer to fit the processor's cache.
-PIECE = 1 << 8
-# How many rows are expected if nobody says so, and how large nodes that are whole numbers may be for each row.
-USUAL, LARGEST_NODE = 1 << 18, 4
-WANTED = "wanted is (tail, head, capacity) or (tail, head, capacity, key), of which all but the capacity can be hashed"
-
-
-def whole(number: Any, at: object) -> int:
-    """This value as a whole number from 0 to 2^64 - 1. Raises `NotANumber` and `NumberTooLarge`, whose messages say that it stands in
-    `at`."""
-    try:
-        # A float of Python or of numpy, of any width.
-        is_whole = getattr(number, "is_integer", bool)
-        taken = int(number) if is_whole() else operator.index(number)
-    except TypeError:
-        raise NotANumber(f"{shown(number)} in {shown(at)}") from None
-    if taken < 0:
-        raise NotANumber(f"{shown(number)} in {shown(at)}")
-    if taken > LARGEST:
-        raise NumberTooLarge(f"one of {taken.bit_length()} bits in {shown(at)}")
-    return taken
-
-
-def columns_of(rows: Iterable[Any], nodes: Iterable[Node]) -> tuple[Columns[Node], array[int]]:
-    """The columns of rows of arcs, and their capacities. Raises `NotAnArc`, `NotANumber` and `NumberTooLarge`."""
-    nodes = list(nodes)
-    taken = _Taken(nodes, operator.length_hint(rows, USUAL))
-    left = iter(rows)
-    while piece := list(islice(left, PIECE)):
-        if not taken.take_together(piece):
-            for row in piece:
-                taken.take(row)
-    if isinstance(taken.numbers, defaultdict):
-        # From now on a node that is not there is none.
-        taken.numbers.default_factory = None
-    columns = Columns(taken.numbers, taken.tails, taken.heads, taken.keys)
-    _judge_nodes(columns, taken.capacities)
-    return columns, taken.capacities
-
-
-def is_unordered(values: object) -> bool:
-    """Whether values come in no order that their caller chose, so that each could be taken for another one."""
-    return isinstance(values, (Set, Mapping, MappingView))
-
-
-def is_missing(value: object) -> bool:
-    """Whether a value of a table is missing: None, or a value that is not equal to itself, such as NaN and the NA of pandas."""
-    try:
-        return value is None or bool(value != value)
-    except TypeError:
-        return True
-    except ValueError:
-        # An array, of which each value is compared.
-        return False
-
-
-def _judge_nodes(columns: Columns[Any], capacities: array[int]) -> None:
-    """Raises `NotAnArc` if a node is not equal to itself, since it could not be found again."""
-    numbers = columns.numbers
-    if isinstance(numbers, WholeNodes):
-        return
-    with contextlib.suppress(TypeError):
-        if not any(map(operator.ne, numbers, numbers)):
-            return
-    for node in numbers:
-        if node is not None and is_missing(node):
-            refuse_node(columns, capacities, node)
-
-
-def refuse_node(columns: Columns[Any], capacities: array[int], node: object) -> NoReturn:
-    """Raises `NotAnArc` for a node that is none, with the first arc that has it."""
-    number = columns.numbers[node]
-    at = next((at for at, ends in enumerate(zip(columns.tails, columns.heads)) if number in ends), None)
-    if at is None:
-        raise NotAnArc(f"not an arc: the node {shown(node)} is no name")
-    tail, head = columns.names[columns.tails[at] - 1], columns.names[columns.heads[at] - 1]
-    raise NotAnArc(f"not an arc: number {at + 1}, {shown((tail, head, capacities[at]))}: {shown(node)} is no node")
-
-
-class _Taken:
-    """The columns of the rows so far, of so many that are expected. `numbers` gives each new node the next number. It becomes a
-    dictionary at the first node that is no whole number, or so large that a dictionary takes less memory."""
-
-    def __init__(self, nodes: Iterable[Hashable], expected: int) -> None:
-        self.numbers: WholeNodes | defaultdict[Any, int] = WholeNodes()
-        self.tails, self.heads, self.capacities = array(NODES), array(NODES), array(AMOUNTS)
-        self.keys: dict[int, Hashable] = {}
-        self._most = LARGEST_NODE * expected
-        self._numbers_of(list(nodes))
-
-    def _numbers_of(self, nodes: list[Any]) -> array[int]:
-        """The numbers of nodes. Raises a TypeError if one cannot be hashed."""
-        if isinstance(self.numbers, WholeNodes):
-            numbers = self.numbers.take(nodes, self._most)
-            if numbers is not None:
-                return numbers
-            self.numbers = defaultdict(count(len(self.numbers) + 1).__next__, self.numbers)
-        return array(NODES, map(self.numbers.__getitem__, nodes))
-
-    def take_together(self, rows: list[Any]) -> bool:
-        """Takes rows of the same form column by column, which is several times as fast. Returns whether it did: if one has another
-        form, or a value in it is odd, it takes none."""
-        if not set(map(type, rows)) <= {tuple, list} or not set(map(len, rows)) in ({3}, {4}):
-            return False
-        tails, heads, amounts, *others = zip(*rows)
-        keys = others[0] if others else ()
-        ends: list[Any] = [None] * (2 * len(rows))
-        ends[0::2], ends[1::2] = tails, heads
-        try:
-            capacities = array(AMOUNTS, amounts)
-            hash(keys)
-            numbers = self._numbers_of(ends)
-        except (TypeError, OverflowError):
-            return False
-        first = len(self.tails) + 1
-        self.keys.update((number, key) for number, key in enumerate(keys, first) if key is not None)
-        self.tails += numbers[0::2]
-        self.heads += numbers[1::2]
-        self.capacities += capacities
-        return True
-
-    def take(self, row: Any) -> None:
-        """Takes a row. Raises what `columns_of` raises."""
-        try:
-            if is_unordered(row) or isinstance(row, (str, bytes, bytearray)):
-                raise TypeError
-            if len(row) == 3:
-                tail, head, capacity = row
-            else:
-                tail, head, capacity, key = row
-                hash(key)
-                if key is not None:
-                    self.keys[len(self.tails) + 1] = key
-            numbers = self._numbers_of([tail, head])
-        except (TypeError, ValueError):
-            raise NotAnArc(f"not an arc: {shown(row)}: {WANTED}") from None
-        self.tails += numbers[:1]
-        self.heads += numbers[1:]
-        try:
-            self.capacities.append(capacity)
-        except (TypeError, OverflowError):
-            self.capacities.append(whole(capacity, row))
 
 
 class Kept(Changes, Generic[Node]):

@@ -12,7 +12,8 @@ from . import arrays
 from .arcs import Arc, Columns, Node
 from .changes import Change
 from .errors import ArcIsOpen, Refused, SessionEnded
-from .kept import Kept, Whole, columns_of, whole
+from .kept import Kept
+from .rows import Whole, columns_of, whole
 from .running import alone
 from .session import Program, Way, bound, where
 from .showing import Showing

@@ -11,7 +11,8 @@ from . import arrays
 from .arcs import Columns, Node
 from .arrays import columns_of_arrays, is_unbounded
 from .errors import Refused, Unbounded
-from .kept import Kept, Whole, columns_of, whole
+from .kept import Kept
+from .rows import Whole, columns_of, whole
 from .running import Running
 from .scratch import scratch
 from .session import PROGRAM, FilePath, Program, Told, where

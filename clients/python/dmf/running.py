@@ -14,7 +14,8 @@ from typing import TYPE_CHECKING, Any, Generic, TypeVar, cast
 
 from .arcs import Arc, Node, Owner
 from .errors import Error, NoSuchArc, SessionEnded, UsedByTwoProcesses, UsedByTwoThreads
-from .kept import Kept, whole
+from .kept import Kept
+from .rows import whole
 from .session import Command, Session, Told
 from .solution import Flows, Solution
 from .ways import started

@@ -11,9 +11,10 @@ from typing import Any, cast
 
 from .arcs import Columns, Node
 from .arrays import no_capacity, numpy_for, pieces_of, read_lines, with_infinite
-from .kept import Kept, Whole, whole
+from .kept import Kept
 from .network import Network
 from .numbering import AMOUNTS, NODES
+from .rows import Whole, whole
 from .session import FilePath, Program, Session, bound
 from .tables.comments import Described, described, tells_columns
 from .text import ARC, NODE, names_in, naming_pieces

@@ -16,8 +16,8 @@ from .arcs import Arc, Node
 from .arrays import package
 from .copies import Answer, Command, Plain
 from .errors import Error, JobsOutOfRange, NotAnArc, UnknownCommand, shown
-from .kept import Whole, is_unordered
 from .network import Network
+from .rows import Whole, is_unordered
 from .session import MOST_KEPT
 from .trying import Here, Pending, Sent, There, Tries
 

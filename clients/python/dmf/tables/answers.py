@@ -9,8 +9,8 @@ from typing import Any, cast
 from .. import arrays
 from ..arcs import Arc
 from ..errors import NotANumber, shown
-from ..kept import whole
 from ..quantity import Measure, QuantityFault, number_in
+from ..rows import whole
 from ..solution import Cut, Solution
 from .folded import FoldedColumns
 from .places import Term

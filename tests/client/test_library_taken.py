@@ -1,0 +1,79 @@
+"""Which library the package takes for sessions in this process, and what it says of one that cannot be used."""
+
+from __future__ import annotations
+
+import re
+import shutil
+import subprocess
+import sys
+from pathlib import Path
+
+import pytest
+from c_library import library_file
+from client_shared import BUILT, CLIENT, dmf, environment, pipes
+from dmf import loaded
+from dmf.process import Child
+
+SECONDS = 60
+SILENT = """
+import sys
+begun = []
+sys.addaudithook(lambda event, _: begun.append(event) if event in ("subprocess.Popen", "os.fork", "os.posix_spawn", "os.exec") else None)
+import dmf
+network = dmf.Network([("a", "b", 3), ("b", "c", 2)], "a", "c")
+print(network.solve().value, dmf.value({"a": {"b": 3}, "b": {"c": 2}}, "a", "c"), begun)
+print({"dataclasses", "decimal", "inspect", "numpy", "queue", "subprocess", "tempfile", "threading"} & {*sys.modules})
+"""
+pytestmark = pytest.mark.usefixtures("by_library")
+
+
+def test_which_is_taken(monkeypatch: pytest.MonkeyPatch) -> None:
+    with pipes() as network:
+        assert isinstance(network._session, loaded.InProcess) and dmf.library() == library_file()
+    with pipes(program=BUILT) as network:
+        assert isinstance(network._session, Child)
+    monkeypatch.setenv("DMF_LIBRARY", "")
+    with pipes() as network:
+        assert isinstance(network._session, Child) and dmf.library() is None
+    monkeypatch.delenv("DMF_LIBRARY")
+    # The tests name a program by DMF.
+    assert dmf.library() is None
+    monkeypatch.delenv("DMF")
+    found = dmf.library()
+    assert found is not None and Path(found).read_bytes() == Path(library_file()).read_bytes()
+
+
+def test_one_that_cannot_be_used(monkeypatch: pytest.MonkeyPatch, tmp_path: Path) -> None:
+    """One that is named, and cannot be loaded, is told; so is one of another version, here the library with another number."""
+    missing, text = tmp_path / "missing.so", tmp_path / "text.so"
+    text.write_text("no library\n")
+    for path in missing, text:
+        monkeypatch.setenv("DMF_LIBRARY", str(path))
+        with pytest.raises(dmf.NoProgram, match=f"^{re.escape(str(path))} cannot be loaded: "):
+            pipes()
+        with pytest.raises(dmf.NoProgram):
+            dmf.library()
+    monkeypatch.setenv("DMF_LIBRARY", library_file())
+    monkeypatch.setattr(dmf, "__version__", "0.1.7")
+    loaded.load.cache_clear()
+    with pytest.raises(dmf.NoProgram, match=r" is dmf 0\.1\.0, and this package needs dmf 0\.1\.7$"):
+        pipes()
+
+
+def test_one_that_is_found_and_cannot_be_used(tmp_path: Path) -> None:
+    """Inside the package, as pip puts it: the program is asked in its place."""
+    shutil.copytree(f"{CLIENT}/dmf", tmp_path / "dmf")
+    (tmp_path / "dmf/bin").mkdir()
+    (tmp_path / "dmf/bin/libdmf.so.0").write_text("of another machine\n")
+    ask = "import dmf; print(dmf.library(), dmf.Network([('a', 'b', 1)], 'a', 'b').solve().value)"
+    variables = {name: value for name, value in environment(PYTHONPATH=str(tmp_path)).items() if name not in ("DMF", "DMF_LIBRARY")}
+    path = f"{Path(BUILT).parent}:{variables['PATH']}"
+    variables["PATH"] = path
+    ran = subprocess.run([sys.executable, "-c", ask], env=variables, capture_output=True, text=True, cwd=tmp_path, timeout=SECONDS)
+    assert (ran.stdout, ran.stderr) == ("None 1\n", "")
+
+
+def test_no_process_is_begun() -> None:
+    """Nor is loaded what other calls need, which takes longer than all else together."""
+    ran = subprocess.run([sys.executable, "-c", SILENT], env=environment(), capture_output=True, text=True, timeout=SECONDS)
+    assert (ran.stdout, ran.stderr) == ("2 2 []\nset()\n", "")
