@@ -4,16 +4,16 @@
     c unit l/s
     c table pipes.csv
     c decimal sign ,
-    c inner node 41 sources
-    c inner node 42 sinks
-    c inner node 43 half 4
-    c inner arc 72 supply 2
-    c inner arc 74 demand 9 unlimited
-    c inner arc 75 limit 4
+    c inner node NODE sources
+    c inner node NODE sinks
+    c inner node NODE half PLACE
+    c inner arc ARC supply PLACE
+    c inner arc ARC demand PLACE unlimited
+    c inner arc ARC limit PLACE
 
-An inner node or arc is not of the table. A node joins several sources, or sinks, or is the second half of a place with a limit, here of
-node 4. An arc carries what a source gives, what a sink takes, or what a place lets through; the node of the place follows. An unlimited one
-carries as much as the arcs at the place.
+An inner node or arc is not of the table. A node joins several sources, or sinks, or is the second half of a place with a limit. An arc carries
+what a source gives, what a sink takes, or what a place lets through. Each is named by its number, and a place by that of its node. An
+unlimited arc carries as much as those at the place.
 
 Each stands before the problem line and begins its line, with one blank between its words; the scale may stand anywhere. Of two that say
 the same thing the first counts. `extra` has the comments of the table's other columns.
