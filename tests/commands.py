@@ -16,6 +16,17 @@ PRINTED = {
     "flow": "the present flow, as a solution",
     "cut": "the smallest minimum cut, if the present flow is greatest",
 }
+# What each of them is in the help, and its lines.
+HELP_OF_PRINTED = {
+    "problem": ("the network as it is now", "p, n and a lines"),
+    "flow": ("how much each arc carries now", "s VALUE, then f lines"),
+    "cut": ("where the limit is", "c cut, then c side lines"),
+}
+
+
+def either(words: list[str]) -> str:
+    """The words as the choice that they are."""
+    return f"{', '.join(words[:-1])} or {words[-1]}"
 
 
 class Command(NamedTuple):
@@ -39,6 +50,10 @@ class Command(NamedTuple):
     does: str = ""
     manual: str = ""
     told: str = ""
+    # What it does, and its reply where that has several lines, in the help; and the fields that it takes, at a terminal.
+    helps: str = ""
+    help_reply: str = ""
+    takes: str = "nothing"
 
     @property
     def kinds(self) -> list[str]:
@@ -72,37 +87,44 @@ COMMANDS = {
         Command(
             "cap", ("I", "U"), "c cap value VALUE", True, True, "cap 5 1", "Cap {{ arc: {}, cap: {} }}", 5, (*NO_ARC, PAST),
             "gives arc I the capacity U",
+            helps="the arc can carry CAP", takes="an arc and its new capacity",
         ),
         Command(
             "add", ("V", "W", "U"), "c add I value VALUE", True, True, "add 1 4 7", "Add {{ tail: {}, head: {}, cap: {} }}", 3,
             ("no such node", "too many arcs", PAST),
             "adds an arc from node V to node W of capacity U, with the next number", told="`c add I value VALUE`, I the arc's number",
+            helps="a new arc leads from node to node", takes="two nodes and a capacity",
         ),
         Command(
             "close", ("I",), "c close value VALUE", True, True, "close 2", "Close {{ arc: {} }}", 1, NO_ARC,
             "closes arc I: nothing may flow on it, and answers leave it out",
             "It keeps its number, and only `undo` opens it again.",
+            helps="the arc can carry nothing", takes="an arc",
         ),
         Command(
             "shut", ("V",), "c shut value VALUE", True, True, "shut 3", "Shut {{ node: {} }}", 0.5, ("no such node",),
             "closes each open arc that leaves node V or enters it, in the order of their numbers, all as one change",
+            helps="every arc at the node is closed", takes="a node",
         ),
         Command(
             "solve", (), "s VALUE", True, True, "solve", "Solve", 4, (),
             "goes on from the present flow to a greatest one",
             told="the solution, or with `--brief` `c solve value VALUE`; with `--cut` the smallest minimum cut after it",
+            helps="as much as possible is sent", help_reply="s VALUE, then f lines",
         ),
         Command(
             "undo", ("[K]",), "c undo value VALUE", False, False, "undo 2", "Undo({})", 2, ("nothing to undo",),
             "takes back the last K changes, all of them or none; without K one",
             "Flows, too, are as they were.",
+            helps="the last change, or K, taken back", takes="a count or nothing",
         ),
         Command(
             "redo", ("[K]",), "c redo value VALUE", False, True, "redo", "Redo({})", 2, ("nothing to redo",),
             "makes the last K undone changes again, all of them or none; without K one",
             "After a new change nothing is left to redo.",
+            helps="one change, or K, made again", takes="a count or nothing",
         ),
-        Command("print", ("WHAT",), "", False, True, "print cut", "Print{}", 2, ("flow is not greatest",)),
+        Command("print", ("WHAT",), "", False, True, "print cut", "Print{}", 2, ("flow is not greatest",), takes=either([*PRINTED])),
     ]
 }  # fmt: skip
 # The refusals that any line may have.

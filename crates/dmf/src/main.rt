@@ -28,6 +28,7 @@ fn main(rt: HostRuntime) -> ExitCode {
     ExitCode::from(program_status(outcome))
 }
 
+#[inline(never)]
 fn run(rt: &HostRuntime) -> Result<Status, Fault> {
     let Arguments {
         mode,

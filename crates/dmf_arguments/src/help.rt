@@ -101,7 +101,7 @@ another. Where many flows are greatest, both find theirs sooner.
 man dmf has the formats.",
 };
 
-/// The help of `dmf session`.
+/// The help of `dmf session`. `tests/commands.py` has the commands: /usr/bin/python3 -m pytest --write tests/test_commands.py makes its list.
 pub const SESSION: Help = Help {
     about: "Try out changes of arcs and nodes, one command a line, and take them back",
     usage: "dmf session [--brief] [--cut] [--history N] [--progress] PROBLEM",

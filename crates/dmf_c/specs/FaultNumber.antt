@@ -1,4 +1,4 @@
--- The number of a fault of a problem text, which is also that of `dmf explain`.
+-- The number of a fault of a problem text, as `enum dmf_fault` of the header has it.
 -- Public: a public contract says no more than this.
 use Rattle.std.specs.Prelude.{ℕ}
 use Rattle.dmf_text.specs.declared.fault.ProblemFaultKind.{ProblemFaultKind}

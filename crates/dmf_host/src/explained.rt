@@ -9,6 +9,7 @@ use dmf_streams::EngineFault;
 use std::io::IsTerminal;
 
 /// Explains a fault on standard error, where that is a terminal.
+#[inline(never)]
 pub fn explain(rt: &HostRuntime, fault: &Fault) {
     if !rt.stderr().is_terminal() {
         return;

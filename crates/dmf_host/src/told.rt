@@ -16,6 +16,7 @@ pub fn print(rt: &HostRuntime, text: &str) -> Result<Status, Fault> {
 }
 
 /// Tells a fault on standard error: that of the words by the text that says what is wrong with them.
+#[inline(never)]
 pub fn tell(rt: &HostRuntime, fault: &Fault) -> std::io::Result<()> {
     match fault {
         Fault::Usage(text) => eprint!(rt; "{text}"),

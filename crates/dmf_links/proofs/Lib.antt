@@ -12,11 +12,8 @@ pub mod Filling
 pub mod Twins
 pub mod BuiltLinks
 pub mod Numbering
-pub mod GrownLinks
-pub mod GrownPlaces
-pub mod GrownRooms
-pub mod Slots
-pub mod ShrunkLinks
-pub mod ShrunkPlaces
-pub mod ShrunkRooms
 pub mod Rising
+pub mod Coupled
+pub mod NodeEnds
+pub mod PutOn
+pub mod TakenOff

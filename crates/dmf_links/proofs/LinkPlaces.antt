@@ -1,8 +1,8 @@
 -- Where the links of a node lie.
-use Rattle.std.proofs.Common.{ℕ, ◌≡◌, ◌≢◌, ◌+◌, ◌<◌, ◌≤◌, length, get_or, ap, subst, sym, ◌∙◌, arith}
+use Rattle.std.proofs.Common.{ℕ, ◌≡◌, ◌≢◌, ◌+◌, ◌<◌, ◌≤◌, List, length, get_or, ap, subst, sym, ◌∙◌, arith}
 use Rattle.std.proofs.lemmas.List.{get_or_default}
 use Rattle.dmf_node.specs.Node.{IsNode}
-use Rattle.dmf_links.specs.Links.{Links, LiesAt, AreLinks}
+use Rattle.dmf_links.specs.Links.{Links, LiesAt, AreLinks, AreRooms, IsSpare}
 use Rattle.dmf_links.proofs.Rising.{rising}
 
 -- The links of a later node begin later.
@@ -25,7 +25,7 @@ lies-within l v p are node lies = omega (arith, last-within l v are node.to_last
 
 -- A link is not its own opposite.
 pub partner-other : (l : Links) (p : ℕ) → AreLinks l → p < length l.heads → get_or l.partners p 0 ≢ p
-partner-other l p are within same = (are.each p within).no_loop (ap (λ q. get_or l.heads q 0) same)
+partner-other l p are within = (are.each p within).partner_other
 
 -- The opposite of a link lies at the node to which the link leads.
 pub lies-partner : (l : Links) (p : ℕ) → AreLinks l → p < length l.heads → LiesAt l (get_or l.heads p 0) (get_or l.partners p 0)
@@ -33,3 +33,7 @@ lies-partner l p are within =
     let link = are.each p within in
     let P : ℕ → Type 0 = λ v. LiesAt l v (get_or l.partners p 0) in
     subst P (ap (λ q. get_or l.heads q 0) link.partner_back) (are.each (get_or l.partners p 0) link.partner).lies
+
+-- A link with room is not spare.
+pub room-used : (l : Links) (rooms : List ℕ) (p : ℕ) → AreRooms l rooms → p < length l.heads → 0 < get_or rooms p 0 → ¬ IsSpare l p
+room-used l rooms p are within room spare = omega (arith, room, are.2 p within spare)

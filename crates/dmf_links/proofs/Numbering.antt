@@ -1,8 +1,8 @@
 -- The walk that numbers links by their pairs.
-use Rattle.std.proofs.Common.{ℕ, ◌≡◌, ◌≢◌, ◌+◌, ◌<◌, ◌≤◌, List, length, get_or, set, inl, inr, ap, sym, ◌∙◌, subst, ⊎_elim, arith}
+use Rattle.std.proofs.Common.{ℕ, ◌≡◌, ◌≢◌, ◌+◌, ◌-◌, ◌<◌, ◌≤◌, List, length, get_or, set, inl, inr, ap, sym, ◌∙◌, subst, ⊎_elim, arith}
 use Rattle.std.proofs.Common.{get_or-set_other, get_or-set_same, length-set}
 use Rattle.std.proofs.lemmas.Bool.{cases_eq}
-use Rattle.dmf_links.specs.Links.{Links, AreLinks, IsOf, ArePlaces, no_place}
+use Rattle.dmf_links.specs.Links.{Links, AreLinks, IsOf, IsSpare, ArePlaces, no_place}
 use Rattle.dmf_links.specs.Numbers.{AreNumbers}
 
 -- The links of the pairs before index `k` have the numbers of these pairs.
@@ -60,7 +60,49 @@ pub numbered-all : (l : Links) (places : List ℕ) (k : ℕ) (numbers : List ℕ
     → AreNumbers l places numbers
 numbered-all l places k numbers are all known = (
   known.one_each,
-  λ p h.
-      let its = are.each p h in
+  λ p h not_spare.
+      let its = are.each p h not_spare in
       subst (IsOf l places p) (sym (known.told p its.0 h (omega (arith, its.1.0, all)) its.1)) its.1,
 )
+
+-- The links of the last pair are numbered too, once the others are.
+pub numbered-last : (l : Links) (places : List ℕ) (known : List ℕ) → AreLinks l → ArePlaces l places → 0 < length places
+    → length known ≡ length l.heads → ((p : ℕ) → p < length l.heads → ¬ IsSpare l p → ¬ IsOf l places p (length places - 1) → IsOf l places p (get_or known p 0))
+    → get_or places (length places - 1) 0 ≢ no_place →
+    AreNumbers l places (set (set known (get_or places (length places - 1) 0) (length places - 1))
+    (get_or l.partners (get_or places (length places - 1) 0) 0) (length places - 1))
+numbered-last l places known links are has long others there =
+    let k : ℕ = length places - 1 in
+    let place : ℕ = get_or places k 0 in
+    let partner : ℕ = get_or l.partners place 0 in
+    let index : k < length places = omega arith in
+    let within : place < length l.heads = are.within k index there in
+    let beside : partner < length l.heads = (links.each place within).partner in
+    let first : List ℕ = set known place k in (
+      length-set first partner k ∙ length-set known place k ∙ long,
+      λ p h used.
+          ⊎_elim
+          (λ (same : p ≡ partner).
+          let read : get_or (set first partner k) p 0 ≡ k = ap (λ q. get_or (set first partner k) q 0) same
+          ∙ get_or-set_same first partner k 0 (omega (arith, beside, long, length-set known place k)) in
+          subst (IsOf l places p) (sym read) (index, there, inr (sym same)))
+          (λ (other : p ≢ partner).
+          ⊎_elim
+          (λ (same : p ≡ place).
+          let read : get_or (set first partner k) p 0 ≡ k = get_or-set_other first partner p k 0 other ∙ ap (λ q. get_or first q 0) same
+          ∙ get_or-set_same known place k 0 (omega (arith, within, long)) in
+          subst (IsOf l places p) (sym read) (index, there, inl (sym same)))
+          (λ (apart : p ≢ place).
+          let read : get_or (set first partner k) p 0 ≡ get_or known p 0 = get_or-set_other first partner p k 0 other
+          ∙ get_or-set_other known place p k 0 apart in
+          let not_last : ¬ IsOf l places p k = λ of. ⊎_elim (λ (own : place ≡ p). apart (sym own)) (λ (its : partner ≡ p). other (sym its)) of.2 in
+          subst (IsOf l places p) (sym read) (others p h used not_last))
+          (cases_eq p place))
+          (cases_eq p partner),
+    )
+
+-- If there is no last pair, the others are all.
+pub numbered-but_none : (l : Links) (places : List ℕ) (known : List ℕ) → length known ≡ length l.heads
+    → ((p : ℕ) → p < length l.heads → ¬ IsSpare l p → ¬ IsOf l places p (length places - 1) → IsOf l places p (get_or known p 0))
+    → get_or places (length places - 1) 0 ≡ no_place → AreNumbers l places known
+numbered-but_none l places known long others none = (long, λ p h used. others p h used (λ of. of.1 none))

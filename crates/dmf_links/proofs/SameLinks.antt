@@ -26,17 +26,21 @@ same-head l m p of_l of_m nodes first partners h =
     sym tail ∙ ap (λ (r : ℕ). get_or m.heads r 0) back
 
 -- so the heads are the same too.
-same_links : (l m : Links) → AreLinks l → AreLinks m → l.nodes ≡ m.nodes → l.first ≡ m.first → l.partners ≡ m.partners → l ≡ m
-same_links l m of_l of_m nodes first partners =
+same_links : (l m : Links) → AreLinks l → AreLinks m → l.nodes ≡ m.nodes → l.first ≡ m.first → l.ends ≡ m.ends → l.partners ≡ m.partners → l ≡ m
+same_links l m of_l of_m nodes first ends partners =
     let long : length l.heads ≡ length m.heads = sym of_l.partners_long ∙ ap length partners ∙ of_m.partners_long in
     let heads = same_number_lists l.heads m.heads long (λ p h. same-head l m p of_l of_m nodes first partners h) in
-    λ i. record { nodes = nodes i; first = first i; heads = heads i; partners = partners i }
+    λ i. record { nodes = nodes i; first = first i; ends = ends i; heads = heads i; partners = partners i }
 
--- So a test of these three tells whether all is the same.
+-- So a test of these four tells whether all is the same.
 pub same_links-Decides : (l m : Links) (r : Bool) → AreLinks l → AreLinks m
-    → r ≡ (l.nodes == m.nodes && pointwise eqb l.first m.first) && pointwise eqb l.partners m.partners → Decides r (l ≡ m)
+    → r ≡ ((l.nodes == m.nodes && pointwise eqb l.first m.first) && pointwise eqb l.ends m.ends) && pointwise eqb l.partners m.partners
+    → Decides r (l ≡ m)
 same_links-Decides l m r of_l of_m is =
-    rw is (Decides-like _ (λ same. same_links l m of_l of_m same.0.0 same.0.1 same.1)
-    (λ same. ((ap (λ (x : Links). x.nodes) same, ap (λ (x : Links). x.first) same), ap (λ (x : Links). x.partners) same))
-    (Decides-and _ _ (Decides-and _ _ (Decides-eqb l.nodes m.nodes) (pointwise_decides Decides-eqb l.first m.first))
-    (pointwise_decides Decides-eqb l.partners m.partners)))
+    rw is (Decides-like _ (λ same. same_links l m of_l of_m same.0.0.0 same.0.0.1 same.0.1 same.1)
+    (λ same. (
+      ((ap (λ (x : Links). x.nodes) same, ap (λ (x : Links). x.first) same), ap (λ (x : Links). x.ends) same),
+      ap (λ (x : Links). x.partners) same,
+    ))
+    (Decides-and _ _ (Decides-and _ _ (Decides-and _ _ (Decides-eqb l.nodes m.nodes) (pointwise_decides Decides-eqb l.first m.first))
+    (pointwise_decides Decides-eqb l.ends m.ends)) (pointwise_decides Decides-eqb l.partners m.partners)))

@@ -1,12 +1,12 @@
 -- Pairs with the same ends as some links can take over their places, and have their rooms put there.
-use Rattle.std.proofs.Common.{ℕ, ◌≡◌, ◌≢◌, ◌<◌, List, [], ◌∷◌, length, map, get_or, Option, Some, None, refl, ap, sym, ◌∙◌, inl, inr, arith}
+use Rattle.std.proofs.Common.{ℕ, ◌≡◌, ◌≢◌, ◌+◌, ◌<◌, List, [], ◌∷◌, length, map, get_or, Option, Some, None, refl, ap, sym, ◌∙◌, inl, inr, arith}
 use Rattle.std.specs.List.{slice_get}
-use Rattle.std.proofs.lemmas.Bool.{cases_eq, eq-eqb, ne_eqb, cond-true, cond-false}
+use Rattle.std.proofs.lemmas.Bool.{cases_eq, cases_lt, eq-eqb, ne_eqb, cond-true, cond-false}
 use Rattle.std.proofs.lemmas.List.{ext_get_or, get_or-map, length-map}
 use Rattle.std.proofs.lemmas.Option.{none-some, same_Some, slice_get-get_or, get_or_from_slice_get}
 use Rattle.dmf_links.specs.declared.pair.Pair.{Pair}
 use Rattle.dmf_links.specs.Pair.{ArePairs, emptied}
-use Rattle.dmf_links.specs.Links.{Links, AreLinks, ArePlaces, AreRooms, IsOf, no_place, tail_of, pair_at, pairs_at}
+use Rattle.dmf_links.specs.Links.{Links, AreLinks, ArePlaces, AreRooms, IsOf, IsSpare, no_place, tail_of, pair_at, pairs_at}
 use Rattle.dmf_links.specs.Building.{AreApart, ArePut}
 use Rattle.dmf_links.proofs.Counting.{some-within}
 use Rattle.dmf_links.proofs.LinkPlaces.{partner-other}
@@ -158,22 +158,29 @@ pairs-put l places rooms pairs links are same put =
 
 -- Rooms of pairs fit 64 bits together.
 pub rooms-pairs : (l : Links) (places rooms : List ℕ) (nodes : ℕ) (pairs : List (Option Pair)) → AreLinks l → ArePlaces l places
-    → length rooms ≡ length l.heads → pairs_at l places rooms ≡ pairs → ArePairs nodes pairs → AreRooms l rooms
-rooms-pairs l places rooms nodes pairs links are long is all = (
+    → length rooms ≡ length l.heads → ((p : ℕ) → p < length l.heads → IsSpare l p → get_or rooms p 0 ≡ 0) → pairs_at l places rooms ≡ pairs
+    → ArePairs nodes pairs → AreRooms l rooms
+rooms-pairs l places rooms nodes pairs links are long none is all = (
   long,
-  λ p h.
-      let found = are.each p h in
-      let k = found.0 in
-      let of : IsOf l places p k = found.1 in
-      let place = get_or places k 0 in
-      let read = sym (ap (λ (ps : List (Option Pair)). get_or ps k None) is) ∙ its-pair l places rooms k place of.0 (record { is = refl; there = of.1 }) in
-      let long : length places ≡ length pairs = sym (length-map places (pair_at l rooms)) ∙ ap (λ (ps : List (Option Pair)). length ps) is in
-      let pair = all.each k _ (slice_get-get_or pairs k None (omega (arith, of.0, long)) ∙ ap (λ (o : Option Pair). Some o) read) in
-      let link = links.each place (are.within k of.0 of.1) in
-      elim of.2 [
-        | inl own ↦ omega (arith, pair.fits, ap (λ q. get_or rooms q 0) own, ap (λ q. get_or rooms (get_or l.partners q 0) 0) own)
-        | inr opposite ↦
-            let back : place ≡ get_or l.partners p 0 = sym link.partner_back ∙ ap (λ q. get_or l.partners q 0) opposite in
-            omega (arith, pair.fits, ap (λ q. get_or rooms q 0) opposite, ap (λ q. get_or rooms q 0) back)
-      ],
+  λ p h. elim (cases_lt p (get_or l.ends (tail_of l p + 1) 0)) [
+    | inr spare ↦
+        let link = links.each p h in
+        omega (arith, none p h spare, none (get_or l.partners p 0) link.partner (link.partner_spare spare))
+    | inl used ↦
+        let found = are.each p h (λ spare. omega (arith, spare, used)) in
+        let k = found.0 in
+        let of : IsOf l places p k = found.1 in
+        let place = get_or places k 0 in
+        let read = sym (ap (λ (ps : List (Option Pair)). get_or ps k None) is) ∙ its-pair l places rooms k place of.0 (record { is = refl; there = of.1 }) in
+        let long : length places ≡ length pairs = sym (length-map places (pair_at l rooms)) ∙ ap (λ (ps : List (Option Pair)). length ps) is in
+        let pair = all.each k _ (slice_get-get_or pairs k None (omega (arith, of.0, long)) ∙ ap (λ (o : Option Pair). Some o) read) in
+        let link = links.each place (are.within k of.0 of.1) in
+        elim of.2 [
+          | inl own ↦ omega (arith, pair.fits, ap (λ q. get_or rooms q 0) own, ap (λ q. get_or rooms (get_or l.partners q 0) 0) own)
+          | inr opposite ↦
+              let back : place ≡ get_or l.partners p 0 = sym link.partner_back ∙ ap (λ q. get_or l.partners q 0) opposite in
+              omega (arith, pair.fits, ap (λ q. get_or rooms q 0) opposite, ap (λ q. get_or rooms q 0) back)
+        ]
+  ],
+  none,
 )

@@ -3,5 +3,5 @@ pub mod Links
 pub mod LinkTable
 pub mod Building
 pub mod Grown
-pub mod Shrunk
+pub mod Stack
 pub mod Numbers

@@ -1,17 +1,24 @@
 -- Links by node: the links of a node lie side by side, in the order of their ranks. The place of a link identifies it.
 -- Private: only contracts and proofs of `dmf_links` and `dmf_path` use this.
-use Rattle.std.specs.Prelude.{ℕ, ◌≡◌, ◌≢◌, ◌+◌, ◌*◌, ◌^◌, ◌<◌, ◌≤◌, ◌⊎◌, ◌==◌, nat_lt, if◌then◌else◌, List, length, map, slice_index, slice_set}
-use Rattle.std.specs.Prelude.{Option, Some, None}
+use Rattle.std.specs.Prelude.{ℕ, ◌≡◌, ◌≢◌, ◌+◌, ◌^◌, ◌<◌, ◌≤◌, ◌⊎◌, ◌==◌, nat_lt, if◌then◌else◌, List, length, map, slice_index, slice_set}
+use Rattle.std.specs.Prelude.{Option, Some, None, Vec}
+use Rattle.std.specs.declared.alloc.Global.{Global}
 use Rattle.dmf_links.specs.declared.pair.Pair.{Pair}
 use Rattle.dmf_node.specs.Node.{IsNode}
 
--- the number of nodes; where the links of each node begin, those of node 0 first; for each link its head, and the place of the opposite
--- link
+-- the number of nodes; where the links of each node begin, those of node 0 first; at index `v + 1` where those of node `v` end that
+-- belong to pairs; for each link its head, and the place of the opposite link
 pub record Links : Type 0 where
   pub nodes : ℕ
   pub first : List ℕ
+  pub ends : List ℕ
   pub heads : List ℕ
   pub partners : List ℕ
+
+-- where the links end that belong to pairs: at the ends that are listed, or where the links of the next node begin
+abbrev pub ends_of : List ℕ → Option (Vec ℕ Global) → List ℕ
+ends_of first None = first
+ends_of first (Some ends) = ends.items
 
 -- the tail of the link at place `p`, which is the head of its opposite
 abbrev pub tail_of : Links → ℕ → ℕ
@@ -22,18 +29,27 @@ pub record LiesAt (l : Links) (v p : ℕ) : Type 0 where
   pub from : slice_index l.first v ≤ p
   pub below : p < slice_index l.first (v + 1)
 
--- The link at place `p` lies at its tail, which is not its head. Its opposite is a link whose opposite it is.
+-- The link at place `p` is spare: it lies behind those of its node that belong to pairs.
+abbrev pub IsSpare : Links → ℕ → Type 0
+IsSpare l p = slice_index l.ends (tail_of l p + 1) ≤ p
+
+-- The link at place `p` lies at its tail, which is not its head, unless the link is spare. Its opposite is another link, whose opposite
+-- it is. The opposite of a spare link is spare.
 pub record IsLink (l : Links) (p : ℕ) : Type 0 where
   pub head : IsNode l.nodes (slice_index l.heads p)
   pub tail : IsNode l.nodes (tail_of l p)
   pub lies : LiesAt l (tail_of l p) p
   pub partner : slice_index l.partners p < length l.heads
   pub partner_back : slice_index l.partners (slice_index l.partners p) ≡ p
-  pub no_loop : tail_of l p ≢ slice_index l.heads p
+  pub partner_other : slice_index l.partners p ≢ p
+  pub partner_spare : IsSpare l p → IsSpare l (slice_index l.partners p)
+  pub no_loop : ¬ IsSpare l p → tail_of l p ≢ slice_index l.heads p
 
 -- The links of the nodes lie one after the other, and each is a link.
 pub record AreLinks (l : Links) : Type 0 where
   pub first_long : length l.first ≡ l.nodes + 2
+  pub ends_long : length l.ends ≡ l.nodes + 2
+  pub ends_from : (v : ℕ) → v ≤ l.nodes → slice_index l.first v ≤ slice_index l.ends (v + 1)
   pub partners_long : length l.partners ≡ length l.heads
   pub at_most : length l.heads < 2 ^ 31
   pub at_most_nodes : l.nodes < 2 ^ 31
@@ -57,13 +73,13 @@ IsOf l places p k =
     (k < length places) × (slice_index places k ≢ no_place)
     × ((slice_index places k ≡ p) ⊎ (slice_index l.partners (slice_index places k) ≡ p))
 
--- The places are those of the links along of the pairs. Each link belongs to one pair, and the links of a node lie in the order of
--- their pairs.
+-- The places are those of the links along of the pairs. Each link belongs to one pair, or is spare, and the links of a node lie in the
+-- order of their pairs.
 pub record ArePlaces (l : Links) (places : List ℕ) : Type 0 where
   pub at_most : length places ≤ 2 ^ 27 + 1
-  pub links_at_most : length l.heads ≤ 2 * length places
   pub within : (k : ℕ) → k < length places → slice_index places k ≢ no_place → slice_index places k < length l.heads
-  pub each : (p : ℕ) → p < length l.heads → (k : ℕ) × IsOf l places p k
+  pub each : (p : ℕ) → p < length l.heads → ¬ IsSpare l p → (k : ℕ) × IsOf l places p k
+  pub used : (p k : ℕ) → p < length l.heads → IsOf l places p k → ¬ IsSpare l p
   pub one : (p j k : ℕ) → p < length l.heads → IsOf l places p j → IsOf l places p k → j ≡ k
   pub ascending : (v p q j k : ℕ) → IsNode l.nodes v → LiesAt l v p → LiesAt l v q → p < q → IsOf l places p j → IsOf l places q k → j < k
 
@@ -82,10 +98,11 @@ pair_at l rooms place =
 abbrev pub pairs_at : Links → List ℕ → List ℕ → List (Option Pair)
 pairs_at l places rooms = map (pair_at l rooms) places
 
--- The two rooms of each pair fit 64 bits together.
+-- The two rooms of each pair fit 64 bits together, and a spare link has no room.
 abbrev pub AreRooms : Links → List ℕ → Type 0
 AreRooms l rooms = (length rooms ≡ length l.heads)
     × ((p : ℕ) → p < length l.heads → slice_index rooms p + slice_index rooms (slice_index l.partners p) < 2 ^ 64)
+    × ((p : ℕ) → p < length l.heads → IsSpare l p → slice_index rooms p ≡ 0)
 
 -- 1 if there is room, else 0
 abbrev pub open_flag : ℕ → ℕ

@@ -1,18 +1,16 @@
-//! Pairs of opposite links, and the links of pairs by node: made, numbered, grown by a pair and shrunk by one.
+//! Pairs of opposite links, and the links of pairs by node: made, numbered, and put on and taken off at the end.
 #![tactic(auto)]
 
-pub use grown::{Gap, NewPair, place_pair};
-pub use links::{Built, build, open_flag, opposite_flags, put_pair};
-pub use numbers::{grow_numbers, number_links, numbers_left, share_known};
+pub use links::{Built, NO_PLACE, build, open_flag, opposite_flags, put_pair};
+pub use numbers::{number_last, number_links, share_known};
 pub use pair::{Pair, Pairs};
 pub use places::Places;
-pub use shrunk::{gap_of, shrink_own};
+pub use stack::{has_spare, idle_pair, put_on, take_off};
 pub use table::LinkTable;
 
-mod grown;
 mod links;
 mod numbers;
 mod pair;
 mod places;
-mod shrunk;
+mod stack;
 mod table;

@@ -1,11 +1,8 @@
 //! The places of the links along of pairs.
 ghost use Rattle.std.specs.Bool.{Decides};
-ghost use Rattle.std.specs.Prelude.{◌≡◌, ◌-◌, ◌<◌, ◌≤◌, length, slice_index, IfSome, MatchOption};
-ghost use Rattle.dmf_links.specs.Grown.{AreShort, IsPlaced};
+ghost use Rattle.std.specs.Prelude.{◌≡◌, ◌-◌, ◌<◌, ◌++◌, ◌∷◌, [], true, length, take, slice_index, MatchOption};
 ghost use Rattle.dmf_links.specs.Links.{no_place, IsPlaceOf};
-ghost use Rattle.dmf_links.specs.Shrunk.{IsUnplaced};
 
-use crate::grown::{Gap, NewPair};
 use crate::links::NO_PLACE;
 use std::marker::Model;
 
@@ -31,27 +28,19 @@ impl Places {
         Places { places }
     }
 
-    /// The places with that of a new pair before the last one. Takes memory for it where there is no room. `None` if it is refused.
-    pub fn grown(self, new: &NewPair) -> Option<Places>
-        requires some { 0 < length self }
-        requires short { AreShort self }
-        ensures { IfSome result (λ after. IsPlaced new.now.gap (length self - 1) new.now.place self after) }
+    /// Puts on the place of one more pair, or [`NO_PLACE`]. Takes memory where there is no room for it. `false` if it is refused.
+    pub fn put_on(&mut self, place: u32) -> bool
+        ensures { result ≡ true → self.new ≡ self.old ++ place ∷ [] }
     {
-        let mut places = self.places;
-        let k = places.len() - 1;
-        new.gap.shift(&mut places);
-        places.insert(k, new.place).ok()?;
-        Some(Places { places })
+        self.places.push(place).is_ok()
     }
 
-    /// Leaves out the place of the pair at index `k`, whose two links leave this gap. Takes no memory.
-    pub fn leave_out(&mut self, k: usize, gap: &Gap)
-        requires index { k < length self.old }
-        requires order { gap.now.low ≤ gap.now.high }
-        ensures { IsUnplaced gap.now k self.old self.new }
+    /// Takes off the place of the last pair. Takes no memory.
+    pub fn take_off(&mut self)
+        requires { 0 < length self.old }
+        ensures { self.new ≡ take (length self.old - 1) self.old }
     {
-        let _ = self.places.remove(k);
-        gap.unshift(&mut self.places);
+        let _ = self.places.pop();
     }
 
     /// Whether these are the same places.

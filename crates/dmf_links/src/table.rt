@@ -1,5 +1,5 @@
 //! The links of all nodes, without their rooms.
-ghost use Rattle.dmf_links.specs.Links.{AreLinks};
+ghost use Rattle.dmf_links.specs.Links.{AreLinks, ends_of};
 
 use std::ops::Range;
 
@@ -10,12 +10,20 @@ pub struct LinkTable {
     pub nodes: u32,
     /// The place where the links of each node begin, those of node 0 first, and then the place where the last ones end.
     pub first: Vec<u32>,
+    /// At index `v + 1` the place where the links of node `v` end that belong to pairs. Those behind them are spare. `None` if no link is.
+    pub ends: Option<Vec<u32>>,
     /// For each link the node to which it leads.
     pub heads: Vec<u32>,
     /// For each link the place of the opposite link.
     pub partners: Vec<u32>,
     // The links of a node lie side by side, and each link has an opposite one.
-    ghost are: { AreLinks (record { nodes = nodes; first = first.items; heads = heads.items; partners = partners.items }) },
+    ghost are: { AreLinks (record {
+      nodes = nodes;
+      first = first.items;
+      ends = ends_of first.items ends;
+      heads = heads.items;
+      partners = partners.items;
+    }) },
 }
 
 impl LinkTable {
@@ -52,10 +60,23 @@ impl LinkTable {
         self.heads[self.opposite(place) as usize]
     }
 
+    /// Where the links end that belong to pairs: those of node `v` at index `v + 1`.
+    pub(crate) fn ends(&self) -> &[u32]
+        ensures { result.now ≡ (links_of self.now).ends }
+    {
+        match &self.ends {
+            Some(ends) => ends,
+            None => &self.first,
+        }
+    }
+
     /// Whether another table has the same links. The call does not compare the heads: a link leads to the node at which its opposite lies.
     pub fn is(&self, other: &LinkTable) -> bool
         ensures { Decides result (links_of self.now ≡ links_of other.now) }
     {
-        self.nodes == other.nodes && self.first == other.first && self.partners == other.partners
+        self.nodes == other.nodes
+            && self.first == other.first
+            && self.ends() == other.ends()
+            && self.partners == other.partners
     }
 }

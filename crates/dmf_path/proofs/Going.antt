@@ -17,9 +17,11 @@ pub goes-settled : {links next : Roomy} {levels : Levels} {ball : Ball} {trail n
 goes-settled {links = links} {next = next} {levels = levels} {ball = ball} {trail = trail} {new = new} is rooms way =
     let same = told-settled (way_of trail) (residual_of next) way ∙ rooms in
     record {
-      searching = searching-settled is.searching rooms way;
-      ready = is.ready;
-      lasting = λ all. subst (AreLasting (labelling_of levels) levels.noted) (sym same) (is.lasting all);
-      fit = subst (IsFit ball) (sym same) is.fit;
+      keeps = record {
+        searching = searching-settled is.keeps.searching rooms way;
+        ready = is.keeps.ready;
+        lasting = λ all. subst (AreLasting (labelling_of levels) levels.noted) (sym same) (is.keeps.lasting all);
+        fit = subst (IsFit ball) (sym same) is.keeps.fit;
+      };
       around = λ some. is.around some ∙ sym (ap (λ (w : Way). w.goal) way);
     }

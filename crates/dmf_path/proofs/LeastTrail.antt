@@ -7,10 +7,11 @@ use Rattle.dmf_path.specs.Step.{Step}
 use Rattle.dmf_node.specs.Node.{IsNode}
 use Rattle.dmf_path.specs.Path.{IsPath, ComesBefore, ranks, IsLeastPath}
 use Rattle.dmf_path.specs.Pair.{steps_of}
-use Rattle.dmf_links.specs.Links.{Links, LiesAt, AreLinks, ArePlaces, pairs_at}
+use Rattle.dmf_links.specs.Links.{Links, LiesAt, AreLinks, ArePlaces, AreRooms, IsSpare, pairs_at}
 use Rattle.dmf_path.specs.Labels.{no_label}
 use Rattle.dmf_path.specs.BothEnds.{AreSound, filled}
 use Rattle.dmf_path.specs.Walk.{IsWalk, AreValid, ArePassed, IsTrail, end_of, IsWalking}
+use Rattle.dmf_links.proofs.LinkPlaces.{lies-within, room-used}
 use Rattle.dmf_path.proofs.Gated.{counts-set, walk-labels}
 use Rattle.dmf_path.proofs.Steps.{rank_of, step_on, path_on}
 use Rattle.dmf_path.proofs.Ranks.{rank_of-ascends}
@@ -46,19 +47,23 @@ module _ (l : Links) (rooms labels : List ℕ) (goal : ℕ) where
   walk-path v (p ∷ ps) walk =
       let rest = walk-path (get_or l.heads p 0) ps walk.1 in ((walk.0.lies, walk.0.room, rest.0), omega (arith, rest.1, walk.0.falls))
 
-  module _ (places current : List ℕ) (links : AreLinks l) (are : ArePlaces l places) (passed : ArePassed l labels rooms goal current) where
+  module _ (places current : List ℕ) (links : AreLinks l) (are : ArePlaces l places) (fit : AreRooms l rooms) (passed : ArePassed l labels rooms goal current) where
     -- A trail that ends at the goal is a walk.
     walk-trail : (v : ℕ) (trail : List ℕ) → IsTrail l labels rooms current v trail → end_of l v trail ≡ goal → IsWalk l labels rooms goal v trail
     walk-trail v [] is ends = ends
     walk-trail v (p ∷ ps) is ends = (is.0, walk-trail (get_or l.heads p 0) ps is.2 ends)
 
+    -- A link with room is not spare.
+    used : (v p : ℕ) → IsNode l.nodes v → LiesAt l v p → 0 < get_or rooms p 0 → ¬ IsSpare l p
+    used v p node lies room = room-used l rooms p fit (lies-within l v p links node lies) room
+
     -- The rank of a link determines it, and the links of a node lie in the order of their ranks.
-    rank-cases : (v q p : ℕ) → IsNode l.nodes v → LiesAt l v q → LiesAt l v p → ((q < p) × (rank_of l places q < rank_of l places p))
+    rank-cases : (v q p : ℕ) → IsNode l.nodes v → LiesAt l v q → LiesAt l v p → 0 < get_or rooms q 0 → 0 < get_or rooms p 0 → ((q < p) × (rank_of l places q < rank_of l places p))
         ⊎ (((q ≡ p) × (rank_of l places q ≡ rank_of l places p)) ⊎ ((p < q) × (rank_of l places p < rank_of l places q)))
-    rank-cases v q p node at_q at_p = elim (cases_order q p) [
+    rank-cases v q p node at_q at_p q_room p_room = elim (cases_order q p) [
       | inl same ↦ inr (inl (same, ap (rank_of l places) same))
-      | inr (inl less) ↦ inl (less, rank_of-ascends l places v q p links are node at_q at_p less)
-      | inr (inr more) ↦ inr (inr (more, rank_of-ascends l places v p q links are node at_p at_q more))
+      | inr (inl less) ↦ inl (less, rank_of-ascends l places v q p links are node at_q at_p (used v q node at_q q_room) (used v p node at_p p_room) less)
+      | inr (inr more) ↦ inr (inr (more, rank_of-ascends l places v p q links are node at_p at_q (used v p node at_p p_room) (used v q node at_q q_room) more))
     ]
 
     -- No walk comes before the trail: where it leaves the trail, it takes a link after the current one.
@@ -68,7 +73,7 @@ module _ (l : Links) (rooms labels : List ℕ) (goal : ℕ) where
     none-before v [] (q ∷ qs) node is walk before = before
     none-before v (p ∷ ps) [] node is walk before = before
     none-before v (p ∷ ps) (q ∷ qs) node is walk before =
-        let order = rank-cases v q p node walk.0.lies is.0.lies in
+        let order = rank-cases v q p node walk.0.lies is.0.lies walk.0.room is.0.room in
         elim before [
           | inl lower ↦ passed v q qs node walk.0.lies (omega (arith, order, lower, is.1)) walk
           | inr tails ↦
@@ -78,15 +83,15 @@ module _ (l : Links) (rooms labels : List ℕ) (goal : ℕ) where
         ]
 
 -- A trail from the start to the goal is the least path.
-pub least-trail : (l : Links) (places rooms labels current trail : List ℕ) (start goal : ℕ) → AreLinks l → ArePlaces l places → IsNode l.nodes start
-    → IsNode l.nodes goal
+pub least-trail : (l : Links) (places rooms labels current trail : List ℕ) (start goal : ℕ) → AreLinks l → ArePlaces l places → AreRooms l rooms
+    → IsNode l.nodes start → IsNode l.nodes goal
     → AreSound l labels rooms (get_or labels start 0) → get_or labels start 0 ≤ l.nodes
     → IsWalking l labels rooms start goal current trail → end_of l start trail ≡ goal
     → IsLeastPath (steps_of (pairs_at l places rooms)) start goal (path_on l places rooms trail)
-least-trail l places rooms labels current trail start goal links are node goal_is sound start_label walking ends =
+least-trail l places rooms labels current trail start goal links are fit node goal_is sound start_label walking ends =
     let path : List Step = path_on l places rooms trail in
     let walk = walk-path l rooms labels goal start trail
-    (walk-trail l rooms labels goal places current links are walking.passed start trail walking.trail_is ends) in
+    (walk-trail l rooms labels goal places current links are fit walking.passed start trail walking.trail_is ends) in
     let on = λ (other : List Step) (leads : IsPath (steps_of (pairs_at l places rooms)) start goal other).
     links-of_path l places rooms goal start other links are leads in
     let count = λ (other : List Step) (leads : IsPath (steps_of (pairs_at l places rooms)) start goal other).
@@ -99,7 +104,7 @@ least-trail l places rooms labels current trail start goal links are node goal_i
     (λ none. omega (arith, none, walk.1, start_label, links.at_most_nodes)) in
     let top : ℕ = get_or labels start 0 in
     record {
-      leads = path-of_links l places rooms goal start trail links are node walk.0;
+      leads = path-of_links l places rooms goal start trail links are fit node walk.0;
       shortest = λ other leads.
           let most = label-at_most l rooms counts goal top links sound.valid start (on other leads).on node (on other leads).leads in
           grind (arith, walk.1, trail_count, count other leads, at_start, at_goal, most);
@@ -107,6 +112,6 @@ least-trail l places rooms labels current trail start goal links are node goal_i
           let counted = walk-from_label l rooms counts goal top links sound.valid start (on other leads).on node (on other leads).leads
           (omega (arith, walk.1, trail_count, count other leads, same, at_start, at_goal)) (omega (arith, at_start)) in
           let other_walk = walk-labels l labels rooms sound.beyond goal start (on other leads).on links sound.small sound.gated node has counted in
-          none-before l rooms labels goal places current links are walking.passed start trail (on other leads).on node walking.trail_is other_walk
+          none-before l rooms labels goal places current links are fit walking.passed start trail (on other leads).on node walking.trail_is other_walk
           (subst (λ (p : List Step). ComesBefore (ranks p) (ranks path)) (sym (on other leads).steps) before);
     }

@@ -46,7 +46,6 @@ pub mod Meeting
 pub mod Gated
 pub mod Joining
 pub mod Beginning
-pub mod Currents
 pub mod Marks
 pub mod Covering
 pub mod Searching
@@ -56,6 +55,7 @@ pub mod Lowered
 pub mod LoweredLabels
 pub mod RoomsSet
 pub mod Released
-pub mod ApartPairs
-pub mod GrownTogether
-pub mod ShrunkTogether
+pub mod PairLists
+pub mod PutApart
+pub mod SparePairs
+pub mod Inserted

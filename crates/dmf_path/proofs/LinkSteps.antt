@@ -6,7 +6,7 @@ use Rattle.std.proofs.lemmas.List.Elements.{Contains-append_left, Contains-appen
 use Rattle.dmf_links.specs.declared.pair.Pair.{Pair}
 use Rattle.dmf_path.specs.Step.{Step}
 use Rattle.dmf_path.specs.Pair.{pair_steps, steps_from, steps_of}
-use Rattle.dmf_links.specs.Links.{Links, AreLinks, ArePlaces, no_place, tail_of, pair_at, pairs_at}
+use Rattle.dmf_links.specs.Links.{Links, AreLinks, ArePlaces, IsSpare, no_place, tail_of, pair_at, pairs_at}
 use Rattle.dmf_path.proofs.Steps.{step_on}
 use Rattle.dmf_path.proofs.Ranks.{rank_of-along, rank_of-against}
 
@@ -129,10 +129,11 @@ module _ (l : Links) (places rooms : List ℕ) (links : AreLinks l) (are : ArePl
         | against room is ↦ record { place = _; within = (links.each _ within).partner; room = room; step = against-is h.index h.within h.has ∙ is }
       ]
 
-  -- Each link with room gives a step of the pairs.
-  pub step-of_link : (p : ℕ) → p < length l.heads → 0 < get_or rooms p 0 → Contains (steps_of (pairs_at l places rooms)) (step_on l places rooms p)
-  step-of_link p within room =
-      let found = are.each p within in
+  -- Each link with room that is not spare gives a step of the pairs.
+  pub step-of_link : (p : ℕ) → p < length l.heads → ¬ IsSpare l p → 0 < get_or rooms p 0
+      → Contains (steps_of (pairs_at l places rooms)) (step_on l places rooms p)
+  step-of_link p within used room =
+      let found = are.each p within used in
       let low = found.1.0 in
       let has = found.1.1 in
       let step : IsStepOf (1 + found.0) (pair_of l rooms (get_or places found.0 0)) (step_on l places rooms p) = elim found.1.2 [

@@ -4,13 +4,13 @@ use Rattle.std.proofs.Common.{ℕ, ◌≡◌, ◌≢◌, ◌+◌, ◌<◌, ◌�
 use Rattle.std.proofs.lemmas.Bool.{cases_eq}
 use Rattle.std.proofs.lemmas.List.{length-set, get_or-set_same}
 use Rattle.dmf_node.specs.Node.{IsNode}
-use Rattle.dmf_links.specs.Links.{Links, LiesAt, AreLinks, AreFlags}
+use Rattle.dmf_links.specs.Links.{Links, LiesAt, AreLinks, AreFlags, AreRooms}
 use Rattle.dmf_path.specs.Labels.{no_label}
 use Rattle.dmf_path.specs.BothEnds.{AreWhole}
 use Rattle.dmf_path.specs.Residual.{Residual}
-use Rattle.dmf_path.specs.Searching.{Labelling, AreLowered, AreNoted}
+use Rattle.dmf_path.specs.Searching.{Labelling, AreLowered, AreNoted, MayBeLowered}
 use Rattle.dmf_path.specs.Walk.{AreCurrent, AreValid}
-use Rattle.dmf_links.proofs.LinkPlaces.{lies-within, lies-partner}
+use Rattle.dmf_links.proofs.LinkPlaces.{lies-within, lies-partner, room-used}
 use Rattle.dmf_path.proofs.Labelled.{opposite}
 use Rattle.dmf_path.proofs.Spreading.{cases-set}
 use Rattle.dmf_path.proofs.Walking.{AreCurrent-set}
@@ -61,6 +61,7 @@ module _ {l : Links} {flags labels old : List ℕ} {label from place : ℕ} {cur
 -- The label of the node `x` falls to `label`, and that of no node from which a link with room leads to it is more than one higher.
 pub record MayFall (l : Links) (rooms flags labels : List ℕ) (x label : ℕ) : Type 0 where
   pub links : AreLinks l
+  pub roomy : AreRooms l rooms
   pub flagged : AreFlags l rooms flags
   pub whole : AreWhole l labels rooms
   pub node : IsNode l.nodes x
@@ -78,17 +79,18 @@ module _ {l : Links} {rooms flags labels : List ℕ} {x label : ℕ} (may : MayF
       let other = opposite rooms flags may.links may.flagged (record { is_node = node; lies = lies; leads = leads; room = room }) in
       omega (arith, may.top (get_or l.partners p 0) other.lies other.flag, ap (λ u. get_or labels u 0) other.head)
 
-  -- A link does not lead to its own node.
-  no-loop : (v p : ℕ) → IsNode l.nodes v → LiesAt l v p → get_or l.heads p 0 ≢ v
-  no-loop v p node lies same =
-      (may.links.each p (lies-within l v p may.links node lies)).no_loop (may.links.at_tail v p node lies ∙ sym same)
+  -- A link with room does not lead to its own node.
+  no-loop : (v p : ℕ) → IsNode l.nodes v → LiesAt l v p → 0 < get_or rooms p 0 → get_or l.heads p 0 ≢ v
+  no-loop v p node lies room same =
+      let within = lies-within l v p may.links node lies in
+      (may.links.each p within).no_loop (room-used l rooms p may.roomy within room) (may.links.at_tail v p node lies ∙ sym same)
 
   -- No link with room falls by more than one then.
   valid-fallen : AreValid l (set labels x label) rooms no_label
   valid-fallen v p node lies room below =
       let h : ℕ = get_or l.heads p 0 in
       let was = may.whole.valid v p node lies room in
-      let apart = no-loop v p node lies in
+      let apart = no-loop v p node lies room in
       elim (cases-set labels x h label inside) [
         | inl head ↦ elim (cases-set labels x v label inside) [
           | inl tail ↦ absurd (apart (head.0 ∙ sym tail.0))
@@ -141,8 +143,8 @@ module _ {l : Links} {rooms flags labels : List ℕ} {x label : ℕ} (may : MayF
   }
 
 -- Labels are lowered as far as they are,
-pub lowered-from : {r : Residual} {v : Labelling} → AreWhole r.links v.labels r.rooms → AreCurrent r.links v.current → AreLowered r v v
-lowered-from whole current = record { whole = whole; current_is = current; noted = λ noted is. is; less = λ v. omega arith }
+pub lowered-from : {r : Residual} {v : Labelling} → MayBeLowered r v → AreLowered r v v
+lowered-from may = record { whole = may.whole; current_is = may.current_is; noted = λ noted is. is; less = λ v. omega arith }
 
 -- and where they are lowered once more, they are lowered.
 pub lowered-again : {r : Residual} {a b c : Labelling} → AreLowered r a b → AreLowered r b c → AreLowered r a c

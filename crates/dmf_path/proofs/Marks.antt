@@ -22,7 +22,7 @@ pub marks-reached : (l : Links) (places rooms opens labels : List ℕ) (root : �
     → opens ≡ map open_flag rooms → AreLabels l opens root 0 labels → IsNode l.nodes root → marks ≡ map is_label (drop 1 labels)
     → (v : ℕ) → IsNode l.nodes v → IsTrue (slice_index_or marks (v - 1) false) ↔ IsReachable (steps_of (pairs_at l places rooms)) root v
 marks-reached l places rooms opens labels root marks links places_are rooms_are told are node is v inside =
-    let reached = reachable-labelled l places rooms links places_are (AreOpen-map l rooms opens rooms_are told) are node v inside in
+    let reached = reachable-labelled l places rooms links places_are rooms_are (AreOpen-map l rooms opens rooms_are told) are node v inside in
     let mark = mark_is labels marks l.nodes v are.one_each is inside in (
       λ marked. reached.0 (label-from (get_or labels v 0) (sym mark ∙ marked)),
       λ leads. mark ∙ label-to (get_or labels v 0) (reached.1 leads),

@@ -4,8 +4,8 @@ use Rattle.dmf_path.specs.Step.{Step}
 use Rattle.dmf_node.specs.Node.{IsNode}
 use Rattle.dmf_path.specs.Path.{IsPath}
 use Rattle.dmf_path.specs.Pair.{steps_of}
-use Rattle.dmf_links.specs.Links.{Links, LiesAt, AreLinks, ArePlaces, tail_of, pairs_at}
-use Rattle.dmf_links.proofs.LinkPlaces.{lies-within}
+use Rattle.dmf_links.specs.Links.{Links, LiesAt, AreLinks, ArePlaces, AreRooms, tail_of, pairs_at}
+use Rattle.dmf_links.proofs.LinkPlaces.{lies-within, room-used}
 use Rattle.dmf_path.proofs.Steps.{path_on}
 use Rattle.dmf_path.proofs.LinkSteps.{link-of_step, step-of_link}
 
@@ -20,14 +20,15 @@ pub head-node : (l : Links) (v p : ℕ) → AreLinks l → IsNode l.nodes v → 
 head-node l v p links node lies = (links.each p (lies-within l v p links node lies)).head
 
 -- The steps of links with room that lead to the goal are a path.
-pub path-of_links : (l : Links) (places rooms : List ℕ) (goal v : ℕ) (ps : List ℕ) → AreLinks l → ArePlaces l places → IsNode l.nodes v
-    → IsOpenPath l rooms goal v ps → IsPath (steps_of (pairs_at l places rooms)) v goal (path_on l places rooms ps)
-path-of_links l places rooms goal v [] links are node leads = leads
-path-of_links l places rooms goal v (p ∷ ps) links are node leads = (
-  step-of_link l places rooms links are p (lies-within l v p links node leads.0) leads.1,
-  links.at_tail v p node leads.0,
-  path-of_links l places rooms goal (get_or l.heads p 0) ps links are (head-node l v p links node leads.0) leads.2,
-)
+pub path-of_links : (l : Links) (places rooms : List ℕ) (goal v : ℕ) (ps : List ℕ) → AreLinks l → ArePlaces l places → AreRooms l rooms
+    → IsNode l.nodes v → IsOpenPath l rooms goal v ps → IsPath (steps_of (pairs_at l places rooms)) v goal (path_on l places rooms ps)
+path-of_links l places rooms goal v [] links are fit node leads = leads
+path-of_links l places rooms goal v (p ∷ ps) links are fit node leads =
+    let within = lies-within l v p links node leads.0 in (
+      step-of_link l places rooms links are p within (room-used l rooms p fit within leads.1) leads.1,
+      links.at_tail v p node leads.0,
+      path-of_links l places rooms goal (get_or l.heads p 0) ps links are fit (head-node l v p links node leads.0) leads.2,
+    )
 
 -- The path is one of links with room.
 pub record IsPathOn (l : Links) (places rooms : List ℕ) (goal v : ℕ) (path : List Step) : Type 0 where

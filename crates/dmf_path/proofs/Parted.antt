@@ -1,5 +1,5 @@
 -- A set of nodes that no link with room leaves, by its marks, is a closed side.
-use Rattle.std.proofs.Common.{ℕ, ◌≡◌, ◌∙◌, ◌<◌, Bool, true, false, List, length, get_or, ap, sym, subst}
+use Rattle.std.proofs.Common.{ℕ, ◌≡◌, ◌∙◌, Bool, true, List, length, get_or, ap, sym}
 use Rattle.std.proofs.lemmas.Bool.{false≢true}
 use Rattle.dmf_links.specs.Links.{Links, AreLinks, ArePlaces, pairs_at, tail_of}
 use Rattle.dmf_node.specs.Node.{IsNode}

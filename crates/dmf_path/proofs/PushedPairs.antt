@@ -8,9 +8,9 @@ use Rattle.dmf_path.specs.Step.{Step}
 use Rattle.dmf_path.specs.Path.{has_rank}
 use Rattle.dmf_path.specs.Pair.{pushed_pair, pushed_from, pushed_pairs}
 use Rattle.dmf_node.specs.Node.{IsNode}
-use Rattle.dmf_links.specs.Links.{Links, AreLinks, ArePlaces, no_place, tail_of, pair_at, pairs_at}
+use Rattle.dmf_links.specs.Links.{Links, AreLinks, ArePlaces, AreRooms, IsSpare, no_place, tail_of, pair_at, pairs_at}
 use Rattle.dmf_path.specs.Walk.{IsTrail, pushed_once, pushed}
-use Rattle.dmf_links.proofs.LinkPlaces.{partner-other}
+use Rattle.dmf_links.proofs.LinkPlaces.{lies-within, partner-other, room-used}
 use Rattle.dmf_path.proofs.Steps.{rank_of, path_on}
 use Rattle.dmf_path.proofs.Ranks.{rank_of-along, rank_of-against}
 use Rattle.dmf_path.proofs.Pushing.{own, partner, other, is_beside, once-own, once-partner, once-other, length-pushed_once}
@@ -76,12 +76,25 @@ room-pushed {l} takes_back amount labels rooms u (q ∷ ps) p links long falls w
     (length-pushed_once l takes_back amount q rooms ∙ long) falls.1 within ∙ is-left takes_back amount rooms q p ps links long falls.0.within within
     (on-falls (get_or l.heads q 0) ps links falls.0 (omega (arith, falls.0.label)) falls.1)
 
--- Links with the same rank are one.
+-- None of these links is spare.
+abbrev pub AreUsed : Links → List ℕ → Type 0
+AreUsed l [] = Unit {0}
+AreUsed l (p ∷ ps) = (¬ IsSpare l p) × AreUsed l ps
+
+-- The links of a trail have room, so none is.
+pub trail-used : {l : Links} (labels rooms current : List ℕ) (v : ℕ) (ps : List ℕ) → AreLinks l → AreRooms l rooms → IsNode l.nodes v
+    → IsTrail l labels rooms current v ps → AreUsed l ps
+trail-used labels rooms current v [] links fit node trail = tt
+trail-used {l} labels rooms current v (p ∷ ps) links fit node trail =
+    let within = lies-within l v p links node trail.0.lies in
+    (room-used l rooms p fit within trail.0.room, trail-used labels rooms current (get_or l.heads p 0) ps links fit (links.each p within).head trail.2)
+
+-- Links with the same rank are one, unless they are spare.
 rank-one : {l : Links} {places : List ℕ} (p q : ℕ) → AreLinks l → ArePlaces l places → p < length l.heads → q < length l.heads
-    → rank_of l places p ≡ rank_of l places q → p ≡ q
-rank-one {l} {places} p q links are within link same =
-    let j = are.each p within in
-    let k = are.each q link in
+    → ¬ IsSpare l p → ¬ IsSpare l q → rank_of l places p ≡ rank_of l places q → p ≡ q
+rank-one {l} {places} p q links are within link p_used q_used same =
+    let j = are.each p within p_used in
+    let k = are.each q link q_used in
     elim j.1.2 [
       | inl along ↦
           let here = rank_of-along l places p j.0 are within j.1.0 j.1.1 along in
@@ -103,14 +116,14 @@ rank-one {l} {places} p q links are within link same =
 
 -- A path has the rank of a link if and only if its links have that link.
 has_rank-path_on : {l : Links} {places : List ℕ} (rooms labels : List ℕ) (rank q u : ℕ) (ps : List ℕ) → AreLinks l → ArePlaces l places → q < length l.heads
-    → rank_of l places q ≡ rank → FallsOn l labels u ps → has_rank (path_on l places rooms ps) rank ≡ is_on q ps
-has_rank-path_on rooms labels rank q u [] links are link is falls = refl
-has_rank-path_on {l} {places} rooms labels rank q u (p ∷ ps) links are link is falls =
-    let later = has_rank-path_on rooms labels rank q (get_or l.heads p 0) ps links are link is falls.1 in
+    → ¬ IsSpare l q → AreUsed l ps → rank_of l places q ≡ rank → FallsOn l labels u ps → has_rank (path_on l places rooms ps) rank ≡ is_on q ps
+has_rank-path_on rooms labels rank q u [] links are link used all_used is falls = refl
+has_rank-path_on {l} {places} rooms labels rank q u (p ∷ ps) links are link used all_used is falls =
+    let later = has_rank-path_on rooms labels rank q (get_or l.heads p 0) ps links are link used all_used.1 is falls.1 in
     elim (cases_eq p q) [
       | inl same ↦ rw (later, eq-eqb p q same, eq-eqb (rank_of l places p) rank (ap (rank_of l places) same ∙ is)) refl
       | inr apart ↦
-          let other : rank_of l places p ≢ rank = λ e. apart (rank-one p q links are falls.0.within link (e ∙ sym is)) in
+          let other : rank_of l places p ≢ rank = λ e. apart (rank-one p q links are falls.0.within link all_used.0 used (e ∙ sym is)) in
           rw (later, ne_eqb p q apart, ne_eqb (rank_of l places p) rank other) refl
     ]
 
@@ -121,18 +134,19 @@ pair-rooms tail head along against = λ i. Some (record { tail = tail; head = he
 
 -- The pair at each index
 pair-pushed : {l : Links} (takes_back : Bool) {places : List ℕ} (rooms labels : List ℕ) (u amount k : ℕ) (ps : List ℕ) → AreLinks l → ArePlaces l places
-    → length rooms ≡ length l.heads → FallsOn l labels u ps → k < length places →
+    → length rooms ≡ length l.heads → AreUsed l ps → FallsOn l labels u ps → k < length places →
     pair_at l (pushed l takes_back amount ps rooms) (get_or places k 0) ≡ pushed_pair takes_back (1 + k) amount (path_on l places rooms ps)
     (pair_at l rooms (get_or places k 0))
-pair-pushed {l} takes_back {places} rooms labels u amount k ps links are long falls within =
+pair-pushed {l} takes_back {places} rooms labels u amount k ps links are long used falls within =
     let q : ℕ = get_or places k 0 in
     elim (cases_eq q no_place) [
       | inl none ↦ rw (eq-eqb q no_place none) refl
       | inr there ↦
           let link : q < length l.heads = are.within k within there in
           let partner = links.each q link in
-          let along = has_rank-path_on rooms labels (2 * (1 + k)) q u ps links are link (rank_of-along l places q k are link within there refl) falls in
+          let along = has_rank-path_on rooms labels (2 * (1 + k)) q u ps links are link (are.used q k link (within, there, inl refl)) used (rank_of-along l places q k are link within there refl) falls in
           let against = has_rank-path_on rooms labels (2 * (1 + k) + 1) (get_or l.partners q 0) u ps links are partner.partner
+          (are.used (get_or l.partners q 0) k partner.partner (within, there, inr refl)) used
           (rank_of-against l places (get_or l.partners q 0) k links are partner.partner within there refl) falls in
           let mine = room-pushed takes_back amount labels rooms u ps q links long falls link in
           let its = room-pushed takes_back amount labels rooms u ps (get_or l.partners q 0) links long falls partner.partner in
@@ -157,9 +171,9 @@ pairs-pushed l takes_back amount j rooms after path (q ∷ qs) each =
 
 -- After an amount is pushed along a trail, the pairs are pushed along the path of its steps.
 pub pushed_pairs-pushed : {l : Links} (takes_back : Bool) {places : List ℕ} (rooms labels current trail : List ℕ) {start : ℕ} (amount : ℕ) → AreLinks l
-    → ArePlaces l places → length rooms ≡ length l.heads → IsNode l.nodes start → IsTrail l labels rooms current start trail →
+    → ArePlaces l places → AreRooms l rooms → IsNode l.nodes start → IsTrail l labels rooms current start trail →
     pairs_at l places (pushed l takes_back amount trail rooms) ≡ pushed_pairs takes_back amount (path_on l places rooms trail) (pairs_at l places rooms)
-pushed_pairs-pushed {l} takes_back {places} rooms labels current trail {start} amount links are long node is =
+pushed_pairs-pushed {l} takes_back {places} rooms labels current trail {start} amount links are fit node is =
     let falls = FallsOn-trail labels rooms current start trail links node is in
     pairs-pushed l takes_back amount 1 rooms (pushed l takes_back amount trail rooms) (path_on l places rooms trail) places
-    (λ k h. pair-pushed takes_back rooms labels start amount k trail links are long falls h)
+    (λ k h. pair-pushed takes_back rooms labels start amount k trail links are fit.0 (trail-used labels rooms current start trail links fit node is) falls h)

@@ -1,8 +1,8 @@
 -- Pushing along links, one after the other: the rooms and the flags afterwards.
-use Rattle.std.proofs.Common.{ℕ, ◌≡◌, ◌≢◌, ◌+◌, ◌-◌, ◌^◌, ◌<◌, Bool, true, false, cond, List, [], ◌∷◌, length, get_or, set, refl, ap, sym, ◌∙◌, arith, inl, inr}
+use Rattle.std.proofs.Common.{ℕ, ◌≡◌, ◌≢◌, ◌+◌, ◌-◌, ◌^◌, ◌<◌, Bool, true, false, cond, List, [], ◌∷◌, length, get_or, set, refl, ap, sym, ◌∙◌, arith, inl, inr, subst}
 use Rattle.std.proofs.Common.{get_or-set_other, get_or-set_same, length-set}
 use Rattle.std.proofs.lemmas.Bool.{cases_eq}
-use Rattle.dmf_links.specs.Links.{Links, AreLinks, AreRooms, AreFlags, open_flag}
+use Rattle.dmf_links.specs.Links.{Links, AreLinks, AreRooms, AreFlags, IsSpare, open_flag}
 use Rattle.dmf_path.specs.Walk.{pushed_once, pushed}
 use Rattle.dmf_links.proofs.LinkPlaces.{partner-other}
 
@@ -69,8 +69,8 @@ is_beside {l} p q links within in_range =
 
 -- The rooms of each pair still fit 64 bits together after one of them changes,
 pub AreRooms-put : {l : Links} (p : ℕ) {q : ℕ} (room : ℕ) (rooms : List ℕ) → AreLinks l → AreRooms l rooms → p < length l.heads → q ≡ get_or l.partners p 0
-    → room + get_or rooms q 0 < 2 ^ 64 → AreRooms l (set rooms p room)
-AreRooms-put {l} p room rooms links are within is fits = (
+    → room + get_or rooms q 0 < 2 ^ 64 → (IsSpare l p → room ≡ 0) → AreRooms l (set rooms p room)
+AreRooms-put {l} p room rooms links are within is fits none = (
   length-set rooms p room ∙ are.0,
   λ x h.
       let mine = get_or-set_same rooms p room 0 (omega (arith, are.0, within)) in
@@ -81,6 +81,10 @@ AreRooms-put {l} p room rooms links are within is fits = (
         | partner same back ↦ rw (back, same) (omega (arith, mine, its, sum))
         | other a b c d ↦ rw (get_or-set_other rooms p x room 0 a, get_or-set_other rooms p (get_or l.partners x 0) room 0 c) (are.1 x h)
       ],
+  λ x h spare. elim (cases_eq x p) [
+    | inl same ↦ ap (λ y. get_or (set rooms p room) y 0) same ∙ get_or-set_same rooms p room 0 (omega (arith, are.0, within)) ∙ none (subst (IsSpare l) same spare)
+    | inr apart ↦ get_or-set_other rooms p x room 0 apart ∙ are.2 x h spare
+  ],
 )
 
 -- and the flag of its opposite says whether there is room.

@@ -3,7 +3,7 @@ use Rattle.std.proofs.Common.{ℕ, ◌≡◌, ◌≢◌, ◌+◌, ◌*◌, ◌<�
 use Rattle.std.proofs.lemmas.Bool.{eq-eqb, ne_eqb}
 use Rattle.std.proofs.lemmas.Bool.Decides.{nat_tests}
 use Rattle.dmf_node.specs.Node.{IsNode}
-use Rattle.dmf_links.specs.Links.{Links, LiesAt, AreLinks, IsOf, ArePlaces, no_place}
+use Rattle.dmf_links.specs.Links.{Links, LiesAt, AreLinks, IsOf, IsSpare, ArePlaces, no_place}
 use Rattle.dmf_path.proofs.Steps.{rank_from, rank_of}
 use Rattle.dmf_links.proofs.LinkPlaces.{lies-within, partner-other}
 
@@ -46,13 +46,13 @@ rank_of-against l places p k links are within low has is =
     let other : get_or places k 0 ≢ p = λ same. partner-other l (get_or places k 0) links (are.within k low has) (is ∙ sym same) in
     rw (ne_eqb (get_or places k 0) p other) at (rank_of-of l places p k are within (low, has, inr is))
 
--- The links of a node lie in the order of their ranks.
-pub rank_of-ascends : (l : Links) (places : List ℕ) (v p q : ℕ) → AreLinks l → ArePlaces l places → IsNode l.nodes v → LiesAt l v p → LiesAt l v q → p < q
-    → rank_of l places p < rank_of l places q
-rank_of-ascends l places v p q links are node at_p at_q less =
+-- The links of a node that are not spare lie in the order of their ranks.
+pub rank_of-ascends : (l : Links) (places : List ℕ) (v p q : ℕ) → AreLinks l → ArePlaces l places → IsNode l.nodes v → LiesAt l v p → LiesAt l v q
+    → ¬ IsSpare l p → ¬ IsSpare l q → p < q → rank_of l places p < rank_of l places q
+rank_of-ascends l places v p q links are node at_p at_q p_used q_used less =
     let p_in = lies-within l v p links node at_p in
     let q_in = lies-within l v q links node at_q in
-    let j = are.each p p_in in
-    let k = are.each q q_in in
+    let j = are.each p p_in p_used in
+    let k = are.each q q_in q_used in
     let below : j.0 < k.0 = are.ascending v p q j.0 k.0 node at_p at_q less j.1 k.1 in
     grind (arith, nat_tests, rank_of-of l places p j.0 are p_in j.1, rank_of-of l places q k.0 are q_in k.1)

@@ -129,13 +129,13 @@ module _ {l : Links} (rooms : List ℕ) {opens labels : List ℕ} {root stop : �
   ]
 
 -- The nodes with labels are those that paths reach from the root.
-pub reachable-labelled : (l : Links) (places rooms : List ℕ) {opens labels : List ℕ} {root : ℕ} → AreLinks l → ArePlaces l places → AreOpen l rooms opens
-    → AreLabels l opens root 0 labels → IsNode l.nodes root → (v : ℕ) → IsNode l.nodes v
+pub reachable-labelled : (l : Links) (places rooms : List ℕ) {opens labels : List ℕ} {root : ℕ} → AreLinks l → ArePlaces l places → AreRooms l rooms
+    → AreOpen l rooms opens → AreLabels l opens root 0 labels → IsNode l.nodes root → (v : ℕ) → IsNode l.nodes v
     → (get_or labels v 0 ≢ no_label) ↔ IsReachable (steps_of (pairs_at l places rooms)) root v
-reachable-labelled l places rooms {labels = labels} {root = root} links places_are told are root_is v node = (
+reachable-labelled l places rooms {labels = labels} {root = root} links places_are fit told are root_is v node = (
   (λ labelled.
       let found = path-to_labelled rooms links told are v (get_or labels v 0 + 1) node labelled (omega arith) in
-      (path_on l places rooms found.0, path-of_links l places rooms v root found.0 links places_are root_is found.1)),
+      (path_on l places rooms found.0, path-of_links l places rooms v root found.0 links places_are fit root_is found.1)),
   (λ reached.
       let on = links-of_path l places rooms v root reached.0 links places_are reached.1 in
       label-from (get_or labels v 0) (inside-on_path rooms (λ u. is_label (get_or labels u 0)) root v on.on links

@@ -2,7 +2,7 @@
 use Rattle.std.proofs.Common.{ℕ, ◌≡◌, ◌+◌, ◌%◌, ◌^◌, Bool, false, List, length, get_or, ap, sym, ◌∙◌, subst, arith}
 use Rattle.std.proofs.lemmas.List.{length-map}
 use Rattle.dmf_path.specs.declared.trail.Slot.{Slot}
-use Rattle.dmf_links.specs.Links.{Links, ArePlaces, pairs_at}
+use Rattle.dmf_links.specs.Links.{Links, ArePlaces, AreRooms, pairs_at}
 use Rattle.dmf_path.specs.Walk.{IsWalking, end_of, bottleneck_on, pushed}
 use Rattle.dmf_path.specs.Held.{Way, places_of, filled_slots, settled, HaveLeft, least_left}
 use Rattle.dmf_path.specs.Residual.{Residual, roomed, told}
@@ -13,7 +13,7 @@ use Rattle.dmf_path.proofs.LeastTrail.{least-trail}
 use Rattle.dmf_path.proofs.Pushed.{FallsOn-trail, NoneOpens, OpensUpwards, none-pushed, opens-pushed}
 use Rattle.dmf_path.proofs.PushedPairs.{pushed_pairs-pushed}
 use Rattle.dmf_path.proofs.Descending.{Descends, descends-lowered, descends-trail}
-use Rattle.dmf_path.proofs.Settled.{length-settled}
+use Rattle.dmf_path.proofs.Settled.{length-settled, AreRooms-settled}
 use Rattle.dmf_path.proofs.SettledSent.{CanSend, CanSend-least, settled-sent, bottleneck-left}
 use Rattle.dmf_path.proofs.UnderWayWhole.{IsWhole, is-whole, slot-room}
 use Rattle.dmf_path.proofs.SearchTurns.{plainly}
@@ -51,6 +51,7 @@ can-augment {r} {places} {v} {w} limit {amount} places_are is joins least =
     let whole = is-whole way joins in
     let long : length rooms ≡ length l.heads = is.holding.rooms_are.0 in
     let told : after ≡ settled l takes_back w.sent w.slots rooms = ap (λ (ss : List Slot). settled l takes_back w.sent ss rooms) whole.filled in
+    let fit : AreRooms l after = AreRooms-settled l takes_back w.sent (filled_slots w) rooms a.links is.holding.rooms_are in
     let after_long : length after ≡ length l.heads = length-settled l takes_back w.sent (filled_slots w) rooms ∙ long in
     let descends : Descends l labels (get_or labels w.start 0) 0 (places_of w.slots) =
     descends-lowered l labels (get_or labels w.start 0) (get_or labels (end_of l w.start (places_of w.slots)) 0) 0 (places_of w.slots) (omega arith)
@@ -74,14 +75,14 @@ can-augment {r} {places} {v} {w} limit {amount} places_are is joins least =
           (none-pushed l amount labels after w.start (places_of w.slots) after_long falls));
       augments = record {
         path = path_on l places after (places_of w.slots);
-        least = least-trail l places after labels v.current (places_of w.slots) w.start w.goal a.links places_are a.start_is a.goal_is a.sound a.start_label
+        least = least-trail l places after labels v.current (places_of w.slots) w.start w.goal a.links places_are fit a.start_is a.goal_is a.sound a.start_label
             walking whole.ends;
         amount_is = least ∙ sym (bottleneck-left w.sent limit (settled l takes_back w.sent w.slots rooms) w.slots (λ i inside.
             slot-room l labels (get_or labels w.start 0) 0 w.slots i descends inside takes_back w.sent rooms a.links long have))
             ∙ ap (λ rs. bottleneck_on rs limit (places_of w.slots)) (sym told) ∙ sym (bottleneck_up_to-path_on l places after (places_of w.slots) limit);
         links_are = sym (length-map (places_of w.slots) (step_on l places after) ∙ length-map w.slots (λ s. s.place));
         gives = ap (λ pairs. record { nodes = l.nodes; pairs = pairs; start = w.start; goal = w.goal; takes_back = takes_back })
-            (ap (pairs_at l places) made ∙ pushed_pairs-pushed takes_back after labels v.current (places_of w.slots) amount a.links places_are after_long
+            (ap (pairs_at l places) made ∙ pushed_pairs-pushed takes_back after labels v.current (places_of w.slots) amount a.links places_are fit
             a.start_is whole.trail);
       };
     }

@@ -64,6 +64,10 @@ fits : (takes_back : Bool) (a b c d n : ℕ) → c ≤ a → d ≤ b → a + b <
 fits true a b c d n below also less = omega arith
 fits false a b c d n below also less = omega arith
 
+empty : (takes_back : Bool) (a b c d : ℕ) → d ≤ b → a ≡ 0 → b ≡ 0 → a - c + cond takes_back d 0 ≡ 0
+empty true a b c d below none also = omega arith
+empty false a b c d below none also = omega arith
+
 module _ (l : Links) (takes_back : Bool) (sent : ℕ) where
   -- Putting on what is held leaves as many rooms as there were.
   pub length-settled : (slots : List Slot) (rooms : List ℕ) → length (settled l takes_back sent slots rooms) ≡ length rooms
@@ -159,4 +163,10 @@ module _ (l : Links) (takes_back : Bool) (sent : ℕ) where
         rw (room-settled slots rooms p (omega (arith, within, are.0)), room-settled slots rooms q (omega (arith, link.partner, are.0)), link.partner_back)
         (fits takes_back (get_or rooms p 0) (get_or rooms q 0) (held_for sent rooms slots p) (held_for sent rooms slots q) _ (held-le sent rooms slots p)
         (held-le sent rooms slots q) (are.1 p within)),
+    λ p within spare.
+        let q : ℕ = get_or l.partners p 0 in
+        let link = links.each p within in
+        room-settled slots rooms p (omega (arith, within, are.0))
+        ∙ empty takes_back (get_or rooms p 0) (get_or rooms q 0) (held_for sent rooms slots p) (held_for sent rooms slots q) (held-le sent rooms slots q)
+        (are.2 p within spare) (are.2 q link.partner (link.partner_spare spare)),
   )

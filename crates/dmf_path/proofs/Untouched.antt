@@ -1,5 +1,5 @@
 -- Pushes do not change the pairs that no path has used.
-use Rattle.std.proofs.Common.{ℕ, ◌≡◌, ◌≢◌, ◌<◌, Bool, List, [], ◌∷◌, length, get_or, suc, refl, sym, ◌∙◌, subst, arith}
+use Rattle.std.proofs.Common.{ℕ, ◌≡◌, ◌≢◌, ◌<◌, Bool, List, [], ◌∷◌, length, get_or, zero, suc, refl, sym, ◌∙◌, subst, arith}
 use Rattle.std.proofs.Common.{inl, inr, eq-eqb, Option, None, Vec, Global}
 use Rattle.std.specs.List.{Contains}
 use Rattle.std.specs.declared.rc.Rc.{Rc}
@@ -7,17 +7,27 @@ use Rattle.std.proofs.lemmas.Bool.{cases_eq, cases_lt, ne_eqb}
 use Rattle.std.proofs.lemmas.List.{get_or-map, get_or_past, length-map}
 use Rattle.std.proofs.lemmas.List.Elements.{Contains-get_or, Contains-append_left, Contains-append_right, Contains-append_cases}
 use Rattle.dmf_path.specs.declared.trail.Slot.{Slot}
-use Rattle.dmf_links.specs.Links.{Links, AreLinks, ArePlaces, IsOf, no_place, pair_at, pairs_at}
+use Rattle.dmf_links.specs.Links.{Links, AreLinks, ArePlaces, IsOf, IsSpare, no_place, pair_at, pairs_at}
 use Rattle.dmf_path.specs.Held.{places_of, slot_at, settled, IsOff}
 use Rattle.dmf_links.specs.Pair.{pair_number}
 use Rattle.dmf_path.specs.Touched.{IsTouched, AreBelow, KeepsUntouched}
 use Rattle.dmf_links.specs.Numbers.{AreNumbers, MayBeNumbered}
 use Rattle.dmf_path.specs.Touching.{Lists, all, these, numbers_of}
+use Rattle.dmf_path.proofs.PushedPairs.{AreUsed}
 use Rattle.dmf_path.proofs.Settled.{room-off}
 
 -- These slots have links.
 abbrev pub AreWithin : Links → List Slot → Type 0
 AreWithin l slots = (i : ℕ) → i < length slots → (slot_at slots i).place < length l.heads
+
+-- None of these slots has a spare link.
+abbrev pub HaveUsed : Links → List Slot → Type 0
+HaveUsed l slots = (i : ℕ) → i < length slots → ¬ IsSpare l (slot_at slots i).place
+
+pub used-each : (l : Links) (slots : List Slot) → AreUsed l (places_of slots) → HaveUsed l slots
+used-each l [] used i h = absurd (omega (arith, h))
+used-each l (s ∷ slots) used zero h = used.0
+used-each l (s ∷ slots) used (suc i) h = used-each l slots used.1 i (omega (arith, h))
 
 -- The pairs of all these links are touched.
 abbrev pub AreTouched : List ℕ → List Slot → Option (List ℕ) → Type 0
@@ -33,7 +43,7 @@ off-untouched : {l : Links} {places : List ℕ} (numbers : List ℕ) (slots : Li
     → IsOff p (places_of slots)
 off-untouched numbers slots touched k p are known each untouched within of = off-each p slots (λ i h same.
     let its : get_or numbers (slot_at slots i).place 0 ≡ k =
-    subst (λ q. get_or numbers q 0 ≡ k) (sym same) (are.one p (get_or numbers p 0) k within (known.1 p within) of) in
+    subst (λ q. get_or numbers q 0 ≡ k) (sym same) (are.one p (get_or numbers p 0) k within (known.1 p within (are.used p k within of)) of) in
     untouched (subst (IsTouched touched) its (each i h)))
 
 -- So the rooms of its links stay.
@@ -101,23 +111,23 @@ touched-more {slots} (these given indices numbered before after) k is =
     rw after (Contains-append_left indices (numbers_of given.value.items slots) k (rw before at is))
 
 number-of-slot : (l : Links) (places known : List ℕ) (slots : List Slot) (k : ℕ) → AreNumbers l places known → AreWithin l slots
-    → Contains (numbers_of known slots) k → k < length places
-number-of-slot l places known slots k are within has =
+    → HaveUsed l slots → Contains (numbers_of known slots) k → k < length places
+number-of-slot l places known slots k are within used has =
     let number : Slot → ℕ = λ s. get_or known s.place 0 in
     let i : ℕ = has.0 in
     let inside : i < length slots = omega (arith, has.1, length-map slots number) in
     let is : get_or known (slot_at slots i).place 0 ≡ k = sym (get_or-map number slots i (record { place = 0; full_at = 0 }) k inside) ∙ has.2 in
-    subst (λ j. j < length places) is (are.1 (slot_at slots i).place (within i inside)).0
+    subst (λ j. j < length places) is (are.1 (slot_at slots i).place (within i inside) (used i inside)).0
 
 -- and the list gets only indices of pairs.
 pub touched-below : (l : Links) (places : List ℕ) {numbers : Option (Rc (Vec ℕ Global) Global)} {slots : List Slot} {old touched : Option (List ℕ)}
-    → MayBeNumbered l places numbers → AreWithin l slots → Lists numbers slots old touched
+    → MayBeNumbered l places numbers → AreWithin l slots → HaveUsed l slots → Lists numbers slots old touched
     → AreBelow (length places) old → AreBelow (length places) touched
-touched-below l places known within (all none) below = rw none tt
-touched-below l places {slots} known within (these given indices numbered before after) below =
+touched-below l places known within used (all none) below = rw none tt
+touched-below l places {slots} known within used (these given indices numbered before after) below =
     let known_are : AreNumbers l places given.value.items = rw numbered at known in
     let was : (k : ℕ) → Contains indices k → k < length places = rw before at below in
     rw after (λ k has. elim (Contains-append_cases indices (numbers_of given.value.items slots) k has) [
       | inl h ↦ was k h
-      | inr h ↦ number-of-slot l places given.value.items slots k known_are within h
+      | inr h ↦ number-of-slot l places given.value.items slots k known_are within used h
     ])

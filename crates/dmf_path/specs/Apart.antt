@@ -1,23 +1,21 @@
 -- A search that has begun anew, apart from its links, which become those of other pairs.
 -- Private: only contracts inside the crate and proofs use this.
-use Rattle.std.specs.Prelude.{ℕ, ◌≡◌, ◌-◌, ◌<◌, ◌≤◌, false, List, Vec, length}
-use Rattle.std.specs.declared.alloc.Global.{Global}
-use Rattle.dmf_links.specs.declared.grown.Gap.{Gap}
-use Rattle.dmf_links.specs.declared.grown.NewPair.{NewPair}
+use Rattle.std.specs.Prelude.{ℕ, ◌≡◌, ◌+◌, ◌-◌, false, List, Option, Some, length}
 use Rattle.dmf_path.specs.declared.levels.Levels.{Levels}
 use Rattle.dmf_links.specs.declared.pair.Pair.{Pair}
 use Rattle.dmf_path.specs.declared.search.apart.Own.{Own}
 use Rattle.dmf_path.specs.declared.search.apart.Shared.{Shared}
 use Rattle.dmf_path.specs.declared.trail.Trail.{Trail}
-use Rattle.dmf_links.specs.Grown.{AreGrown, HasEndsOf}
+use Rattle.dmf_links.specs.Pair.{emptied, pair_number}
+use Rattle.dmf_links.specs.Stack.{IsPutOn, IsTakenOff}
+use Rattle.dmf_path.specs.Walk.{AreCurrent}
 use Rattle.dmf_path.specs.Ball.{IsTidy}
 use Rattle.dmf_path.specs.Held.{way_of}
 use Rattle.dmf_links.specs.Links.{Links, AreFlags, AreLinks, ArePlaces, AreRooms, pairs_at}
 use Rattle.dmf_links.specs.LinkTable.{links_of}
 use Rattle.dmf_path.specs.Residual.{Residual}
-use Rattle.dmf_path.specs.Search.{Searched}
+use Rattle.dmf_path.specs.Search.{Searched, with_pairs, with_rooms}
 use Rattle.dmf_path.specs.Searching.{labelling_of, AreReady, IsFresh, IsSearching}
-use Rattle.dmf_links.specs.Shrunk.{AreShrunk}
 use Rattle.dmf_links.specs.Numbers.{MayBeNumbered}
 
 -- The places are those of the pairs of the links, and the numbers are theirs.
@@ -44,18 +42,6 @@ seen l places own = record {
   takes_back = own.takes_back;
 }
 
--- what a search has of its own, with these rooms and flags
-abbrev pub with_values : Own → Vec ℕ Global → Vec ℕ Global → Own
-with_values own rooms flags = record {
-  takes_back = own.takes_back;
-  rooms = rooms;
-  flags = flags;
-  levels = own.levels;
-  ball = own.ball;
-  asides = own.asides;
-  trail = own.trail;
-}
-
 -- What the search has of its own is that over the links of the pairs at these places.
 pub record IsApart (l : Links) (places : List ℕ) (own : Own) (search : Searched) : Type 0 where
   pub links : AreLinks l
@@ -63,23 +49,42 @@ pub record IsApart (l : Links) (places : List ℕ) (own : Own) (search : Searche
   pub rooms : AreRooms l own.rooms.items
   pub flags : AreFlags l own.rooms.items own.flags.items
   pub begun : HasBegun l.nodes own.levels own.trail
+  pub current_is : AreCurrent l own.levels.current.items
   pub tidy : IsTidy own.ball
   pub same : seen l places own ≡ search
 
--- The links of a search have become these: with those of a pair before the last one, between the nodes of this pair.
-pub record HasGrown (own : Own) (made : NewPair) (pair : Pair) (n : Links) (after : List ℕ) (search : Searched) : Type 0 where
-  pub l : Links
-  pub places : List ℕ
-  pub apart : IsApart l places own search
-  pub some : 0 < length places
-  pub first : Pair
-  pub ends : HasEndsOf first pair
-  pub grown : AreGrown l places first made n after
+-- The links and the places have become these: without the last pair, and then with this pair and the last one behind it, both without
+-- room.
+pub record TakesIn (l : Links) (places : List ℕ) (o : Option Pair) (n : Links) (after : List ℕ) : Type 0 where
+  pub off : Links
+  pub left : List ℕ
+  pub off_links : AreLinks off
+  pub taken_off : IsTakenOff l places off left
+  pub on : Links
+  pub more : List ℕ
+  pub on_links : AreLinks on
+  pub put_on : IsPutOn off left (emptied o) on more
+  pub last : Option Pair
+  pub last_is : (rooms : List ℕ) → last ≡ emptied (pair_number (pairs_at l places rooms) (length places - 1))
+  pub last_on : IsPutOn on more (emptied last) n after
 
--- The links of a search have become these: without those of the pair before the last one.
-pub record HasShrunk (own : Own) (gap : Gap) (n : Links) (after : List ℕ) (search : Searched) : Type 0 where
-  pub l : Links
-  pub places : List ℕ
-  pub apart : IsApart l places own search
-  pub two : 2 ≤ length places
-  pub shrunk : AreShrunk l places (length places - 2) gap n after
+-- The links and the places have become these: without the last two pairs, and then with the last one, without room.
+pub record LeavesOut (l : Links) (places : List ℕ) (n : Links) (after : List ℕ) : Type 0 where
+  pub off : Links
+  pub left : List ℕ
+  pub off_links : AreLinks off
+  pub taken_off : IsTakenOff l places off left
+  pub less : Links
+  pub fewer : List ℕ
+  pub less_links : AreLinks less
+  pub next_off : IsTakenOff off left less fewer
+  pub last : Option Pair
+  pub last_is : (rooms : List ℕ) → last ≡ emptied (pair_number (pairs_at l places rooms) (length places - 1))
+  pub last_on : IsPutOn less fewer (emptied last) n after
+
+-- The search has become this one: without room at the pair at index `k`, the last one, which had these rooms.
+pub record IsIdled (old : Searched) (k : ℕ) (new : Searched) (along against : ℕ) : Type 0 where
+  pub count : length old.pairs ≡ k + 1
+  pub is : new ≡ with_pairs old (with_rooms old.pairs k 0 0)
+  pub along_is : (p : Pair) → pair_number old.pairs k ≡ Some p → p.along ≡ along
+  pub against_is : (p : Pair) → pair_number old.pairs k ≡ Some p → p.against ≡ against

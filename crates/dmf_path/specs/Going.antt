@@ -1,6 +1,6 @@
 -- What a search has while it looks for the next path.
 -- Private: only contracts inside the crate and proofs use this.
-use Rattle.std.specs.Prelude.{Bool, List}
+use Rattle.std.specs.Prelude.{◌≡◌, Bool, true, List}
 use Rattle.dmf_links.specs.LinkTable.{links_of}
 use Rattle.dmf_path.specs.declared.aside.Aside.{Aside}
 use Rattle.dmf_path.specs.declared.ball.Ball.{Ball}
@@ -10,11 +10,11 @@ use Rattle.dmf_path.specs.declared.trail.Trail.{Trail}
 use Rattle.dmf_path.specs.Ball.{IsAround, IsFit}
 use Rattle.dmf_path.specs.Held.{way_of}
 use Rattle.dmf_path.specs.Residual.{residual_of, told}
-use Rattle.dmf_path.specs.Searching.{labelling_of, AreAside, AreKept, AreReady, IsMarked, IsSearching, MayLast}
+use Rattle.dmf_path.specs.Searching.{sought, labelling_of, AreAside, AreKept, AreReady, IsFound, IsMarked, IsSearching, MayLast, Sought}
 
 -- What a search has between two looks for a path: labels that are sound, with current links and held pushes; what another search may keep of
 -- them; and nodes near some goal.
-pub record Keeps (links : Roomy) (levels : Levels) (ball : Ball) (trail : Trail) : Type 0 where
+pub record IsBetweenLooks (links : Roomy) (levels : Levels) (ball : Ball) (trail : Trail) : Type 0 where
   pub searching : IsSearching (residual_of links) (labelling_of levels) (way_of trail)
   pub ready : AreReady levels
   pub lasting : MayLast levels (told (residual_of links) (way_of trail))
@@ -29,10 +29,13 @@ pub record IsAimedAnew (links : Roomy) (levels : Levels) (asides : List Aside) (
   pub fit : IsFit ball (told (residual_of links) (way_of trail))
   pub marked : IsMarked (links_of links.table.value) levels.near.labels trail.start is_fresh
 
--- What it has while it looks for one: labels that are sound, with current links and held pushes; what another search may keep of them; and the nodes near the goal.
+-- What it has while it looks for one: all this, and the nodes near the goal.
 pub record Goes (links : Roomy) (levels : Levels) (ball : Ball) (trail : Trail) : Type 0 where
-  pub searching : IsSearching (residual_of links) (labelling_of levels) (way_of trail)
-  pub ready : AreReady levels
-  pub lasting : MayLast levels (told (residual_of links) (way_of trail))
-  pub fit : IsFit ball (told (residual_of links) (way_of trail))
+  pub keeps : IsBetweenLooks links levels ball trail
   pub around : IsAround ball trail.goal
+
+-- It has gone on in the same residual network and between the same ends. If it says so, it has found a path.
+pub record HasGoneOn (before : Sought) (links : Roomy) (levels : Levels) (ball : Ball) (trail : Trail) (found : Bool) : Type 0 where
+  pub goes : Goes links levels ball trail
+  pub same : sought (residual_of links) (way_of trail) ≡ before
+  pub found_is : found ≡ true → IsFound (residual_of links) (way_of trail)

@@ -18,4 +18,5 @@ pub mod BothEnds
 pub mod Frontier
 pub mod Touching
 pub mod Apart
+pub mod Spares
 pub mod ClosedSide

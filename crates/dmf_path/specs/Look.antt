@@ -4,6 +4,7 @@ use Rattle.std.specs.Prelude.{ℕ, ◌≡◌, ◌≢◌, ◌+◌, ◌-◌, ◌<�
 use Rattle.dmf_node.specs.Node.{IsNode}
 use Rattle.dmf_path.specs.declared.ball.Ball.{Ball}
 use Rattle.dmf_path.specs.declared.look.Look.{Look}
+use Rattle.dmf_path.specs.declared.look.LinkRange.{LinkRange}
 use Rattle.dmf_path.specs.declared.look.Wanted.{Wanted}
 use Rattle.dmf_path.specs.declared.push.Links.{Links as Roomy}
 use Rattle.dmf_path.specs.Astray.{IsAstray}
@@ -37,18 +38,18 @@ pub record IsLook (links : Roomy) (labels : List ℕ) (ball : Ball) (wanted : Wa
       → IsAstray ball wanted.goal wanted.left (slice_index links.table.value.heads.items p)
 
 -- The same for a look from a node, which finds links only where the node is above the goal.
-pub record IsLookFrom (links : Roomy) (labels : List ℕ) (ball : Ball) (goal node from end : ℕ) (look : Look) : Type 0 where
-  pub from_first : from ≤ look.skipped
+pub record IsLookFrom (links : Roomy) (labels : List ℕ) (ball : Ball) (goal : ℕ) (range : LinkRange) (look : Look) : Type 0 where
+  pub from_first : range.from ≤ look.skipped
   pub order : look.skipped ≤ look.place
-  pub to : look.place ≤ end
-  pub room : look.place < end → 0 < slice_index links.rooms.items look.place
-  pub falls : look.place < end → slice_index labels (slice_index links.table.value.heads.items look.place) + 1 ≡ slice_index labels node
-  pub above : look.place < end → slice_index labels goal < slice_index labels node
-  pub first : (p : ℕ) → from ≤ p → p < look.skipped → 0 < slice_index links.rooms.items p
-      → slice_index labels (slice_index links.table.value.heads.items p) + 1 ≢ slice_index labels node
-  pub only : slice_index labels goal < slice_index labels node → (p : ℕ) → from ≤ p → p < look.place → 0 < slice_index links.rooms.items p
-      → slice_index labels (slice_index links.table.value.heads.items p) + 1 ≡ slice_index labels node
-      → IsAstray ball goal (slice_index labels node - slice_index labels goal - 1) (slice_index links.table.value.heads.items p)
+  pub to : look.place ≤ range.end
+  pub room : look.place < range.end → 0 < slice_index links.rooms.items look.place
+  pub falls : look.place < range.end → slice_index labels (slice_index links.table.value.heads.items look.place) + 1 ≡ slice_index labels range.node
+  pub above : look.place < range.end → slice_index labels goal < slice_index labels range.node
+  pub first : (p : ℕ) → range.from ≤ p → p < look.skipped → 0 < slice_index links.rooms.items p
+      → slice_index labels (slice_index links.table.value.heads.items p) + 1 ≢ slice_index labels range.node
+  pub only : slice_index labels goal < slice_index labels range.node → (p : ℕ) → range.from ≤ p → p < look.place → 0 < slice_index links.rooms.items p
+      → slice_index labels (slice_index links.table.value.heads.items p) + 1 ≡ slice_index labels range.node
+      → IsAstray ball goal (slice_index labels range.node - slice_index labels goal - 1) (slice_index links.table.value.heads.items p)
 
 -- No link before this place leads on, and that there does, if it is before the end.
 pub record IsNext (links : Roomy) (labels : List ℕ) (ball : Ball) (wanted : Wanted) (from end place : ℕ) : Type 0 where

@@ -3,6 +3,7 @@
 use Rattle.std.specs.Prelude.{ℕ, ◌≡◌, ◌≢◌, ◌+◌, ◌^◌, ◌<◌, ◌≤◌, ◌⊎◌, Bool, true, false, List, length, replicate, slice_index, slice_set, Contains}
 use Rattle.std.specs.List.{All}
 use Rattle.dmf_path.specs.declared.aside.Aside.{Aside}
+use Rattle.dmf_path.specs.declared.aside.Ends.{Ends}
 use Rattle.dmf_path.specs.declared.levels.Levels.{Levels}
 use Rattle.dmf_path.specs.declared.push.Links.{Links as Roomy}
 use Rattle.dmf_path.specs.Reach.{Reach}
@@ -99,6 +100,11 @@ pub record AreKeptFor (v : Labelling) (noted : Noted) (r : Residual) (goal : ℕ
   pub current_is : AreCurrent r.links v.current
   pub passed : ArePassed r.links v.labels r.rooms goal v.current
 
+-- Labels that may be lowered: no link with room falls by more than one, and the current links are links.
+pub record MayBeLowered (r : Residual) (v : Labelling) : Type 0 where
+  pub whole : AreWhole r.links v.labels r.rooms
+  pub current_is : AreCurrent r.links v.current
+
 -- Labels have fallen, or stayed, and links that fall then are current again. What was noted still is.
 pub record AreLowered (r : Residual) (old new : Labelling) : Type 0 where
   pub whole : AreWhole r.links new.labels r.rooms
@@ -138,12 +144,12 @@ pub record IsReady (nodes : ℕ) (near far : Reach) : Type 0 where
   pub far_is : IsClean nodes far
 
 -- No node has a label of either search, and the ends of paths are two nodes.
-pub record MayBeLabelled (nodes : ℕ) (near far : Reach) (start goal : ℕ) : Type 0 where
-  pub near_is : IsClean nodes near
-  pub far_is : IsClean nodes far
-  pub start_is : IsNode nodes start
-  pub goal_is : IsNode nodes goal
-  pub apart : start ≢ goal
+pub record MayBeLabelled (links : Roomy) (levels : Levels) (ends : Ends) : Type 0 where
+  pub near_is : IsClean links.table.value.nodes levels.near
+  pub far_is : IsClean links.table.value.nodes levels.far
+  pub start_is : IsNode links.table.value.nodes ends.start
+  pub goal_is : IsNode links.table.value.nodes ends.goal
+  pub apart : ends.start ≢ ends.goal
 
 -- The same for some number of nodes.
 abbrev pub AreReady : Levels → Type 0
@@ -215,8 +221,8 @@ pub record IsParted (l : Links) (rooms : List ℕ) (start goal : ℕ) (marks : L
 
 -- The nodes have new labels, by which a walk leads from the start to the goal; or no path is left, and
 -- the nodes on the start's side are marked.
-pub record IsRelabelled (links : Roomy) (old new : Levels) (start goal : ℕ) (found : Bool) (marks : List Bool) : Type 0 where
+pub record IsRelabelled (links : Roomy) (old new : Levels) (ends : Ends) (found : Bool) (marks : List Bool) : Type 0 where
   pub ready : IsReady links.table.value.nodes new.near new.far
-  pub labelled : found ≡ true → IsLabelled (links_of links.table.value) links.rooms.items new.near.labels start goal
-  pub none : found ≡ false → IsParted (links_of links.table.value) links.rooms.items start goal marks
+  pub labelled : found ≡ true → IsLabelled (links_of links.table.value) links.rooms.items new.near.labels ends.start ends.goal
+  pub none : found ≡ false → IsParted (links_of links.table.value) links.rooms.items ends.start ends.goal marks
   pub current : new.current ≡ old.current

@@ -38,7 +38,7 @@ impl Ball {
         }
     }
 
-    /// The same until [`surround`](Ball::surround) is called. Takes memory for two numbers a node.
+    /// No node is known to be near a goal until [`surround`](Ball::surround) is called. Takes memory for two numbers a node.
     pub fn new(alloc: Global, nodes: u32) -> Result<Ball, AllocError>
         requires { nodes < 2 ^ 31 }
         ensures { IfOk result (λ ball. (r : Residual) → IsFit ball r) }

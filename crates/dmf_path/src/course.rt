@@ -56,7 +56,7 @@ impl Course {
         }
     }
 
-    /// The same after the search was aimed, and kept this end.
+    /// The course after the search was aimed, and kept this end.
     pub fn keeping(self, kept: Kept) -> Course {
         match self {
             Course::FromGoal { .. } => Course::FromBoth { kept, spent: 0 },
@@ -64,7 +64,7 @@ impl Course {
         }
     }
 
-    /// The same after all nodes got a label.
+    /// The course after all nodes got a label.
     pub fn with_all(self) -> Course {
         match self {
             Course::FromGoal { looked } => Course::FromGoal { looked },
@@ -72,7 +72,7 @@ impl Course {
         }
     }
 
-    /// The same after labelling from both ends looked at so many links.
+    /// The course after labelling from both ends looked at so many links.
     pub fn after(self, looked: u64) -> Course {
         match self {
             Course::FromGoal { .. } => Course::FromBoth {

@@ -106,7 +106,7 @@ impl Frontier {
         &self.labels
     }
 
-    /// The same, out of the search.
+    /// Takes the labels out of the search.
     pub fn into_labels(self) -> Vec<u32>
         ensures { result.items ≡ self.labels }
     {

@@ -43,19 +43,6 @@ impl Levels {
             noted: Noted::none(alloc),
         })
     }
-
-    /// The same labels, with the first link of each node in this table as its current one.
-    pub fn over(mut self, table: &LinkTable) -> Levels
-        requires { length self.current.items ≡ table.now.nodes + 1 }
-        ensures near { result.near ≡ self.near }
-        ensures far { result.far ≡ self.far }
-        ensures all { result.all ≡ self.all }
-        ensures current { AreCurrent (links_of table.now) result.current.items }
-    {
-        let count = self.current.len();
-        self.current.copy_from_slice(&table.first[..count]);
-        self
-    }
 }
 
 /// Makes the first link of each of these nodes its current one.

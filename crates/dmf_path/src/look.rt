@@ -18,6 +18,17 @@ struct Wanted {
     left: u32,
 }
 
+/// Links of a node that lie side by side.
+#[derive(Clone, Copy)]
+pub struct LinkRange {
+    /// The node.
+    pub node: u32,
+    /// The place of the first of them.
+    pub from: u32,
+    /// The place after the last of them.
+    pub end: u32,
+}
+
 /// What a look over links of a node has found.
 #[derive(Clone, Copy)]
 pub struct Look {
@@ -28,28 +39,20 @@ pub struct Look {
 }
 
 impl Links {
-    /// The first place from `from` up to `end`, where the links of the node end, at which a walk to the goal may go on, or `end`: an
-    /// admissible link of which it is not known that it leads astray.
-    pub fn first_leading(
-        &self,
-        labels: &[u32],
-        ball: &Ball,
-        goal: u32,
-        node: u32,
-        from: u32,
-        end: u32,
-    ) -> Look
-        requires links { AreLinksOf self.now node from end }
+    /// The first place in the range at which a walk to the goal may go on, or the end of the range: an admissible link of which it is not
+    /// known that it leads astray.
+    pub fn first_leading(&self, labels: &[u32], ball: &Ball, goal: u32, range: LinkRange) -> Look
+        requires links { AreLinksOf self.now range.node range.from range.end }
         requires goal { IsNode self.now.table.value.nodes goal }
         requires seen { AreSeen self.now labels.now ball.now }
-        ensures { IsLookFrom self.now labels.now ball.now goal node from end result }
+        ensures { IsLookFrom self.now labels.now ball.now goal range result }
     {
-        let label = labels[node as usize];
+        let label = labels[range.node as usize];
         let low = labels[goal as usize];
         if label <= low {
             return Look {
-                skipped: from,
-                place: end,
+                skipped: range.from,
+                place: range.end,
             };
         }
         let wanted = Wanted {
@@ -58,40 +61,34 @@ impl Links {
             left: label - low - 1,
         };
         if wanted.left > 0 && wanted.left > ball.radius {
-            let place = self.first_admissible(labels, from, end, label);
+            let place = self.first_admissible(labels, range.from, range.end, label);
             return Look {
                 skipped: place,
                 place,
             };
         }
-        self.first_near(labels, ball, wanted, node, from, end)
+        self.first_near(labels, ball, wanted, range)
     }
 
-    /// The same near the goal. Looks at no more links of the node than the ball has; what is left it finds at the nodes in the ball.
-    fn first_near(
-        &self,
-        labels: &[u32],
-        ball: &Ball,
-        wanted: Wanted,
-        node: u32,
-        from: u32,
-        end: u32,
-    ) -> Look
-        requires links { AreLinksOf self.now node from end }
+    /// The first place in the range at which a walk to a goal near the node may go on, or the end of the range. Looks at no more links of
+    /// the node than the ball has; what is left it finds at the nodes in the ball.
+    fn first_near(&self, labels: &[u32], ball: &Ball, wanted: Wanted, range: LinkRange) -> Look
+        requires links { AreLinksOf self.now range.node range.from range.end }
         requires goal { IsNode self.now.table.value.nodes wanted.goal }
         requires low { slice_index labels.now wanted.goal + 1 + wanted.left ≡ wanted.label }
         requires near { (wanted.left ≡ 0) ⊎ (wanted.left ≤ ball.now.radius) }
         requires seen { AreSeen self.now labels.now ball.now }
-        ensures { IsLook self.now labels.now ball.now wanted from end result }
+        ensures { IsLook self.now labels.now ball.now wanted range.from range.end result }
     {
-        let few = self.few(ball, wanted, from, end);
-        let look = self.look(labels, ball, wanted, from, few);
-        if look.place < few || few == end {
+        let few = self.few(ball, wanted, range.from, range.end);
+        let look = self.look(labels, ball, wanted, range.from, few);
+        if look.place < few || few == range.end {
             return look;
         }
+        let left = LinkRange { from: few, ..range };
         Look {
             skipped: look.skipped,
-            place: self.first_across(labels, ball, wanted, node, few, end),
+            place: self.first_across(labels, ball, wanted, left),
         }
     }
 
@@ -153,31 +150,23 @@ impl Links {
         self.rooms[place as usize] > 0 && is_next(labels, label, self.table.heads[place as usize])
     }
 
-    /// The first place from `from` up to `end`, among links of the node, whose link may begin a walk to the goal, or `end`: found at the
-    /// nodes near the goal.
-    fn first_across(
-        &self,
-        labels: &[u32],
-        ball: &Ball,
-        wanted: Wanted,
-        node: u32,
-        from: u32,
-        end: u32,
-    ) -> u32
-        requires links { AreLinksOf self.now node from end }
+    /// The first place in the range whose link may begin a walk to the goal, or the end of the range: found at the nodes near the goal.
+    fn first_across(&self, labels: &[u32], ball: &Ball, wanted: Wanted, range: LinkRange) -> u32
+        requires links { AreLinksOf self.now range.node range.from range.end }
         requires goal { IsNode self.now.table.value.nodes wanted.goal }
         requires low { slice_index labels.now wanted.goal + 1 + wanted.left ≡ wanted.label }
         requires near { (wanted.left ≡ 0) ⊎ (wanted.left < ball.now.radius) }
         requires seen { AreSeen self.now labels.now ball.now }
-        ensures { IsNext self.now labels.now ball.now wanted from end result }
+        ensures { IsNext self.now labels.now ball.now wanted range.from range.end result }
     {
         if wanted.left == 0 {
-            return self.first_from(wanted.goal, node, from, end);
+            return self.first_from(wanted.goal, range.node, range.from, range.end);
         }
-        self.first_inside(labels, ball, wanted, node, from, end)
+        self.first_inside(labels, ball, wanted, range.node, range.from, range.end)
     }
 
-    /// The same, found at each node of the ball from which so few links lead to the goal.
+    /// The first place from `from` up to `end`, among links of the node, whose link may begin a walk to the goal, or `end`: found at each
+    /// node of the ball from which so few links lead to the goal.
     fn first_inside(
         &self,
         labels: &[u32],

@@ -4,9 +4,8 @@ ghost use Rattle.dmf_node.specs.Node.{IsNode};
 ghost use Rattle.dmf_links.specs.Links.{LiesAt};
 ghost use Rattle.dmf_links.specs.LinkTable.{links_of};
 ghost use Rattle.dmf_path.specs.Ball.{IsFit};
-ghost use Rattle.dmf_path.specs.BothEnds.{AreWhole};
 ghost use Rattle.dmf_path.specs.Residual.{residual_of};
-ghost use Rattle.dmf_path.specs.Searching.{AreLowered};
+ghost use Rattle.dmf_path.specs.Searching.{AreLowered, MayBeLowered};
 ghost use Rattle.dmf_path.specs.Walk.{AreCurrent};
 
 use crate::ball::Ball;
@@ -18,8 +17,7 @@ use crate::push::Links;
 /// that fall then current again. No label of the start falls.
 pub fn lower_near(links: &Links, ball: &Ball, start: u32, near: &mut Frontier, current: &mut [u32])
     requires fit { IsFit ball.now (residual_of links.now) }
-    requires whole { AreWhole (links_of links.now.table.value) near.old.labels links.now.rooms.items }
-    requires current { AreCurrent (links_of links.now.table.value) current.old }
+    requires labels { MayBeLowered (residual_of links.now) (record { labels = near.old.labels; current = current.old }) }
     ensures lowered { AreLowered (residual_of links.now) (record { labels = near.old.labels; current = current.old })
         (record { labels = near.new.labels; current = current.new }) }
     ensures start { slice_index near.new.labels start ≡ slice_index near.old.labels start }
@@ -40,8 +38,7 @@ pub fn lower_near(links: &Links, ball: &Ball, start: u32, near: &mut Frontier, c
 /// then current again.
 fn lower_node(links: &Links, node: u32, near: &mut Frontier, current: &mut [u32])
     requires node { IsNode links.now.table.value.nodes node }
-    requires whole { AreWhole (links_of links.now.table.value) near.old.labels links.now.rooms.items }
-    requires current { AreCurrent (links_of links.now.table.value) current.old }
+    requires labels { MayBeLowered (residual_of links.now) (record { labels = near.old.labels; current = current.old }) }
     ensures lowered { AreLowered (residual_of links.now) (record { labels = near.old.labels; current = current.old })
         (record { labels = near.new.labels; current = current.new }) }
     ensures others { (v : ℕ) → v ≢ node → slice_index near.new.labels v ≡ slice_index near.old.labels v }

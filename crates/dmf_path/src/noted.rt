@@ -23,7 +23,7 @@ impl Noted {
         }
     }
 
-    /// The same until the next labelling, but takes memory for so many places.
+    /// None is noted, nor will any be until the next labelling. Takes memory for so many places.
     pub fn new(alloc: Global, most: usize) -> Result<Noted, AllocError>
         ensures { IfOk result (λ noted. noted.lost ≡ true) }
     {

@@ -2,7 +2,7 @@
 ghost use Rattle.std.specs.Prelude.{◌≡◌, ◌≢◌, ℕ, List, true, false, []};
 ghost use Rattle.dmf_node.specs.Node.{IsNode};
 ghost use Rattle.dmf_links.specs.LinkTable.{links_of};
-ghost use Rattle.dmf_path.specs.Going.{Goes, IsAimedAnew, Keeps};
+ghost use Rattle.dmf_path.specs.Going.{Goes, HasGoneOn, IsAimedAnew, IsBetweenLooks};
 ghost use Rattle.dmf_path.specs.Walk.{IsWalk};
 ghost use Rattle.dmf_path.specs.Held.{way_of, with_slots};
 ghost use Rattle.dmf_path.specs.Residual.{residual_of, told};
@@ -27,8 +27,8 @@ pub fn find(
     trail: &mut Trail,
     marks: &mut [bool],
 ) -> bool
-    requires keeps { Keeps links.old levels.old ball.old trail.old }
-    ensures keeps { Keeps links.new levels.new ball.new trail.new }
+    requires keeps { IsBetweenLooks links.old levels.old ball.old trail.old }
+    ensures keeps { IsBetweenLooks links.new levels.new ball.new trail.new }
     ensures same { sought (residual_of links.new) (way_of trail.new) ≡ sought (residual_of links.old) (way_of trail.old) }
     ensures found { result ≡ true → IsFound (residual_of links.new) (way_of trail.new) }
     ensures none { result ≡ false → IsParted (links_of links.old.table.value)
@@ -47,12 +47,10 @@ pub fn find(
 /// Lowers labels near the goal, and walks again if this helps. Whether the walk comes to the goal.
 fn go_on_mended(links: &mut Links, levels: &mut Levels, ball: &mut Ball, trail: &mut Trail) -> bool
     requires goes { Goes links.old levels.old ball.old trail.old }
-    ensures goes { Goes links.new levels.new ball.new trail.new }
-    ensures same { sought (residual_of links.new) (way_of trail.new) ≡ sought (residual_of links.old) (way_of trail.old) }
-    ensures found { result ≡ true → IsFound (residual_of links.new) (way_of trail.new) }
+    ensures on { HasGoneOn (sought (residual_of links.old) (way_of trail.old)) links.new levels.new ball.new trail.new result }
 {
     trail.settle(links);
-    mend(links, levels, ball, trail) && go_on(links, levels, ball, trail)
+    mend_labels(links, levels, ball, trail) && go_on(links, levels, ball, trail)
 }
 
 /// Labels the nodes anew, and walks again. Whether the walk comes to the goal; if not, no path is left.
@@ -64,9 +62,7 @@ fn go_on_anew(
     marks: &mut [bool],
 ) -> bool
     requires goes { Goes links.old levels.old ball.old trail.old }
-    ensures goes { Goes links.new levels.new ball.new trail.new }
-    ensures same { sought (residual_of links.new) (way_of trail.new) ≡ sought (residual_of links.old) (way_of trail.old) }
-    ensures found { result ≡ true → IsFound (residual_of links.new) (way_of trail.new) }
+    ensures on { HasGoneOn (sought (residual_of links.old) (way_of trail.old)) links.new levels.new ball.new trail.new result }
     ensures none { result ≡ false → IsParted (links_of links.old.table.value)
         (told (residual_of links.old) (way_of trail.old)).rooms trail.old.start trail.old.goal marks.new }
 {
@@ -77,9 +73,7 @@ fn go_on_anew(
 /// Goes on with the walk. Returns whether it comes to the goal.
 fn go_on(links: &mut Links, levels: &mut Levels, ball: &Ball, trail: &mut Trail) -> bool
     requires goes { Goes links.old levels.old ball.now trail.old }
-    ensures goes { Goes links.new levels.new ball.now trail.new }
-    ensures same { sought (residual_of links.new) (way_of trail.new) ≡ sought (residual_of links.old) (way_of trail.old) }
-    ensures found { result ≡ true → IsFound (residual_of links.new) (way_of trail.new) }
+    ensures on { HasGoneOn (sought (residual_of links.old) (way_of trail.old)) links.new levels.new ball.now trail.new result }
     ensures none { result ≡ false → (ps : List ℕ) → ¬ IsWalk (residual_of links.old).links levels.old.near.labels
         (told (residual_of links.old) (way_of trail.old)).rooms trail.old.goal trail.old.start ps }
 {
@@ -95,7 +89,7 @@ fn go_on(links: &mut Links, levels: &mut Levels, ball: &Ball, trail: &mut Trail)
 
 /// Lowers labels near the goal, where all nodes have labels from the start, and frees the slots; no push is held. Returns whether that of
 /// the goal fell, so that a longer walk may lead there.
-fn mend(links: &Links, levels: &mut Levels, ball: &mut Ball, trail: &mut Trail) -> bool
+fn mend_labels(links: &Links, levels: &mut Levels, ball: &mut Ball, trail: &mut Trail) -> bool
     requires goes { Goes links.now levels.old ball.old trail.old }
     requires settled { told (residual_of links.now) (way_of trail.old) ≡ residual_of links.now }
     ensures goes { Goes links.now levels.new ball.new trail.new }
@@ -128,8 +122,12 @@ fn relabel(
         trail.old.goal trail.old.start ps }
     ensures none { result ≡ false → IsParted (links_of links.now.table.value) links.now.rooms.items trail.old.start trail.old.goal marks.new }
 {
+    let ends = Ends {
+        start: trail.start,
+        goal: trail.goal,
+    };
     levels.near.unlabel();
-    if !label_anew(links, levels, trail.start, trail.goal, marks) {
+    if !label_anew(links, levels, ends, marks) {
         make_fresh(&links.table, levels, trail);
         return false;
     }
@@ -169,7 +167,7 @@ pub fn aim(
     trail: &mut Trail,
     ends: Ends,
 ) -> bool
-    requires keeps { Keeps links.old levels.old ball.old trail.old }
+    requires keeps { IsBetweenLooks links.old levels.old ball.old trail.old }
     requires asides { AreAside asides.old (told (residual_of links.old) (way_of trail.old)) }
     requires start { IsNode links.old.table.value.nodes ends.start }
     requires goal { IsNode links.old.table.value.nodes ends.goal }

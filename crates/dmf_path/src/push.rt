@@ -1,6 +1,6 @@
 //! Links with their rooms: the residual network.
 ghost use Rattle.std.specs.Prelude.{◌≡◌, ◌<◌, length, slice_index, slice_set};
-ghost use Rattle.dmf_links.specs.Links.{AreRooms, AreFlags, open_flag};
+ghost use Rattle.dmf_links.specs.Links.{AreRooms, AreFlags, IsSpare, open_flag};
 ghost use Rattle.dmf_links.specs.LinkTable.{links_of};
 
 use dmf_links::{LinkTable, open_flag};
@@ -17,7 +17,7 @@ pub struct Links {
     pub rooms: Vec<u64>,
     /// For each link 1 if its opposite has room, else 0.
     pub flags: Vec<u8>,
-    // The rooms of two opposite links fit 64 bits together, and each flag says whether there is room.
+    // The rooms of two opposite links fit 64 bits together, a spare link has none, and each flag says whether there is room.
     ghost rooms_are: { AreRooms (links_of table.value) rooms.items },
     ghost flags_are: { AreFlags (links_of table.value) rooms.items flags.items },
 }
@@ -55,6 +55,7 @@ impl Links {
     pub fn set_pair(&mut self, place: u32, along: u64, against: u64)
         requires within { place < length self.old.table.value.heads.items }
         requires fits { along + against < 2 ^ 64 }
+        requires used { ¬ IsSpare (links_of self.old.table.value) place }
         ensures { residual_of self.new ≡ pair_set (residual_of self.old) place along against }
     {
         let opposite = self.table.opposite(place);
@@ -68,6 +69,7 @@ impl Links {
         requires within { place < length self.old.table.value.heads.items }
         requires opposite { opposite ≡ slice_index self.old.table.value.partners.items place }
         requires fits { room + slice_index self.old.rooms.items opposite < 2 ^ 64 }
+        requires spare { IsSpare (links_of self.old.table.value) place → room ≡ 0 }
         ensures { residual_of self.new ≡ put_at (residual_of self.old) place room }
     {
         let before = self.rooms[place as usize];

@@ -5,9 +5,8 @@ ghost use Rattle.dmf_node.specs.Node.{IsNode};
 ghost use Rattle.dmf_links.specs.Links.{tail_of};
 ghost use Rattle.dmf_links.specs.LinkTable.{links_of};
 ghost use Rattle.dmf_path.specs.Ball.{IsFit, IsFitFor};
-ghost use Rattle.dmf_path.specs.BothEnds.{AreWhole};
 ghost use Rattle.dmf_path.specs.Residual.{residual_of};
-ghost use Rattle.dmf_path.specs.Searching.{labelling_of, AreKeptFor, AreLowered, AreRedirected, AreUsable, HaveFallen, IsReady, MayBeRefitted};
+ghost use Rattle.dmf_path.specs.Searching.{labelling_of, AreKeptFor, AreLowered, AreRedirected, AreUsable, HaveFallen, IsReady, MayBeLowered, MayBeRefitted};
 ghost use Rattle.dmf_path.specs.Walk.{AreCurrent};
 
 use crate::ball::Ball;
@@ -104,8 +103,7 @@ fn lower_labels(
 )
     requires goal { goal < length near.old.labels }
     requires fit { IsFit ball.now (residual_of links.now) }
-    requires whole { AreWhole (links_of links.now.table.value) near.old.labels links.now.rooms.items }
-    requires current { AreCurrent (links_of links.now.table.value) current.old }
+    requires labels { MayBeLowered (residual_of links.now) (record { labels = near.old.labels; current = current.old }) }
     ensures lowered { AreLowered (residual_of links.now) (record { labels = near.old.labels; current = current.old })
         (record { labels = near.new.labels; current = current.new }) }
     ensures start { slice_index near.new.labels start ≡ slice_index near.old.labels start }

@@ -4,6 +4,7 @@ ghost use Rattle.dmf_links.specs.LinkTable.{links_of};
 ghost use Rattle.dmf_path.specs.BothEnds.{AreWhole};
 ghost use Rattle.dmf_path.specs.Searching.{IsRelabelled, MayBeLabelled};
 
+use crate::aside::Ends;
 use crate::course::Course;
 use crate::levels::Levels;
 use crate::mark::{has_label_or_mark, mark_labelled};
@@ -16,83 +17,65 @@ use crate::push::Links;
 ///
 /// If a search looks for paths from several starts in turn, all nodes get a label once labelling from both ends has looked at more
 /// links than there are.
-pub fn label_anew(
-    links: &Links,
-    levels: &mut Levels,
-    start: u32,
-    goal: u32,
-    marks: &mut [bool],
-) -> bool
-    requires { MayBeLabelled links.now.table.value.nodes levels.old.near levels.old.far start goal }
-    ensures relabelled { IsRelabelled links.now levels.old levels.new start goal result marks.new }
+pub fn label_anew(links: &Links, levels: &mut Levels, ends: Ends, marks: &mut [bool]) -> bool
+    requires { MayBeLabelled links.now levels.old ends }
+    ensures relabelled { IsRelabelled links.now levels.old levels.new ends result marks.new }
     ensures whole { result ≡ true → levels.new.all ≡ true → AreWhole (links_of links.now.table.value) levels.new.near.labels links.now.rooms.items }
 {
     levels.all = levels.course.is_to_all(links.table.heads.len() as u64);
     if levels.all {
         levels.course = levels.course.with_all();
         if levels.course.is_from_start() {
-            return label_all_from(links, levels, start, goal, marks);
+            return label_all_from(links, levels, ends, marks);
         }
-        return label_all(links, levels, start, goal, marks);
+        return label_all(links, levels, ends, marks);
     }
     match levels.course {
         Course::FromGoal { looked } => {
-            if is_enclosed(links, levels, start, goal, looked / 32, marks) {
+            if misses_goal(links, levels, ends, looked / 32, marks) {
                 return false;
             }
-            label_from_goal(links, levels, start, goal, marks)
+            label_from_goal(links, levels, ends, marks)
         }
-        Course::FromBoth { .. } => label_from_both(links, levels, start, goal, marks),
+        Course::FromBoth { .. } => label_from_both(links, levels, ends, marks),
     }
 }
 
 /// Labels the nodes from the goal, until the start has a label.
-fn label_from_goal(
-    links: &Links,
-    levels: &mut Levels,
-    start: u32,
-    goal: u32,
-    marks: &mut [bool],
-) -> bool
-    requires { MayBeLabelled links.now.table.value.nodes levels.old.near levels.old.far start goal }
-    ensures relabelled { IsRelabelled links.now levels.old levels.new start goal result marks.new }
+fn label_from_goal(links: &Links, levels: &mut Levels, ends: Ends, marks: &mut [bool]) -> bool
+    requires { MayBeLabelled links.now levels.old ends }
+    ensures relabelled { IsRelabelled links.now levels.old levels.new ends result marks.new }
     ensures all { levels.new.all ≡ levels.old.all }
 {
     let near = &mut levels.near;
-    near.label_from(&links.table, &Flagged(&links.flags), goal, start);
+    near.label_from(&links.table, &Flagged(&links.flags), ends.goal, ends.start);
     levels.course = Course::FromGoal {
         looked: near.looked(),
     };
-    has_label_or_mark(near, start, marks)
+    has_label_or_mark(near, ends.start, marks)
 }
 
 /// Labels all nodes from which paths lead to the goal.
-fn label_all(links: &Links, levels: &mut Levels, start: u32, goal: u32, marks: &mut [bool]) -> bool
-    requires { MayBeLabelled links.now.table.value.nodes levels.old.near levels.old.far start goal }
-    ensures relabelled { IsRelabelled links.now levels.old levels.new start goal result marks.new }
+fn label_all(links: &Links, levels: &mut Levels, ends: Ends, marks: &mut [bool]) -> bool
+    requires { MayBeLabelled links.now levels.old ends }
+    ensures relabelled { IsRelabelled links.now levels.old levels.new ends result marks.new }
     ensures whole { AreWhole (links_of links.now.table.value) levels.new.near.labels links.now.rooms.items }
 {
     let near = &mut levels.near;
-    near.label_from(&links.table, &Flagged(&links.flags), goal, 0);
-    has_label_or_mark(near, start, marks)
+    near.label_from(&links.table, &Flagged(&links.flags), ends.goal, 0);
+    has_label_or_mark(near, ends.start, marks)
 }
 
 /// Labels all nodes by their distances from the start: each label is the number of nodes less that distance. Returns whether a path leads
 /// to the goal. These labels are right for any goal: how far a node is above it is all that a walk asks.
-fn label_all_from(
-    links: &Links,
-    levels: &mut Levels,
-    start: u32,
-    goal: u32,
-    marks: &mut [bool],
-) -> bool
-    requires { MayBeLabelled links.now.table.value.nodes levels.old.near levels.old.far start goal }
-    ensures relabelled { IsRelabelled links.now levels.old levels.new start goal result marks.new }
+fn label_all_from(links: &Links, levels: &mut Levels, ends: Ends, marks: &mut [bool]) -> bool
+    requires { MayBeLabelled links.now levels.old ends }
+    ensures relabelled { IsRelabelled links.now levels.old levels.new ends result marks.new }
     ensures whole { result ≡ true → AreWhole (links_of links.now.table.value) levels.new.near.labels links.now.rooms.items }
 {
     let far = &mut levels.far;
-    far.label_from(&links.table, &Roomy(&links.rooms), start, 0);
-    if !far.has_label(goal) {
+    far.label_from(&links.table, &Roomy(&links.rooms), ends.start, 0);
+    if !far.has_label(ends.goal) {
         mark_labelled(far.labels(), marks);
         far.unlabel();
         return false;
@@ -106,24 +89,17 @@ fn label_all_from(
 /// the goal: then no path is left. If not, removes all labels again.
 ///
 /// If no path is left, labelling from the goal would often look at nearly all links.
-fn is_enclosed(
-    links: &Links,
-    levels: &mut Levels,
-    start: u32,
-    goal: u32,
-    few: u64,
-    marks: &mut [bool],
-) -> bool
-    requires { MayBeLabelled links.now.table.value.nodes levels.old.near levels.old.far start goal }
-    ensures enclosed { result ≡ true → IsRelabelled links.now levels.old levels.new start goal false marks.new }
-    ensures clean { result ≡ false → MayBeLabelled links.now.table.value.nodes levels.new.near levels.new.far start goal }
+fn misses_goal(links: &Links, levels: &mut Levels, ends: Ends, few: u64, marks: &mut [bool]) -> bool
+    requires { MayBeLabelled links.now levels.old ends }
+    ensures enclosed { result ≡ true → IsRelabelled links.now levels.old levels.new ends false marks.new }
+    ensures clean { result ≡ false → MayBeLabelled links.now levels.new ends }
     ensures all { levels.new.all ≡ levels.old.all }
     ensures current { levels.new.current ≡ levels.old.current }
 {
     let near = &mut levels.near;
-    near.begin(start);
-    let ended = near.label_within(&links.table, &Roomy(&links.rooms), goal, few);
-    if ended && !near.has_label(goal) {
+    near.begin(ends.start);
+    let ended = near.label_within(&links.table, &Roomy(&links.rooms), ends.goal, few);
+    if ended && !near.has_label(ends.goal) {
         mark_labelled(near.labels(), marks);
         return true;
     }
@@ -133,21 +109,15 @@ fn is_enclosed(
 
 /// Labels the nodes from the goal and from the start until the searches meet, and joins the labels to those of the goal's side. Returns
 /// whether they meet.
-fn label_from_both(
-    links: &Links,
-    levels: &mut Levels,
-    start: u32,
-    goal: u32,
-    marks: &mut [bool],
-) -> bool
-    requires { MayBeLabelled links.now.table.value.nodes levels.old.near levels.old.far start goal }
-    ensures relabelled { IsRelabelled links.now levels.old levels.new start goal result marks.new }
+fn label_from_both(links: &Links, levels: &mut Levels, ends: Ends, marks: &mut [bool]) -> bool
+    requires { MayBeLabelled links.now levels.old ends }
+    ensures relabelled { IsRelabelled links.now levels.old levels.new ends result marks.new }
     ensures all { levels.new.all ≡ levels.old.all }
 {
     let near = &mut levels.near;
     let far = &mut levels.far;
-    near.begin(goal);
-    far.begin(start);
+    near.begin(ends.goal);
+    far.begin(ends.start);
     let Some(node) = meet(links, near, far, marks) else {
         far.unlabel();
         return false;

@@ -28,6 +28,7 @@ mod apart;
 mod growing;
 mod making;
 mod shrinking;
+mod spares;
 
 /// What was pushed along a path.
 #[derive(Clone, Copy)]

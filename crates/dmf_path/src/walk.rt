@@ -7,6 +7,7 @@ ghost use Rattle.dmf_path.specs.Residual.{residual_of, told};
 ghost use Rattle.dmf_path.specs.Searching.{sought, IsSearching, IsFound, MaySkip};
 
 use crate::ball::Ball;
+use crate::look::LinkRange;
 use crate::noted::Noted;
 use crate::push::Links;
 use crate::trail::Trail;
@@ -39,7 +40,7 @@ pub fn walk(
     while node != trail.joint {
         let end = links.table.first[node as usize + 1];
         let from = current[node as usize];
-        let look = links.first_leading(labels, ball, trail.goal, node, from, end);
+        let look = links.first_leading(labels, ball, trail.goal, LinkRange { node, from, end });
         let place = look.place;
         current[node as usize] = place;
         noted.pass(look.skipped, place);

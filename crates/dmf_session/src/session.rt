@@ -24,8 +24,8 @@ use std::marker::Model;
 ///
 /// From the first solve or drain on, the session also keeps the residual network of the present state, so that the next solve or drain
 /// need not make it anew. The network follows each change, and each step back or forward if the history gives the edit. The first of
-/// these after a solve takes time for each node that has a label; an added arc takes memory and time for each link, and so takes time
-/// the undo of one. The session drops the network if memory is refused, or if an arc is added that begins and ends at one node.
+/// these after a solve takes time for each node that has a label. An added arc takes memory and time for each link, and its undo takes
+/// time for each link. The session drops the network if memory is refused, or if an arc is added that begins and ends at one node.
 #[derive(Drop)]
 pub struct Session<H: History> {
     history: H,
@@ -121,6 +121,7 @@ impl<H: History> Session<H> {
         answer
     }
 
+    // The calls below are not inlined: each would add its network to this frame.
     fn carry_out<W: Watch>(
         &mut self,
         alloc: Global,
@@ -147,6 +148,7 @@ impl<H: History> Session<H> {
         }
     }
 
+    #[inline(never)]
     fn cap<W: Watch>(&mut self, alloc: Global, new: NewCap, watch: &mut W) -> Result<Reply, Refusal>
         ensures answer { (want_cut : Bool) → Answers want_cut (H.timeline self.old) (Cap new.arc new.cap) result (H.timeline self.new) }
         ensures told { AreTold (W.told watch.old) (W.told watch.new) [] }
@@ -157,6 +159,7 @@ impl<H: History> Session<H> {
         self.change(edit, kept)
     }
 
+    #[inline(never)]
     fn add(&mut self, alloc: Global, tail: u64, head: u64, cap: u64) -> Result<Reply, Refusal>
         ensures { (want_cut : Bool) → Answers want_cut (H.timeline self.old) (Add tail head cap) result (H.timeline self.new) }
     {
@@ -167,6 +170,7 @@ impl<H: History> Session<H> {
         Ok(Reply::Added(present.arcs().len() as u32, present.value()))
     }
 
+    #[inline(never)]
     fn close<W: Watch>(&mut self, alloc: Global, arc: u64, watch: &mut W) -> Result<Reply, Refusal>
         ensures answer { (want_cut : Bool) → Answers want_cut (H.timeline self.old) (Close arc) result (H.timeline self.new) }
         ensures told { AreTold (W.told watch.old) (W.told watch.new) [] }
@@ -177,6 +181,7 @@ impl<H: History> Session<H> {
         self.change(edit, kept)
     }
 
+    #[inline(never)]
     fn shut<W: Watch>(&mut self, alloc: Global, node: u64, watch: &mut W) -> Result<Reply, Refusal>
         ensures answer { (want_cut : Bool) → Answers want_cut (H.timeline self.old) (Shut node) result (H.timeline self.new) }
         ensures told { AreTold (W.told watch.old) (W.told watch.new) [] }
@@ -188,6 +193,7 @@ impl<H: History> Session<H> {
     }
 
     // Finds the side, if one is wanted, before the history takes the solve. So nothing has changed if memory is refused for the side.
+    #[inline(never)]
     fn solve<W: Watch>(
         &mut self,
         alloc: Global,
@@ -206,6 +212,7 @@ impl<H: History> Session<H> {
         Ok(Reply::Solution(side))
     }
 
+    #[inline(never)]
     fn cut(&self, alloc: Global) -> Result<Reply, Refusal>
         ensures { (want_cut : Bool) → Answers want_cut (H.timeline self.now) PrintCut result (H.timeline self.now) }
     {
@@ -227,6 +234,7 @@ impl<H: History> Session<H> {
         Ok(Reply::Value(self.present().value()))
     }
 
+    #[inline(never)]
     fn redo(&mut self, alloc: Global, steps: u64) -> Result<Reply, Refusal>
         ensures { (want_cut : Bool) → Answers want_cut (H.timeline self.old) (Redo steps) result (H.timeline self.new) }
     {

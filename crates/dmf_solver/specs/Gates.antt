@@ -1,6 +1,6 @@
 -- Sides of a search that no step leaves but over gates.
 -- Private: only contracts inside the crate and proofs use this.
-use Rattle.std.specs.Prelude.{ℕ, ◌≡◌, ◌<◌, ◌⊎◌, Bool, false, ◌&&◌, ◌||◌, not, nat_lt, List, ◌∷◌, length, Contains, Option, Some, None, IfSome, IsTrue}
+use Rattle.std.specs.Prelude.{ℕ, ◌≡◌, ◌⊎◌, Bool, false, ◌&&◌, ◌||◌, not, nat_lt, List, ◌∷◌, length, Contains, Option, Some, None, IfSome, IsTrue}
 use Rattle.dmf_links.specs.declared.pair.Pair.{Pair}
 use Rattle.dmf_links.specs.Pair.{pair_number}
 use Rattle.dmf_path.specs.ClosedSide.{is_marked}

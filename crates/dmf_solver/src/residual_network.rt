@@ -181,8 +181,9 @@ impl ResidualNetwork {
     /// state before the edit, which stands in this one.
     ///
     /// Takes no memory, and time for the arcs that the edit names; the first call after a solve also takes time for each node that has a
-    /// label. An edit that adds an arc takes time for each link. Forward it takes memory for the two links of the arc too, where there is
-    /// no room for them. `None` only for such an edit: if memory is refused, or if the arc begins and ends at one node.
+    /// label. An edit that adds an arc takes constant time besides, or time for a look at each link after a drain. Forward, where an end
+    /// of the arc has no spare link, all links are made anew. `None` only for such an edit: if memory is refused, or if the arc begins and
+    /// ends at one node.
     pub fn follow(
         self,
         alloc: Global,
@@ -205,6 +206,7 @@ impl ResidualNetwork {
     }
 
     /// The residual network of the state with one more arc, on which nothing flows.
+    #[inline(never)]
     fn with_arc(self, alloc: Global, state: &State, arc: Arc) -> Option<ResidualNetwork>
         requires network { IsNetworkOf state.now self }
         requires state { IsState (with_idle_arc state.now arc) }
@@ -231,6 +233,7 @@ impl ResidualNetwork {
     }
 
     /// The residual network of the state without its last arc, on which nothing flows.
+    #[inline(never)]
     fn without_last_arc(self, state: &State) -> Option<ResidualNetwork>
         requires network { IsNetworkOf state.now self }
         requires last { HasIdleLast state.now }
@@ -249,7 +252,8 @@ impl ResidualNetwork {
         })
     }
 
-    /// The same along an edit that adds no arc.
+    /// The residual network of the state to which an edit that adds no arc leads, as [`follow`](ResidualNetwork::follow) makes it.
+    #[inline(never)]
     pub(crate) fn follow_along(
         self,
         state: &State,

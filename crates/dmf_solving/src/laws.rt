@@ -13,7 +13,8 @@ pub fn written_is_optimal()
     greatest_is_optimal();
 }
 
-/// The same law of the value that a run for the value writes, and of the solution that a run for any greatest flow writes.
+/// The law that the value that a run for the value writes is the greatest of all flows and the capacity of a minimum cut, and so is the
+/// value of the solution that a run for any greatest flow writes.
 pub fn any_is_optimal()
     ensures value { ValueIsOptimal }
     ensures any { AnyIsOptimal }

@@ -32,7 +32,7 @@ pub fn run_solve<P: Source, W: Sink>(
     run_solve_watched(alloc, problem, out, want_cut, &mut Unwatched)
 }
 
-/// As [`run_solve`]. Also reports to the watch the state that it solves, and each augmenting path.
+/// Solves a problem as [`run_solve`] does, and reports to the watch the state that it solves, and each augmenting path.
 pub fn run_solve_watched<P: Source, W: Sink, V: Watch>(
     alloc: Global,
     problem: &mut P,

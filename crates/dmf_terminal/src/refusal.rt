@@ -1,4 +1,5 @@
 //! The refusals of a session, explained.
+use crate::commands::{COMMANDS, Command, LISTED, NOT_PRINTED};
 use dmf_explain::{
     Front, Named, Part, Parts, Places, Thing, about, about_with, behind, count, field_at,
     find_ends, find_named, first_fault, found, no_number, numbered, way_on, without_last_field,
@@ -15,40 +16,6 @@ pub fn is_about_problem(refusal: Refusal) -> bool {
     )
 }
 
-/// A command, by its first field.
-#[derive(Clone, Copy, PartialEq, Eq)]
-enum Verb {
-    Cap,
-    Add,
-    Close,
-    Shut,
-    Solve,
-    Undo,
-    Redo,
-    Print,
-}
-
-const VERBS: &[(&[u8], Verb)] = &[
-    (b"cap", Verb::Cap),
-    (b"add", Verb::Add),
-    (b"close", Verb::Close),
-    (b"shut", Verb::Shut),
-    (b"solve", Verb::Solve),
-    (b"undo", Verb::Undo),
-    (b"redo", Verb::Redo),
-    (b"print", Verb::Print),
-];
-
-/// The entry beside this text in a table.
-fn beside<T: Copy>(table: &[(&[u8], T)], text: &[u8]) -> Option<T> {
-    for (key, value) in table {
-        if *key == text {
-            return Some(*value);
-        }
-    }
-    None
-}
-
 /// What is known about the problem of a session.
 #[derive(Clone, Copy)]
 pub struct Known<'a> {
@@ -58,22 +25,16 @@ pub struct Known<'a> {
     pub has_added: bool,
 }
 
-const COMMANDS: &str =
-    "the commands are cap I U, add V W U, close I, shut V, solve, undo [K], redo [K] and \
-print problem, print flow, print cut; Ctrl-D ends the session";
-
 /// The explanation of why this command line was refused.
 pub fn refusal_advice<'a>(reason: Refusal, line: &'a [u8], known: Known<'_>) -> Parts<'a> {
     let word = field_at(line, 1).unwrap_or(&[]);
-    let verb = beside(VERBS, word);
     match reason {
-        Refusal::UnknownCommand if verb == Some(Verb::Print) => about(
-            field_at(line, 2).unwrap_or(b""),
-            " is not printed: print problem, print flow or print cut",
-        ),
+        Refusal::UnknownCommand if word == b"print".as_slice() => {
+            about(field_at(line, 2).unwrap_or(b""), NOT_PRINTED)
+        }
         Refusal::UnknownCommand => unknown_command(word),
-        Refusal::FieldCount => field_count(verb, line, known),
-        Refusal::NotANumber => not_a_number(verb, line, known),
+        Refusal::FieldCount => field_count(command_of(word), line, known),
+        Refusal::NotANumber => not_a_number(command_of(word), line, known),
         Refusal::TooLarge => words("the largest number is 18446744073709551615"),
         Refusal::NoSuchArc => arcs(known),
         Refusal::NoSuchNode => nodes(known),
@@ -96,7 +57,7 @@ pub fn refusal_advice<'a>(reason: Refusal, line: &'a [u8], known: Known<'_>) -> 
 
 fn unknown_command<'a>(word: &'a [u8]) -> Parts<'a> {
     if is_asking(word) {
-        return words(COMMANDS);
+        return words(LISTED);
     }
     if word.iter().any(|byte| byte.is_ascii_uppercase()) {
         return about(
@@ -104,7 +65,7 @@ fn unknown_command<'a>(word: &'a [u8]) -> Parts<'a> {
             " is no command: all commands are in lower case (help lists them)",
         );
     }
-    about_with(word, " is no command: ", Part::Words(COMMANDS))
+    about_with(word, " is no command: ", Part::Words(LISTED))
 }
 
 /// Whether this word asks for help or for the end of the session.
@@ -112,27 +73,45 @@ fn is_asking(word: &[u8]) -> bool {
     matches!(word, b"help" | b"?" | b"quit" | b"exit" | b"q" | b"h")
 }
 
-fn field_count<'a>(verb: Option<Verb>, line: &'a [u8], known: Known<'_>) -> Parts<'a> {
-    let otherwise = found(form_of(verb), count(line));
-    match known.text {
-        Some(text) => by_names(verb, line, text, otherwise),
-        None => otherwise,
+/// The command of this word.
+fn command_of(word: &[u8]) -> Option<&'static Command> {
+    COMMANDS.iter().find(|command| command.word == word)
+}
+
+fn field_count<'a>(
+    command: Option<&'static Command>,
+    line: &'a [u8],
+    known: Known<'_>,
+) -> Parts<'a> {
+    let otherwise = found(fields_of(command), count(line));
+    match (command, known.text) {
+        (Some(command), Some(text)) => by_names(command.numbers, line, text, otherwise),
+        _ => otherwise,
     }
 }
 
-/// The explanation for names of several words after the first word of a command, or else how many fields the command takes.
+/// The fields that a command takes.
+fn fields_of<'a>(command: Option<&'static Command>) -> &'a str {
+    match command {
+        Some(command) => command.takes,
+        None => LISTED,
+    }
+}
+
+/// The explanation for names of several words after the first word of a command with these numbers, or else this one.
 fn by_names<'a>(
-    verb: Option<Verb>,
+    numbers: &[Option<Thing>],
     line: &'a [u8],
     text: &[u8],
     otherwise: Parts<'a>,
 ) -> Parts<'a> {
     let names = behind(line, 1);
-    match verb {
-        Some(Verb::Close) => one_name(text, Thing::Arc, names, otherwise),
-        Some(Verb::Shut) => one_name(text, Thing::Node, names, otherwise),
-        Some(Verb::Cap) => one_name(text, Thing::Arc, without_last_field(names), otherwise),
-        Some(Verb::Add) => two_names(text, without_last_field(names), otherwise),
+    match numbers {
+        [Some(thing)] => one_name(text, *thing, names, otherwise),
+        [Some(thing), None] => one_name(text, *thing, without_last_field(names), otherwise),
+        [Some(Thing::Node), Some(Thing::Node), None] => {
+            two_names(text, without_last_field(names), otherwise)
+        }
         _ => otherwise,
     }
 }
@@ -160,25 +139,16 @@ fn two_names<'a>(text: &[u8], names: &[u8], otherwise: Parts<'a>) -> Parts<'a> {
     }
 }
 
-/// The fields that a command takes.
-fn form_of<'a>(verb: Option<Verb>) -> &'a str {
-    match verb {
-        Some(Verb::Cap) => "cap takes an arc and its new capacity (cap I U, 3 fields)",
-        Some(Verb::Add) => "add takes two nodes and a capacity (add V W U, 4 fields)",
-        Some(Verb::Close) => "close takes an arc (close I, 2 fields)",
-        Some(Verb::Shut) => "shut takes a node (shut V, 2 fields)",
-        Some(Verb::Solve) => "solve takes nothing (1 field)",
-        Some(Verb::Undo | Verb::Redo) => "undo and redo take a count or nothing (1 or 2 fields)",
-        _ => "print takes problem, flow or cut (2 fields)",
-    }
-}
-
-fn not_a_number<'a>(verb: Option<Verb>, line: &'a [u8], known: Known<'_>) -> Parts<'a> {
+fn not_a_number<'a>(
+    command: Option<&'static Command>,
+    line: &'a [u8],
+    known: Known<'_>,
+) -> Parts<'a> {
     let places = Places { first: 2, last: 4 };
     let Some(placed) = first_fault(line, places, NumberFault::NotANumber) else {
         return words("a number has digits alone");
     };
-    let Some(thing) = thing_at(verb, placed.place) else {
+    let Some(thing) = thing_at(command, placed.place) else {
         return no_number(placed.field, way_on(placed.field));
     };
     match known
@@ -190,13 +160,9 @@ fn not_a_number<'a>(verb: Option<Verb>, line: &'a [u8], known: Known<'_>) -> Par
     }
 }
 
-/// What the number in this field of a command stands for.
-fn thing_at(verb: Option<Verb>, place: usize) -> Option<Thing> {
-    match (verb?, place) {
-        (Verb::Cap | Verb::Close, 2) => Some(Thing::Arc),
-        (Verb::Add, 2 | 3) | (Verb::Shut, 2) => Some(Thing::Node),
-        _ => None,
-    }
+/// What the number in this field of a command stands for, if that may have a name.
+fn thing_at(command: Option<&'static Command>, place: usize) -> Option<Thing> {
+    *command?.numbers.get(place.checked_sub(2)?)?
 }
 
 fn by_name<'a>(thing: Thing, name: &'a [u8], named: Named) -> Parts<'a> {

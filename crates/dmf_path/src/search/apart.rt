@@ -85,7 +85,7 @@ pub fn begun_over(search: Option<Search>, shared: &Shared) -> Option<Own>
 }
 
 impl Shared {
-    /// The same for another search. `None` if more searches share it than can be counted. Takes no memory.
+    /// A handle on it for another search. `None` if more searches share it than can be counted. Takes no memory.
     pub fn share(&self) -> Option<Shared>
         ensures shared { AreShared self.now → IfSome result AreShared }
         ensures table { IfSome result (λ shared. shared.table.value ≡ self.now.table.value) }
@@ -108,7 +108,6 @@ impl Own {
     {
         self.asides.clear();
         self.ball.forget();
-        let levels = self.levels.over(&shared.table);
         let links = Links {
             table: shared.table,
             takes_back: self.takes_back,
@@ -119,7 +118,7 @@ impl Own {
             links,
             places: shared.places,
             numbers: shared.numbers,
-            levels,
+            levels: self.levels,
             ball: self.ball,
             asides: self.asides,
             trail: self.trail,

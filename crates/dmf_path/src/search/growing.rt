@@ -1,23 +1,36 @@
 //! A search takes in a pair more, and with it another search over the same links.
-ghost use Rattle.std.specs.Prelude.{◌≡◌, ◌+◌, ◌-◌, ◌^◌, ◌<◌, ◌≤◌, length, insert, Some, IfSome};
-ghost use Rattle.dmf_path.specs.Apart.{AreShared, HasGrown};
-ghost use Rattle.dmf_links.specs.Grown.{AreGrown, HasEndsOf};
+ghost use Rattle.std.specs.Prelude.{◌≡◌, ◌≢◌, ◌+◌, ◌-◌, ◌^◌, ◌<◌, ◌≤◌, length, insert, Some, IfSome};
+ghost use Rattle.dmf_path.specs.Apart.{AreShared, IsIdled, TakesIn};
+ghost use Rattle.dmf_links.specs.Grown.{HasEndsOf};
 ghost use Rattle.dmf_links.specs.LinkTable.{links_of};
-ghost use Rattle.dmf_links.specs.Pair.{IsPair};
-ghost use Rattle.dmf_path.specs.Search.{Searched, with_pairs};
+ghost use Rattle.dmf_links.specs.Pair.{IsPair, emptied};
+ghost use Rattle.dmf_links.specs.Stack.{IsPutOn, IsTakenOff};
+ghost use Rattle.dmf_path.specs.Search.{Searched, with_pairs, with_rooms};
 
 use crate::search::Search;
-use crate::search::apart::{Own, Shared, begun_over};
-use dmf_links::{NewPair, Pair, grow_numbers, open_flag, place_pair};
+use crate::search::apart::{Shared, begun_over};
+use dmf_links::{Pair, has_spare, idle_pair, number_last, put_on, take_off};
 use std::alloc::Global;
 use std::rc::Rc;
+
+/// The rooms of a pair.
+#[derive(Clone, Copy)]
+pub struct Rooms {
+    /// The room of the link along it.
+    pub along: u64,
+    /// The room of the link against it.
+    pub against: u64,
+    ghost fits: { along + against < 2 ^ 64 },
+}
 
 impl Search {
     /// The search with this pair before the last one, and with it another search with a pair between the same nodes before its last one,
     /// if one is given. The two share the links. In place of the other search there is `None`, if it has other links.
     ///
-    /// Takes memory for two links more where there is no room for them, and time for writing all links once in their order. Labelling
-    /// begins anew. `None` if memory is refused, or where one more search has the same links.
+    /// The pair gets spare links. Takes constant time, and time for each node that has a label, since labelling begins anew; with another
+    /// search, time for a look at each link. Takes memory for a place. Where an end of the pair has no spare link, all links are made anew,
+    /// with memory and time as [`new`](Search::new) takes them, and in place of the other search there is `None`. `None` if memory is
+    /// refused, or where one more search has the same links.
     pub fn insert(
         self,
         alloc: Global,
@@ -34,63 +47,139 @@ impl Search {
         ensures other { IfSome result (λ both. IfSome both.1 (λ search. (o : Searched) × ((other ≡ Some o)
             × (search ≡ with_pairs o (insert o.pairs (length o.pairs - 1) (Some other_pair)))))) }
     {
-        let (shared, own) = self.begun();
-        let others = begun_over(other, &shared);
-        let (grown, new) = grow(alloc, shared, pair)?;
-        let Some(others) = others else {
-            let search = own.taking_in(&new, pair, grown)?;
-            return Some((search, None));
+        let k = self.places.len() - 1;
+        let (search, other) = self.ready_for(alloc, pair, other)?;
+        let (search, last) = search.idled(k)?;
+        let (shared, own) = search.begun();
+        let Some(other) = other else {
+            let shared = shared.taking_in(Some(pair))?;
+            return Some((own.over(shared).roomy(k, pair, last), None));
         };
-        let other = others.taking_in(&new, other_pair, grown.share()?)?;
-        let search = own.taking_in(&new, pair, grown)?;
-        Some((search, Some(other)))
+        let (other, other_last) = other.idled(k)?;
+        let others = begun_over(Some(other), &shared)?;
+        let shared = shared.taking_in(Some(pair))?;
+        let other = others.over(shared.share()?);
+        let search = own.over(shared);
+        Some((
+            search.roomy(k, pair, last),
+            Some(other.roomy(k, other_pair, other_last)),
+        ))
     }
-}
 
-impl Own {
-    /// The search over the links with those of a new pair, put together with the rooms of this pair, which has the same ends. Takes
-    /// memory for the rooms and the flags where there is no room for them.
-    fn taking_in(mut self, new: &NewPair, pair: Pair, grown: Shared) -> Option<Search>
-        requires shared { AreShared grown }
-        requires grown { (s : Searched) × HasGrown self new.now pair (links_of grown.table.value) grown.places.value s }
-        requires fits { pair.along + pair.against < 2 ^ 64 }
-        ensures { (s : Searched) → HasGrown self new.now pair (links_of grown.table.value) grown.places.value s
-            → IfSome result (λ search. search ≡ with_pairs s (insert s.pairs (length s.pairs - 1) (Some pair))) }
+    /// The same searches, if both ends of the pair have spare links; or else the first one alone, over links made anew.
+    fn ready_for(
+        self,
+        alloc: Global,
+        pair: Pair,
+        other: Option<Search>,
+    ) -> Option<(Search, Option<Search>)>
+        requires { IsPair self.nodes pair }
+        ensures search { IfSome result (λ both. both.0 ≡ self) }
+        ensures other { IfSome result (λ both. IfSome both.1 (λ search. other ≡ Some search)) }
     {
-        let new = new.with_rooms_of(pair);
-        self.rooms = new.gap.put_two(self.rooms, new.low_room, new.high_room)?;
-        let low_flag = open_flag(new.high_room);
-        let high_flag = open_flag(new.low_room);
-        self.flags = new.gap.put_two(self.flags, low_flag, high_flag)?;
-        Some(self.over(grown))
+        if !has_spare(&self.links.table, pair.tail) {
+            return Some((self.with_spares(alloc, pair.tail)?, None));
+        }
+        if !has_spare(&self.links.table, pair.head) {
+            return Some((self.with_spares(alloc, pair.head)?, None));
+        }
+        Some((self, other))
+    }
+
+    /// The search without room at its last pair, if that has index `k`, and the rooms that the pair had, or none if there is no pair. Takes
+    /// no memory.
+    pub(super) fn idled(mut self, k: usize) -> Option<(Search, Rooms)>
+        requires { k < 2 ^ 32 }
+        ensures { IfSome result (λ idle. IsIdled self k idle.0 idle.1.along idle.1.against) }
+    {
+        if self.places.len() != k + 1 {
+            return None;
+        }
+        let along = self.along(k).unwrap_or(0);
+        let against = self.against(k).unwrap_or(0);
+        if along > u64::MAX - against {
+            return None;
+        }
+        self.set_rooms(k, 0, 0);
+        Some((self, Rooms { along, against }))
+    }
+
+    /// The search with these rooms of the pair at index `k`, and of the last one behind it. Takes no memory.
+    fn roomy(mut self, k: usize, pair: Pair, last: Rooms) -> Search
+        requires count { length self.pairs ≡ k + 2 }
+        requires fits { pair.along + pair.against < 2 ^ 64 }
+        ensures { result ≡ with_pairs self (with_rooms (with_rooms self.pairs k pair.along pair.against) (k + 1) last.along last.against) }
+    {
+        self.set_rooms(k, pair.along, pair.against);
+        self.set_rooms(k + 1, last.along, last.against);
+        self
     }
 }
 
-/// The links with those of this pair before the last one. `None` if memory is refused, or if others have the links too.
-fn grow(alloc: Global, shared: Shared, pair: Pair) -> Option<(Shared, NewPair)>
-    requires shared { AreShared shared }
-    requires pair { IsPair shared.table.value.nodes pair }
-    requires some { 0 < length shared.places.value }
-    requires few { length shared.places.value ≤ 2 ^ 27 }
-    ensures shared { IfSome result (λ grown. AreShared grown.0) }
-    ensures grown { IfSome result (λ grown. AreGrown (links_of shared.table.value) shared.places.value pair grown.1
-        (links_of grown.0.table.value) grown.0.places.value) }
-{
-    let new = place_pair(&shared.table, &shared.places, pair);
-    let k = shared.places.len() as u32 - 1;
-    let numbers = grow_numbers(alloc, shared.numbers, &new.gap, k);
-    let table = Rc::into_inner(shared.table)?.grown(&new.gap)?;
-    let places = Rc::into_inner(shared.places)?.grown(&new)?;
-    let Ok(table) = Rc::new(alloc, table) else {
-        return None;
-    };
-    let Ok(places) = Rc::new(alloc, places) else {
-        return None;
-    };
-    let grown = Shared {
-        table,
-        places,
-        numbers,
-    };
-    Some((grown, new))
+impl Shared {
+    /// The links with those of this pair before the last one, both without room. Takes memory for a place. `None` if it is refused, if an
+    /// end of a pair has no spare link, or where another search has the same links.
+    fn taking_in(self, pair: Option<Pair>) -> Option<Shared>
+        requires shared { AreShared self }
+        requires pair { IfSome pair (IsPair self.table.value.nodes) }
+        requires some { 0 < length self.places.value }
+        requires few { length self.places.value ≤ 2 ^ 27 }
+        ensures shared { IfSome result AreShared }
+        ensures taken { IfSome result (λ after. TakesIn (links_of self.table.value) self.places.value pair (links_of after.table.value) after.places.value) }
+    {
+        let last = idle_pair(&self.table, &self.places, self.places.len() - 1);
+        let off = self.without_last()?;
+        let on = off.with_last(pair)?;
+        on.with_last(last)
+    }
+
+    /// The links with those of this pair, without room, behind the others. Takes memory for a place. `None` if it is refused, if an end of
+    /// the pair has no spare link, or where another search has the same links.
+    pub(super) fn with_last(self, pair: Option<Pair>) -> Option<Shared>
+        requires shared { AreShared self }
+        requires pair { IfSome pair (IsPair self.table.value.nodes) }
+        requires few { length self.places.value ≤ 2 ^ 27 }
+        ensures shared { IfSome result AreShared }
+        ensures on { IfSome result (λ after. IsPutOn (links_of self.table.value) self.places.value (emptied pair)
+            (links_of after.table.value) after.places.value) }
+    {
+        let Shared {
+            mut table,
+            mut places,
+            numbers,
+        } = self;
+        if !put_on(Rc::get_mut(&mut table)?, Rc::get_mut(&mut places)?, pair) {
+            return None;
+        }
+        let numbers = number_last(&table, &places, numbers);
+        Some(Shared {
+            table,
+            places,
+            numbers,
+        })
+    }
+
+    /// The links without those of the last pair, which are spare then. `None` where another search has the same links, or if the memory is
+    /// refused that the call takes the first time.
+    pub(super) fn without_last(self) -> Option<Shared>
+        requires shared { AreShared self }
+        requires some { 0 < length self.places.value }
+        ensures shared { IfSome result AreShared }
+        ensures off { IfSome result (λ after. IsTakenOff (links_of self.table.value) self.places.value
+            (links_of after.table.value) after.places.value) }
+    {
+        let Shared {
+            mut table,
+            mut places,
+            numbers,
+        } = self;
+        if !take_off(Rc::get_mut(&mut table)?, Rc::get_mut(&mut places)?) {
+            return None;
+        }
+        Some(Shared {
+            table,
+            places,
+            numbers,
+        })
+    }
 }

@@ -1,8 +1,8 @@
 //! Making a search from pairs, or over the links of another search.
-ghost use Rattle.std.specs.Prelude.{◌≡◌, ◌≢◌, ◌^◌, ◌≤◌, length, map, replicate, [], IfOk};
+ghost use Rattle.std.specs.Prelude.{◌≡◌, ◌≢◌, ℕ, ◌^◌, ◌≤◌, ◌<◌, slice_index, length, map, replicate, [], IfOk};
 ghost use Rattle.dmf_node.specs.Node.{IsNode};
 ghost use Rattle.dmf_links.specs.Pair.{ArePairs, emptied};
-ghost use Rattle.dmf_links.specs.Links.{AreBuilt, ArePlaces, AreRooms, pairs_at};
+ghost use Rattle.dmf_links.specs.Links.{AreBuilt, ArePlaces, AreRooms, IsSpare, pairs_at};
 ghost use Rattle.dmf_links.specs.LinkTable.{links_of};
 
 use crate::aside::Ends;
@@ -171,7 +171,8 @@ fn put_pairs<P: Pairs>(table: &LinkTable, places: &Places, pairs: &P, rooms: &mu
     requires same_ends { map emptied (P.pairs pairs.now) ≡ pairs_at (links_of table.now) places.now [] }
     requires one_room_each { length rooms.old ≡ length table.now.heads.items }
     requires zeros { rooms.old ≡ replicate (length rooms.old) 0 }
-    ensures { pairs_at (links_of table.now) places.now rooms.new ≡ P.pairs pairs.now }
+    ensures pairs { pairs_at (links_of table.now) places.now rooms.new ≡ P.pairs pairs.now }
+    ensures spares { (p : ℕ) → p < length table.now.heads.items → IsSpare (links_of table.now) p → slice_index rooms.new p ≡ 0 }
 {
     for k in 0..pairs.len() {
         if let Some(pair) = pairs.pair(k) {

@@ -1,69 +1,85 @@
-//! A pair is taken out of a search, and with it out of another search over the same links.
-ghost use Rattle.std.specs.Prelude.{◌≡◌, ℕ, ◌-◌, ◌<◌, ◌≤◌, length, remove, Some, IfSome};
-ghost use Rattle.dmf_path.specs.Apart.{AreShared, HasShrunk};
-ghost use Rattle.dmf_links.specs.Grown.{IsGrown};
+//! A search leaves out the pair before the last one, and with it another search over the same links.
+ghost use Rattle.std.specs.Prelude.{◌≡◌, ℕ, ◌+◌, ◌-◌, ◌^◌, ◌<◌, ◌≤◌, length, remove, take, Some, IfSome};
+ghost use Rattle.dmf_path.specs.Apart.{AreShared, LeavesOut};
 ghost use Rattle.dmf_links.specs.LinkTable.{links_of};
-ghost use Rattle.dmf_path.specs.Search.{Searched, with_pairs};
-ghost use Rattle.dmf_links.specs.Shrunk.{AreShrunk, IsFilled, IsUnplaced};
+ghost use Rattle.dmf_links.specs.Pair.{emptied, pair_number};
+ghost use Rattle.dmf_path.specs.Search.{Searched, with_pairs, with_rooms};
 
 use crate::search::Search;
-use crate::search::apart::{Own, Shared, begun_over};
-use dmf_links::{Gap, LinkTable, Places, gap_of, numbers_left, shrink_own};
-use std::rc::Rc;
+use crate::search::apart::{Shared, begun_over};
+use crate::search::growing::Rooms;
+use dmf_links::idle_pair;
 
 impl Search {
     /// The search without the pair before the last one, as it was before [`insert`](Search::insert), and with it another search without
-    /// its pair before the last one, if one is given. In place of the other search there is `None`, if it has other links.
+    /// its pair before the last one, if one is given.
     ///
-    /// Takes no memory, and time for writing all links once in their order. Labelling begins anew. `None` where there is no pair at that
-    /// index, or where one more search has the same links.
+    /// The links of the pair are spare then. Takes constant time, and time for each node that has a label, since labelling begins anew; with
+    /// another search, time for a look at each link. Takes no memory, but the first time for a number a node. `None` if that is refused, if
+    /// the other search has other links, or where one more search has the same links.
     pub fn remove(self, other: Option<Search>) -> Option<(Search, Option<Search>)>
         requires { 2 ≤ length self.pairs }
         ensures search { IfSome result (λ both. both.0 ≡ with_pairs self (remove self.pairs (length self.pairs - 2))) }
         ensures other { IfSome result (λ both. IfSome both.1 (λ search. (o : Searched) × ((other ≡ Some o)
             × (search ≡ with_pairs o (remove o.pairs (length o.pairs - 2)))))) }
     {
-        let (shared, own) = self.begun();
-        let others = begun_over(other, &shared);
-        let (left, gap) = shrink(shared)?;
-        let Some(others) = others else {
-            return Some((own.leaving_out(&gap, left), None));
+        let k = self.places.len() - 1;
+        let (mut search, last) = self.idled(k)?;
+        search.set_rooms(k - 1, 0, 0);
+        let (shared, own) = search.begun();
+        let Some(other) = other else {
+            let shared = shared.leaving_out()?;
+            return Some((own.over(shared).with_last_rooms(k - 1, last), None));
         };
-        let other = others.leaving_out(&gap, left.share()?);
-        Some((own.leaving_out(&gap, left), Some(other)))
+        let (mut other, other_last) = other.idled(k)?;
+        other.set_rooms(k - 1, 0, 0);
+        let others = begun_over(Some(other), &shared)?;
+        let shared = shared.leaving_out()?;
+        let other = others.over(shared.share()?);
+        let search = own.over(shared);
+        Some((
+            search.with_last_rooms(k - 1, last),
+            Some(other.with_last_rooms(k - 1, other_last)),
+        ))
     }
-}
 
-impl Own {
-    /// The search over the links that are left, without what it kept of the two that are gone. Takes no memory.
-    fn leaving_out(mut self, gap: &Gap, left: Shared) -> Search
-        requires shared { AreShared left }
-        requires left { (s : Searched) × HasShrunk self gap.now (links_of left.table.value) left.places.value s }
-        ensures { (s : Searched) → HasShrunk self gap.now (links_of left.table.value) left.places.value s
-            → result ≡ with_pairs s (remove s.pairs (length s.pairs - 2)) }
+    /// The search without its last pairs, so many, which have no room: their links are spare then. Takes a number a node. `None` if that
+    /// is refused, or where another search has the same links.
+    pub fn without_last(self, count: usize) -> Option<Search>
+        requires many { count ≤ length self.pairs }
+        requires idle { (k : ℕ) → length self.pairs - count ≤ k → emptied (pair_number self.pairs k) ≡ pair_number self.pairs k }
+        ensures { IfSome result (λ search. search ≡ with_pairs self (take (length self.pairs - count) self.pairs)) }
     {
-        gap.take_two(&mut self.rooms);
-        gap.take_two(&mut self.flags);
-        self.over(left)
+        let (shared, own) = self.begun();
+        let mut left = shared;
+        for _ in 0..count {
+            left = left.without_last()?;
+        }
+        Some(own.over(left))
+    }
+
+    /// The search with these rooms of its last pair, at index `k`. Takes no memory.
+    fn with_last_rooms(mut self, k: usize, last: Rooms) -> Search
+        requires { k < length self.pairs }
+        ensures { result ≡ with_pairs self (with_rooms self.pairs k last.along last.against) }
+    {
+        self.set_rooms(k, last.along, last.against);
+        self
     }
 }
 
-/// The links without those of the pair before the last one, and where these were. `None` where there is no pair at that index, or where
-/// another search has the same links. Takes no memory.
-fn shrink(mut shared: Shared) -> Option<(Shared, Gap)>
-    requires shared { AreShared shared }
-    requires two { 2 ≤ length shared.places.value }
-    ensures shared { IfSome result (λ left. AreShared left.0) }
-    ensures left { IfSome result (λ left. AreShrunk (links_of shared.table.value) shared.places.value (length shared.places.value - 2) left.1
-        (links_of left.0.table.value) left.0.places.value) }
-{
-    let k = shared.places.len() - 2;
-    let place = shared.places.place_of(k)?;
-    let gap = gap_of(&shared.table, place);
-    if !shrink_own(&mut shared.table, &gap) {
-        return None;
+impl Shared {
+    /// The links without those of the pair before the last one. Takes no memory, but the first time for a number a node. `None` if that is
+    /// refused, or where another search has the same links.
+    fn leaving_out(self) -> Option<Shared>
+        requires shared { AreShared self }
+        requires two { 2 ≤ length self.places.value }
+        ensures shared { IfSome result AreShared }
+        ensures left { IfSome result (λ after. LeavesOut (links_of self.table.value) self.places.value (links_of after.table.value) after.places.value) }
+    {
+        let last = idle_pair(&self.table, &self.places, self.places.len() - 1);
+        let off = self.without_last()?;
+        let less = off.without_last()?;
+        less.with_last(last)
     }
-    Rc::get_mut(&mut shared.places)?.leave_out(k, &gap);
-    shared.numbers = numbers_left(shared.numbers, &gap, k as u32);
-    Some((shared, gap))
 }

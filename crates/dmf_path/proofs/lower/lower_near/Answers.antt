@@ -4,8 +4,13 @@ use Rattle.dmf_path.proofs.LoweredLabels.{lowered-from, lowered-again}
 use Rattle.dmf_path.proofs.lower.lower_near.Goals as goal
 use Rattle.dmf_path.proofs.lower.lower_near.Goals.{then-node-start, else-node-start}
 
+pub lower_node-requires-clause-labels : goal.lower_node-requires-clause-labels
+lower_node-requires-clause-labels c =
+    let lowered = c.loop-back.invariant.lowered in
+    record { whole = lowered.whole; current_is = lowered.current_is }
+
 pub loop-back-init : goal.loop-back-init
-loop-back-init c = record { lowered = lowered-from c.requires.whole c.requires.current; start = refl }
+loop-back-init c = record { lowered = lowered-from c.requires.labels; start = refl }
 
 pub loop-back-preserved : goal.loop-back-preserved
 loop-back-preserved c =

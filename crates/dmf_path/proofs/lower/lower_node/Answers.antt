@@ -10,8 +10,9 @@ may : (c : After-set_label) → MayFall (links_of c.args.links.now.table.value) 
     c.args.near.now.labels c.args.node c.saturating_sub-label.result
 may c = record {
   links = c.args.links.now.table.value.are;
+  roomy = c.args.links.now.rooms_are;
   flagged = c.args.links.now.flags_are;
-  whole = c.requires.whole;
+  whole = c.requires.labels.whole;
   node = c.requires.node;
   lower = omega (arith, c.if-label-own.false, c.label-own.ensures);
   labelled = λ none. c.if-own.false (c.label-own.ensures ∙ none);
@@ -23,7 +24,7 @@ may c = record {
 }
 
 pub returns-then-own-clause-lowered : goal.returns-then-own-clause-lowered
-returns-then-own-clause-lowered c = lowered-from c.requires.whole c.requires.current
+returns-then-own-clause-lowered c = lowered-from c.requires.labels
 
 pub returns-clause-lowered : goal.returns-clause-lowered
 returns-clause-lowered c =

@@ -6,10 +6,12 @@ use Rattle.dmf_path.proofs.phase.find.Goals as goal
 pub go_on-requires : goal.go_on-requires
 go_on-requires c = record {
   goes = record {
-    searching = c.requires.keeps.searching;
-    ready = c.requires.keeps.ready;
-    lasting = c.requires.keeps.lasting;
-    fit = c.keep_for.ensures.fit _ c.requires.keeps.fit;
+    keeps = record {
+      searching = c.requires.keeps.searching;
+      ready = c.requires.keeps.ready;
+      lasting = c.requires.keeps.lasting;
+      fit = c.keep_for.ensures.fit _ c.requires.keeps.fit;
+    };
     around = c.keep_for.ensures.around;
   };
 }
@@ -17,5 +19,5 @@ go_on-requires c = record {
 pub returns-clause-none : goal.returns-clause-none
 returns-clause-none c ended =
     subst (λ (s : Sought). IsParted s.residual.links s.residual.rooms s.start s.goal c.go_on_anew.new.marks)
-    (c.go_on_mended.ensures.same ∙ c.go_on.ensures.same)
+    (c.go_on_mended.ensures.on.same ∙ c.go_on.ensures.on.same)
     (c.go_on_anew.ensures.none ended)

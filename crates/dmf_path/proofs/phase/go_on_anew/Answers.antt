@@ -12,7 +12,7 @@ use Rattle.dmf_path.proofs.phase.go_on_anew.Goals as goal
 use Rattle.dmf_path.proofs.phase.go_on_anew.Goals.{After-settle, After-relabel}
 
 pub settle-requires : goal.settle-requires
-settle-requires c = record { can = can-settle c.requires.goes.searching }
+settle-requires c = record { can = can-settle c.requires.goes.keeps.searching }
 
 -- After all links have left, the search goes on, and its rooms are as they are told.
 settled : (c : After-settle) → Goes c.settle.new.links c.args.levels.now c.args.ball.now c.settle.new.self
@@ -39,8 +39,10 @@ free c = c.relabel.ensures.same
 pub go_on-requires : goal.go_on-requires
 go_on-requires c = record { goes = c.relabel.ensures.goes }
 
-pub returns-then-relabel-clause-same : goal.returns-then-relabel-clause-same
-returns-then-relabel-clause-same c = c.go_on.ensures.same ∙ plain (goal.at.returns-then-relabel-clause-same c).After-relabel
+pub returns-then-relabel-clause-on : goal.returns-then-relabel-clause-on
+returns-then-relabel-clause-on c =
+    let on = c.go_on.ensures.on in
+    record { goes = on.goes; same = on.same ∙ plain (goal.at.returns-then-relabel-clause-on c).After-relabel; found_is = on.found_is }
 
 pub returns-then-relabel-clause-none : goal.returns-then-relabel-clause-none
 returns-then-relabel-clause-none c =
@@ -50,8 +52,12 @@ returns-then-relabel-clause-none c =
     (sym (free at)) found.1 in
     λ ended. absurd (c.go_on.ensures.none ended found.0 walk)
 
-pub returns-else-relabel-clause-same : goal.returns-else-relabel-clause-same
-returns-else-relabel-clause-same c = plain (goal.at.returns-else-relabel-clause-same c).After-relabel
+pub returns-else-relabel-clause-on : goal.returns-else-relabel-clause-on
+returns-else-relabel-clause-on c = record {
+  goes = c.relabel.ensures.goes;
+  same = plain (goal.at.returns-else-relabel-clause-on c).After-relabel;
+  found_is = λ found. absurd (cc);
+}
 
 pub returns-else-relabel-clause-none : goal.returns-else-relabel-clause-none
 returns-else-relabel-clause-none c =

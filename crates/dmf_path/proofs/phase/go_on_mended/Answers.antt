@@ -7,13 +7,13 @@ use Rattle.dmf_path.proofs.Going.{goes-settled}
 use Rattle.dmf_path.proofs.Settling.{can-settle}
 use Rattle.dmf_path.proofs.SearchTurns.{sought-settled, told-settled}
 use Rattle.dmf_path.proofs.phase.go_on_mended.Goals as goal
-use Rattle.dmf_path.proofs.phase.go_on_mended.Goals.{After-mend}
+use Rattle.dmf_path.proofs.phase.go_on_mended.Goals.{After-mend_labels}
 
 pub settle-requires : goal.settle-requires
-settle-requires c = record { can = can-settle c.requires.goes.searching }
+settle-requires c = record { can = can-settle c.requires.goes.keeps.searching }
 
-pub mend-requires : goal.mend-requires
-mend-requires c =
+pub mend_labels-requires : goal.mend_labels-requires
+mend_labels-requires c =
     let e = c.settle.ensures in
     record {
       goes = goes-settled c.requires.goes e.links e.way;
@@ -21,13 +21,17 @@ mend-requires c =
     }
 
 -- The network and the ends are the same after all links have left, and after labels are lowered.
-plain : (c : After-mend) → sought (residual_of c.settle.new.links) (way_of c.mend.new.trail) ≡ sought (residual_of c.args.links.now)
+plain : (c : After-mend_labels) → sought (residual_of c.settle.new.links) (way_of c.mend_labels.new.trail) ≡ sought (residual_of c.args.links.now)
     (way_of c.args.trail.now)
-plain c = c.mend.ensures.same
+plain c = c.mend_labels.ensures.same
     ∙ sought-settled (residual_of c.args.links.now) (way_of c.args.trail.now) c.settle.ensures.links c.settle.ensures.way
 
-pub returns-then-mend-clause-same : goal.returns-then-mend-clause-same
-returns-then-mend-clause-same c = c.go_on.ensures.same ∙ plain (goal.at.returns-then-mend-clause-same c).After-mend
+pub returns-then-mend_labels : goal.returns-then-mend_labels
+returns-then-mend_labels c =
+    let on = c.go_on.ensures.on in
+    record { on = record { goes = on.goes; same = on.same ∙ plain (goal.at.returns-then-mend_labels c).After-mend_labels; found_is = on.found_is } }
 
-pub returns-else-mend-clause-same : goal.returns-else-mend-clause-same
-returns-else-mend-clause-same c = plain (goal.at.returns-else-mend-clause-same c).After-mend
+pub returns-else-mend_labels : goal.returns-else-mend_labels
+returns-else-mend_labels c = record {
+  on = record { goes = c.mend_labels.ensures.goes; same = plain (goal.at.returns-else-mend_labels c).After-mend_labels; found_is = λ found. absurd (cc) };
+}

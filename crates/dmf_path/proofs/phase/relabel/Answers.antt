@@ -28,8 +28,8 @@ same c slots way =
 
 pub label_anew-requires : goal.label_anew-requires
 label_anew-requires c =
-    let a = c.requires.goes.searching.aimed in
-    let is = ready-at c.args.links.now.table.value.nodes c.args.levels.now c.requires.goes.ready a.one_label_each in
+    let a = c.requires.goes.keeps.searching.aimed in
+    let is = ready-at c.args.links.now.table.value.nodes c.args.levels.now c.requires.goes.keeps.ready a.one_label_each in
     record {
       near_is = ap (λ (f : Reach). f.labels) c.unlabel.ensures ∙ ap (λ n. replicate n no_label) is.one_label_each;
       far_is = is.far_is;
@@ -41,25 +41,27 @@ label_anew-requires c =
 pub make_fresh-requires : goal.make_fresh-requires
 make_fresh-requires c = record {
   ready = rw c.deref.ensures c.label_anew.ensures.relabelled.ready;
-  start = rw c.deref.ensures c.requires.goes.searching.aimed.start_is;
-  goal = rw c.deref.ensures c.requires.goes.searching.aimed.goal_is;
+  start = rw c.deref.ensures c.requires.goes.keeps.searching.aimed.start_is;
+  goal = rw c.deref.ensures c.requires.goes.keeps.searching.aimed.goal_is;
 }
 
 pub returns-then-not-label_anew : goal.returns-then-not-label_anew
 returns-then-not-label_anew c =
-    let a = c.requires.goes.searching.aimed in
+    let a = c.requires.goes.keeps.searching.aimed in
     let m = rw c.deref.ensures at c.make_fresh.ensures in
     let w = way_of c.args.trail.now in
     let current = subst (AreCurrent (links_of c.args.links.now.table.value)) (sym (ap (λ v. v.items) (m.current ∙ c.label_anew.ensures.relabelled.current)))
-    c.requires.goes.searching.under_way.walking.current_is in
+    c.requires.goes.keeps.searching.under_way.walking.current_is in
     let still = same (goal.at.returns-then-not-label_anew c).Start [] m.way in
-    let anew = searching-anew (labelling_of c.make_fresh.new.levels) c.requires.goes.searching a.start_is a.goal_is a.apart m.labels current m.way in
+    let anew = searching-anew (labelling_of c.make_fresh.new.levels) c.requires.goes.keeps.searching a.start_is a.goal_is a.apart m.labels current m.way in
     record {
       goes = record {
-        searching = anew.0;
-        ready = (c.args.links.now.table.value.nodes, m.ready);
-        lasting = λ e. let no = m.all in absurd (cc);
-        fit = subst (IsFit c.args.ball.now) (c.requires.settled ∙ sym still.0) c.requires.goes.fit;
+        keeps = record {
+          searching = anew.0;
+          ready = (c.args.links.now.table.value.nodes, m.ready);
+          lasting = λ e. let no = m.all in absurd (cc);
+          fit = subst (IsFit c.args.ball.now) (c.requires.settled ∙ sym still.0) c.requires.goes.keeps.fit;
+        };
         around = λ some. c.requires.goes.around some ∙ sym (ap (λ (u : Way). u.goal) m.way);
       };
       same = still.1;
@@ -74,7 +76,7 @@ set_current-requires c =
     record {
       nodes = rw (c.deref-2.ensures, c.queue.ensures.value) (λ i before. omega (arith, c.queue.ensures.queued.within i before, is.one_label_each));
       current = rw c.deref-2.ensures (subst (AreCurrent (links_of c.args.links.now.table.value)) (sym (c.deref_mut.ensures.value ∙ same))
-          c.requires.goes.searching.under_way.walking.current_is);
+          c.requires.goes.keeps.searching.under_way.walking.current_is);
     }
 
 -- the labels of the start and of the goal are read
@@ -97,11 +99,11 @@ pub free-requires : goal.free-requires
 free-requires c =
     let labelled = c.label_anew.ensures.relabelled.labelled c.if-not-label_anew.false in
     let read = (read (goal.at.free-requires c).After-label-goal_label).0 in
-    record { capacity = omega (arith, read, labelled.start_label, c.requires.goes.searching.aimed.capacity_is) }
+    record { capacity = omega (arith, read, labelled.start_label, c.requires.goes.keeps.searching.aimed.capacity_is) }
 
 pub returns : goal.returns
 returns c =
-    let a = c.requires.goes.searching.aimed in
+    let a = c.requires.goes.keeps.searching.aimed in
     let links = c.args.links.now in
     let l = links_of links.table.value in
     let w = way_of c.args.trail.now in
@@ -115,7 +117,7 @@ returns c =
     let skipped : AreSkipped l levels.near.labels links.rooms.items c.set_current.new.current = skipped-first l levels.near.labels links.rooms.items c.set_current.new.current a.links labelled.sound.small first in
     let aimed = aimed-with (residual_of links) w a labelled.start_label labelled.sound in
     let v : Labelling = record { labels = levels.near.labels; current = c.set_current.new.current } in
-    let searching = searching-free (residual_of links) v w slots aimed links.rooms_are c.requires.goes.searching.holding.small
+    let searching = searching-free (residual_of links) v w slots aimed links.rooms_are c.requires.goes.keeps.searching.holding.small
     (rw c.deref-2.ensures at c.set_current.ensures.current)
     (λ v p ps node lies before walk. skipped v p node lies before walk.0)
     (omega (
@@ -133,10 +135,12 @@ returns c =
     } in
     record {
       goes = record {
-        searching = rw (current, c.free.ensures.way) searching;
-        ready = (links.table.value.nodes, is);
-        lasting = λ all. rw current (subst (AreLasting v c.clear.new.self) (sym still.0) (lasting all));
-        fit = subst (IsFit c.renew.new.self) (sym still.0) c.renew.ensures.fit;
+        keeps = record {
+          searching = rw (current, c.free.ensures.way) searching;
+          ready = (links.table.value.nodes, is);
+          lasting = λ all. rw current (subst (AreLasting v c.clear.new.self) (sym still.0) (lasting all));
+          fit = subst (IsFit c.renew.new.self) (sym still.0) c.renew.ensures.fit;
+        };
         around = λ some. c.renew.ensures.around some ∙ sym (ap (λ (u : Way). u.goal) c.free.ensures.way);
       };
       same = still.1;
@@ -145,4 +149,4 @@ returns c =
     }
 
 pub renew-requires : goal.renew-requires
-renew-requires c = record { fit = record { fit = subst (IsFit c.args.ball.now) c.requires.settled c.requires.goes.fit; around = c.requires.goes.around }; goal = c.requires.goes.searching.aimed.goal_is }
+renew-requires c = record { fit = record { fit = subst (IsFit c.args.ball.now) c.requires.settled c.requires.goes.keeps.fit; around = c.requires.goes.around }; goal = c.requires.goes.keeps.searching.aimed.goal_is }

@@ -3,8 +3,13 @@ use Rattle.std.proofs.Common.{◌∙◌, refl}
 use Rattle.dmf_path.proofs.LoweredLabels.{lowered-from, lowered-again}
 use Rattle.dmf_path.proofs.redirect.lower_labels.Goals as goal
 
+pub lower_near-requires-clause-labels : goal.lower_near-requires-clause-labels
+lower_near-requires-clause-labels c =
+    let lowered = c.loop.invariant.lowered in
+    record { whole = lowered.whole; current_is = lowered.current_is }
+
 pub loop-init : goal.loop-init
-loop-init c = record { lowered = lowered-from c.requires.whole c.requires.current; start = refl }
+loop-init c = record { lowered = lowered-from c.requires.labels; start = refl }
 
 pub loop-preserved : goal.loop-preserved
 loop-preserved c = record {

@@ -8,7 +8,7 @@ use Rattle.dmf_path.proofs.relabel.label_all.Goals as goal
 use Rattle.dmf_path.proofs.relabel.label_all.Goals.{After-label_from}
 
 -- the labels
-labels : (c : After-label_from) → AreLabels (links_of c.args.links.now.table.value) c.args.links.now.flags.items c.args.goal 0 c.label_from.new.self.labels
+labels : (c : After-label_from) → AreLabels (links_of c.args.links.now.table.value) c.args.links.now.flags.items c.args.ends.goal 0 c.label_from.new.self.labels
 labels c = rw (c.deref.ensures, c.deref-2.ensures.value) at c.label_from.ensures
 
 pub returns-clause-whole : goal.returns-clause-whole
@@ -27,7 +27,7 @@ returns-clause-relabelled c =
       labelled = λ yes.
           let has = told.has yes in
           labelled-one links.rooms.items links.flags.items links.table.value.are links.flags_are are c.requires.start_is has
-          (omega (arith, has, are.small c.args.start c.requires.start_is, are.zero, links.table.value.are.at_most_nodes));
+          (omega (arith, has, are.small c.args.ends.start c.requires.start_is, are.zero, links.table.value.are.at_most_nodes));
       none = λ no. parted-unlabelled links.rooms.items links.flags.items links.table.value.are links.flags_are are are.zero (told.none no)
           c.has_label_or_mark.new.marks (told.marks no);
       current = refl;

@@ -12,7 +12,7 @@ use Rattle.dmf_path.proofs.relabel.label_all_from.Goals as goal
 use Rattle.dmf_path.proofs.relabel.label_all_from.Goals.{After-label_from, After-turn}
 
 -- the distances
-distances : (c : After-label_from) → AreLabels (links_of c.args.links.now.table.value) (map open_flag c.args.links.now.rooms.items) c.args.start 0
+distances : (c : After-label_from) → AreLabels (links_of c.args.links.now.table.value) (map open_flag c.args.links.now.rooms.items) c.args.ends.start 0
     c.label_from.new.self.labels
 distances c = rw (c.deref.ensures, c.deref-2.ensures.value) at c.label_from.ensures
 
@@ -27,8 +27,8 @@ returns-then-not-has_label-clause-relabelled c =
     let links = c.args.links.now in
     let labels = c.label_from.new.self.labels in
     let are = distances at in
-    let unset : get_or labels c.args.goal 0 ≡ no_label = c.has_label.ensures.none c.if-not-has_label.true in
-    let all : AreLabels (links_of links.table.value) (map open_flag links.rooms.items) c.args.start c.args.goal labels = record {
+    let unset : get_or labels c.args.ends.goal 0 ≡ no_label = c.has_label.ensures.none c.if-not-has_label.true in
+    let all : AreLabels (links_of links.table.value) (map open_flag links.rooms.items) c.args.ends.start c.args.ends.goal labels = record {
       one_each = are.one_each;
       root_is = are.root_is;
       zero = are.zero;

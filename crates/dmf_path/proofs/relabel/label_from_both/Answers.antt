@@ -26,15 +26,15 @@ meet-requires c =
       start = rw far start_is;
       goal_side = starts-spread goal_is links.flags_are.0 c.requires.near_is near;
       start_side = starts-spread start_is (length-map links.rooms.items open_flag ∙ links.rooms_are.0) c.requires.far_is far;
-      goal_rest = rw near (begun-rest c.args.goal c.args.levels.now.near.labels);
-      start_rest = rw far (begun-rest c.args.start c.args.levels.now.far.labels);
-      apart = rw (near, far, c.requires.near_is, c.requires.far_is) (begun-apart (nodes + 1) c.args.goal c.args.start c.requires.apart
+      goal_rest = rw near (begun-rest c.args.ends.goal c.args.levels.now.near.labels);
+      start_rest = rw far (begun-rest c.args.ends.start c.args.levels.now.far.labels);
+      apart = rw (near, far, c.requires.near_is, c.requires.far_is) (begun-apart (nodes + 1) c.args.ends.goal c.args.ends.start c.requires.apart
           (omega (arith, goal_is.to_last)) (omega (arith, start_is.to_last)));
     }
 
 -- where the searches meet
 has_met : (c : In-Some) → HasMetAt (links_of c.args.links.now.table.value) c.args.links.now.flags.items (map open_flag c.args.links.now.rooms.items)
-    c.args.start c.args.goal c.in-Some.node c.meet.new.to_goal.labels c.meet.new.from_start.labels
+    c.args.ends.start c.args.ends.goal c.in-Some.node c.meet.new.to_goal.labels c.meet.new.from_start.labels
 has_met c = rw (c.begin.ensures, c.begin-2.ensures) at (c.in-Some.ensures.on.met c.in-Some.node refl)
 
 -- the sum of the two labels there, as it is read

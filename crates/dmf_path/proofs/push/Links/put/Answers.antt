@@ -30,6 +30,6 @@ invariant_of-self c =
     let q = c.requires in
     rw (flags, c.renew_flag.ensures, c.deref_mut.ensures.value)
     (record {
-      rooms_are = AreRooms-put c.args.place c.args.room a.rooms.items a.table.value.are a.rooms_are q.within q.opposite q.fits;
+      rooms_are = AreRooms-put c.args.place c.args.room a.rooms.items a.table.value.are a.rooms_are q.within q.opposite q.fits q.spare;
       flags_are = AreFlags-put c.args.place c.args.room a.rooms.items a.flags.items a.table.value.are a.rooms_are.0 a.flags_are q.within q.opposite;
     })

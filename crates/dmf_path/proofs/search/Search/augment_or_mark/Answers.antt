@@ -7,7 +7,7 @@ use Rattle.dmf_links.specs.declared.pair.Pair.{Pair}
 use Rattle.dmf_links.specs.Links.{ArePlaces, pair_at, pairs_at}
 use Rattle.dmf_path.specs.Ball.{IsFit}
 use Rattle.dmf_path.proofs.InsideBall.{fit-falls}
-use Rattle.dmf_path.specs.Held.{way_of, settled}
+use Rattle.dmf_path.specs.Held.{way_of, filled_slots, settled}
 use Rattle.dmf_path.specs.Residual.{residual_of, told}
 use Rattle.dmf_path.specs.Search.{Searched, Augments}
 use Rattle.dmf_links.specs.Pair.{pair_number}
@@ -23,7 +23,9 @@ use Rattle.dmf_path.proofs.Searching.{sent_on, sent_along, CanAugment, can-augme
 use Rattle.dmf_path.proofs.Parted.{closed-parted}
 use Rattle.dmf_path.proofs.Reaching.{no_path-separated}
 use Rattle.dmf_path.proofs.SearchTurns.{search-next}
-use Rattle.dmf_path.proofs.Untouched.{AreWithin, kept-untouched, touched-more, touched-below}
+use Rattle.dmf_path.proofs.PushedPairs.{trail-used}
+use Rattle.dmf_path.proofs.Settled.{AreRooms-settled}
+use Rattle.dmf_path.proofs.Untouched.{AreWithin, HaveUsed, kept-untouched, touched-more, touched-below, used-each}
 use Rattle.dmf_path.proofs.search.Search.augment_or_mark.Goals as goal
 use Rattle.dmf_path.proofs.search.Search.augment_or_mark.Goals.{After-bottleneck-amount, After-split}
 
@@ -98,6 +100,15 @@ can c = can-augment c.args.limit (are c) c.find.ensures.keeps.searching (c.find.
 within : (c : After-bottleneck-amount) → AreWithin (residual_of c.find.new.links).links (way_of c.find.new.trail).slots
 within c = λ i inside. slot-within (residual_of c.find.new.links).links c.find.new.levels.near.labels _ _ (way_of c.find.new.trail).slots i
     (can c).descends inside
+
+-- None of these links is spare.
+used : (c : After-bottleneck-amount) → HaveUsed (residual_of c.find.new.links).links (way_of c.find.new.trail).slots
+used c =
+    let r = residual_of c.find.new.links in
+    let w = way_of c.find.new.trail in
+    let is = c.find.ensures.keeps.searching in
+    let fit = AreRooms-settled r.links r.takes_back w.sent (filled_slots w) r.rooms is.aimed.links is.holding.rooms_are in
+    used-each r.links w.slots (trail-used _ _ _ w.start _ is.aimed.links fit is.aimed.start_is (can c).whole.trail)
 
 pub touch-requires : goal.touch-requires
 touch-requires c =
@@ -182,7 +193,7 @@ returns-clause-touched c =
     let long = length-map places (pair_at (residual_of of.links).links (told (residual_of of.links) (way_of of.trail)).rooms) in
     rw (← c.self.view_is) (record {
       more = touched-more lists;
-      below = subst (λ n. AreBelow n old → AreBelow n touched) (sym long) (touched-below r.links places (numbered at) (within at) lists);
+      below = subst (λ n. AreBelow n old → AreBelow n touched) (sym long) (touched-below r.links places (numbered at) (within at) (used at) lists);
       kept = subst (λ (s : Sought). KeepsUntouched touched (pairs_of (sought (residual_of of.links) (way_of of.trail))) (pairs_of s))
           (sym (split last).same) from;
     })

@@ -20,6 +20,7 @@ returns-clause-apart c =
       rooms = links.rooms_are;
       flags = links.flags_are;
       begun = record { residual = r; searching = e.searching; fresh = e.fresh; nodes_are = refl; ready = e.ready; none_last = e.all };
+      current_is = e.searching.under_way.walking.current_is;
       tidy = c.self.invariant.0.4.tidy;
       same = rw (← c.self.view_is) (ap (λ (x : Residual). searched (record { residual = x; start = w.start; goal = w.goal }) places)
           (sym (told-fresh r e.searching e.fresh)) ∙ ap (λ (s : Sought). searched s places) e.same);

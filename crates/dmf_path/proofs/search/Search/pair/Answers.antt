@@ -1,5 +1,5 @@
 -- The two links of the pair lead between two nodes, and their rooms fit.
-use Rattle.std.proofs.Common.{◌<◌, length, ap, arith}
+use Rattle.std.proofs.Common.{◌<◌, length, inl, ap, sym, ◌∙◌, arith}
 use Rattle.std.proofs.lemmas.List.{get_or_read}
 use Rattle.dmf_links.specs.Links.{IsPlaceOf}
 use Rattle.dmf_links.proofs.PairRead.{place-within}
@@ -17,12 +17,13 @@ returns-clause-valid c =
     let index : c.args.k < length of.places.value = omega (arith, c.if-k-len.false, c.len.ensures, ap length c.deref.ensures) in
     let at : IsPlaceOf of.places.value c.args.k c.in_ok-place.place = rw c.deref-2.ensures at c.in_ok-place.ensures in
     let within = place-within r.links of.places.value c.args.k c.in_ok-place.place i.places_are index at in
+    let used = i.places_are.used c.in_ok-place.place c.args.k within (index, (λ none. at.there (at.is ∙ none)), inl (sym at.is)) in
     let link = i.searching.aimed.links.each c.in_ok-place.place within in
     let rooms = AreRooms-settled r.links r.takes_back w.sent (filled_slots w) r.rooms i.searching.aimed.links of.links.rooms_are in
     let head = get_or_read r.links.heads _ _ within (rw c.deref-4.ensures at c.index.ensures) 0 in
     record {
       tail = rw (← c.self.view_is, c.tail.ensures, c.deref-3.ensures) link.tail;
       head = rw (← c.self.view_is, head) link.head;
-      no_loop = rw (c.tail.ensures, c.deref-3.ensures, head) link.no_loop;
+      no_loop = rw (c.tail.ensures, c.deref-3.ensures, head) (link.no_loop used);
       fits = rw (c.settled_room.ensures, c.opposite_room.ensures) (rooms.1 c.in_ok-place.place within);
     }

@@ -1,5 +1,5 @@
 -- The search begins anew, where it had begun, and then the rooms of one pair's links are set.
-use Rattle.std.proofs.Common.{◌≡◌, ◌<◌, true, [], length, refl, ap, sym, ◌∙◌, subst, arith}
+use Rattle.std.proofs.Common.{◌≡◌, ◌<◌, true, [], length, inl, refl, ap, sym, ◌∙◌, subst, arith}
 use Rattle.std.proofs.lemmas.List.{length-map}
 use Rattle.dmf_path.specs.declared.search.Search.TheInside.{Inside}
 use Rattle.dmf_links.specs.Links.{Links, IsPlaceOf, pair_at}
@@ -97,6 +97,15 @@ set_pair-requires-clause-within c =
     let x = c.if-not-self.self-inside in
     place-within (residual_of x.links).links x.places.value c.args.k c.in-Some.place (anew at).is.places_are (index at)
     (rw c.deref.ensures at c.in-Some.ensures)
+
+pub set_pair-requires-clause-used : goal.set_pair-requires-clause-used
+set_pair-requires-clause-used c =
+    let at = (goal.at.set_pair-requires-clause-used c).Joined-not-self in
+    let x = c.if-not-self.self-inside in
+    let of : IsPlaceOf x.places.value c.args.k c.in-Some.place = rw c.deref.ensures at c.in-Some.ensures in
+    let are = (anew at).is.places_are in
+    are.used c.in-Some.place c.args.k (place-within (residual_of x.links).links x.places.value c.args.k c.in-Some.place are (index at) of)
+    (index at, (λ none. of.there (of.is ∙ none)), inl (sym of.is))
 
 pub invariant_of-self-2 : goal.invariant_of-self-2
 invariant_of-self-2 c =

@@ -1,10 +1,10 @@
 -- Each pair's rooms are put at the places of its links, where 0 stands.
-use Rattle.std.proofs.Common.{◌≡◌, get_or, set, Some, None, ap, sym, ◌∙◌, arith}
+use Rattle.std.proofs.Common.{◌≡◌, get_or, get_or-set_other, set, inl, inr, Some, None, ap, sym, ◌∙◌, arith}
 use Rattle.std.proofs.lemmas.Option.{get_or_from_slice_get}
 use Rattle.dmf_links.specs.declared.pair.Pair.{Pair}
 use Rattle.dmf_links.specs.LinkTable.{links_of}
 use Rattle.dmf_links.specs.Links.{IsPlaceOf}
-use Rattle.dmf_links.proofs.Filling.{ArePut-none, ArePut-some, AreClear-zeros, AreClear-some, AreClear-none, clear-along}
+use Rattle.dmf_links.proofs.Filling.{ArePut-none, ArePut-some, AreClear-zeros, AreClear-some, AreClear-none, clear-along, get_or-zeros}
 use Rattle.dmf_links.proofs.PairRead.{has-place}
 use Rattle.dmf_links.proofs.Twins.{opposites_of, IsAt, is-read, apart-ends, pairs-put}
 use Rattle.dmf_path.proofs.search.making.put_pairs.Goals as goal
@@ -15,6 +15,7 @@ loop-k-init g c = record {
   put = λ j p h is. absurd (omega (arith, h));
   clear = AreClear-zeros (g.P.Pairs.pairs c.args.pairs.now) c.args.places.now (opposites_of (links_of c.args.table.now) c.args.places.now)
       c.args.rooms.now c.requires.zeros;
+  spares = λ p h spare. get_or-zeros c.args.rooms.now p c.requires.zeros;
 }
 
 pub unwrap-place-requires : goal.unwrap-place-requires
@@ -71,15 +72,22 @@ loop-k-preserved g c =
             put = rw put (ArePut-some (λ (j : _) (p : Pair). p.along) (λ (j : _) (p : Pair). p.against) k rooms pair apart
                 (c.loop-k.auto.rooms ∙ c.requires.one_room_each) w.in-Some.ensures c.loop-k.invariant.put);
             clear = rw put (AreClear-some k rooms pair pair.along pair.against apart w.in-Some.ensures c.loop-k.invariant.clear);
+            spares = rw put (λ p h spare.
+                let own = c.requires.places.used p k h in
+                get_or-set_other (set rooms (get_or places k 0) pair.along) (get_or (opposites_of l places) k 0) p pair.against 0
+                (λ e. own (is_at.index, is_at.there, inr (sym (e ∙ is_at.opposite))) spare)
+                ∙ get_or-set_other rooms (get_or places k 0) p pair.along 0 (λ e. own (is_at.index, is_at.there, inl (sym e)) spare)
+                ∙ c.loop-k.invariant.spares p h spare);
           }
       | in_default w ↦ record {
         put = rw w.rooms-is (ArePut-none (λ (j : _) (p : Pair). p.along) (λ (j : _) (p : Pair). p.against) k rooms c.pair.result apart
             c.pair.ensures w.in_default.is c.loop-k.invariant.put);
         clear = rw w.rooms-is (AreClear-none pairs places (opposites_of l places) k rooms c.loop-k.invariant.clear);
+        spares = rw w.rooms-is c.loop-k.invariant.spares;
       }
     ]
 
-pub returns : goal.returns
-returns g c =
+pub returns-clause-pairs : goal.returns-clause-pairs
+returns-clause-pairs g c =
     pairs-put (links_of c.args.table.now) c.args.places.now c.loop-k.rooms (g.P.Pairs.pairs c.args.pairs.now) c.args.table.now.are c.requires.places
     c.requires.same_ends (λ j p h is. c.loop-k.invariant.put j p (omega (arith, h, c.len-k-end.ensures, c.loop-k-test.false)) is)

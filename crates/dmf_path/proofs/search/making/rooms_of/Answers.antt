@@ -11,4 +11,4 @@ returns-clause-rooms g c =
     (rooms-pairs (links_of c.args.table.now) c.args.places.now c.put_pairs.new.rooms c.args.table.now.nodes (g.P.Pairs.pairs c.args.pairs.now)
     c.args.table.now.are c.requires.places
     (omega (arith, c.put_pairs.auto.rooms, c.deref_mut.ensures.len, c.in_ok-rooms.ensures.len, c.len.ensures, c.args.table.now.heads.ok.0))
-    c.put_pairs.ensures c.requires.pairs)
+    c.put_pairs.ensures.spares c.put_pairs.ensures.pairs c.requires.pairs)

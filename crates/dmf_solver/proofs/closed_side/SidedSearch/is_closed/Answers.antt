@@ -1,4 +1,4 @@
-use Rattle.std.proofs.Common.{◌≡◌, [], ◌∙◌, length, subst, sym, rules}
+use Rattle.std.proofs.Common.{◌≡◌, [], ◌∙◌, subst, sym, rules}
 use Rattle.std.specs.Prelude.{IfSome}
 use Rattle.dmf_solver.specs.Gates.{IsClosedBut}
 use Rattle.dmf_solver.proofs.Gates.{closed-kept, no_path-without_gates, nothing}

@@ -1,7 +1,3 @@
-use Rattle.std.proofs.Common.{ap, sym, subst, Option}
-use Rattle.std.specs.Prelude.{IfSome}
-use Rattle.dmf_solver.specs.declared.closed_side.ClosedSide.{ClosedSide}
-use Rattle.dmf_solver.specs.Gates.{IsClosedBut, MayBeGated}
 use Rattle.dmf_solver.proofs.Gates.{closed-gated, changes-set}
 use Rattle.dmf_solver.proofs.closed_side.SidedSearch.set_rooms.Goals as goal
 

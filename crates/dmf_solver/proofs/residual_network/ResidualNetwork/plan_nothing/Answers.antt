@@ -1,9 +1,10 @@
 -- No path is left, so the search has reached the outcome of solving.
-use Rattle.std.proofs.Common.{◌≡◌, ◌∙◌, subst, sym}
+use Rattle.std.proofs.Common.{◌≡◌, ◌∙◌, [], subst, sym}
 use Rattle.dmf_path.specs.Pair.{steps_of}
 use Rattle.dmf_path.specs.Path.{HasNoPath}
+use Rattle.dmf_state.specs.Edit.{differences}
 use Rattle.dmf_solver.specs.KeptNetwork.{KeptNetwork, IsNetworkOf}
-use Rattle.dmf_solver.specs.Pairs.{IsAtEnd}
+use Rattle.dmf_solver.specs.Pairs.{reached_flows, IsAtEnd, IsSolved}
 use Rattle.dmf_solver.specs.ResidualNetwork.{IsResidualOf}
 use Rattle.dmf_solver.proofs.AtOnce.{at_once, solved-at_once, end-at_once, told-at_once, listed-at_once}
 use Rattle.dmf_solver.proofs.SolvedEdit.{PlansSolve-listed, value-listed, told-listed}
@@ -23,32 +24,31 @@ wanted_side-requires c =
     subst (λ x. IsAtEnd s x c.value.result) (sym c.as_search-search.ensures)
     (end-at_once s c.self.inside.search c.value.result c.value.ensures.state (is c) c.value.ensures.value (none c))
 
+-- Solving reaches its outcome at once,
+solved : (c : After-value) → IsSolved c.args.state.now (at_once c.args.state.now c.self.inside.search c.value.result c.value.ensures.state (is c)
+    c.value.ensures.value (none c))
+solved c = solved-at_once c.args.state.now c.self.inside.search c.value.result c.value.ensures.state (is c) c.value.ensures.value (none c)
+
+-- and no flow differs then.
+listed : (c : After-value) → [] ≡ differences 1 c.args.state.now.flows (reached_flows c.args.state.now c.self.inside.search)
+listed c = listed-at_once c.args.state.now c.self.inside.search c.value.result c.value.ensures.state (is c) c.value.ensures.value (none c)
+
 -- The edit without moves is that of the search.
 pub returns-clause-edit : goal.returns-clause-edit
 returns-clause-edit c =
-    let s = c.args.state.now in
     let at = (goal.at.returns-clause-edit c).After-value in
-    let of = c.self.inside.search in
-    let v = c.value.ensures in
-    PlansSolve-listed s _ c.new-moves.result v.state (solved-at_once s of c.value.result v.state (is at) v.value (none at))
-    (c.new-moves.ensures.items ∙ listed-at_once s of c.value.result v.state (is at) v.value (none at))
+    PlansSolve-listed c.args.state.now _ c.new-moves.result c.value.ensures.state (solved at) (c.new-moves.ensures.items ∙ listed at)
 
 pub returns-clause-value : goal.returns-clause-value
 returns-clause-value c =
-    let s = c.args.state.now in
     let at = (goal.at.returns-clause-value c).After-value in
-    let of = c.self.inside.search in
-    let v = c.value.ensures in
-    value-listed s _ c.new-moves.result v.state (solved-at_once s of c.value.result v.state (is at) v.value (none at))
-    (c.new-moves.ensures.items ∙ listed-at_once s of c.value.result v.state (is at) v.value (none at))
-    c.in_ok-side.side (rw c.as_search-search.ensures at c.in_ok-side.ensures.value)
+    value-listed c.args.state.now _ c.new-moves.result c.value.ensures.state (solved at) (c.new-moves.ensures.items ∙ listed at) c.in_ok-side.side
+    (rw c.as_search-search.ensures at c.in_ok-side.ensures.value)
 
 pub returns-clause-told : goal.returns-clause-told
 returns-clause-told c = λ told.
     let s = c.args.state.now in
     let at = (goal.at.returns-clause-told c).After-value in
-    let of = c.self.inside.search in
     let v = c.value.ensures in
-    told-listed s _ c.new-moves.result v.state (solved-at_once s of c.value.result v.state (is at) v.value (none at))
-    (c.new-moves.ensures.items ∙ listed-at_once s of c.value.result v.state (is at) v.value (none at))
-    told told (told-at_once s of c.value.result v.state (is at) v.value (none at) told)
+    told-listed s _ c.new-moves.result v.state (solved at) (c.new-moves.ensures.items ∙ listed at) told told
+    (told-at_once s c.self.inside.search c.value.result v.state (is at) v.value (none at) told)

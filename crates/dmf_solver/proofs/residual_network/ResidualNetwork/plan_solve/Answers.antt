@@ -5,3 +5,7 @@ use Rattle.dmf_solver.proofs.residual_network.ResidualNetwork.plan_solve.Goals a
 pub returns-then-is_closed-clause-told : goal.returns-then-is_closed-clause-told
 returns-then-is_closed-clause-told g c =
     told-either c.plan_nothing.result _ _ _ c.plan_nothing.ensures.told (λ planned tells. tells _) (inl (AreTold-none _))
+
+-- Nothing was reported.
+pub returns-then-is_closed-clause-drained : goal.returns-then-is_closed-clause-drained
+returns-then-is_closed-clause-drained g c = AreTold-none _

@@ -1,10 +1,9 @@
 -- A search that has begun anew goes on over any links between as many nodes.
-use Rattle.std.proofs.Common.{ℕ, true, List, ap, sym, ◌∙◌, subst}
+use Rattle.std.proofs.Common.{ap, sym, ◌∙◌}
 use Rattle.dmf_path.specs.Held.{way_of}
 use Rattle.dmf_links.specs.LinkTable.{links_of}
 use Rattle.dmf_path.specs.Residual.{Residual}
-use Rattle.dmf_path.specs.Searching.{searched, IsSearch, fresh}
-use Rattle.dmf_path.specs.Walk.{AreCurrent}
+use Rattle.dmf_path.specs.Searching.{searched, fresh}
 use Rattle.dmf_path.proofs.Asides.{aside-none}
 use Rattle.dmf_path.proofs.SearchTurns.{searching-over, told-fresh}
 use Rattle.dmf_path.proofs.search.apart.Own.over.Goals as goal
@@ -16,22 +15,17 @@ pub invariant_of-result : goal.invariant_of-result
 invariant_of-result c =
     let shared = c.args.shared in
     let b = c.requires.apart.1.begun in
-    let o = c.over-levels.ensures in
     let own = c.args.self in
     let next : Residual = record { links = links_of shared.table.value; takes_back = own.takes_back; rooms = own.rooms.items } in
-    let places = shared.places.value in
-    let current : List ℕ = c.over-levels.result.current.items in
-    let at_first : AreCurrent next.links current = rw c.deref.ensures at o.current in
-    let found = searching-over next b.searching b.fresh (sym b.nodes_are) shared.table.value.are c.requires.apart.1.rooms at_first in (
+    let found = searching-over next b.searching b.fresh (sym b.nodes_are) shared.table.value.are c.requires.apart.1.rooms c.requires.apart.1.current_is in (
       (
-        rw (o.near, o.far) b.ready,
+        b.ready,
         c.requires.shared.numbers,
-        λ all. let no = o.all ∙ b.none_last in absurd (cc),
+        λ all. let no = b.none_last in absurd (cc),
         aside-none _ _ c.clear.ensures.items,
         c.forget.ensures.fit _,
       ),
-      subst (λ (labels : List ℕ). IsSearch next places (record { labels = labels; current = current }) (way_of own.trail) true)
-          (ap (λ near. near.labels) (sym o.near)) (record { places_are = c.requires.shared.places; searching = found.0; marked = fresh found.1 }),
+      record { places_are = c.requires.shared.places; searching = found.0; marked = fresh found.1 },
     )
 
 pub returns : goal.returns
