@@ -2,7 +2,9 @@
 
 from __future__ import annotations
 
+import contextlib
 import shutil
+import time
 from collections.abc import Callable, Iterator
 from typing import Any
 
@@ -10,6 +12,8 @@ import pytest
 
 # How long the page is waited for, in seconds.
 SECONDS = 20
+# How long it is waited before the page is asked again whether something is so, at first and at most, in seconds.
+SOON, LATE = 0.01, 0.2
 
 
 def browser() -> Iterator[Any]:
@@ -49,9 +53,17 @@ class Page:
         self.wait(lambda: self.driver.execute_script("return document.getElementById('main').getAttribute('aria-busy') === 'false'"))
 
     def wait(self, is_so: Callable[[], object]) -> None:
-        from selenium.webdriver.support.wait import WebDriverWait
+        """Waits until something is so. The longer it takes, the more seldom it is asked for, which takes time from the page too."""
+        from selenium.common.exceptions import NoSuchElementException, TimeoutException
 
-        WebDriverWait(self.driver, SECONDS, poll_frequency=0.02).until(lambda _: is_so())
+        pause, until = SOON, time.monotonic() + SECONDS
+        while time.monotonic() < until:
+            with contextlib.suppress(NoSuchElementException):
+                if is_so():
+                    return
+            time.sleep(pause)
+            pause = min(1.5 * pause, LATE)
+        raise TimeoutException(f"after {SECONDS} seconds it is not so")
 
     def actions(self) -> Any:
         """What a pointer and keys do, one after the other, once it is performed."""

@@ -21,6 +21,7 @@ BOTH = {
     "test_once",
     "test_reading",
     "test_sweeps",
+    "test_sweeps_anew",
     "test_tried",
 }
 

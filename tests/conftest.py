@@ -9,7 +9,7 @@ import shutil
 import subprocess
 import sys
 from collections.abc import Iterator
-from contextlib import contextmanager
+from contextlib import contextmanager, nullcontext
 from itertools import islice
 from pathlib import Path
 from typing import Any, NamedTuple
@@ -59,16 +59,22 @@ def batches(config: pytest.Config) -> int:
 
 
 def pytest_configure(config: pytest.Config) -> None:
-    """Goes to the root, and has the program built once, before the workers begin. What is called as `python3`, as the tools are, is
-    the Python that runs the tests."""
+    """Goes to the root, and has the program there before the workers begin. What is called as `python3`, as the tools are, is the Python
+    that runs the tests."""
     os.chdir(ROOT)
     os.environ["PATH"] = os.pathsep.join([os.path.dirname(sys.executable), os.environ["PATH"]])
     set_drawn(config)
-    if hasattr(config, "workerinput") or config.option.collectonly:
-        return
-    ran = subprocess.run(["./dmf", "--version"], stdin=subprocess.DEVNULL, capture_output=True, text=True)
+    if not hasattr(config, "workerinput") and not config.option.collectonly and "DMF_BUILT" not in os.environ:
+        take_program(config)
+
+
+def take_program(config: pytest.Config) -> None:
+    """Has `./dmf` take the program of prebuilt/, or build it. That takes minutes, and so what `./dmf` says before it begins is shown at once."""
+    capturing = config.pluginmanager.get_plugin("capturemanager")
+    with capturing.global_and_fixture_disabled() if capturing else nullcontext():
+        ran = subprocess.run(["./dmf", "--version"], stdin=subprocess.DEVNULL, stdout=subprocess.DEVNULL)
     if ran.returncode != 0:
-        pytest.exit(f"the program is not built: {ran.stderr[-3000:]}", returncode=3)
+        pytest.exit("the program is not built; DMF_BUILT=FILE tests another one", returncode=3)
 
 
 def seconds(item: pytest.Item) -> float:

@@ -203,6 +203,7 @@ def test_shut_places() -> None:
         for what, node, names in done:
             assert it.do(what=what, node=node)["value"] == str(without(*names)), (what, node)
             assert it.told("place?node=5")["shut"] == ("Mill pipe" in names)
+            assert ("<title>Mill, shut</title>" in it.told("picture?near=")["svg"]) == ("Mill pipe" in names)
 
 
 def test_session_that_ends() -> None:

@@ -147,13 +147,18 @@ def test_focus_stays(driver: Any) -> None:
 
 
 def test_escape(driver: Any) -> None:
-    """Escape closes what is told of the choice, and the focus is back where that was chosen."""
+    """Escape closes what is told of the choice, or of many, and the focus is back where that was chosen."""
     with board(PIPES) as it:
         page = Page(driver, it.address)
         page.choose("arc-9", "Mill Lane")
         driver.find_element("id", "capacity").send_keys(ESCAPE)
         page.wait(lambda: page.text("#what").startswith("Click a pipe"))
         assert (focused(page), driver.find_elements("css selector", "#picture .chosen")) == ("arc-9", [])
+        driver.find_element("id", "grid").send_keys(" ")
+        page.wait(lambda: page.text("#many-told").startswith("1 chosen"))
+        driver.find_element("id", "many-capacity").send_keys(ESCAPE)
+        page.wait(lambda: page.text("#many") == "")
+        assert focused(page) == "grid"
         driver.get("about:blank")
 
 

@@ -81,7 +81,7 @@ def judge_keys(page: Page) -> None:
     picture = page.driver.find_element("id", "picture")
     picture.send_keys("\ue012")
     part = page.driver.switch_to.active_element
-    label = part.get_attribute("aria-label")
+    label = part.find_element("css selector", "title").get_attribute("textContent")
     part.send_keys("\ue007")
     page.wait(lambda: page.text("#what h3") and label.startswith(page.text("#what h3")))
     unnamed = page.driver.execute_script(

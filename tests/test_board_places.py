@@ -113,3 +113,16 @@ def test_places_that_go(tmp_path: Path) -> None:
         assert set(spots(it).values()) == set(seen.values())
         assert it.end() == 130
     assert "New place" in kept(project)
+
+
+@pytest.mark.parametrize("script, told", [("echo 'no such font' >&2; exit 1", "no such font"), ("exit 3", "status 3")])
+def test_no_picture(tmp_path: Path, monkeypatch: pytest.MonkeyPatch, script: str, told: str) -> None:
+    """Where Graphviz fails, the page says why in the words of Graphviz."""
+    dot = tmp_path / "dot"
+    dot.write_text(f"#!/bin/sh\n{script}\n")
+    dot.chmod(0o755)
+    monkeypatch.setenv("PATH", str(tmp_path), prepend=":")
+    with board(PIPES) as it:
+        picture = it.told("picture?near=")
+        assert (picture["svg"], picture["reason"]) == ("", f"Graphviz did not draw it: {told}")
+        assert it.end() == 130

@@ -10,6 +10,7 @@ import time
 from pathlib import Path
 from typing import Any
 
+from board_pages import Page
 from board_running import Board, board
 from desk_shared import PIPES, SECONDS, swept
 
@@ -69,3 +70,39 @@ def test_sweep_in_portions(tmp_path: Path) -> None:
         while len(it.sessions()) > 1:
             assert time.monotonic() < until, "the copies go on after a change"
             time.sleep(0.05)
+
+
+# Lets no answer to a sweep come before it is let go.
+HELD = """
+const ask = window.fetch;
+const isLetGo = new Promise((done) => { window.letGo = done; });
+window.fetch = async (path, content) => {
+  const told = await ask(path, content);
+  if (path === "sweep") await isLetGo;
+  return told;
+};
+"""
+
+
+def test_stop(driver: Any) -> None:
+    """A stop is there at once, also while an answer is waited for, and another sweep goes on in place of the one before."""
+    with board(PIPES) as it:
+        page = Page(driver, it.address)
+        stop = driver.find_element("id", "stop")
+        driver.execute_script(HELD)
+        page.press("Try each pipe")
+        page.wait(stop.is_displayed)
+        stop.send_keys("\ue007")
+        assert (stop.is_displayed(), page.text("#verdict")) == (False, "Stopped: 0 of 14 are tried.")
+        assert driver.switch_to.active_element.get_attribute("id") == "try-all"
+        page.press("Try each pipe")
+        page.wait(stop.is_displayed)
+        page.press("Try each pipe of the limit")
+        driver.execute_script("letGo()")
+        page.wait(lambda: page.text("#verdict").startswith("Worst"))
+        wanted = swept()
+        lost = {name: 165 - wanted[name][0] for name in ("North rise", "Mill Lane", "South main")}
+        worst = " or ".join(name for name in lost if lost[name] == max(lost.values()))
+        assert page.text("#verdict").startswith(f"Worst to lose of the 3 of the limit: {worst}, {max(lost.values())} litres per second less")
+        assert (stop.is_displayed(), len(driver.find_elements("css selector", "#trials tbody tr"))) == (False, 3)
+        driver.get("about:blank")

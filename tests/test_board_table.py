@@ -31,6 +31,8 @@ FILTERS: list[tuple[str, Callable[[Pipe], bool], str]] = [
     ("capacity < 60", lambda pipe: pipe.capacity < 60, "capacity < 60"),
     ("capacity<60", lambda pipe: pipe.capacity < 60, "capacity < 60"),
     ("CAPACITY >= 60 and capacity <= 90", lambda pipe: 60 <= pipe.capacity <= 90, "capacity >= 60 and capacity <= 90"),
+    ("capacity => 60 and capacity=<90", lambda pipe: 60 <= pipe.capacity <= 90, "capacity => 60 and capacity =< 90"),
+    ("capacity \u2265 60 and capacity \u2264 90", lambda pipe: 60 <= pipe.capacity <= 90, "capacity \u2265 60 and capacity \u2264 90"),
     ("from ~ mill", lambda pipe: pipe.tail == "Mill", "from ~ mill"),
     ("MILL", lambda pipe: "Mill" in f"{pipe.name}{pipe.tail}{pipe.head}", "'MILL' in the name"),
     ("m\u00edll lane", lambda pipe: pipe.name == "Mill Lane", "'m\u00edll lane' in the name"),

@@ -8,6 +8,7 @@ import pytest
 from board_pages import Page
 from board_running import board
 from desk_shared import PIPES, stop_session, wait_until_asked, without
+from tunnels import tunnel
 
 pytestmark = pytest.mark.seconds(20)
 
@@ -44,6 +45,22 @@ def test_live(driver: Any) -> None:
         driver.close()
         driver.switch_to.window(first)
         driver.get("about:blank")
+
+
+def test_broken_connection(driver: Any) -> None:
+    """A page whose connections break, as those of a tunnel do, goes on with the board, and hears of newer states. Where the board has
+    ended, the page says so."""
+    with tunnel() as way, board("--host-name", f"localhost:{way.port}", PIPES) as it:
+        way.lead_to(it.port)
+        page = Page(driver, f"http://localhost:{way.port}{it.root}")
+        way.break_all()
+        it.do(what="close", arc=10)
+        page.wait(lambda: page.value() == without("Bridge pipe"))
+        assert page.text("#trouble") == ""
+        page.choose("arc-9", "Mill Lane")
+        assert page.after(lambda: page.press("Close it")) == without("Bridge pipe", "Mill Lane")
+        it.end()
+        page.wait(lambda: "The board does not answer: it has ended." in page.text("#trouble"))
 
 
 def test_late(driver: Any) -> None:

@@ -13,6 +13,7 @@ import pytest
 from board_pages import Page
 from board_running import Board, board
 from desk_shared import PIPES, run
+from test_board_ground import city
 
 pytestmark = pytest.mark.seconds(20)
 SVG = "{http://www.w3.org/2000/svg}"
@@ -153,6 +154,37 @@ def judge_labels(page: Page) -> None:
     assert shown[0] > 0 and shown[-1] == count, shown
 
 
+# The labels that are seen and lie over one another, by more than a third of the smaller one.
+OVER = """
+const boxes = [...document.querySelectorAll("#picture .node, #picture .arc")].filter((part) => !part.matches(".unlabelled")).map((part) => {
+  const all = [...part.querySelectorAll("text")].map((text) => text.getBoundingClientRect());
+  const [left, top] = [Math.min(...all.map((it) => it.left)), Math.min(...all.map((it) => it.top))];
+  return { id: part.id, left, top, right: Math.max(...all.map((it) => it.right)), bottom: Math.max(...all.map((it) => it.bottom)) };
+});
+const size = (it) => Math.max(0, it.right - it.left) * Math.max(0, it.bottom - it.top);
+const both = (one, other) => ({ left: Math.max(one.left, other.left), right: Math.min(one.right, other.right),
+  top: Math.max(one.top, other.top), bottom: Math.min(one.bottom, other.bottom) });
+return [boxes.length, boxes.flatMap((one, place) => boxes.slice(place + 1)
+  .filter((other) => size(both(one, other)) > Math.min(size(one), size(other)) / 3).map((other) => `${one.id} ${other.id}`))];
+"""
+
+
+def test_labels_on_a_map(driver: Any, tmp_path: Path) -> None:
+    """Where places lie as on a map no label hides another one, at any size, and all are seen in the largest."""
+    with board(*city(tmp_path, 7)) as it:
+        page = Page(driver, it.address)
+        counts = []
+        for key in "0----0++++++++++":
+            page.driver.find_element("id", "picture").send_keys(key)
+            page.driver.execute_async_script("requestAnimationFrame(() => requestAnimationFrame(arguments[0]))")
+            count, over = page.driver.execute_script(OVER)
+            assert over == [], key
+            assert min(page.driver.execute_script(HEIGHTS), default=11) >= 10.99
+            counts.append(count)
+        assert counts[-1] == len(driver.find_elements("css selector", "#picture .node, #picture .arc")) > counts[0] > 0
+        driver.get("about:blank")
+
+
 def judge_moves(page: Page, sink: str) -> None:
     host = page.driver.find_element("id", "picture")
     page.driver.execute_script("arguments[0].scrollIntoView({ block: 'center' })", host)
@@ -245,7 +277,7 @@ def test_show_near(driver: Any, tmp_path: Path) -> None:
         page.wait(lambda: "what lies nearest to a place" in page.text("#drawn-note"))
         page.settle()
         page.wait(lambda: driver.find_elements("css selector", "#picture .arc.chosen"))
-        label = driver.find_element("css selector", "#picture .arc.chosen").get_attribute("aria-label")
+        label = driver.find_element("css selector", "#picture .arc.chosen title").get_attribute("textContent")
         assert label.startswith("right 30 2,")
         page.press("Show what is near the limit")
         page.wait(lambda: "nearest to the limit" in page.text("#drawn-note"))

@@ -231,7 +231,7 @@ def judge_flow(page: Page, model: Model) -> None:
 
 
 def test_walk(driver: Any, request: pytest.FixtureRequest) -> None:
-    steps = LONG_STEPS if request.config.getoption("--long") else STEPS
+    steps = request.config.getoption("--cases") or (LONG_STEPS if request.config.getoption("--long") else STEPS)
     chance = random.Random(request.config.getoption("--seed"))
     with board(PIPES) as it:
         walk = Walk(Page(driver, it.address), it, chance)

@@ -8,6 +8,7 @@ import subprocess
 
 import pytest
 from command_pages import PAGES
+from command_words import WORDS
 from commands import COMMANDS, GENERATED, LISTED, LISTED_PRINTS, OF_FORM, PRINTED, REFUSALS, Command
 from conftest import BUILT, ROOT
 from dmf import Network, errors
@@ -16,7 +17,7 @@ from oracle import session
 from oracle.network import Arc, State
 from oracle.session import Session, SolveReply, command_of
 
-MAKERS = {**GENERATED, **PAGES}
+MAKERS = {**GENERATED, **PAGES, **WORDS}
 STATE = State(4, 1, 4, (Arc(1, 2, 3), Arc(1, 3, 2), Arc(2, 3, 5), Arc(2, 4, 2), Arc(3, 4, 3)), (0,) * 5)
 COUNTS = {it.word: it.counts() for it in COMMANDS.values()}
 CHANGES = {it.word for it in COMMANDS.values() if it.changes}

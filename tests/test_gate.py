@@ -85,12 +85,17 @@ def test_another_library(clone: Clone) -> None:
         assert (status, lines[-1], said in lines) == (1, "6 passed, 1 failed", True)
 
 
+def nested(tmp_path: Path, *words: str, **environment: str) -> subprocess.CompletedProcess[str]:
+    """How pytest ends in a folder, with what it is told for all tests."""
+    path = os.pathsep.join([str(tmp_path), *(str(ROOT / folder) for folder in ("tests", "tests/cases", "clients/python"))])
+    given = [*words, "-p", "conftest", "-c", str(ROOT / "setup.cfg"), str(tmp_path)]
+    return run_pytest(*given, folder=tmp_path, seconds=SECONDS, environment={"PYTHONPATH": path, **environment})
+
+
 def skipping(tmp_path: Path, **environment: str) -> tuple[int, str]:
     """How pytest ends on a test that is skipped and one that passes."""
     (tmp_path / "test_skipping.py").write_text(SKIPPING)
-    path = os.pathsep.join(str(ROOT / folder) for folder in ("tests", "tests/cases", "clients/python"))
-    words = ["-p", "conftest", "-c", str(ROOT / "setup.cfg"), str(tmp_path)]
-    ran = run_pytest(*words, folder=tmp_path, seconds=SECONDS, environment={"PYTHONPATH": path, **environment})
+    ran = nested(tmp_path, **environment)
     (line,) = [line for line in ran.stdout.splitlines() if " passed, " in line and " failed" in line]
     assert "skipped: no tool" in ran.stdout
     return ran.returncode, line
@@ -99,3 +104,15 @@ def skipping(tmp_path: Path, **environment: str) -> tuple[int, str]:
 def test_skipped(tmp_path: Path) -> None:
     assert skipping(tmp_path) == (0, "1 passed, 0 failed")
     assert skipping(tmp_path, CI="true") == (1, "1 passed, 1 failed")
+
+
+def test_the_program_is_taken(tmp_path: Path) -> None:
+    """What `./dmf` says before it builds is shown, and where it fails no test runs. Where DMF_BUILT names a program, nothing is built."""
+    (tmp_path / "dmf").write_text("#!/bin/sh\necho 'dmf: it is built' >&2\nexit 70\n")
+    (tmp_path / "dmf").chmod(0o755)
+    (tmp_path / "placed.py").write_text(f"import pathlib\n\nimport conftest\n\nconftest.ROOT = pathlib.Path({str(tmp_path)!r})\n")
+    (tmp_path / "test_it.py").write_text("def test_it() -> None:\n    pass\n")
+    built = nested(tmp_path, "-p", "placed")
+    assert (built.returncode, built.stderr.startswith("dmf: it is built\n"), "passed" in built.stdout) == (3, True, False)
+    named = nested(tmp_path, "-p", "placed", DMF_BUILT="it")
+    assert (named.returncode, named.stderr, "1 passed" in named.stdout) == (0, "", True)

@@ -188,6 +188,17 @@ def test_files() -> None:
     assert run("dmf-plan").returncode == 2
 
 
+def test_no_picture(tmp_path: Path, monkeypatch: pytest.MonkeyPatch) -> None:
+    """Where Graphviz fails, a picture is refused in its words, and there is no file."""
+    dot = tmp_path / "dot"
+    dot.write_text("#!/bin/sh\necho 'no such font' >&2\nexit 1\n")
+    dot.chmod(0o755)
+    monkeypatch.setenv("PATH", str(tmp_path), prepend=":")
+    ran = run("dmf-plan", PIPES, typed=f"draw {tmp_path}/plan.svg\n")
+    assert ran.returncode == 1 and ran.stderr.rstrip().endswith("Graphviz did not draw it: no such font"), ran
+    assert not (tmp_path / "plan.svg").exists()
+
+
 def test_no_other_file(tmp_path: Path, monkeypatch: pytest.MonkeyPatch) -> None:
     """What somebody else puts at the path of a new file, after it was found to be free, stays as it is."""
     plan = Plan(desk_of(water_problem()), is_typed=False, write=lambda _: None)
@@ -208,3 +219,12 @@ def test_no_other_file(tmp_path: Path, monkeypatch: pytest.MonkeyPatch) -> None:
     plan.run_script([f"save {path}", f"save {path}"])
     assert (plan.refused, path.read_text().count("p max")) == (1, 1)
     plan.desk.end()
+
+
+def test_what_was_closed_last_is_opened() -> None:
+    """`open` alone opens the place or the arc that was closed last, one after the other, also after an undo."""
+    lines = ["close Mill Lane", "shut Market", "close Bridge pipe", "undo", "open", "open", "open"]
+    ran = run("dmf-plan", PIPES, typed="".join(f"{line}\nsolve\n" if line != "undo" else "undo 2\n" for line in ["solve", *lines]))
+    values = [int(line.split()[1]) for line in ran.stdout.splitlines() if line.endswith("the greatest")]
+    shut = greatest([it for it in water() if "Market" not in it[:2] and it.name != "Mill Lane"])
+    assert values[-4:] == [shut, without("Mill Lane"), without(), without()] and ran.stderr.endswith(": nothing is closed\n"), ran

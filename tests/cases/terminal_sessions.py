@@ -75,7 +75,7 @@ REFUSED = {
         "close": "close takes an arc (close I, 2 fields); found 1 field",
         "shut 1 2": "shut takes a node (shut V, 2 fields); found 3 fields",
         "solve 1": "solve takes nothing (1 field); found 2 fields",
-        "redo 1 2": "undo and redo take a count or nothing (1 or 2 fields); found 3 fields",
+        "redo 1 2": "redo takes a count or nothing (redo [K], 1 or 2 fields); found 3 fields",
         "print": "print takes problem, flow or cut (2 fields); found 1 field",
     },
     "no such arc": dict.fromkeys(("cap 99 1", "close 0"), "there are arcs 1 to 5"),

@@ -106,7 +106,7 @@ def test_forms_of_pictures(tmp_path: Path) -> None:
         for form, begin in ("svg", b"<?xml"), ("png", b"\x89PNG"), ("pdf", b"%PDF"):
             network.plot(tmp_path / f"net.{form}")
             assert (tmp_path / f"net.{form}").read_bytes().startswith(begin)
-        with pytest.raises(RuntimeError, match="^Graphviz draws no windy: "):
+        with pytest.raises(RuntimeError, match="^Graphviz did not draw it: .*windy"):
             network.plot(tmp_path / "net.windy")
 
 

@@ -63,6 +63,8 @@ def test_each_arc_is_closed() -> None:
     assert rows("--close-each") == CLOSED
     assert rows("--close-each", "--of", "cut", "--jobs", "1") == CLOSED[:2]
     assert rows("--close-each", "--top", "3") == [CLOSED[0], CLOSED[4], CLOSED[1]]
+    assert rows("--close-each", "--anew") == CLOSED
+    assert rows("--close-each", "--anew", "--of", "cut", "--jobs", "1") == CLOSED[:2]
 
 
 def test_cases() -> None:
@@ -76,7 +78,7 @@ def test_cases() -> None:
 5|add 1 9 1||||no such node
 6|shut 1; close 1|lake|||arc is closed
 """
-    assert rows("--cases", "cases.txt") == parted(wanted)
+    assert rows("--cases", "cases.txt") == rows("--cases", "cases.txt", "--anew") == parted(wanted)
     for line in "solve", "close x", "undo", "wash 1", "close 1;":
         Path("cases.txt").write_text(f"close 1\n{line}\n")
         ran = run_tool("--cases", "cases.txt")

@@ -114,6 +114,7 @@ told() {
     lines put "$1"
     echo "$1/bin is not in PATH"
     echo "Python imports the package dmf with PYTHONPATH=$1/share/dmf/python"
+    echo "A program in C finds the library with PKG_CONFIG_PATH=$1/lib/pkgconfig and -Wl,-rpath,$1/lib"
 }
 
 putting="$(told "$prefix")
@@ -414,9 +415,9 @@ done
 if command -v gcc >/dev/null && command -v g++ >/dev/null; then
     flags="$(sed -n "s|^prefix=.*||; s|\${includedir}|$work/real/include|; s|\${libdir}|$work/real/lib|; s/^\(Libs\|Cflags\): //p" "$work/real/lib/pkgconfig/dmf.pc")"
     # shellcheck disable=SC2086 # It has a word for each flag.
-    gcc examples/c/limit.c -o "$work/limit" $flags >"$work/out" 2>"$work/err"
+    gcc examples/c/limit.c -o "$work/limit" $flags "-Wl,-rpath,$work/real/lib" >"$work/out" 2>"$work/err"
     same "a C program is linked" "$? $(cat "$work/err")" "0 "
-    same "it runs" "$(LD_LIBRARY_PATH="$work/real/lib" "$work/limit" | tail -n 2)" $'without arc 1: 2\nagain: 5'
+    same "it runs" "$("$work/limit" | tail -n 2)" $'without arc 1: 2\nagain: 5'
     # shellcheck disable=SC2086
     g++ -std=c++17 examples/c/limit.cpp -o "$work/limit" $flags >"$work/out" 2>"$work/err"
     same "a C++ program is linked" "$? $(cat "$work/err")" "0 "

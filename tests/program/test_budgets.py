@@ -20,6 +20,8 @@ ARCS = 40_000
 BUDGET, HUBS_BUDGET = 3_000, 9_000
 # The most instructions of a close of an arc that carries nothing and a solve after it, of which a search on these networks takes more.
 IDLE_BUDGET = 60_000
+# How many instructions an added arc and its undo take at most, after the first one.
+ADD_BUDGET = 30_000
 COLLECTED = re.compile(rb"Collected : ([0-9]+)")
 
 
@@ -150,3 +152,14 @@ def test_nothing_to_do(family: str, maker: Path, tmp_path: Path) -> None:
     first, *others = (f"close {number}\nsolve\n" for number in idle)
     before, after = (instructions(tmp_path, text, f"solve\n{first}{then}") for then in ("", "".join(others)))
     assert (after - before) / len(others) < IDLE_BUDGET
+
+
+@needs_valgrind
+@pytest.mark.seconds(4)
+@pytest.mark.parametrize("family", ["grid", "random"])
+def test_added_arcs(family: str, maker: Path, tmp_path: Path) -> None:
+    """An added arc takes two spare links, and its undo leaves them: only the first one makes all links anew."""
+    text = subprocess.run([maker, family, str(ARCS), "1990"], capture_output=True, check=True, text=True).stdout
+    others = [f"add {node} {node + 1} 1\nundo\n" for node in range(1, 41, 2)]
+    before, after = (instructions(tmp_path, text, f"solve\nadd 1 2 1\n{then}") for then in ("", "".join(others)))
+    assert (after - before) / len(others) < ADD_BUDGET

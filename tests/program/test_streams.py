@@ -23,7 +23,7 @@ FAULTY = b"p max 2 2\nn 1 s\nn 2 t\na 1 2 18446744073709551615\na 1 2 1\n"
 READ_FAILED, WRITE_FAILED = b"dmf: read failed\n", b"dmf: write failed\n"
 INPUT, OUTPUT, ERROR = 0, 1, 2
 # The least stack that docs/FORMATS.md promises to be enough, in bytes. The arguments and the environment, here of this size at least, lie there too.
-SMALL_STACK = 96 * 1024
+SMALL_STACK = 64 * 1024
 ENVIRONMENT = 8 * 1024
 
 

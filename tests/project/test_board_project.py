@@ -36,6 +36,35 @@ def test_kept(tmp_path: Path) -> None:
     assert run("dmf-plan", path, typed="scenario\n").stdout.splitlines()[-1] == "  * Later, from 'first': 3 of 3 steps, value 155"
 
 
+def test_keep_beside(driver: Any, tmp_path: Path) -> None:
+    """The page of a table offers to keep a project beside it; it has the steps so far then, and those after them."""
+    shutil.copy(ROOT / PIPES, tmp_path)
+    with board(f"{tmp_path}/pipes.csv") as it:
+        page = Page(driver, it.address)
+        it.do(what="close", arc=10)
+        it.do(what="close", arc=9)
+        it.do(what="go", step=1)
+        page.wait(lambda: page.value() == without("Bridge pipe"))
+        assert page.text("#keep") == "Keep them, and go on another day: pipes.dmf.json"
+        turn = it.turn()
+        page.click("#keep")
+        page.wait(lambda: page.text("#kept") == "Each step is kept in pipes.dmf.json.")
+        assert it.turn() > turn and not driver.find_element("id", "keep").is_displayed()
+        assert page.text("#news").startswith("The steps are kept in pipes.dmf.json: 155")
+        assert driver.find_element("id", "scenarios").is_displayed()
+        assert it.do(what="close", arc=9)["value"] == str(without("Bridge pipe", "Mill Lane"))
+        status, told = it.post("do", what="keep")
+        assert status == 409 and b"no project can be kept of this" in told
+        it.process.send_signal(signal.SIGKILL)
+    driver.get("about:blank")
+    ran = run("dmf-plan", f"{tmp_path}/pipes.dmf.json", typed="steps\n")
+    assert "close Bridge pipe" in ran.stdout and "close Mill Lane" in ran.stdout
+    with board(f"{tmp_path}/pipes.csv") as it:
+        status, told = it.post("do", what="keep")
+        assert status == 409 and b"cannot be made: it is there already" in told and it.state()["offer"] == "pipes.dmf.json"
+        assert it.do(what="close", arc=10)["value"] == str(without("Bridge pipe"))
+
+
 def test_page_says_so(driver: Any, tmp_path: Path) -> None:
     """The page says where its steps are kept, and where they are not that they are not."""
     shutil.copy(ROOT / PIPES, tmp_path)

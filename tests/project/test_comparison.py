@@ -94,7 +94,8 @@ def test_opened_again(tmp_path: Path) -> None:
 
 
 def test_takes_as_long_as_what_differs(tmp_path: Path, monkeypatch: pytest.MonkeyPatch) -> None:
-    """Of scenarios that begin with the same steps, a comparison makes only the others again, and so does who goes between them."""
+    """Of scenarios that begin with the same steps, a comparison makes no step again that the session can redo, and who goes between them makes
+    only the others."""
     desk = water_project(tmp_path)
     for most in range(30):
         desk.cap(named(desk, "Mill Lane"), most)
@@ -111,12 +112,12 @@ def test_takes_as_long_as_what_differs(tmp_path: Path, monkeypatch: pytest.Monke
     before = arc_states(desk)
     found = compare(desk, "first", "more")
     # Mill Lane carries 29 in place of 45 in the limits of the story's page.
-    assert made == ["close Bridge pipe"] and (found.first.value, found.second.value) == (165 - 16, 155 - 16)
+    assert made == [] and (found.first.value, found.second.value) == (165 - 16, 155 - 16)
     assert (arc_states(desk), desk.at) == (before, 32)
     desk.go("first")
     desk.undo(10)
     desk.go("more")
-    assert made == ["close Bridge pipe", *(f"Mill Lane carries {most} litres per second" for most in range(20, 30)), "close Bridge pipe"]
+    assert made == [*(f"Mill Lane carries {most} litres per second" for most in range(20, 30)), "close Bridge pipe"]
     assert arc_states(desk) == before
     desk.end()
 

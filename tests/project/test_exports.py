@@ -6,9 +6,11 @@ import csv
 import io
 import json
 import re
+import struct
 import subprocess
 import sys
 import time
+import zlib
 from collections import Counter
 from collections.abc import Callable
 from pathlib import Path
@@ -17,9 +19,12 @@ from xml.etree import ElementTree
 
 import pytest
 from desk_shared import ROOT, run
+from client_shared import dmf
+from dmf.board.board import Board
 from dmf.board.picture import Picture
-from dmf.desk_text import problem, table
+from dmf.desk_text import drawn, problem, table, taken
 from dmf.project.desk import ProjectDesk
+from dmf.project.report import report
 from dmf.quantity import plain_text
 from oracle import program
 from project_shared import named, new_project, supply_project, water_project
@@ -95,6 +100,17 @@ def read_back(*words: str) -> tuple[str, str, dict[str, str]]:
     return solved["value"]["told"], solved["unit"], {name: arc["capacity"]["told"] for name, arc in zip(names, arcs)}
 
 
+def png_chunks(data: bytes) -> int:
+    """How many chunks a PNG has, each of which has its sum."""
+    at, count = 8, 0
+    while at < len(data):
+        (length,) = struct.unpack(">I", data[at : at + 4])
+        end = at + 8 + length
+        assert struct.unpack(">I", data[end : end + 4]) == (zlib.crc32(data[at + 4 : end]),)
+        at, count = end + 4, count + 1
+    return count
+
+
 def assert_said(desk: ProjectDesk, text: str) -> None:
     """A text has the network's name, the scenario, the day, the value and its unit."""
     wanted = ["kept.dmf.json", "scenario The plan", time.strftime("%Y-%m-%d"), f"at most {value_of(desk)} {desk.measure.told_unit}".rstrip()]
@@ -126,6 +142,31 @@ def test_table(desk: ProjectDesk, tmp_path: Path) -> None:
     titles = table(again).splitlines()[0]
     assert titles.count("said of the plan") == 1 and "scenario first" in table(again) and "The plan" not in table(again)
     again.end()
+
+
+@pytest.mark.parametrize("name", ["page.svg", "plan.svg", "plan.png", "plan.dot", "report.html"])
+def test_pictures_are_read_back(desk: ProjectDesk, tmp_path: Path, name: str) -> None:
+    """A picture or a report carries its problem: dmf-plan and dmf.read find the same values, and one of which a part is missing is refused."""
+    path = tmp_path / name
+    if name == "page.svg":
+        made = Board(desk).get("picture.svg", {"near": "", "turn": str(desk.turn)}).body
+    else:
+        made = report(desk).encode() if name == "report.html" else taken(desk, drawn(desk, name))
+    path.write_bytes(made)
+    wanted = {arc: capacity for arc, (_, capacity) in states(desk).items()}
+    assert read_back(str(path)) == (value_of(desk), desk.measure.told_unit, wanted)
+    (tmp_path / "plan.max").write_text(problem(desk))
+    with dmf.read(path) as network, dmf.read(tmp_path / "plan.max") as other:
+        assert (network.solve().value, [*map(repr, network.arcs)]) == (other.solve().value, [*map(repr, other.arcs)])
+    end = made.index(b"dmf-problem:") + 40
+    path.write_bytes(made[:end])
+    told = run("dmf-plan", str(path), typed="solve\n").stderr
+    assert f"{path}: only a part is left of the problem that it carries" in told
+    path.write_bytes(made[: end - 9] + b"AAAA" + made[end - 5 :])
+    with pytest.raises(dmf.TableFault, match="only a part is left"):
+        dmf.read(path)
+    if name == "plan.png":
+        assert png_chunks(made) >= 4
 
 
 def test_picture(desk: ProjectDesk) -> None:

@@ -1,141 +1,26 @@
-"""The file of a project and its journal: what is kept is read back, half of it is refused with its place or is what was in hand, and an
-older version, another project, a second desk and a full disk lose nothing."""
+"""The file of a project and its journal: what a kill leaves is what was done but for what was in hand, and an older version, another
+project, a second desk and a full disk lose nothing."""
 
 from __future__ import annotations
 
 import errno
-import json
 import os
-import re
 import shutil
-from collections.abc import Callable
+import time
 from pathlib import Path
 from typing import Any
 
 import pytest
-from desk_shared import ROOT
-from dmf.project import acts
 from dmf.project import file as project_file
-from dmf.project.file import MOST_VERSIONS, ProjectFile, created, journal_of, opened, versions_of
-from dmf.project.form import (
-    REQUESTS, File, KeptStep, KeptTable, Project, ProjectFault, Scenario, project_of, said_scenario, said_step, text_of,
-)  # fmt: skip
-
-ARC = ("Mill", "Town", 'Main "pipe"\n2')
-STEP = KeptStep('close "it"\nnow', "47.3", (("close", ARC), ("cap", (*ARC, 2), "0.25"), ("shut", "Mill"), ("add", ("Mill", 7, ""), "12")))
-
-
-def a_project() -> Project:
-    """A project that has all that one can have."""
-    table = KeptTable(
-        File("t.csv", "00"), "Sheet 1", {"source": ["Mill"], "both_ways": True, "decimal": ","}, {"sinks": File("s.csv", "11")}, "l/s", "pipe",
-        ["a note"],
-    )  # fmt: skip
-    project = Project("ab", table, "p max 2 0\nn 1 s\nn 2 t\n", notes="for\nMay", positions={"Mill": (1.5, -2.0)})
-    project.scenarios = [
-        Scenario("first", [STEP, STEP], 1, note='"so"', left_out=[STEP]), Scenario("Flood \u00fc\udc80", [STEP], 1, "first", 1),
-    ]  # fmt: skip
-    project.present = "first"
-    return project
+from dmf.project.file import MOST_VERSIONS, created, journal_of, opened, versions_of
+from dmf.project.form import ProjectFault, Scenario, project_of, said_scenario, said_step, text_of
+from dmf.tool import write_file
+from project_files import STEP, a_project, begun, left, made_project, refused
 
 
 @pytest.fixture
 def path(tmp_path: Path) -> str:
-    """A project that was made and closed."""
-    path = str(tmp_path / "water.dmf.json")
-    created(path, a_project()).end()
-    return path
-
-
-def refused(path: str) -> str:
-    """Why a project is not opened."""
-    with pytest.raises(ProjectFault) as fault:
-        opened(path)
-    return str(fault.value)
-
-
-def changed(path: str, change: Callable[[dict[str, Any]], object]) -> str:
-    """The path of a file whose content was changed."""
-    content = json.loads(Path(path).read_bytes())
-    change(content)
-    other = path.replace("water", "other")
-    Path(other).write_text(json.dumps(content))
-    return other
-
-
-def test_read_back(path: str) -> None:
-    assert project_of(text_of(a_project())) == a_project()
-    read = opened(path)
-    assert read.project == a_project() and not read.why_not
-    read.end()
-    assert os.listdir(os.path.dirname(path)) == ["water.dmf.json"]
-
-
-def test_half_a_file(path: str) -> None:
-    """Each beginning of the file is refused, with a line in it, and stays as it is."""
-    text = Path(path).read_bytes()
-    for end in range(0, len(text) - 2, 7):
-        half = Path(path.replace("water", "half"))
-        half.write_bytes(text[:end])
-        told = refused(str(half))
-        line = text[:end].count(b"\n") + 1
-        assert re.match(rf"{re.escape(str(half))}: (line {line}, column \d+: |byte \d+ is no UTF-8)", told), (end, told)
-        assert half.read_bytes() == text[:end]
-    assert not [it for it in os.listdir(os.path.dirname(path)) if "journal" in it]
-
-
-@pytest.mark.parametrize(
-    "change, told",
-    [
-        (lambda it: it.update({"dmf project": 2}), "it is a project of version 2, and this dmf reads version 1; a newer dmf wrote it"),
-        (lambda it: it.update({"more": 1}), "more is nothing that a project of version 1 has"),
-        (lambda it: it.pop("network"), "network is missing"),
-        (lambda it: it.update(serial=-1), "serial is -1, and not from 0 to any number"),
-        (lambda it: it.update(serial=1.0), "serial is a number, and not a whole number"),
-        (lambda it: it["table"].update(sheet=None), "table.sheet is nothing, and not a text"),
-        (lambda it: it["table"]["options"].update(tails="x"), "table.options.tails is nothing that a project of version 1 has"),
-        (lambda it: it["table"]["places"].update(x={}), "table.places.x is none of sources, sinks, node_limits, place_table"),
-        (lambda it: it["table"].update(assumed=[1]), "table.assumed[0] is a whole number, and not a text"),
-        (lambda it: it["positions"].update(Mill=[1]), "positions['Mill'] is not two numbers"),
-        (lambda it: it.update(present="nobody"), "present is 'nobody', and no scenario has that name"),
-        (lambda it: it["scenarios"][1].update(name="first"), "scenarios[1].name is 'first', as that of another scenario"),
-        (lambda it: it["scenarios"][0].update(at=3), "scenarios[0].at is 3, and not from 0 to 2"),
-        (lambda it: it["scenarios"][0].update(inherited=2), "scenarios[0].inherited is 2, and not from 0 to 1"),
-        (lambda it: it["scenarios"][0]["steps"][1].update(value="-1"), "scenarios[0].steps[1].value is '-1', and no number from 0 on"),
-        (
-            lambda it: it["scenarios"][0]["steps"][1]["requests"].append(["burn", "Mill"]),
-            "scenarios[0].steps[1].requests[4] is none of close, open, cap, add, shut with what follows it",
-        ),
-        (
-            lambda it: it["scenarios"][0]["steps"][0]["requests"].append(["close", ["Mill"]]),
-            'scenarios[0].steps[0].requests[4] has ["Mill"], which is no arc',
-        ),
-    ],
-)  # fmt: skip
-def test_strictly(path: str, change: Callable[[dict[str, Any]], object], told: str) -> None:
-    other = changed(path, change)
-    assert refused(other) == f"{other}: {told}"
-
-
-def test_twice(path: str) -> None:
-    other = path.replace("water", "other")
-    Path(other).write_text(Path(path).read_text().replace('"serial"', '"id"'))
-    assert refused(other) == f"{other}: the field 'id' stands twice"
-
-
-def begun(path: str) -> ProjectFile:
-    """The project with some acts in its journal, as a kill leaves it."""
-    file = opened(path)
-    file.keep("step", said_step(STEP))
-    file.keep("new", said_scenario(Scenario("more")))
-    file.keep("note", "a note\nin two lines")
-    return file
-
-
-def left(file: ProjectFile) -> None:
-    """Drops the lock, as a kill does."""
-    assert file._journal
-    os.close(file._journal._file)
+    return made_project(tmp_path)
 
 
 def test_a_kill_at_each_byte(path: str) -> None:
@@ -229,6 +114,37 @@ def test_versions(path: str) -> None:
     file.keep("notes", "again")
     file.end()
     assert len(versions_of(path)) == MOST_VERSIONS and project_of(Path(versions_of(path)[-1]).read_bytes()).notes == str(MOST_VERSIONS + 1)
+
+
+def test_a_clock_that_jumps(path: str, monkeypatch: pytest.MonkeyPatch) -> None:
+    """Forwards and back by years, also between two steps: nothing is lost, nobody else is said to have written, and the oldest version goes
+    first."""
+    clock = [0]
+
+    def written(place: str, data: bytes, **more: bool) -> None:
+        write_file(place, data, **more)
+        os.utime(place, (clock[0], clock[0]))
+
+    monkeypatch.setattr(project_file, "write_file", written)
+    monkeypatch.setattr(time, "time", lambda: float(clock[0]))
+    notes: list[str] = []
+    for count in range(MOST_VERSIONS + 8):
+        # Years from 1970 to 2100, in no order; every fourth time the journal is left behind.
+        clock[0] = 86_400 * 365 * (count * 37 % 131)
+        file = opened(path)
+        assert not file.why_not and not file.news and file.project.notes == (notes[-1] if notes else "for\nMay")
+        for at in range(2):
+            clock[0] = 86_400 * 365 * (count * 59 % 131)
+            notes.append(f"{count}, {at}")
+            file.keep("notes", notes[-1])
+        if count % 4:
+            file.end()
+            assert not file.news
+        else:
+            left(file)
+    opened(path).end()
+    kept = [project_of(Path(it).read_bytes()).notes for it in versions_of(path)]
+    assert len(kept) == MOST_VERSIONS and kept == sorted(kept, key=notes.index) and project_of(Path(path).read_bytes()).notes == notes[-1]
 
 
 def test_two_desks(path: str) -> None:
@@ -375,13 +291,3 @@ def test_ten_thousand_steps_and_two_hundred_scenarios(path: str) -> None:
     again = opened(path)
     assert again.project == file.project and len(again.project.scenarios) == 202
     again.end()
-
-
-def test_documented() -> None:
-    """docs/FORMATS.md names each key of a project, each request and each act."""
-    page = (ROOT / "docs/FORMATS.md").read_text()
-    section = page[page.index("## Projects") : page.index("## Session commands")]
-    content = json.loads(text_of(a_project()))
-    keys = {*content, *content["table"], *content["scenarios"][0], *content["scenarios"][0]["steps"][0], *acts._ACTS}
-    assert not [key for key in keys if f"`{key}`" not in section]
-    assert not [word for word in REQUESTS if f'["{word}"' not in section]

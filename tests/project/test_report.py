@@ -6,6 +6,7 @@ from __future__ import annotations
 import base64
 import re
 import shutil
+import subprocess
 from collections.abc import Iterator
 from html.parser import HTMLParser
 from pathlib import Path
@@ -226,3 +227,8 @@ def test_the_picture_of_the_story(tmp_path: Path, driver: Any, writes: bool) -> 
         assert int.from_bytes(picture[16:20], "big") == width
         if writes:
             (ROOT / f"docs/pictures/{name}.png").write_bytes(picture)
+    printed = tmp_path / "report.pdf"
+    printed.write_bytes(base64.b64decode(driver.execute_cdp_cmd("Page.printToPDF", {"preferCSSPageSize": True})["data"]))
+    assert printed.read_bytes().count(b"/Type /Page\n") == 4
+    if writes:
+        subprocess.run(["pdftoppm", "-png", "-r", "55", "-singlefile", printed, ROOT / "docs/pictures/report-paper"], check=True)

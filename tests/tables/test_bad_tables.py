@@ -123,7 +123,8 @@ def test_read_rightly(text: str, wanted: list[tuple[str, str, int]]) -> None:
         ("von;von;nach;Kap\nA;B;C;3\n", "line 1: the columns 1 and 2 have one title, 'von': which is the tail?"),
         ("von;nach;Pumpen\nA;B;3 l/s\nB;C;4 m3/h\nB;D;5\n", "line 3, column 3: a capacity has the unit 'm3/h', and line 2 has 'l/s'"),
         ("von;nach;Pumpen\nA;B;3 l/s\nB;C;4\n", "line 3, column 3: a capacity has no unit, and line 2 has 'l/s'"),
-        ("from,to,cap\nA,B,=1+2\n", "line 2, column 3: the capacity '=1+2' is no number"), ("from,to,cap\nA,B,inf\n", "line 2, column 3: the capacity 'inf' is no number"),
+        ("from,to,cap\nA,B,=1+2\n", "line 2, column 3: the capacity '=1+2' is no number, but a formula"),
+        ("von;nach;kap\nA;B;3. Mai 2024\n", "line 2, column 3: the capacity '3. Mai 2024' is a date"), ("von;nach;kap\nA;B;-3,5\n", "line 2, column 3: the capacity '-3,5' is below 0"), ("from,to,cap\nA,B,inf\n", "line 2, column 3: the capacity 'inf' is no number"),
     ],
 )  # fmt: skip
 def test_refused(text: str, told: str) -> None:

@@ -4,6 +4,8 @@ from __future__ import annotations
 
 import argparse
 import csv
+import time
+import tracemalloc
 from fractions import Fraction
 from pathlib import Path
 from typing import Any
@@ -14,7 +16,7 @@ from desk_shared import run
 from dmf.desk import Desk
 from dmf.desk_text import problem, table
 from dmf.tables import extra
-from dmf.tables.extra import Extra, extra_in
+from dmf.tables.extra import Extra, extra_in, left_out
 from dmf.tables.subject import Subject, add_words, read_subject, words_of
 from hypothesis import given
 from hypothesis import strategies as some
@@ -118,14 +120,43 @@ def test_a_printed_problem(tmp_path: Path) -> None:
     assert "c column 1 cost\nc cell 1 1 20\np max" in ran.stdout, ran
 
 
-def test_more_cells_than_a_problem_takes(tmp_path: Path, monkeypatch: pytest.MonkeyPatch) -> None:
-    """They are left out, and the problem says so."""
+@pytest.mark.parametrize("bound", ["MOST_TOLD", "MOST_CELLS", "MOST_COLUMNS"])
+def test_more_than_a_problem_takes(tmp_path: Path, monkeypatch: pytest.MonkeyPatch, bound: str) -> None:
+    """Columns are left out, and the problem says so, as do those who open it."""
     columns = Extra(["cost", "two\nlines"], [["\u00e4" * 50, ""], ["", "x"]])
-    size = sum(len(line.encode()) + 1 for line in columns.comments([1, 2]).splitlines() if line.startswith("c cell "))
-    monkeypatch.setattr(extra, "MOST_TOLD", size)
-    assert extra_in(columns.comments([1, 2]).encode()).of(2) == ["", "x"]
-    monkeypatch.setattr(extra, "MOST_TOLD", size - 1)
+    cell_lines = [line for line in columns.comments([1, 2]).splitlines() if line.startswith("c cell ")]
+    size = {"MOST_TOLD": sum(len(line.encode()) + 1 for line in cell_lines), "MOST_CELLS": 2, "MOST_COLUMNS": 2}[bound]
+    monkeypatch.setattr(extra, bound, size)
+    assert extra_in(columns.comments([1, 2]).encode()).of(2) == ["", "x"] and not left_out(columns.comments([1, 2]).encode())
+    monkeypatch.setattr(extra, bound, size - 1)
     assert columns.comments([1, 2]) == 'c columns left out: cost, "two\\nlines"\n'
+    (tmp_path / "p.max").write_text("c table t.csv\n" + columns.comments([1, 2]) + PROBLEM)
+    told = 'other columns of the table were left out when this problem was written: cost, "two\\nlines"'
+    assert subject_of(tmp_path / "p.max").notes == (told,)
+    read: Any = dmf.read(tmp_path / "p.max")
+    with read as network:
+        assert network.notes == [told]
+
+
+@pytest.mark.parametrize("line", ["c cell {0} 1 x", "c cell 1 1 x", "c column {0} a", "c column 1 a"])
+def test_very_many_comments(tmp_path: Path, line: str) -> None:
+    """More of them than are read are left out: told, in little time and with nothing kept of them."""
+    text = "c column 1 a\n" + "".join(f"{line.format(number)}\n" for number in range(1, extra.MOST_CELLS + 2)) + PROBLEM
+    tracemalloc.start()
+    begun = time.process_time()
+    assert extra_in(text.encode()).titles == () and "none is kept" in left_out(text.encode())[0]
+    took, (_, peak) = time.process_time() - begun, tracemalloc.get_traced_memory()
+    tracemalloc.stop()
+    assert took < 2 and peak < 3 * len(text)
+
+
+def test_titles_that_are_the_same() -> None:
+    """Each has a name of its own, in time that grows as their number does."""
+    titles = ["a"] * 3 + ["a 2", "", "without title"] + ["b"] * 20_000
+    begun = time.process_time()
+    found = [*Extra(titles, [[]] * len(titles)).by_title([])]
+    assert found[:6] == ["a", "a 2", "a 3", "a 2 2", "without title", "without title 2"]
+    assert (len(set(found)), found[-1]) == (len(titles), "b 20000") and time.process_time() - begun < 2
 
 
 @pytest.mark.parametrize("rows", [["A,B,3,r1,120,x", "B,C,4,r2,,y"], ["A,B,3,r1,,", "B,C,4,,,", "C,D,5,r3,7,8,9"], ['A,B,3,r1,120,"x', 'y"', "B,C,4,r2"]])

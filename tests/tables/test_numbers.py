@@ -10,7 +10,7 @@ from fractions import Fraction
 import pytest
 from dmf.quantity import Measure, readings
 from dmf.tables.faults import Faults
-from dmf.tables.file import Exact
+from dmf.tables.sheet import Exact
 from dmf.tables.quantities import Amounts
 from hypothesis import given
 from hypothesis import strategies as st

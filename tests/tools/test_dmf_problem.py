@@ -62,7 +62,8 @@ def test_empty_words(tools: Tools, tmp_path: Path, word: str) -> None:
             continue
         words = ["--source=A"] * (word != "--sources") + ["--sink=B"] * (word != "--sinks") + [word, ""]
         ran = tools.run(tool, tmp_path, [*["table.csv"] * (tool == "dmf-plan"), *words], "A,B,3\n", {"table.csv": "A,B,3\n"})
-        assert (ran.status, ran.out, ran.err.decode()) == (1, b"", f"{tool}: cannot read : No such file or directory\n")
+        status = {"dmf-problem": 1, "dmf-plan": 4}[tool]
+        assert (ran.status, ran.out, ran.err.decode()) == (status, b"", f"{tool}: cannot read : No such file or directory\n")
     if word == "--node-limits":
         ran = tools.run("dmf-plan", tmp_path, ["problem.max", word, ""], "", {"problem.max": ODD_PROBLEM})
         told = "problem.max has a problem, which names its own source and sink: the options are for tables"

@@ -64,7 +64,7 @@ def test_a_table_of_a_plan(names: list[str]) -> None:
     titles = {"tail": "from", "head": "to", "capacity": "capacity", "name": "name"}
     table = read_arcs(csv_sheet(text.encode(), "", None, 3), Reading(titles))
     places = list(table.places)
-    assert [places[table.tails[0] - 1], places[table.heads[0] - 1], list(table.amounts.numbers), table.labels] == [tail, head, [4], [name]]
+    assert [places[table.tails[0] - 1], places[table.heads[0] - 1], list(table.amounts.numbers), [*table.labels]] == [tail, head, [4], [name]]
 
 
 def names_of(text: str, *columns: int) -> list[list[str]]:

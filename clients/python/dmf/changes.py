@@ -12,16 +12,18 @@ from .session import Command
 
 class Change:
     """A change: its command; the number of each arc whose capacity it changed, with its capacity before and after; and the arc that it
-    added, with its capacity and the number of the closed arc that it replaces, if it does. A closed arc has no capacity."""
+    added, with its capacity and the number of the closed arc that it replaces, if it does. A closed arc has no capacity. `value` is that of
+    the flow after it."""
 
-    __slots__ = "command", "capacities", "added"
+    __slots__ = "command", "capacities", "added", "value"
 
     def __init__(
-        self, command: Command, capacities: Sequence[tuple[int, int | None, int | None]] = (), added: tuple[Arc[Any], int, int | None] | None = None
+        self, command: Command, capacities: Sequence[tuple[int, int | None, int | None]] = (), added: tuple[Any, int, int | None] | None = None
     ) -> None:
         self.command = command
         self.capacities = capacities
         self.added = added
+        self.value = 0
 
 
 class _Now:
@@ -60,8 +62,18 @@ class Changes:
         self.most = most
         # How many changes may not be undone now.
         self.floor: int | None = None
+        self.begin_with(0)
+
+    def begin_with(self, value: int) -> None:
+        """Takes the present state, with a flow of this value, as the first one."""
         self._changes: list[Change | Command] = []
-        self._now = _Now()
+        self._now = self._start = _Now(0, value)
+
+    def value_at(self, place: int) -> int:
+        """The value of the flow after so many changes, of which the last one is not forgotten."""
+        change = self._changes[place - 1] if place else self._start
+        assert isinstance(change, (Change, _Now))
+        return change.value
 
     @property
     def place(self) -> int:
@@ -93,6 +105,7 @@ class Changes:
         now = self._now
         back = _Back(now, made=[change], dropped=self._changes[now.place :])
         self._now = _Now(now.place, now.value, back)
+        change.value = value
         self._changes[now.place :] = [change]
         self._make(change)
         self._now = _Now(now.place + 1, value, back)
@@ -165,4 +178,6 @@ def _with_own_arc(change: Change, again: Callable[[Arc[Any]], Arc[Any]]) -> Chan
     if change.added is None:
         return change
     arc, capacity, replaced = change.added
-    return Change(change.command, change.capacities, (again(arc), capacity, replaced))
+    copy = Change(change.command, change.capacities, (again(arc), capacity, replaced))
+    copy.value = change.value
+    return copy

@@ -8,13 +8,14 @@ from collections.abc import Callable
 from itertools import takewhile
 from typing import Any, NamedTuple, Tuple, Union
 
+from .anew import Anew
 from .arcs import Arc
 from .errors import Error, NoProgram, SessionEnded
 from .kept import Kept
 from .network import Network
 from .lexical import LARGEST, MOST_ARCS
 from .rows import whole
-from .session import MOST_COMMANDS, Way
+from .session import MOST_COMMANDS, FilePath, Way
 from .session import Command as Numbered
 
 # A command of a case: ("cap", arc, capacity), ("close", arc), ("open", arc), ("shut", node) or ("add", tail, head, capacity).
@@ -52,7 +53,7 @@ def _try(network: Network[Any], case: Plain, want_cut: bool) -> Answer:
         value = network._kept.value
         if not want_cut:
             return Answer(value)
-        return Answer(value, tuple(arc.number if arc.number <= known else arc for arc in network.cut().arcs))
+        return Answer(value, tuple(arc.number if arc.number <= known else arc for arc in network._leaving_cut()))
 
 
 def _try_together(network: Network[Any], cases: list[list[Numbered]], answers: list[Answer]) -> None:
@@ -66,10 +67,11 @@ def _try_together(network: Network[Any], cases: list[list[Numbered]], answers: l
 
 class Copy:
     """A solved copy of a network, which is begun when a case comes, and anew where its session ends. Its problem may be in a file that
-    several programs read."""
+    several programs read. With `anew` it is not solved, and each case is, from nothing, by this program."""
 
-    def __init__(self, kept: Kept[Any], way: Way, path: str | None = None) -> None:
+    def __init__(self, kept: Kept[Any], way: Way, path: str | None = None, anew: FilePath | None = None) -> None:
         self._kept = kept
+        self._anew = anew
         self._way = way
         self._path = path
         # How long it took to begin, in seconds, each time counted.
@@ -156,9 +158,12 @@ class Copy:
             network: Network[Any] = self._kept.columns.network_class()._of(self._kept.copy(), self._way, self._path)
             with self._lock:
                 self.network = network
+                if self._anew is not None:
+                    network._session = Anew(network._session, self._anew)
                 if self._is_over:
                     network._stop("the sweep was ended")
-            network.solve()
+            if self._anew is None:
+                network.solve()
             self.begin_seconds += time.monotonic() - began
         return self.network
 

@@ -9,9 +9,10 @@ of the session allow: then the steps are made again on the problem of a finer sc
 from __future__ import annotations
 
 import contextlib
-from collections.abc import Generator, Iterable, Iterator, Mapping
+from collections.abc import Generator, Iterable, Iterator, Mapping, Sequence
 
 from .desk_amounts import finer, past_64_bits
+from .desk_first import FirstAnswer
 from .desk_network import Held
 from .desk_steps import Add, Cap, Change, Close, DeskFault, Line, Place, Reopen, Shut, Solve, Step, Trial
 from .desk_sweep import trials
@@ -26,15 +27,26 @@ from .tables.subject import Subject
 class Desk(DeskView):
     """A network, and what was done to it. `with_solve` says that each step solves after its change, so that its value is always
     the greatest. What a call raises beside a `DeskFault` is what the client raises. Any error in the midst of a step ends the session,
-    since that might be left between two steps; `has_ended` says so, and `begin_again` makes the steps once more on a new one."""
+    since that might be left between two steps; `has_ended` says so, and `begin_again` makes the steps once more on a new one.
+    `may_follow` says that the first solve of a large network may tell the value and the limit alone: `follow` then finds the flows, and so
+    does whatever needs them."""
 
-    def __init__(self, subject: Subject, *, with_solve: bool = False, program: Program = None) -> None:
+    def __init__(self, subject: Subject, *, with_solve: bool = False, may_follow: bool = False, program: Program = None) -> None:
+        first = FirstAnswer.of(subject.text, program) if with_solve and may_follow else None
         super().__init__(Held(subject, program), with_solve)
         self._program = program
         self._coming: Held | None = None
         if with_solve:
-            self._do("solve", [Solve()])
+            found = first.wait() if first else None
+            if found:
+                self._take_step(self._held.promise(found.value, found.side))
+            else:
+                self._do("solve", [Solve()])
             self._time.floors.append(1)
+
+    def follow(self) -> None:
+        """Finds the flows, where only the value and the limit are known so far."""
+        self._held.follow()
 
     def break_off(self, why: str) -> None:
         """Ends the session at once, also for a thread that waits for it, and one on which the steps are made again."""
@@ -158,7 +170,7 @@ class Desk(DeskView):
             raise DeskFault(f"there {_are(len(self._time.undone), 'step')} to redo")
         for _ in range(count):
             *undone, step = self._time.undone
-            self._make(step.text, step.changes, undone)
+            self._take_step(self._held.make_again(step), undone)
 
     def go_to(self, at: int) -> None:
         """Goes back or forward to the state after so many of the steps."""
@@ -191,7 +203,7 @@ class Desk(DeskView):
     @contextlib.contextmanager
     def aside(self) -> Iterator[None]:
         """Undoes at its end what the block did, and keeps no step of it."""
-        at, undone = self.at, list(self._time.undone)
+        at, undone, turn = self.at, list(self._time.undone), self.turn
         try:
             yield
         finally:
@@ -200,10 +212,10 @@ class Desk(DeskView):
                     self._undo(self.at - at)
             finally:
                 # A session that has ended undoes nothing.
-                for step in reversed(self._time.done[at:]):
-                    self._held.take_back(step.before, step.shut_before)
+                if self.at > at:
+                    self._held.take_back(self._time.done[at:])
                 self._step_back(self.at - at)
-                self._time.undone = undone
+                self._time.undone, self._time.turn = undone, turn
 
     def sweep(self, numbers: Iterable[int]) -> Generator[Trial, None, None]:
         """What each of these arcs means for the greatest value: if it alone is closed, and if it alone has a second one beside it.
@@ -214,6 +226,7 @@ class Desk(DeskView):
         wanted = list(numbers)
         for number in wanted:
             self._open_line(number)
+        self.follow()
         return trials(self._held, self.value, wanted)
 
     def the_arc(self, text: str, *, is_closed: bool = False) -> int:
@@ -230,14 +243,13 @@ class Desk(DeskView):
         """Makes a new step."""
         wanted = [*changes, *self._held.following(changes)]
         try:
-            return self._make(text, (*wanted, Solve()) if self.with_solve and wanted != [Solve()] else tuple(wanted), [])
+            return self._take_step(self._held.make(text, (*wanted, Solve()) if self.with_solve and wanted != [Solve()] else tuple(wanted)))
         except CapacitiesPast64Bits:
             raise past_64_bits(self.measure) from None
 
-    def _make(self, text: str, changes: tuple[Change, ...], undone: list[Step]) -> Step:
-        """Makes a step, after which these are undone; or none of its changes."""
-        step = self._held.make(text, changes)
-        self._time.undone = undone
+    def _take_step(self, step: Step, undone: Sequence[Step] = ()) -> Step:
+        """Takes in a step that was made, after which these are undone."""
+        self._time.undone = [*undone]
         self._time.done.append(step)
         self._time.turn += 1
         return step

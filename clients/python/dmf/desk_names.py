@@ -44,14 +44,20 @@ class Names:
         called: dict[str, list[int]] = {}
         for number in folding.places(range(1, len(self._labels) + 1)):
             called.setdefault(cleaned(self._labels[number - 1]), []).append(number)
-        self._between: dict[tuple[int, int], list[int]] = {}
-        for number, line in enumerate(lines, 1):
-            self._between.setdefault(line[:2], []).append(number)
         for label, numbers in called.items():
             if len(numbers) == 1:
                 self.places[label] = Place(numbers[0], folding.second(numbers[0]))
             else:
                 self._several[label] = numbers
+
+    @cached_property
+    def _between(self) -> dict[tuple[int, int], list[int]]:
+        """The arcs by their ends, but for those that were opened again as other ones."""
+        found: dict[tuple[int, int], list[int]] = {}
+        for number, line in enumerate(self._lines, 1):
+            if not line.is_replaced:
+                found.setdefault(line[:2], []).append(number)
+        return found
 
     @cached_property
     def _arcs(self) -> dict[str, list[int]]:
@@ -68,14 +74,16 @@ class Names:
         if "_arcs" in vars(self):
             for name in self._typed(number):
                 self._arcs.setdefault(name, []).append(number)
-        self._between.setdefault(self._ends(number), []).append(number)
+        if "_between" in vars(self):
+            self._between.setdefault(self._ends(number), []).append(number)
 
     def drop(self, number: int) -> None:
         """Takes out an arc that was taken in."""
         if "_arcs" in vars(self):
             for name in self._typed(number):
                 self._arcs[name].remove(number)
-        self._between[self._ends(number)].remove(number)
+        if "_between" in vars(self):
+            self._between[self._ends(number)].remove(number)
 
     def _typed(self, number: int) -> set[str]:
         """The names by which an arc can be typed: how it is called, and its name in the problem."""

@@ -6,13 +6,13 @@ Amounts are quantities, as the table has them. The session has whole numbers: th
 from __future__ import annotations
 
 import contextlib
-from collections.abc import Hashable, Iterable, Iterator
-from dataclasses import dataclass
+from collections.abc import Iterable, Iterator, Sequence
+from dataclasses import dataclass, replace
 from itertools import chain
 
-from . import Arc, Cut, Solution
+from . import Arc, Cut, Solution, changes as session
 from .desk_names import Names
-from .desk_steps import Add, Cap, Change, Close, DeskFault, Follow, Line, Node, Reopen, Shut, Solve, Step, Was
+from .desk_steps import Add, Cap, Change, Close, DeskFault, Follow, Line, Marks, Node, Reopen, Shut, Solve, Step
 from .errors import Error, FlowIsNotGreatest, Refused
 from .folding import Folding
 from .quantity import EXACT, Measure, Quantity
@@ -21,7 +21,7 @@ from .sources import whole_network
 from .tables.cells import cleaned, shown
 from .tables.comments import Role
 from .tables.subject import Subject
-from .text import read_names
+from .text import NODE, names_in, naming_pieces
 
 
 @dataclass
@@ -33,10 +33,13 @@ class _Seen:
     cut_arcs: dict[int, None] | None = None
     side: set[int] | None = None
     is_greatest: bool | None = None
+    # The greatest value, where the flows that have it are not known yet.
+    promised: int | None = None
 
 
 class Held:
-    """The network of a subject, on a session of its own. Arcs and nodes go by their numbers. Raises what `dmf.read` raises."""
+    """The network of a subject, on a session of its own. Its lines follow the changes that the network keeps, made and undone: there is one
+    timeline. Arcs and nodes go by their numbers. Raises what `dmf.read` raises."""
 
     def __init__(self, subject: Subject, program: Program = None) -> None:
         self.subject = subject
@@ -45,17 +48,22 @@ class Held:
         columns, quantity = kept.columns, self.measure.quantity
         self._nodes = self.network.nodes
         self.folding = Folding(subject.described)
-        self.lines = [Line(tail, head, quantity(most)) for tail, head, most in zip(columns.tails, columns.heads, kept.capacities)]
+        self.lines = [*map(Line, columns.tails, columns.heads, map(quantity, kept.capacities))]
         # The names of arcs, those of added ones too.
         self._keys = dict(columns.keys)
-        self.names = Names(read_names(subject.text)[0], self.lines, self._keys, self._nodes, self.folding)
-        for number, role in subject.described.roles.items() if self.folding.has_unlimited else ():
-            self.lines[number - 1] = self.lines[number - 1]._replace(is_unlimited=role.is_unlimited)
+        self.names = Names(names_in(naming_pieces(subject.text, NODE), NODE), self.lines, self._keys, self._nodes, self.folding)
+        # The arcs of unlimited sources and sinks.
+        self._at_first_unlimited = {number for number, role in subject.described.roles.items() if role.is_unlimited}
+        for number in self._at_first_unlimited:
+            self.lines[number - 1] = self.lines[number - 1]._replace(is_unlimited=True)
         # How many arcs the problem has; those after them were added.
         self.first_count = len(self.lines)
-        self.shut_nodes: frozenset[int] = frozenset()
+        self.marks = Marks()
+        # The steps that the session can redo, the first to be redone at the end, each with the marks after it.
+        self._undone: list[tuple[Step, Marks]] = []
         self._seen = _Seen()
         self._is_broken = False
+        kept.watcher = self._follow
 
     # The session.
 
@@ -84,6 +92,11 @@ class Held:
         return self.subject.measure
 
     @property
+    def shut_nodes(self) -> frozenset[int]:
+        """The nodes that are shut."""
+        return self.marks.shut
+
+    @property
     def is_greatest(self) -> bool:
         """Whether no flow has a larger value than the present one."""
         if self._seen.is_greatest is None:
@@ -104,10 +117,8 @@ class Held:
     def cut_arcs(self) -> dict[int, None]:
         """The arcs of the cut, in their order."""
         if self._seen.cut_arcs is None:
-            side = self.side()
-            self._seen.cut_arcs = {
-                number: None for number, line in self._opened() if line.tail in side and line.head not in side
-            }
+            leaving = self.network._kept.leaving(sorted(self.side()))
+            self._seen.cut_arcs = dict.fromkeys(arc.number for arc in leaving)
         return self._seen.cut_arcs
 
     def side(self) -> set[int]:
@@ -128,17 +139,45 @@ class Held:
     def _opened(self) -> Iterator[tuple[int, Line]]:
         return ((number, line) for number, line in enumerate(self.lines, 1) if not line.is_closed)
 
+    def promise(self, value: int, side: Sequence[int]) -> Step:
+        """The step that solves, for whoever knows the greatest value and the smallest side of a minimum cut already: its flows are found
+        by `follow`, or when something else than the limit is asked for."""
+        self._seen = _Seen(cut=self.network._cut_of(value, side), is_greatest=True, promised=value)
+        return Step("solve", (Solve(),), self.measure.quantity(value), self.marks)
+
+    @property
+    def has_promised(self) -> bool:
+        """Whether the flows of the present state are not known yet."""
+        return self._seen.promised is not None
+
+    def follow(self) -> None:
+        """Finds the flows of the present state, where they are not known yet."""
+        promised = self._seen.promised
+        if promised is None:
+            return
+        with self._unbroken():
+            flow = self.network.solve()
+            if flow.value != promised:
+                raise DeskFault(f"the session came to the value {flow.value}, and not to {promised}")
+        self._seen = replace(self._seen, flow=flow, promised=None)
+
+    def _flow(self) -> Solution[Node]:
+        self.follow()
+        self._seen.flow = self._seen.flow or self.network.flow()
+        return self._seen.flow
+
     def flows(self) -> dict[int, int]:
         """The flow on each open arc, as the session has it."""
-        self._seen.flow = self._seen.flow or self.network.flow()
-        return dict(zip((number for number, _ in self._opened()), self._seen.flow.values()))
+        return dict(zip(self.network._kept.opened().numbers(), self._flow().values()))
 
     def flow(self, number: int) -> Quantity:
         """The flow on an arc, which is 0 if it is closed."""
         if self.line(number).is_closed:
             return 0
-        self._seen.flow = self._seen.flow or self.network.flow()
-        return self.measure.quantity(self._seen.flow[self.handle(number)])
+        if self.has_promised and number in self.cut_arcs():
+            # Each maximum flow fills the arcs of a minimum cut.
+            return self.lines[number - 1].capacity
+        return self.measure.quantity(self._flow()[self.handle(number)])
 
     def line(self, number: int) -> Line:
         """An arc as it is. Raises a `DeskFault` if there is none of this number."""
@@ -217,10 +256,10 @@ class Held:
 
     def make(self, text: str, changes: tuple[Change, ...]) -> Step:
         """Makes the changes of a step, all of them or none. Any error but a refusal ends the session, which might be left between."""
-        before: list[Was] = []
-        shut_before, made = self.shut_nodes, 0
+        self.follow()
+        marks, place = self.marks, self.network._kept.place
         # A flow that somebody has is read before it changes.
-        self._seen = seen = _Seen()
+        self._seen, self._undone = (seen := _Seen()), []
         with self._unbroken():
             try:
                 for change in changes:
@@ -228,16 +267,17 @@ class Held:
                         seen = _Seen(self.network.solve(), is_greatest=True)
                     else:
                         seen = _Seen()
-                        before += self._change(change)
-                    made += 1
+                        self._change(change)
             except BaseException as error:
-                self.take_back(before, shut_before)
+                self.marks, made = marks, self.network._kept.place - place
                 if made and isinstance(error, Refused):
                     self.network.undo(made)
+                else:
+                    self._forget(made)
                 raise
         self._seen = seen
-        self.shut_nodes -= self._opened_places(changes)
-        return Step(text, changes, self.measure.quantity(self.network.value), tuple(before), shut_before)
+        self.marks = self.marks._replace(shut=self.shut_nodes - self._opened_places(changes))
+        return Step(text, changes, self.measure.quantity(self.network.value), marks)
 
     def _opened_places(self, changes: Iterable[Change]) -> set[int]:
         """The shut places whose arcs these changes opened again, all but those to other shut places."""
@@ -250,10 +290,43 @@ class Held:
 
     def undo(self, steps: list[Step]) -> None:
         """Undoes the last steps."""
-        with self._unbroken():
+        self.follow()
+        after = [*(step.marks for step in steps[1:]), self.marks]
+        with self._marked(steps[0].marks):
             self.network.undo(sum(len(step.changes) for step in steps))
-            for step in reversed(steps):
-                self.take_back(step.before, step.shut_before)
+        self._undone += reversed([*zip(steps, after)])
+
+    def make_again(self, step: Step) -> Step:
+        """Makes a step that was undone. The session redoes it, which needs no solve, unless it has made others since."""
+        if not self._undone or self._undone[-1][0] is not step:
+            return self.make(step.text, step.changes)
+        with self._marked(self._undone[-1][1]):
+            self.network.redo(len(step.changes))
+        self._undone.pop()
+        return step
+
+    @contextlib.contextmanager
+    def _marked(self, marks: Marks) -> Iterator[None]:
+        """Has these marks while the block steps back or on, and after it, unless it is broken off."""
+        before, self.marks, self._seen = self.marks, marks, _Seen()
+        with self._unbroken():
+            try:
+                yield
+            except BaseException:
+                self.marks = before
+                raise
+
+    def take_back(self, steps: list[Step]) -> None:
+        """Takes back the last steps of a session that has ended."""
+        self.marks, self._undone = steps[0].marks, []
+        self._forget(sum(len(step.changes) for step in steps))
+
+    def _forget(self, count: int) -> None:
+        """Takes back so many changes without the session."""
+        kept = self.network._kept
+        if count:
+            self.network._take_back(kept.place - count, kept.value)
+        self._seen = _Seen()
 
     @contextlib.contextmanager
     def _unbroken(self) -> Iterator[None]:
@@ -266,60 +339,62 @@ class Held:
             self.drop()
             raise
 
-    def _change(self, change: Close | Cap | Add | Reopen | Shut) -> list[Was]:
-        """Makes a change of the network, and returns the arcs that it changes, as they were before."""
+    def _change(self, change: Close | Cap | Add | Reopen | Shut) -> None:
+        """Makes a change of the network."""
+        network, nodes, marks = self.network, self._nodes, self.marks
         if isinstance(change, Add):
-            return [self._added(Line(change.tail, change.head, change.capacity), change.name)]
-        if isinstance(change, Reopen):
+            network.add(nodes[change.tail - 1], nodes[change.head - 1], self.measure.whole(change.capacity), change.name)
+        elif isinstance(change, Reopen):
+            network.open(self.handle(change.arc))
+        elif isinstance(change, Shut):
+            self.marks = marks._replace(shut=marks.shut | {change.node})
+            network.shut(nodes[change.node - 1])
+        elif isinstance(change, Close):
+            network.close(self.handle(change.arc))
+        else:
             line = self.lines[change.arc - 1]
-            again = line._replace(is_closed=False, is_shut=False, first=line.first or change.arc)
-            added = self._added(again, self._keys.get(change.arc))
-            self.names.drop(change.arc)
-            return [added, self._put(change.arc, line._replace(is_shut=False, is_replaced=True))]
-        if isinstance(change, Shut):
-            return self._shut(change.node)
-        line = self.lines[change.arc - 1]
-        if isinstance(change, Close):
-            self.network.close(self.handle(change.arc))
-            return [self._put(change.arc, line._replace(is_closed=True))]
-        self.network.cap(self.handle(change.arc), self.measure.whole(change.capacity))
-        is_unlimited = line.is_unlimited and isinstance(change, Follow)
-        return [self._put(change.arc, line._replace(capacity=change.capacity, is_unlimited=is_unlimited))]
+            if line.is_unlimited and not isinstance(change, Follow):
+                self.marks = marks._replace(limited=marks.limited | {line.first or change.arc})
+            network.cap(self.handle(change.arc), self.measure.whole(change.capacity))
 
-    def _put(self, number: int, line: Line) -> Was:
-        was = Was(number, self.lines[number - 1])
-        self.lines[number - 1] = line
-        return was
+    def _follow(self, change: session.Change, is_made: bool) -> None:
+        """Has the lines be as a change left the network, or as it was before that."""
+        if change.added:
+            arc, capacity, replaced = change.added
+            if is_made and arc.number > len(self.lines):
+                self._put(arc, capacity, replaced)
+            elif not is_made and arc.number <= len(self.lines):
+                self._drop(arc.number, replaced)
+        for number, before, after in change.capacities:
+            line, now = self.lines[number - 1], after if is_made else before
+            if now is None:
+                self.lines[number - 1] = line._replace(is_closed=True, was_shut=change.command[0] == "shut")
+            else:
+                first = line.first or number
+                is_unlimited = first in self._at_first_unlimited and first not in self.marks.limited
+                looks = {"is_closed": False, "was_shut": False, "is_unlimited": is_unlimited}
+                self.lines[number - 1] = line._replace(capacity=self.measure.quantity(now), **looks)
 
-    def _added(self, line: Line, name: Hashable) -> Was:
-        nodes = self._nodes
-        handle = self.network.add(nodes[line.tail - 1], nodes[line.head - 1], self.measure.whole(line.capacity), name)
-        if name is not None:
-            self._keys[handle.number] = name
-        self.lines.append(line)
-        self.names.put(handle.number)
-        return Was(handle.number, None)
+    def _put(self, arc: Arc[Node], capacity: int, replaced: int | None) -> None:
+        """Takes in the line of an arc that was added, in place of a closed one if that was opened again."""
+        if arc.given_key is not None:
+            self._keys[arc.number] = arc.given_key
+        if replaced:
+            was = self.lines[replaced - 1]
+            self.lines.append(was._replace(is_closed=False, was_shut=False, first=was.first or replaced))
+        else:
+            nodes = self.names.nodes
+            self.lines.append(Line(nodes[arc.tail], nodes[arc.head], self.measure.quantity(capacity)))
+        self.names.put(arc.number)
+        if replaced:
+            self.names.drop(replaced)
+            self.lines[replaced - 1] = was._replace(is_replaced=True)
 
-    def _shut(self, node: int) -> list[Was]:
-        self.network.shut(self._nodes[node - 1])
-        self.shut_nodes |= {node}
-        at_node = [
-            (number, line)
-            for number, line in enumerate(self.lines, 1)
-            if not line.is_closed and node in (line.tail, line.head)
-        ]
-        return [self._put(number, line._replace(is_closed=True, is_shut=True)) for number, line in at_node]
-
-    def take_back(self, before: Iterable[Was], shut_before: frozenset[int]) -> None:
-        """Restores arcs as they were; the session has undone what changed them, or has ended."""
-        for number, line in reversed(list(before)):
-            if line is None:
-                self.names.drop(number)
-                self._keys.pop(number, None)
-                self.lines.pop()
-                continue
-            if self.lines[number - 1].is_replaced:
-                self.names.put(number)
-            self.lines[number - 1] = line
-        self.shut_nodes = shut_before
-        self._seen = _Seen()
+    def _drop(self, number: int, replaced: int | None) -> None:
+        """Drops the line of the last arc."""
+        self.names.drop(number)
+        self._keys.pop(number, None)
+        self.lines.pop()
+        if replaced:
+            self.names.put(replaced)
+            self.lines[replaced - 1] = self.lines[replaced - 1]._replace(is_replaced=False)

@@ -25,7 +25,7 @@ class Place(NamedTuple):
 
 
 class Line(NamedTuple):
-    """An arc as it is: its ends by their numbers, and its capacity, which one that is closed had before. `is_shut` says that it was
+    """An arc as it is: its ends by their numbers, and its capacity, which one that is closed had before. `was_shut` says that it was
     closed when a place was shut, and `is_replaced` that it was closed and then opened again, as another arc. `is_unlimited` says that it
     is what a source gives, or a sink takes, as much as the arcs there carry. `first` is the number of the arc that one was before it was
     opened again, if it was."""
@@ -34,17 +34,23 @@ class Line(NamedTuple):
     head: int
     capacity: Quantity
     is_closed: bool = False
-    is_shut: bool = False
+    was_shut: bool = False
     is_replaced: bool = False
     is_unlimited: bool = False
     first: int = 0
 
+    @property
+    def is_shut(self) -> bool:
+        """Whether it is closed since a place was shut."""
+        return self.was_shut and not self.is_replaced
 
-class Was(NamedTuple):
-    """An arc before a change; None if the change added it."""
 
-    number: int
-    line: Line | None
+class Marks(NamedTuple):
+    """What the network does not know of what was done: the nodes that are shut, and the unlimited sources and sinks that got a limit, by the
+    first numbers of their arcs."""
+
+    shut: frozenset[int] = frozenset()
+    limited: frozenset[int] = frozenset()
 
 
 @dataclass(frozen=True)
@@ -94,14 +100,12 @@ Change = Union[Solve, Close, Cap, Add, Reopen, Shut]
 
 @dataclass(frozen=True)
 class Step:
-    """What was done, in words, the changes that it made, and the value of the flow that they left. `before` is what the arcs were that
-    it changed, and `shut_before` which nodes were shut."""
+    """What was done, in words, the changes that it made, the value of the flow that they left, and the marks before it."""
 
     text: str
     changes: tuple[Change, ...]
     value: Quantity
-    before: tuple[Was, ...]
-    shut_before: frozenset[int]
+    marks: Marks
 
     @property
     def is_solved(self) -> bool:

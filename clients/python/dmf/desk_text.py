@@ -3,16 +3,17 @@
 from __future__ import annotations
 
 import os
-import subprocess
 import time
 from dataclasses import dataclass
 from pathlib import Path
 from typing import cast
 
 from . import timeline
+from .carried import carrying
 from .desk import Desk
 from .desk_steps import DeskFault, Line
 from .folding import renumbered
+from .graphviz import graphviz
 from .names import written
 from .picture import Drawing, picture
 from .plan_rows import Carried, Told, plan_text
@@ -121,6 +122,11 @@ def picture_text(desk: Desk) -> str:
     return "".join(f"{line}\n" for line in picture(drawing(desk), MOST_DRAWN))
 
 
+def taken(desk: Desk, data: bytes) -> bytes:
+    """A picture or a page of a desk to take along, which carries the problem."""
+    return carrying(data, problem(desk))
+
+
 def drawn(desk: Desk, path: str) -> bytes:
     """The picture of a desk, as the end of a file's name says. Raises a `DeskFault`."""
     text = picture_text(desk)
@@ -128,8 +134,8 @@ def drawn(desk: Desk, path: str) -> bytes:
     if kind is None:
         return text.encode()
     try:
-        return subprocess.run(["dot", f"-T{kind}"], input=text.encode(), capture_output=True, timeout=PATIENCE, check=True).stdout
+        return graphviz(text.encode(), "dot", f"-T{kind}", patience=PATIENCE)
     except FileNotFoundError:
         raise DeskFault("Graphviz is not there, which draws; its program is called dot. A FILE.dot can be had") from None
-    except subprocess.SubprocessError as error:
-        raise DeskFault(f"Graphviz did not draw it: {error}") from None
+    except RuntimeError as error:
+        raise DeskFault(str(error)) from None

@@ -128,6 +128,11 @@ class DeskView:
         """Whether no flow has a larger value than the present one."""
         return bool(self._time.done) and self._time.done[-1].is_solved or self._held.is_greatest
 
+    @property
+    def flows_follow(self) -> bool:
+        """Whether the value and the limit are known, and the flows are not yet."""
+        return self._held.has_promised
+
     def cut_arcs(self) -> dict[int, None]:
         """The arcs of the smallest minimum cut, in their order. Raises `FlowIsNotGreatest`."""
         return self._held.cut_arcs()
@@ -160,6 +165,17 @@ class DeskView:
         """The arcs of the table and those that were added. One that was opened again counts once."""
         found = [number for number, line in enumerate(self.lines, 1) if not line.is_replaced]
         return [number for number in found if not self.role(number)] if self.folding.has_roles else found
+
+    def changed(self) -> set[int]:
+        """The arcs that are not as they were at first: closed, of another capacity, or added. One that was closed and opened again is as it
+        was."""
+        kept = self._held.network._kept
+
+        def differs(number: int, line: Line) -> bool:
+            first = line.first or number
+            return first > self.first_count or line.is_closed or kept.first_capacity(first) != kept.capacities[number - 1]
+
+        return {number for number, line in enumerate(self.lines, 1) if not line.is_replaced and differs(number, line)}
 
     def roles(self) -> dict[int, list[tuple[int, str]]]:
         """By the node of a place: the arcs that stand for what it gives, takes or lets through, each with which of these."""

@@ -1,4 +1,4 @@
-"""Arcs of a desk by what is so of them: the conditions that a planner writes, and which arcs were changed."""
+"""Arcs of a desk by what is so of them: the conditions that a planner writes."""
 
 from __future__ import annotations
 
@@ -7,11 +7,13 @@ from collections.abc import Callable
 
 from .desk import Desk
 from .desk_amounts import amount
-from .desk_steps import DeskFault, Line
+from .desk_steps import DeskFault
 from .quantity import Quantity
 
 COMPARED: dict[str, Callable[[Quantity, Quantity], bool]] = {
     "<": operator.lt, "<=": operator.le, "=": operator.eq, ">=": operator.ge, ">": operator.gt,
+    # As some write them.
+    "=<": operator.le, "≤": operator.le, "=>": operator.ge, "≥": operator.ge,
 }  # fmt: skip
 Condition = Callable[[int], bool]
 
@@ -49,21 +51,3 @@ def successors(desk: Desk) -> dict[int, int]:
     again = [(number, line.first) for number, line in added if line.first]
     last = {first: number for number, first in again}
     return {**last, **{number: last[first] for number, first in again if last[first] != number}}
-
-
-def changed(desk: Desk) -> set[int]:
-    """The arcs that are not as they were before the first step: closed, of another capacity, or added. One that was closed and opened
-    again is as it was."""
-    before: dict[int, Line | None] = {}
-    for step in desk.steps[: desk.at]:
-        for number, line in step.before:
-            before.setdefault(number, line)
-    lines = ((number, line, line.first or number) for number, line in enumerate(desk.lines, 1))
-    return {number for number, line, first in lines if first in before and _differs(line, before[first])}
-
-
-def _differs(now: Line, before: Line | None) -> bool:
-    """Whether an arc is another than it was before, or than none."""
-    if now.is_replaced:
-        return False
-    return before is None or (now.capacity, now.is_closed) != (before.capacity, before.is_closed)

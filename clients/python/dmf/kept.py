@@ -23,6 +23,9 @@ class Kept(Changes, Generic[Node]):
     and the changes that can be undone or redone, of which there are at most `most`. With its commands and the first capacities, a session
     can begin anew."""
 
+    # Who is told of each change, when it was made or unmade.
+    watcher: Callable[[Change, bool], None] | None = None
+
     def __init__(self, columns: Columns[Node], capacities: array[int], source: Node, sink: Node, most: int) -> None:
         """Raises `NoSuchNode` if the source or the sink is no node."""
         super().__init__(most)
@@ -88,6 +91,10 @@ class Kept(Changes, Generic[Node]):
         columns = self.columns.with_node(node)
         self.columns, self.handles, self._opened = columns, self.handles.with_columns(columns), None
         return True
+
+    def first_capacity(self, number: int) -> int:
+        """The capacity that an arc had at first."""
+        return self._first.get(number, self.capacities[number - 1])
 
     def first_capacities(self) -> array[int]:
         """The capacities by which the first arcs stand in the problem of a session that begins anew. Those that were closed already stand
@@ -182,6 +189,8 @@ class Kept(Changes, Generic[Node]):
         for number, _, after in change.capacities:
             self._put(number, after)
         self._opened = None
+        if self.watcher:
+            self.watcher(change, True)
 
     def _unmake(self, change: Change) -> None:
         if change.added:
@@ -191,6 +200,8 @@ class Kept(Changes, Generic[Node]):
         for number, before, _ in change.capacities:
             self._put(number, before)
         self._opened = None
+        if self.watcher:
+            self.watcher(change, False)
 
     def _drop_added(self, place: int) -> None:
         """Drops the added arcs from this one on, where there are some."""

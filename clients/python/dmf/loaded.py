@@ -357,19 +357,26 @@ class InProcess(Session):
         self._do(self._tried, cases, value, found)
 
     def _tried(self, held: _Held, cases: Sequence[Sequence[Command]], value: int, found: list[int]) -> None:
-        """Raises a ValueError if something in a case is refused."""
-        address, calls, value_of = held.address, self._library.commands, self._library.value
+        """Raises a ValueError if something in a case is refused, or if all together leave another value: then none of theirs counts. Objects
+        of ctypes take less time than numbers, which it has to convert."""
+        address, calls, value_of = _POINTER(held.address), self._library.commands, self._library.value
         solve, undo = calls["solve"], calls["undo"]
+        back = [_LONG(steps) for steps in range(2 + max(map(len, cases), default=0))]
+        begin = len(found)
         for commands in cases:
             if self._why_broken:
-                return
+                break
+            refusals = OK
             for word, *numbers in commands:
-                judged(calls[word](address, *numbers), OK)
-            judged(solve(address), OK)
+                refusals |= calls[word](address, *numbers)
+            refusals |= solve(address)
             solved = value_of(address)
-            judged(undo(address, len(commands) + 1), OK)
-            judged(value_of(address), value)
+            if refusals | undo(address, back[len(commands) + 1]):
+                raise ValueError
             found.append(solved)
+        if value_of(address) != value:
+            del found[begin:]
+            raise ValueError
 
 
 def _place(column: array[int]) -> int:

@@ -3,18 +3,16 @@
 from __future__ import annotations
 
 import cmath
-import errno
 import html
 import io
 import os
-import shutil
-import subprocess
 from collections.abc import Iterable, Sequence
 from itertools import islice
 from typing import Any
 
 from .arcs import OpenArcs
 from .arrays import package
+from .graphviz import graphviz
 from .lexical import display
 from .names import picture_names
 from .picture import CUT, UNUSED, Drawing, nearest, picture
@@ -26,8 +24,6 @@ from .tool import write_file
 
 # How many rows of a table are shown.
 MOST_ROWS = 20
-# How long Graphviz may take, in seconds.
-PATIENCE = 20
 
 
 class Look:
@@ -49,16 +45,7 @@ class Look:
     def drawn(self, form: str) -> bytes:
         """The picture in a form of Graphviz, such as `svg` or `png`. Raises a FileNotFoundError where Graphviz is not there, and a
         RuntimeError for what it says."""
-        dot = shutil.which("dot")
-        if not dot:
-            raise FileNotFoundError(errno.ENOENT, "a picture needs Graphviz, whose program is not there", "dot")
-        try:
-            ran = subprocess.run([dot, f"-T{form}"], input=self.text(), capture_output=True, timeout=PATIENCE, start_new_session=True)
-        except subprocess.TimeoutExpired:
-            raise RuntimeError(f"Graphviz has drawn nothing in {PATIENCE} seconds") from None
-        if ran.returncode:
-            raise RuntimeError(f"Graphviz draws no {form}: {ran.stderr.decode(errors='replace').strip()}")
-        return ran.stdout
+        return graphviz(self.text(), "dot", f"-T{form}")
 
     def svg(self) -> str | None:
         """The picture, if Graphviz is there and draws it."""

@@ -4,7 +4,7 @@ scipy."""
 from __future__ import annotations
 
 from array import array
-from collections.abc import Callable, Hashable, Mapping, Sequence
+from collections.abc import Callable, Hashable, Mapping
 from typing import TYPE_CHECKING, Any, Dict, NamedTuple, overload
 
 from . import arrays
@@ -12,20 +12,18 @@ from .arcs import Columns, Node
 from .arrays import columns_of_arrays, is_unbounded
 from .errors import Refused, Unbounded
 from .kept import Kept
+from .quick import CUT, FLOW, VALUE, Solved, solved
 from .rows import Whole, columns_of, whole
 from .running import Running
-from .scratch import scratch
-from .session import PROGRAM, FilePath, Program, Told, where
-from .ways import chosen, problem_of
+from .session import PROGRAM, Program, where
+from .ways import chosen, problem_of, program_of
 
 if TYPE_CHECKING:
     from .loaded import Library
 
     Flows = Dict[Node, Dict[Node, int]]
 
-# How the program is asked: for the value alone, for the cut too, and for the flows, of which any greatest one will do. These words find a
-# value sooner than a session, so a network with more arcs than these is solved by them, also where the library is there.
-VALUE, CUT, FLOW = ["solve", "--brief"], ["solve", "--brief", "--cut"], ["solve", "--any"]
+# A network with more arcs than these is solved by the program, also where the library is there.
 MOST_IN_PROCESS = 20_000
 WANTED = "a graph of networkx, a sparse matrix of scipy, or a dictionary of dictionaries"
 
@@ -36,14 +34,6 @@ class MatrixFlow(NamedTuple):
 
     flow_value: int
     flow: Any
-
-
-class _Solved(NamedTuple):
-    """A solved network: the greatest value, and the flows or the nodes of the cut's side where these were asked for."""
-
-    value: int
-    flows: Told = b""
-    side: Sequence[int] = ()
 
 
 class _Given(NamedTuple):
@@ -180,43 +170,26 @@ def _filled(rows: list[tuple[Any, ...]], infinite: Whole | None) -> tuple[list[t
     return [(*row[:2], room, row[3]) if is_missing else row for row, is_missing in zip(rows, missing)], unbounded
 
 
-def _solved(given: _Given, words: list[str], program: Program) -> _Solved:
+def _solved(given: _Given, words: list[str], program: Program) -> Solved:
     """What these words ask for. Raises a `Refused` that names the arc of a fault."""
     way = chosen(program)
     try:
-        if isinstance(way, PROGRAM):
-            return _by_program(given, words, way)
-        if len(given.kept.columns) > MOST_IN_PROCESS:
-            from .executable import program as found_program
-
-            return _by_program(given, words, found_program())
-        return _by_library(given, words, way)
+        if not isinstance(way, PROGRAM) and len(given.kept.columns) <= MOST_IN_PROCESS:
+            return _by_library(given, words, way)
+        return solved(arrays.problem_pieces(problem_of(given.kept)), words, program_of(program))
     except Refused as refused:
         raise where(refused, given.kept.handle) from None
 
 
-def _by_library(given: _Given, words: list[str], library: Library) -> _Solved:
+def _by_library(given: _Given, words: list[str], library: Library) -> Solved:
     session = library.begin(problem_of(given.kept), 0)
     try:
         value = session.step(("solve",))
         if words == CUT:
-            return _Solved(value, side=session.cut()[1])
-        return _Solved(value, session.flows(value, len(given.kept.columns)) if words == FLOW else b"")
+            return Solved(value, side=session.cut()[1])
+        return Solved(value, session.flows(value, len(given.kept.columns)) if words == FLOW else b"")
     finally:
         session.end()
-
-
-def _by_program(given: _Given, words: list[str], program: FilePath) -> _Solved:
-    from .process import answer_to
-
-    with scratch() as file:
-        file.writelines(arrays.problem_pieces(problem_of(given.kept)))
-        file.seek(0)
-        text = answer_to(file, program, words)
-    value = int(text[: text.find(b"\n")].split()[-1])
-    if words == CUT:
-        return _Solved(value, side=[int(line[7:]) for line in text.splitlines() if line.startswith(b"c side ")])
-    return _Solved(value, text)
 
 
 def _matrix(columns: Columns[Any], flow: Any, count: int) -> Any:

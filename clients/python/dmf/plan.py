@@ -11,7 +11,7 @@ from collections.abc import Callable, Iterable, Iterator
 from .desk import Desk
 from .desk_amounts import amount
 from .desk_steps import DeskFault, unforeseen
-from .desk_text import DRAWN, drawn, problem, table
+from .desk_text import DRAWN, drawn, problem, table, taken
 from .errors import Error
 from .plan_completion import Completed, completed
 from .plan_costs import costs_told
@@ -359,7 +359,7 @@ class Plan:
 
     def _draw(self, words: list[str]) -> None:
         path = self._files.new(one_name(words, "draw"), [*DRAWN, ".dot"])
-        self.tell(self._files.put(path, drawn(self.desk, path)))
+        self.tell(self._files.put(path, taken(self.desk, drawn(self.desk, path))))
 
     def _save(self, words: list[str]) -> None:
         path = self._files.new(one_name(words, "save"), [".csv", ".max"])

@@ -4,11 +4,12 @@ from __future__ import annotations
 
 import contextlib
 from collections.abc import Callable
+from functools import partial
 from itertools import groupby
 
 from .desk import Desk
 from .desk_amounts import amount, is_amount
-from .desk_steps import DeskFault, Place
+from .desk_steps import Close, DeskFault, Place, Shut
 from .desk_where import Condition, condition
 from .plan_words import COMMANDS, is_number, one_name
 from .quantity import Quantity
@@ -21,14 +22,11 @@ CONDITIONS = 'name ~ TEXT, from ~ TEXT, to ~ TEXT, capacity < NUMBER, flow >= NU
 def last_closed(desk: Desk) -> Callable[[], object]:
     """Opens the arc or the place that was closed or shut last, and still is."""
     for step in reversed(desk.steps[: desk.at]):
-        for number, line in reversed(step.before):
-            now = desk.lines[number - 1]
-            if line and not line.is_closed and now.is_closed and not now.is_replaced:
-                shut = [node for node in (now.tail, now.head) if now.is_shut and node in desk.shut_nodes]
-                if not now.is_shut:
-                    return lambda: desk.open(number)  # noqa: B023
-                if shut:
-                    return lambda: desk.open_place(desk.names.place_of(shut[0]))  # noqa: B023
+        for change in reversed(step.changes):
+            if isinstance(change, Shut) and change.node in desk.shut_nodes:
+                return partial(desk.open_place, desk.names.place_of(change.node))
+            if isinstance(change, Close) and desk.lines[change.arc - 1].is_closed and not desk.lines[change.arc - 1].is_replaced:
+                return partial(desk.open, change.arc)
     raise DeskFault("nothing is closed")
 
 

@@ -6,7 +6,7 @@ import contextlib
 import os
 import re
 import subprocess
-from collections.abc import Iterable, Iterator, Sequence
+from collections.abc import Callable, Iterable, Iterator, Sequence
 from itertools import chain
 from typing import IO, Any
 
@@ -22,6 +22,7 @@ SECONDS = 2
 MOST_TOLD = 1 << 16
 # How much of an answer is read at once, in bytes.
 PIECE = 1 << 20
+Begun = Callable[["subprocess.Popen[bytes]"], object]
 _TOLD = re.compile(r"dmf: (?:line ([0-9]{1,10}): )?(.*)")
 
 
@@ -254,24 +255,33 @@ def _begun(fields: list[bytes], command: str, begin: list[bytes], at: object = N
     return fields
 
 
-def answer_to(file: IO[bytes], program: FilePath, words: list[str]) -> bytes:
-    """What the program answers to a problem's file, from its present place on. Raises what `start` raises."""
+def answer_to(file: IO[bytes], program: FilePath, words: list[str], begun: Begun | None = None) -> bytes:
+    """What the program answers to a problem's file, from its present place on. `begun` is told its process. Raises what `start`
+    raises."""
     used = os.fspath(program)
     pipe = subprocess.PIPE
     try:
         # In a session of its own: Ctrl-C at a terminal is for the caller alone, who then ends the program.
-        ran = subprocess.run([used, *words], stdin=file, stdout=pipe, stderr=pipe, start_new_session=True)
+        process = subprocess.Popen([used, *words], stdin=file, stdout=pipe, stderr=pipe, start_new_session=True)
     except OSError as error:
         if error.filename == used:
             executable.refuse_unrun(used, error)
         raise
-    if ran.returncode == 0:
-        return ran.stdout
-    told = ran.stderr[:MOST_TOLD].decode(errors="replace").strip()
+    with process:
+        try:
+            if begun:
+                begun(process)
+            answer, said = process.communicate()
+        except BaseException:
+            process.kill()
+            raise
+    if process.returncode == 0:
+        return answer
+    told = said[:MOST_TOLD].decode(errors="replace").strip()
     fault = _refusal(told)
     if fault:
         raise fault
-    ended = SessionEnded(f"dmf {executable.ended(ran.returncode)}{': ' if told else ''}{_shown(told)}")
+    ended = SessionEnded(f"dmf {executable.ended(process.returncode)}{': ' if told else ''}{_shown(told)}")
     executable.refuse_unfit(used, ended)
     raise ended
 

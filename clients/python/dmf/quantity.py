@@ -11,6 +11,7 @@ import re
 import unicodedata
 from dataclasses import dataclass, replace
 from decimal import Context, Decimal
+from functools import cached_property
 from typing import Union
 
 # An exact number as a table has it.
@@ -143,7 +144,7 @@ class Measure:
         most = max(map(decimals, quantities), default=0)
         return cls(Decimal(10) ** most, unit, table, sign)
 
-    @property
+    @cached_property
     def divisor(self) -> Decimal:
         """By what a whole number is divided: the scale, or 1 if quotients may have no end."""
         numerator = self.scale.as_integer_ratio()[0]

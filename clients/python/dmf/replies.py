@@ -74,14 +74,14 @@ class Refused(OneLine):
 class Solution:
     """The flows on the open arcs, in their order: the arcs' numbers, the arcs as they were, and the flows. If the lines of the flows
     were left out, as in the brief reply to a solve, or have not come yet, of a network that is not known, the three are empty and
-    `is_told` is false. `serial` is the number of the state with this flow."""
+    `is_told` is false. `serial` tells the state with this flow from others."""
 
     value: int
     is_told: bool
     numbers: Sequence[int] = ()
     arcs: Sequence[Arc] = ()
     flows: Sequence[int] = ()
-    serial: int = 0
+    serial: object = None
 
 
 @dataclass(frozen=True)
@@ -96,13 +96,13 @@ class Flow:
 @dataclass(frozen=True)
 class Cut:
     """The smallest minimum cut: its capacity, the nodes on the source's side, and its arcs by their numbers, which are None if the
-    network is not known. `line` is its first line, and `serial` the number of the state with this cut."""
+    network is not known. `line` is its first line, and `serial` tells the state with this cut from others."""
 
     capacity: int
     side: list[int]
     arcs: list[int] | None
     line: int
-    serial: int = 0
+    serial: object = None
 
 
 @dataclass(frozen=True)

@@ -117,6 +117,11 @@ class Running(Generic[Node]):
         """Carries out cases, each of commands, and adds the greatest value of each to what is found. The network is as it was then."""
         self._session.try_cases(cases, self._kept.value, found)
 
+    @alone
+    def _leaving_cut(self) -> list[Arc[Node]]:
+        """The open arcs out of the side of the smallest minimum cut, those that are not of a table too. Raises `FlowIsNotGreatest`."""
+        return self._kept.leaving(self._session.cut()[1])
+
     def _begin_call(self) -> None:
         if self._why_stopped or self._why_over:
             raise SessionEnded(self._why_stopped or self._why_over)

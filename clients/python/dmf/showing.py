@@ -5,7 +5,7 @@ from __future__ import annotations
 import functools
 import os
 from array import array
-from collections.abc import Callable
+from collections.abc import Callable, Sequence
 from typing import TYPE_CHECKING, Any
 
 from . import arrays
@@ -66,10 +66,13 @@ class Showing(Running[Node]):
         return self._cut()
 
     def _cut(self) -> Cut[Node]:
-        capacity, side = self._session.cut()
+        return self._cut_of(*self._session.cut())
+
+    def _cut_of(self, capacity: int, side: Sequence[int]) -> Cut[Node]:
+        """The minimum cut that has these nodes, by their numbers, on the side of the source."""
         names = self._kept.columns.names
         look = self._look(set(side)) if self._kept.open_count <= MOST_DRAWN else None
-        return Cut(capacity, frozenset(names[node - 1] for node in side), tuple(self._kept.leaving(side)), names, look)
+        return Cut(capacity, frozenset(names[node - 1] for node in side), tuple(self._kept.leaving(list(side))), names, look)
 
     @alone
     def problem(self, *, names: bool = True, escapes: bool = False) -> str:

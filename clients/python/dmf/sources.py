@@ -11,6 +11,7 @@ from typing import Any, cast
 
 from .arcs import Columns, Node
 from .arrays import no_capacity, numpy_for, pieces_of, read_lines, with_infinite
+from .carried import problem_in
 from .kept import Kept
 from .network import Network
 from .numbering import AMOUNTS, NODES
@@ -27,12 +28,14 @@ def read(path: FilePath, *, program: Program = None, history: int | None = None)
     `program` and `history` are those of `Network`. If comments say what the numbers stand for in the table that the problem was made of, or
     which nodes and arcs are not of that table, it is a `TableNetwork`, in the table's numbers, of its places alone.
 
-    Raises a `Refused` with the number of the line if the file has a fault, an OSError if it cannot be read, and what `Network`
-    raises.
+    A picture or a report that dmf-plan or dmf-board wrote carries such a problem, and is read as it.
+
+    Raises a `Refused` with the number of the line if the file has a fault, a `TableFault` if only a part is left of what a picture carries, an
+    OSError if it cannot be read, and what `Network` raises.
     """
     most = bound(history)
     with open(os.fspath(path), "rb") as file:
-        text = file.read()
+        text = problem_in(file.read())
     problem = _opened(text, program, most)
     said = described(problem.text).within(problem.node_count, len(problem.tails))
     if said == Described() and not tells_columns(problem.text):

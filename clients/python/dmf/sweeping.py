@@ -20,6 +20,7 @@ from .network import Network
 from .rows import Whole, is_unordered
 from .session import MOST_KEPT
 from .trying import Here, Pending, Sent, There, Tries
+from .ways import program_of
 
 if TYPE_CHECKING:
     from concurrent.futures import Executor
@@ -110,6 +111,7 @@ def sweep(
     *,
     jobs: int | None = None,
     progress: bool = False,
+    anew: bool = False,
 ) -> Generator[SweepResult[Node], None, None]:
     """Yields the result of each case in order, as it comes. Tries each case on a solved copy of the network as it is now, and undoes
     it there; the network itself does not change, and can be used meanwhile. Cases are taken when they are needed, so there may be any
@@ -127,6 +129,9 @@ def sweep(
     with, if that was named, or else by what it finds itself. There functions are pickled, and name arcs by their keys or ends. `progress`
     shows a bar of tqdm, where that is there.
 
+    With `anew` each case is a network of its own, which `dmf solve --brief` solves from nothing: sooner where paths are long, or where a
+    case changes much, and the results are the same. A function then learns values and cuts, and no flows.
+
     >>> with Network([("a", "b", 3, "x"), ("a", "b", 4, "y")], source="a", sink="b") as network:
     ...     value = network.solve().value
     ...     [(result.value, result.difference) for result in sweep(network, each_arc_closed())]
@@ -136,11 +141,13 @@ def sweep(
     programs = _programs(jobs)
     swept = _Swept(network)
     count = operator.length_hint(made, -1)
+    named = network._session.program
+    solver = program_of(named) if anew and executor is None else None
     begin: Callable[[], Tries] = functools.partial(
-        Here, swept.kept, network._session.way, want_cut, programs, None if count < 0 else count
+        Here, swept.kept, network._session.way, want_cut, programs, None if count < 0 else count, solver
     )
     if executor is not None:
-        begin = functools.partial(There, Sent.of(swept.kept, network._session.program), executor, want_cut)
+        begin = functools.partial(There, Sent.of(swept.kept, named, anew), executor, want_cut)
     results = _results(swept, iter(made), begin)
     return _shown(results, count if count > 0 else None) if progress else results
 

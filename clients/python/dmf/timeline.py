@@ -1,12 +1,12 @@
-"""The network of a session as its changes leave it, and the changes that `undo` and `redo` step over. Flows are not kept, only
-the value of the present one."""
+"""The network of a session as its changes leave it, as a transcript tells of them: on the timeline that networks of the client keep too. Flows
+are not kept, only the value of each."""
 
 from __future__ import annotations
 
-from dataclasses import dataclass, field
-from itertools import count
+import sys
 from typing import NamedTuple
 
+from .changes import Change, Changes
 from .commands import ADD, REDO, SOLVE, UNDO, Command
 from .text import LARGEST, MOST_ARCS, Fault, Problem
 
@@ -20,65 +20,37 @@ class Arc(NamedTuple):
     is_closed: bool = False
 
 
-class Edit(NamedTuple):
-    """A change of the arc with this number. Before it is added there is none."""
+class Timeline(Changes):
+    """A network, and the changes that led to it or were undone. `begins_known` says whether the first of them is the first of all: if not,
+    more can be undone than is known here."""
 
-    number: int
-    before: Arc | None
-    after: Arc
-
-
-@dataclass(frozen=True)
-class Step:
-    """A change: its number among all changes so far, its command, its edits, and the flow's value before and after it."""
-
-    serial: int
-    command: Command
-    edits: list[Edit]
-    value_before: int
-    value_after: int
-
-
-@dataclass
-class Timeline:
-    """A network, the steps that led to it, and the undone ones, the last undone at the end. `begins_known` says whether the first
-    step is the first change of all: if not, more can be undone than is known here."""
-
-    problem: Problem
-    value: int = 0
-    begins_known: bool = True
-    arcs: list[Arc] = field(init=False)
-    open_count: int = field(init=False)
-    capacity_sum: int = field(init=False)
-    done: list[Step] = field(default_factory=list)
-    undone: list[Step] = field(default_factory=list)
-    _serials: count[int] = field(default_factory=lambda: count(1))
-    _first: int = 0
-
-    def __post_init__(self) -> None:
-        self.arcs = [Arc(tail, head, capacity) for tail, head, capacity in self.problem.arcs]
-        self.open_count = len(self.arcs)
+    def __init__(self, problem: Problem, value: int = 0, begins_known: bool = True) -> None:
+        super().__init__(sys.maxsize)
+        self.problem = problem
+        self.begins_known = begins_known
+        self.arcs = [Arc(tail, head, capacity) for tail, head, capacity in problem.arcs]
         self.capacity_sum = sum(arc.capacity for arc in self.arcs)
+        self.begin_with(value)
 
     @property
-    def serial(self) -> int:
-        """The number of the present state: that of the step that led to it. It comes back after an undo and a redo."""
-        return self.done[-1].serial if self.done else self._first
+    def serial(self) -> object:
+        """What tells the present state from others: that of the change that led to it. It comes back after an undo and a redo."""
+        return self._changes[self.place - 1] if self.place else self._start
 
     def shut_nodes(self) -> set[int]:
         """The nodes that are shut and that no open arc leaves or enters."""
-        shut = {step.command.numbers[0] for step in self.done if step.command.word == "shut"}
+        shut = {numbers[0] for word, *numbers in self.commands()[: self.place] if word == "shut"}
         if shut:
             shut -= {node for arc in self.arcs if not arc.is_closed for node in (arc.tail, arc.head)}
         return shut
 
     def begin_anew(self, value: int) -> None:
-        """Forgets the steps, since something unknown may have been one of them."""
-        self.done, self.undone = [], []
-        self.value, self.begins_known, self._first = value, False, next(self._serials)
+        """Forgets the changes, since something unknown may have been one of them."""
+        self.begin_with(value)
+        self.begins_known = False
 
     def refusal(self, command: Command) -> str | None:
-        """Why this network refuses a command, if it does; if earlier steps are unknown, an undo or a redo may be accepted."""
+        """Why this network refuses a command, if it does; if earlier changes are unknown, an undo or a redo may be accepted."""
         word, numbers = command
         if word in ("cap", "close") and not 1 <= numbers[0] <= len(self.arcs):
             return "no such arc"
@@ -90,87 +62,62 @@ class Timeline:
             return "too many arcs"
         if word in (ADD, "cap") and self.capacity_sum - self._freed(command) + numbers[-1] > LARGEST:
             return "capacities past 64 bits"
-        if word == UNDO and self.begins_known and numbers[0] > len(self.done):
-            return "nothing to undo"
-        if word == REDO and self.begins_known and numbers[0] > len(self.undone):
-            return "nothing to redo"
+        if word in (UNDO, REDO) and self.begins_known and not self.knows(command):
+            return f"nothing to {word}"
         return None
 
     def _freed(self, command: Command) -> int:
         return self.arcs[command.numbers[0] - 1].capacity if command.word == "cap" else 0
 
     def knows(self, command: Command) -> bool:
-        """Whether the steps that an undo or a redo steps over are known; any other command needs none."""
-        steps = {UNDO: self.done, REDO: self.undone}.get(command.word)
-        return steps is None or command.numbers[0] <= len(steps)
+        """Whether the changes that an undo or a redo steps over are known; any other command needs none."""
+        known = {UNDO: self.place, REDO: len(self._changes) - self.place}.get(command.word)
+        return known is None or command.numbers[0] <= known
 
     def carry_out(self, command: Command, value: int) -> None:
         """Makes a change that is not refused, or steps, after which the flow has this value. Raises a `Fault` if it cannot."""
-        if command.word in (UNDO, REDO):
-            self._step(command.word, command.numbers[0])
-            if value != self.value:
-                raise Fault(f"value differs: it was {self.value} there")
-            return
-        is_possible = {ADD: value == self.value, SOLVE: value >= self.value}.get(command.word, value <= self.value)
-        if not is_possible:
-            raise Fault(f"value differs: {command} does not make {value} of {self.value}")
-        self.undone = []
-        self.done.append(Step(next(self._serials), command, self._edits(command), self.value, value))
-        self._edit(self.done[-1].edits)
-        self.value = value
-
-    def _step(self, word: str, steps: int) -> None:
-        for _ in range(steps):
-            if word == UNDO:
-                step = self.done.pop()
-                self.undone.append(step)
-                self._take_back(step.edits)
-                self.value = step.value_before
-            else:
-                step = self.undone.pop()
-                self.done.append(step)
-                self._edit(step.edits)
-                self.value = step.value_after
-
-    def _edits(self, command: Command) -> list[Edit]:
         word, numbers = command
-        if word == SOLVE:
-            return []
+        if word in (UNDO, REDO):
+            step, by = (self.undo, -numbers[0]) if word == UNDO else (self.redo, numbers[0])
+            before = self.value_at(self.place + by)
+            if value != before:
+                raise Fault(f"value differs: it was {before} there")
+            step(numbers[0], value)
+        else:
+            is_possible = {ADD: value == self.value, SOLVE: value >= self.value}.get(word, value <= self.value)
+            if not is_possible:
+                raise Fault(f"value differs: {command} does not make {value} of {self.value}")
+            self.note(self._change(command), value)
+        self.begin_call()
+
+    def _change(self, command: Command) -> Change:
+        word, numbers = command
         if word == ADD:
             tail, head, capacity = numbers
-            return [Edit(len(self.arcs) + 1, None, Arc(tail, head, capacity))]
+            return Change((word, *numbers), added=(Arc(tail, head, capacity), capacity, None))
         if word == "shut":
             node = numbers[0]
-            at_node = [number for number, arc in enumerate(self.arcs, 1) if node in (arc.tail, arc.head) and not arc.is_closed]
-            return [self._closing(number) for number in at_node]
-        if word == "close":
-            return [self._closing(numbers[0])]
-        arc = self.arcs[numbers[0] - 1]
-        return [Edit(numbers[0], arc, arc._replace(capacity=numbers[1]))]
+            changed = [number for number, arc in enumerate(self.arcs, 1) if node in (arc.tail, arc.head) and not arc.is_closed]
+        else:
+            changed = [*numbers[:1]]
+        after = numbers[1] if word == "cap" else None
+        return Change((word, *numbers), [(number, self.arcs[number - 1].capacity, after) for number in changed])
 
-    def _closing(self, number: int) -> Edit:
+    def _make(self, change: Change) -> None:
+        if change.added:
+            self.arcs.append(change.added[0])
+            self.capacity_sum += change.added[1]
+        for number, _, after in change.capacities:
+            self._put(number, after)
+
+    def _unmake(self, change: Change) -> None:
+        if change.added:
+            self.capacity_sum -= self.arcs.pop().capacity
+        for number, before, _ in change.capacities:
+            self._put(number, before)
+
+    def _put(self, number: int, capacity: int | None) -> None:
+        """Gives an arc a capacity, or closes it."""
         arc = self.arcs[number - 1]
-        return Edit(number, arc, arc._replace(capacity=0, is_closed=True))
-
-    def _edit(self, edits: list[Edit]) -> None:
-        for number, before, after in edits:
-            if before is None:
-                self.arcs.append(after)
-            else:
-                self.arcs[number - 1] = after
-            self._count(before, -1)
-            self._count(after, 1)
-
-    def _take_back(self, edits: list[Edit]) -> None:
-        for number, before, after in edits:
-            if before is None:
-                self.arcs.pop()
-            else:
-                self.arcs[number - 1] = before
-            self._count(after, -1)
-            self._count(before, 1)
-
-    def _count(self, arc: Arc | None, sign: int) -> None:
-        if arc:
-            self.open_count += sign * (not arc.is_closed)
-            self.capacity_sum += sign * arc.capacity
+        self.arcs[number - 1] = arc._replace(capacity=capacity or 0, is_closed=capacity is None)
+        self.capacity_sum += (capacity or 0) - arc.capacity

@@ -107,10 +107,22 @@ def read_file(path: str, status: int = 1) -> bytes:
     try:
         with open(path, "rb") as file:
             return file.read()
+    except FileNotFoundError as error:
+        raise ToolFault(f"cannot read {path}: {error.strerror}{_near(path)}", status) from None
     except OSError as error:
         raise cannot("read", path, error, status) from None
     except ValueError:
         raise ToolFault(f"cannot read {path}: no path has a NUL", status) from None
+
+
+def _near(path: str) -> str:
+    """The words of a message about files whose names are near to one that is not there."""
+    from .tables.cells import near
+
+    folder, name = os.path.split(path)
+    with contextlib.suppress(OSError, ValueError):
+        return near(name, sorted(it for it in os.listdir(folder or ".") if it[:1] not in (".", "~")))
+    return ""
 
 
 def write_file(path: str, data: bytes, *, is_new: bool = False) -> None:

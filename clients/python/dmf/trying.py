@@ -16,8 +16,8 @@ from .arcs import Arc
 from .copies import Answer, Copy, Plain
 from .errors import Error
 from .kept import Kept
-from .session import MOST_KEPT, PROGRAM, Program, Way
-from .ways import chosen, problem_file
+from .session import MOST_KEPT, PROGRAM, FilePath, Program, Way
+from .ways import chosen, problem_file, program_of
 
 if TYPE_CHECKING:
     from concurrent.futures import Executor, Future
@@ -65,14 +65,16 @@ class Here(Tries):
     how many cases there are. So all sessions together take about half as long again as one would, at most. The first cases of a session
     count to its beginning, since it makes then what all cases use."""
 
-    def __init__(self, kept: Kept[Any], way: Way, want_cut: bool, jobs: int, count: int | None = None) -> None:
-        """`count` is how many cases there are, if that is known."""
+    def __init__(
+        self, kept: Kept[Any], way: Way, want_cut: bool, jobs: int, count: int | None = None, anew: FilePath | None = None
+    ) -> None:
+        """`count` is how many cases there are, if that is known. `anew` is the program that solves each from nothing, if one does."""
         # It takes 1 MB, and nothing else needs it.
         from concurrent.futures import ThreadPoolExecutor
 
         super().__init__(4 * jobs)
         self._count = count
-        self._begin_copy = functools.partial(Copy, kept, way)
+        self._begin_copy = functools.partial(Copy, kept, way, anew=anew)
         self._want_cut = want_cut
         self._jobs = jobs
         self._stack = contextlib.ExitStack()
@@ -237,7 +239,7 @@ def _is_lost(error: BaseException) -> bool:
 
 @dataclass
 class Sent:
-    """A network as it is sent to another process, and the program, where the caller named it."""
+    """A network as it is sent to another process, the program, where the caller named it, and whether its cases are solved anew."""
 
     columns: Any
     capacities: Any
@@ -245,12 +247,13 @@ class Sent:
     closed: set[int]
     ends: tuple[Any, Any]
     program: Program
+    is_anew: bool
 
     @staticmethod
-    def of(kept: Kept[Any], program: Program) -> Sent:
+    def of(kept: Kept[Any], program: Program, is_anew: bool = False) -> Sent:
         rows = zip(kept.added, kept.replaced)
         added: list[tuple[Any, ...]] = [((arc.number, arc.tail, arc.head, arc.given_key), replaced) for arc, replaced in rows]
-        return Sent(kept.columns, kept.capacities, added, kept.closed, (kept.source, kept.sink), program)
+        return Sent(kept.columns, kept.capacities, added, kept.closed, (kept.source, kept.sink), program, is_anew)
 
     def kept(self) -> Kept[Any]:
         kept = Kept(self.columns, self.capacities, *self.ends, MOST_KEPT)
@@ -288,7 +291,8 @@ def _answers_there(name: str, sent: bytes | None, asked: Any) -> tuple[list[Answ
         if sent is None:
             return None
         network: Sent = pickle.loads(sent)
-        another = functools.partial(Copy, network.kept(), chosen(network.program))
+        anew = program_of(network.program) if network.is_anew else None
+        another = functools.partial(Copy, network.kept(), chosen(network.program), anew=anew)
         with _free_lock:
             _known.clear()
             _known[name] = another

@@ -16,7 +16,7 @@ from .errors import NoProgram
 from .kept import Kept
 from .numbering import NODES
 from .scratch import path_of, scratch
-from .session import PROGRAM, Problem, Program, Session, Way
+from .session import PROGRAM, FilePath, Problem, Program, Session, Way
 
 if TYPE_CHECKING:
     from .loaded import Library
@@ -45,11 +45,14 @@ def library() -> str | None:
 def chosen(program: Program) -> Way:
     """What runs a session: the program that the caller names; or the library; or the program that is found without it. Raises
     `NoProgram`."""
+    found = _library() if program is None else None
+    return program_of(program) if found is None else found
+
+
+def program_of(program: Program) -> FilePath:
+    """The program that the caller names, or the one that is found. Raises `NoProgram`."""
     if program is not None:
         return os.fspath(program)
-    found = _library()
-    if found is not None:
-        return found
     from .executable import program as found_program
 
     return found_program()
@@ -100,13 +103,16 @@ def _of_repository(root: str) -> str | None:
 def _is_older(path: str, root: str) -> bool:
     """Whether a source, or a folder of sources, has changed since the library was put there."""
     put, crates = os.stat(path).st_mtime_ns, os.path.join(root, "crates")
-    others = (os.path.join(root, name) for name in ("crates.txt", "tools/library", "tools/dmf.map"))
-    places = [place for place in others if os.path.exists(place)]
-    for crate in os.listdir(crates):
-        for part in "src", "specs", "proofs":
-            for folder, _, files in os.walk(os.path.join(crates, crate, part)):
-                places += [folder, *(os.path.join(folder, file) for file in files)]
-    return any(os.stat(place).st_mtime_ns > put for place in places)
+    places = [os.path.join(root, name) for name in ("crates.txt", "tools/library", "tools/dmf.map")]
+    places += [os.path.join(crates, crate, part) for crate in os.listdir(crates) for part in ("src", "specs", "proofs")]
+    there = filter(os.path.exists, places)
+    return any(os.stat(place).st_mtime_ns > put or os.path.isdir(place) and _has_newer(place, put) for place in there)
+
+
+def _has_newer(folder: str, than: int) -> bool:
+    """Whether something in a folder has changed since a time."""
+    with os.scandir(folder) as entries:
+        return any(it.stat().st_mtime_ns > than or it.is_dir() and _has_newer(it.path, than) for it in entries)
 
 
 def problem_of(kept: Kept[Any]) -> Problem:

@@ -14,7 +14,8 @@ from collections.abc import Callable, Iterator, Mapping
 from ..desk import Desk
 from ..desk_amounts import amount
 from ..desk_steps import DeskFault, unforeseen
-from ..desk_text import problem, table
+from ..desk_text import problem, table, taken
+from ..project.desk import ProjectDesk
 from ..project.report import report
 from ..quantity import plain_text
 from .answers import Answer, Json, Made, WrongForm, answer, judge_arcs, judge_fields, judge_words, whole
@@ -27,11 +28,12 @@ from .places import Spot
 from .rows import Rows
 from .scenarios import SCENARIO_FORMS, Comparisons, change_scenario, scenarios_view
 from .sweeps import Sweeps
-from .views import arc_view, opened_view, place_view, state_view
+from .views import arc_view, costs_view, opened_view, place_view, state_view
 
 MOST_SWEPT = 5_000
+Keep = Callable[[str, Desk], ProjectDesk]
 # What takes the desk to other scenarios, and can be stopped.
-LONG = ("comparison", "difference", "difference.svg", "report.html")
+LONG = ("costs", "comparison", "difference", "difference.svg", "report.html")
 CHANGED = "the network has changed in another tab: look again"
 STOPPED = "it was stopped"
 
@@ -39,11 +41,20 @@ STOPPED = "it was stopped"
 class Board:
     """What a board shows of a desk, and does for its page."""
 
-    def __init__(self, desk: Desk, spots: Mapping[int, Spot] | None = None) -> None:
-        """`spots` is where places lie in the picture, by their nodes, if that is known; else a project may tell it."""
+    def __init__(self, desk: Desk, spots: Mapping[int, Spot] | None = None, *, keep: Keep | None = None, offer: str = "") -> None:
+        """`spots` is where places lie in the picture, by their nodes, if that is known; else a project may tell it. `keep` makes a project of
+        the desk in the file `offer`."""
+        self._keep_in, self._offer = keep, offer if keep else ""
+        # Whether something is being done that can be stopped.
+        self._is_busy = False
+        self._busy_lock = threading.Lock()
+        self._show(desk, spots or {})
+
+    def _show(self, desk: Desk, spots: Mapping[int, Spot]) -> None:
+        """Shows a desk from now on."""
         self.desk = desk
         self.picture = Picture(desk)
-        self.picture.places.spots.update({**kept_spots(desk), **(spots or {})})
+        self.picture.places.spots.update({**kept_spots(desk), **spots})
         self._overview = Overview(desk, self.picture.places)
         # How many places had been put when a project was asked to keep where.
         self._put_count = -1
@@ -51,15 +62,20 @@ class Board:
         self._rows_of_all = Rows(desk)
         self._sweeps = Sweeps(desk)
         self._comparisons = Comparisons(desk, self.picture.places)
-        # Whether something is being done that can be stopped.
-        self._is_busy = False
-        self._busy_lock = threading.Lock()
+
+    def _keep(self) -> None:
+        """Keeps the steps in a new project, and shows that from now on."""
+        if not self._keep_in or isinstance(self.desk, ProjectDesk):
+            raise DeskFault("no project can be kept of this")
+        before = self.desk
+        self._show(self._keep_in(self._offer, before), self.picture.places.spots)
+        before.end()
 
     def get(self, path: str, words: dict[str, str]) -> Answer:
         """The answer to a request that changes nothing."""
         forms: dict[str, tuple[Callable[..., Made], tuple[str, ...]]] = {
             "turn": (dict, ()),
-            "state": (lambda: state_view(self.desk), ()),
+            "state": (self._state, ()),
             "picture": (self._picture, ("near",)),
             "ground": (self._ground, ()),
             "looks": (self._overview.looks, ()),
@@ -69,6 +85,7 @@ class Board:
             "opened": (lambda: opened_view(self.desk), ()),
             "rows": (self._rows, ("filter", "sort", "first", "count")),
             "numbers": (self._numbers, ("filter", "sort", "first", "count")),
+            "costs": (lambda **words: self._beside(lambda: costs_view(self.desk, **words)), ("column", "to", "second")),
             "scenarios": (lambda: scenarios_view(self.desk), ()),
             "comparison": (self._compared, ("one", "two", "first", "count")),
             "difference": (lambda one, two: self._beside(lambda: self._comparisons.picture(one, two)), ("one", "two")),
@@ -83,7 +100,7 @@ class Board:
         serve, wanted = forms[path]
         judge_words(words, wanted)
         # What can be stopped is not tried again.
-        return self._judged(lambda: serve(**words), tries=1 if path in LONG else 2)
+        return self._judged(lambda: serve(**words), tries=1 if path in LONG else 2, needs_flows=path != "state")
 
     def post(self, path: str, content: Json) -> Answer:
         """The answer to a request that changes something, or tries it."""
@@ -110,12 +127,15 @@ class Board:
                 self.desk.break_off(STOPPED)
         return answer({})
 
-    def _judged(self, make: Callable[[], Made], tries: int = 1) -> Answer:
-        """The answer, or why there is none. If the session ends meanwhile, begins another with the steps that were made, and tries once
+    def _judged(self, make: Callable[[], Made], tries: int = 1, needs_flows: bool = True) -> Answer:
+        """The answer, or why there is none. Where the flows are needed and not known yet, finds them first. If the session ends meanwhile, begins another with the steps that were made, and tries once
         more if a try is left."""
         told = ""
         while True:
             try:
+                if needs_flows and self.desk.flows_follow:
+                    with self._stoppable():
+                        self.desk.follow()
                 made = make()
                 return made if isinstance(made, Answer) else answer({"turn": self.desk.turn, "told": told, **made})
             except WrongForm:
@@ -144,7 +164,10 @@ class Board:
         with self._stoppable():
             self._do(what, content)
             news, self.desk.news = self.desk.news, []
-            return {**state_view(self.desk), "told": "; ".join(news)}
+            return {**self._state(), "told": "; ".join(news)}
+
+    def _state(self) -> Json:
+        return state_view(self.desk, self._offer)
 
     @contextlib.contextmanager
     def _stoppable(self) -> Iterator[None]:
@@ -161,6 +184,8 @@ class Board:
         desk, names = self.desk, self.desk.names
         if what == "again":
             desk.begin_again()
+        elif what == "keep":
+            self._keep()
         elif what in ("close", "open", "double"):
             calls: dict[str, Callable[[int], object]] = {"close": desk.close, "open": desk.open, "double": desk.double}
             calls[what](content["arc"])
@@ -235,7 +260,7 @@ class Board:
         self._judge_turn(whole(turn, "turn"))
         nodes = self._near(near)
         svg = self.picture.svg(nodes, self._nearby.arcs(nodes), to_take=True)
-        return Answer(200, "image/svg+xml", svg.encode(), "plan.svg")
+        return Answer(200, "image/svg+xml", taken(self.desk, svg.encode()), "plan.svg")
 
     def _table_file(self, turn: str) -> Answer:
         self._judge_turn(whole(turn, "turn"))
@@ -269,6 +294,7 @@ FORMS: dict[str, dict[str, type]] = {
     "cap-all": {"arcs": list, "capacity": str},
     "go": {"step": int},
     "again": {},
+    "keep": {},
     **SCENARIO_FORMS,
 }
 MANY = ("close-all", "open-all", "double-all", "cap-all")

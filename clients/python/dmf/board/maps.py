@@ -12,7 +12,8 @@ from ..quantity import POINT, readings
 from ..tables.cells import cleaned, shown
 from ..tables.columns import PLACE, USUAL, title_of
 from ..tables.faults import Faults, TableFault, naming
-from ..tables.file import Sheet, csv_sheet
+from ..tables.file import csv_sheet
+from ..tables.sheet import Sheet
 from ..tables.opening import split_path
 from ..tables.subject import UNREADABLE
 from ..tables.workbook import is_workbook, workbook_sheets

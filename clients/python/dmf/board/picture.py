@@ -23,6 +23,8 @@ __all__ = ["NoPicture", "Picture"]
 SVG = "http://www.w3.org/2000/svg"
 # Among how many places new arcs are led around others: that takes a second for 50 of them.
 MOST_ROUTED = 20
+# How many layouts are kept.
+MOST_KEPT = 8
 # A text as wide as any digit of a number, and what stands in place of the numbers of a closed arc.
 WIDEST, CLOSED = "8", "closed"
 # How large the letters below a picture are that is taken along, and how wide a letter and how high a line is for that size.
@@ -98,8 +100,8 @@ class Picture:
         self._desk = desk
         self.places = Places()
         self._given: Counter[int] | None = None
-        self._shape: Shape | None = None
-        self._layout = ""
+        # The layouts of the last shapes. No place moves, so that a step back finds its own.
+        self._layouts: dict[Shape, str] = {}
 
     def svg(self, nodes: tuple[int, ...], arcs: list[int], *, to_take: bool = False) -> str:
         """The picture of these arcs, and of these nodes even if they have none. A picture to take along has its style in it. Raises
@@ -111,14 +113,17 @@ class Picture:
 
     def laid_out(self, shape: Shape) -> ElementTree.Element:
         """The layout of a shape, without numbers. Raises `NoPicture`."""
-        if shape != self._shape:
-            ways = shape.ways()
-            self.places.put((it.node for it in shape.nodes), ways.values(), _text(self._lines(shape, ways)))
-            self._layout = run(_text(self._lines(shape, ways, is_put=True)), "neato", "-n2", "-Tsvg")
-            self._shape = shape
-        root = ElementTree.fromstring(self._layout)
+        layout = self._layouts.pop(shape, "") or self._lay_out(shape)
+        self._layouts = dict([*self._layouts.items()][1 - MOST_KEPT :])
+        self._layouts[shape] = layout
+        root = ElementTree.fromstring(layout)
         _seen(root)
         return root
+
+    def _lay_out(self, shape: Shape) -> str:
+        ways = shape.ways()
+        self.places.put((it.node for it in shape.nodes), ways.values(), _text(self._lines(shape, ways)))
+        return run(_text(self._lines(shape, ways, is_put=True)), "neato", "-n2", "-Tsvg")
 
     def _ends(self, line: Line) -> tuple[int, int]:
         """The places at the ends of an arc."""
@@ -206,7 +211,7 @@ class Picture:
             group = groups[f"node-{it.node}"]
             for ellipse in group.findall(f"{{{SVG}}}ellipse")[:1]:
                 ellipse.set("class", "inner")
-            label = it.label
+            label = it.label + ", shut" * it.is_shut
             # The first text is the name.
             for text, (number, words, _) in zip(group.findall(f"{{{SVG}}}text")[1:], it.roles):
                 text.text = f"{words} {_amounts(desk, number)}"

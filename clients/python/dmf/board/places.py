@@ -5,15 +5,13 @@ from __future__ import annotations
 
 import json
 import math
-import subprocess
 from collections.abc import Iterable, Iterator, Mapping
 from dataclasses import dataclass, field
 from typing import NamedTuple
 
 from ..desk_steps import DeskFault
+from ..graphviz import graphviz
 
-# How long Graphviz may take, in seconds.
-PATIENCE = 20
 # How large a place is, about, in points, and how many spots are tried around the one where it would lie best.
 WIDE, HIGH, MOST_SPOTS = 120.0, 50.0, 400
 # How far from all other places a part of the network is put that has no neighbour among them, in points.
@@ -134,11 +132,10 @@ def _way(edge: Mapping[str, str]) -> Way:
 def run(text: str, engine: str, *words: str) -> str:
     """What an engine of Graphviz makes of a text. Raises `NoPicture`."""
     try:
-        ran = subprocess.run([engine, *words], input=text.encode(), capture_output=True, timeout=PATIENCE, check=True)
+        return graphviz(text.encode(), engine, *words).decode()
     except FileNotFoundError:
         raise NoPicture("Graphviz is not there, which draws. On Debian and Ubuntu: apt install graphviz") from None
-    except subprocess.TimeoutExpired:
-        raise NoPicture(f"Graphviz has not drawn it in {PATIENCE} seconds") from None
-    except (OSError, subprocess.SubprocessError) as error:
-        raise NoPicture(f"Graphviz did not draw it: {error}") from None
-    return ran.stdout.decode()
+    except OSError as error:
+        raise NoPicture(f"Graphviz did not draw it: {error.strerror}") from None
+    except RuntimeError as error:
+        raise NoPicture(str(error)) from None

@@ -10,7 +10,7 @@ from typing import Any
 from ..desk import Desk
 from ..desk_names import folded
 from ..desk_steps import DeskFault
-from ..desk_where import COMPARED, Condition, changed, condition
+from ..desk_where import COMPARED, Condition, condition
 from ..tables.cells import shown
 from .answers import Json, WrongForm
 from .views import arc_view
@@ -18,7 +18,8 @@ from .views import arc_view
 MOST_ROWS, MOST_FOUND = 500, 20
 AND = "and"
 FORMS = 'name ~ TEXT, from ~ TEXT, to ~ TEXT, capacity < NUMBER, flow >= NUMBER, full, limit, closed, changed; with "and" between two'
-_SIGN = re.compile(r"(name|from|to|capacity|flow)\s*(~|<=|>=|<|>|=)(.*)", re.IGNORECASE | re.DOTALL)
+# The longest signs come first.
+_SIGN = re.compile(rf"(name|from|to|capacity|flow)\s*(~|{'|'.join(sorted(COMPARED, key=len, reverse=True))})(.*)", re.IGNORECASE | re.DOTALL)
 _DIGITS = re.compile("([0-9]+)")
 
 
@@ -94,7 +95,7 @@ class Rows:
         if word == "closed":
             return lambda number: desk.lines[number - 1].is_closed, word
         if word == "changed":
-            return changed(desk).__contains__, word
+            return desk.changed().__contains__, word
         compared = _SIGN.fullmatch(part)
         words = [compared[1].casefold(), compared[2], *compared[3].split()] if compared else [word]
         found = condition(desk, words)

@@ -31,17 +31,17 @@ SCENARIO_FORMS: dict[str, dict[str, type]] = {
 def project_of(desk: Desk) -> ProjectDesk:
     """The desk if it is that of a project. Raises a `DeskFault` otherwise."""
     if not isinstance(desk, ProjectDesk):
-        raise DeskFault("only a project has scenarios; dmf-board FILE --keep keeps what is done in one")
+        raise DeskFault("only a project has scenarios; keep the steps in one")
     return desk
 
 
-def kept_view(desk: Desk) -> Json:
-    """Where steps are kept, and in which scenario; why they are not, if this desk only looks; and how many steps the scenario began with,
-    which it does not undo."""
+def kept_view(desk: Desk, offer: str) -> Json:
+    """Where steps are kept, and in which scenario; why they are not, if this desk only looks; how many steps the scenario began with, which
+    it does not undo; and in which file a project can be made, if none keeps the steps."""
     if not isinstance(desk, ProjectDesk):
-        return {"kept_in": "", "scenario": "", "why_not": "", "floor": 0}
-    scenario = desk.scenario
-    return {"kept_in": os.path.basename(desk.kept_in), "scenario": scenario.name, "why_not": desk.file.why_not, "floor": scenario.inherited}
+        return {"kept_in": "", "scenario": "", "why_not": "", "floor": 0, "offer": os.path.basename(offer)}
+    scenario, kept_in = desk.scenario, os.path.basename(desk.kept_in)
+    return {"kept_in": kept_in, "scenario": scenario.name, "why_not": desk.file.why_not, "floor": scenario.inherited, "offer": ""}
 
 
 def scenarios_view(desk: Desk) -> Json:

@@ -23,8 +23,9 @@ from .pages import pages
 from .strangers import Strangers, user_of
 
 LOOPBACK_6 = "::1"
-# How long a board runs on without a page after the last request, in seconds: as long as a reload takes to the next one.
-GRACE = 3.0
+# How long a board runs on without a page after the last request, in seconds: longer than a reload takes to the next one, also on a busy
+# machine.
+GRACE = 10.0
 # How long the server waits where it has no file left for a connection, in seconds.
 PAUSE = 0.2
 NO_FILE_LEFT = (errno.EMFILE, errno.ENFILE, errno.ENOBUFS, errno.ENOMEM)

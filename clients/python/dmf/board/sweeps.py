@@ -12,7 +12,7 @@ from ..desk import Desk
 from ..desk_steps import Trial
 
 # How long a request may sweep before it answers with the results so far, in seconds.
-PORTION = 0.25
+PORTION = 0.15
 # How long a sweep waits for the next such request before it ends its copies of the network, and how long its end is waited for, in
 # seconds.
 PATIENCE, ENDING = 5.0, 0.5

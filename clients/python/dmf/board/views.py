@@ -3,16 +3,19 @@ their unit."""
 
 from __future__ import annotations
 
+from ..costs import cheapest, priced, prices
 from ..desk import Desk
+from ..desk_amounts import amount
 from ..quantity import plain_text
-from .answers import Json
+from ..tables.cells import cleaned
+from .answers import Json, whole
 from .scenarios import kept_view
 
 MOST_LISTED, MOST_SIDE = 300, 30
 
 
-def state_view(desk: Desk) -> Json:
-    """What the page shows beside the picture and the table."""
+def state_view(desk: Desk, offer: str = "") -> Json:
+    """What the page shows beside the picture and the table. `offer` is in which file a project can be made."""
     names = desk.names
     cut = list(desk.cut_arcs())
     side = names.side(desk.side())
@@ -28,7 +31,8 @@ def state_view(desk: Desk) -> Json:
         # The numbers of arcs after these are given anew after an undo.
         "given": desk.first_count,
         "places": len(names.places),
-        **kept_view(desk),
+        **kept_view(desk, offer),
+        "flows_follow": desk.flows_follow,
         "at": desk.at - 1,
         "steps": [{"text": step.text, "value": plain_text(step.value)} for step in desk.steps],
         "limit": [arc_view(desk, number) for number in cut[:MOST_LISTED]],
@@ -80,6 +84,23 @@ def place_view(desk: Desk, node: int) -> Json:
         "open": bool(entering or leaving),
         "side": node in desk.side(),
     }
+
+
+def costs_view(desk: Desk, column: str, to: str, second: str) -> Json:
+    """What each unit more costs at each arc of the limit, or a second arc beside it, by a column of the table, and a cheap way to a greater
+    value, found greedily. `second` is 1 for second arcs. Raises a `DeskFault` if no column can be the cost."""
+    is_second = bool(whole(second, "second"))
+    given = prices(desk, cleaned(column), is_second=is_second)
+    way = cheapest(desk, given, amount(to, desk.measure) if to.strip() else None)
+    limit = [{**arc_view(desk, number), "price": "" if price is None else plain_text(price)} for number, price in priced(desk, given).items()]
+    bought = [
+        {
+            "wider": [{**arc_view(desk, number), "by": plain_text(by)} for number, by in it.wider], "cost": plain_text(it.cost),
+            "total": plain_text(it.total), "value": plain_text(it.value),
+        }
+        for it in way.bought
+    ]  # fmt: skip
+    return {"title": given.title, "second": is_second, "limit": limit[:MOST_LISTED], "limit_count": len(limit), "way": bought, "end": way.end}
 
 
 def opened_view(desk: Desk) -> Json:

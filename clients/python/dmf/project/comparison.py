@@ -101,23 +101,20 @@ class _Seen:
         cut, names = desk.cut_arcs(), desk.names
         limit = tuple(names.arc(number) for number in cut)
         self.standing = Standing(name, desk.value, tuple(names.side(desk.side())), limit)
-        flows = desk.flows()
+        flows, lines = desk.flows(), desk.lines
         self._cut = frozenset(cut)
         self._flows = flows
-        self._lines: list[Line] = list(desk.lines)
+        self._lines: list[Line] = list(lines)
         self._measure = desk.measure
         self.numbers = dict(known_arcs(desk))
+        # What can differ of each arc, as it can be compared at once.
+        self.bare = {
+            known: (line.is_closed, line.capacity, flows.get(number, 0), number in cut, line.is_unlimited)
+            for known, number in self.numbers.items() for line in (lines[number - 1],)
+        }  # fmt: skip
         # An arc that was added is not there in another scenario, and goes by other numbers in it.
         self._label = names.arc
         self._added = {known: names.arc(number) for known, number in self.numbers.items() if isinstance(known, tuple)}
-
-    def bare(self, known: Known) -> tuple[object, ...]:
-        """What can differ, as it can be compared at once."""
-        number = self.numbers.get(known)
-        if number is None:
-            return ()
-        line = self._lines[number - 1]
-        return line.is_closed, line.capacity, self._flows.get(number, 0), number in self._cut, line.is_unlimited
 
     def state(self, known: Known) -> ArcState:
         number = self.numbers.get(known)
@@ -135,14 +132,14 @@ class _Seen:
 def known_arcs(desk: DeskView) -> Iterator[tuple[Known, int]]:
     """The arcs of a desk by what they are known by. One that was closed and opened again is the one that it was."""
     count = Counter[tuple[int, int, str]]()
+    given = desk.first_count
+    yield from ((number, number) for number, line in enumerate(desk.lines[:given], 1) if not line.is_replaced)
     known: dict[int, Known] = {}
-    for number, line in enumerate(desk.lines, 1):
+    for number, line in enumerate(desk.lines[given:], given + 1):
+        alike = line.tail, line.head, desk.names.arc_name(number)
         if line.first:
-            known[number] = known[line.first]
-        elif number <= desk.first_count:
-            known[number] = number
+            known[number] = known.get(line.first, line.first)
         else:
-            alike = line.tail, line.head, desk.names.arc_name(number)
             count[alike] += 1
             known[number] = (*alike, count[alike])
         if not line.is_replaced:
@@ -158,6 +155,6 @@ def compare(desk: ProjectDesk, first: str, second: str) -> Comparison:
     with desk.visiting(second):
         two = _Seen(desk, second)
     every = dict.fromkeys([*one.numbers, *two.numbers])
-    found = {known for known in every if one.bare(known) != two.bare(known)}
+    found = {known for known in every if one.bare.get(known) != two.bare.get(known)}
     rows = tuple(ArcDifference(one.label(it) or two.label(it), one.state(it), two.state(it), it) for it in every if it in found)
     return Comparison(one.standing, two.standing, rows, desk.measure, tuple(it for it in every if it not in found))

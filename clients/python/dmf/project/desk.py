@@ -122,8 +122,9 @@ class ProjectDesk(Desk):
         self._keep("step", said_step(KeptStep(text, plain_text(step.value), requests)), take_back)
         return step
 
-    def take_steps(self, steps: Iterable[Step]) -> None:
-        """Makes the steps of another desk on the same network; one that only solves is none here."""
+    def take_steps(self, steps: Iterable[Step], turn: int = 0) -> None:
+        """Makes the steps of another desk on the same network, and goes on from its turn; a step that only solves is none here."""
+        self._time.turn += turn
         for step in steps:
             asked: list[Change] = [change for change in step.changes if not isinstance(change, (Solve, Follow))]
             if asked:
@@ -302,22 +303,21 @@ class ProjectDesk(Desk):
             yield
             return
         before = Timeline(list(self._time.done), list(self._time.undone), list(self._time.floors), self.turn)
-        here = replace(self.scenario, at=self.at - 1)
         with self._unkept():
-            seen = self._follow(steps, here.steps[: here.at])
-            self.news += seen.told
+            self.news += self._follow(steps, self._made()).told
             self._visited = name
             try:
                 yield
             finally:
                 self._visited = ""
                 try:
-                    self._follow(here, seen.scenario.steps[: seen.scenario.at])
-                    self._time.floors, self._time.turn = before.floors, before.turn
-                except BaseException:
-                    # The session has ended, and begins again with these.
+                    same = len([*takewhile(lambda pair: pair[0] is pair[1], zip(before.done, self._time.done))])
+                    self._undo(self.at - same)
+                    for step in before.done[same:]:
+                        self._held.make_again(step)
+                finally:
+                    # If the session has ended, it begins again with these.
                     self._time = before
-                    raise
 
     def _made(self) -> list[KeptStep]:
         """The steps of the present scenario that are made."""

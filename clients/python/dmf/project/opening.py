@@ -33,9 +33,9 @@ def add_project_words(parser: argparse.ArgumentParser) -> None:
     parser.add_argument("--table", metavar="FILE", help="where the table of a project is now, if it has moved")
 
 
-def desk_of(words: argparse.Namespace, *, with_solve: bool) -> Desk:
-    """The desk of the table, the problem or the project that the words name. Its `news` are what was taken for granted. Raises a
-    `ToolFault`."""
+def desk_of(words: argparse.Namespace, *, with_solve: bool, may_follow: bool = False) -> Desk:
+    """The desk of the table, the problem or the project that the words name. Its `news` are what was taken for granted. The flows may
+    follow where no project keeps them. Raises a `ToolFault`."""
     try:
         if is_project(words.path):
             if says_table(words) or words.raw_names or words.keep:
@@ -44,7 +44,7 @@ def desk_of(words: argparse.Namespace, *, with_solve: bool) -> Desk:
         if words.table is not None:
             raise ToolFault("--table says where the table of a project has gone, and FILE is no project", 2)
         subject = read_subject(words)
-        desk = Desk(subject, with_solve=with_solve)
+        desk = Desk(subject, with_solve=with_solve, may_follow=may_follow and not words.keep)
         desk.news += subject.notes
         if not words.keep:
             return desk
@@ -168,7 +168,7 @@ def keep_project(path: str, words: argparse.Namespace, desk: Desk, program: Prog
         raise DeskFault(f"{shown(base.subject.path)} cannot be made: {error.strerror}") from None
     try:
         made = ProjectDesk(file, base, program)
-        made.take_steps(desk.steps[: desk.at])
+        made.take_steps(desk.steps[: desk.at], desk.turn)
     except BaseException as error:
         file.discard()
         if isinstance(error, Error):

@@ -10,6 +10,7 @@ from pathlib import Path
 
 from .. import __version__
 from ..desk import Desk
+from ..desk_text import taken
 from ..quantity import EXACT, Quantity, moved, plain_text
 from ..text import display
 from .comparison import ArcDifference
@@ -136,7 +137,7 @@ def _tried(found: Findings, tried: Tried) -> Iterator[str]:
 
 def report(desk: Desk) -> str:
     """The report of a desk: of a project with all its scenarios, and of other desks with the present state. Takes as long as all steps of
-    all scenarios take, a comparison of each and a sweep. Raises a `DeskFault` if the flow is not greatest, and what a session raises."""
+    all scenarios take, a comparison of each and a sweep. It carries the present problem. Raises a `DeskFault` if the flow is not greatest, and what a session raises."""
     found = findings(desk)
     lines = [*_head(found)]
     for section in found.sections:
@@ -151,4 +152,5 @@ def report(desk: Desk) -> str:
     )
     page = (Path(__file__).parents[1] / "report.html").read_text(encoding="utf-8")
     title = f"{display(found.title)}: report"
-    return page.replace("{title}", escape(title)).replace("{body}", "\n".join(lines))
+    page = page.replace("{title}", escape(title)).replace("{body}", "\n".join(lines))
+    return taken(desk, page.encode()).decode()

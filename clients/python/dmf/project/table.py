@@ -10,6 +10,7 @@ from collections.abc import Iterator, Mapping
 from dataclasses import dataclass, field, replace
 from decimal import Decimal
 
+from ..carried import problem_in
 from ..folding import Folding
 from ..tables.cells import cleaned
 from ..tables.opening import Wanted, split_path
@@ -77,7 +78,7 @@ def read_again(table: KeptTable, folder: str) -> Subject:
         options.get("both_ways", False), tuple(options.get("source", ())), tuple(options.get("sink", ())), places,
     )  # fmt: skip
     path = os.path.join(folder, table.file.path)
-    data = read_file(path, 4)
+    data = problem_in(read_file(path, 4))
     if is_problem(path, data):
         return Subject(path, data, raw_names=wanted.reading.raw_names)
     return subject_of(wanted, f"{path}#{table.sheet}" if table.sheet else path, data)

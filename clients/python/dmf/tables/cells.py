@@ -3,8 +3,10 @@
 from __future__ import annotations
 
 import difflib
-from collections.abc import Iterable
+from collections.abc import Iterable, Sequence
+from functools import cached_property
 from itertools import islice
+from typing import Any
 
 # How many names a message names; among how many a near one is looked for, and how long a name is for which one is.
 MOST_TOLD = 10
@@ -30,3 +32,30 @@ def near(name: str, places: Iterable[str]) -> str:
     folded = {place.casefold(): place for place in islice(places, MOST_COMPARED) if len(place) <= LONGEST_COMPARED}
     found = difflib.get_close_matches(name.casefold(), folded, n=3)
     return f"; is it {' or '.join(shown(folded[it]) for it in found)}?" if found else ""
+
+
+class Cells(Sequence[str]):
+    """Cells below each other, each of one line. They are a few texts until one is asked for, with no object for each."""
+
+    def __init__(self) -> None:
+        self._texts: list[str] = []
+        self._count = 0
+
+    def add(self, text: str, count: int) -> None:
+        """Takes in so many cells, one or more, each in a line of a text."""
+        self._texts.append(text)
+        self._count += count
+
+    def has_some(self) -> bool:
+        """Whether one is not empty."""
+        return any(text.strip("\n") for text in self._texts)
+
+    @cached_property
+    def _cells(self) -> list[str]:
+        return "\n".join(self._texts).split("\n") if self._texts else []
+
+    def __len__(self) -> int:
+        return self._count
+
+    def __getitem__(self, place: Any) -> Any:
+        return self._cells[place]

@@ -12,7 +12,7 @@ from typing import NamedTuple
 from ..quantity import readings
 from .cells import cleaned, shown
 from .faults import TableFault
-from .file import Rows
+from .sheet import Rows
 
 TAIL, HEAD, CAPACITY, NAME = "tail", "head", "capacity", "name"
 PLACE, LIMIT, SUPPLY, DEMAND = "place", "limit", "supply", "demand"

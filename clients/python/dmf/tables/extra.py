@@ -6,14 +6,16 @@ problem text has them in comments, the number of the arc and then that of the co
     c cell 5 1 120
     c cell 5 2 by the school
 
-A text that cannot stand there as it is, is one of JSON: `"two\\nlines"`. Where the cells take more than `MOST_TOLD` bytes, none is there, and
-a comment says so: `c columns left out: length (m), remark`.
+A text that cannot stand there as it is, is one of JSON: `"two\\nlines"`. Where there are more than `MOST_COLUMNS`, or `MOST_CELLS` of their
+cells, or these take more than `MOST_TOLD` bytes, none is there, and a comment says so: `c columns left out: length (m), remark`. A text that has
+more all the same is read without them.
 """
 
 from __future__ import annotations
 
 import json
 import re
+from collections import Counter
 from collections.abc import Iterable, Iterator, Mapping, Sequence
 from dataclasses import dataclass
 
@@ -22,11 +24,13 @@ from .columns import PLACE_COLUMNS, Layout
 from .comments import COLUMN_WORDS, between
 from .rows import Table
 
-# The most bytes of cells in a problem text, of which `dmf` takes 2^30 at most.
-MOST_TOLD = 1 << 26
+# The most columns, cells and bytes of cells in a problem text, of which `dmf` takes 2^30 at most.
+MOST_COLUMNS, MOST_CELLS, MOST_TOLD = 1 << 10, 1 << 21, 1 << 26
 CELL_WORDS, LEFT_OUT = b"c cell ", "c columns left out: "
-_COLUMN = re.compile(rb"^c column ([1-9][0-9]{0,8}) ([^\n]*?)\r?$", re.MULTILINE)
-_CELL = re.compile(rb"^c cell ([1-9][0-9]{0,8}) ([1-9][0-9]{0,8}) ([^\n]*?)\r?$", re.MULTILINE)
+# How much of what was left out a note shows.
+LONGEST_NOTE = 200
+_COLUMN = re.compile(rb"^c column ([1-9][0-9]{0,8}) ([^\n]*)", re.MULTILINE)
+_CELL = re.compile(rb"^c cell ([1-9][0-9]{0,8}) ([1-9][0-9]{0,8}) ([^\n]*)", re.MULTILINE)
 
 
 @dataclass(frozen=True)
@@ -51,24 +55,30 @@ class Extra:
     def by_title(self, numbers: Sequence[int]) -> dict[str, list[str]]:
         """The cells of these arcs by the titles; of two columns with one title the second gets a number."""
         found: dict[str, list[str]] = {}
+        counts: Counter[str] = Counter()
         for title, column in zip(self.titles, self.columns):
-            title = title or "without title"
-            names = (title, *(f"{title} {count}" for count in range(2, len(found) + 3)))
-            found[next(name for name in names if name not in found)] = [self._cell(column, number) for number in numbers]
+            title = name = title or "without title"
+            while name in found:
+                counts[title] += 1
+                name = f"{title} {counts[title] + 1}"
+            found[name] = [self._cell(column, number) for number in numbers]
         return found
 
     def comments(self, numbers: Iterable[int]) -> str:
         """The comments that tell the columns in the text of a problem whose arcs have these numbers here."""
         if not self.titles:
             return ""
-        lines = [f"c column {column} {_said(title)}\n" for column, title in enumerate(self.titles, 1)]
+        titles = [f"c column {column} {_said(title)}\n" for column, title in enumerate(self.titles, 1)]
+        cells: list[str] = []
         size = 0
         for line in self._cell_lines(numbers):
             size += len(line.encode())
-            if size > MOST_TOLD:
-                return f"{LEFT_OUT}{', '.join(map(_said, self.titles))}\n"
-            lines.append(line)
-        return "".join(lines)
+            cells.append(line)
+            if size > MOST_TOLD or len(cells) > MOST_CELLS:
+                break
+        if size > MOST_TOLD or len(cells) > MOST_CELLS or len(titles) > MOST_COLUMNS:
+            return f"{LEFT_OUT}{', '.join(map(_said, self.titles))}\n"
+        return "".join(titles + cells)
 
     def _cell_lines(self, numbers: Iterable[int]) -> Iterator[str]:
         for place, number in enumerate(numbers, 1):
@@ -84,7 +94,7 @@ def _said(text: str) -> str:
 
 
 def _read(written: bytes) -> str:
-    text = written.decode(errors="replace")
+    text = written.removesuffix(b"\r").decode(errors="replace")
     try:
         found = json.loads(text) if text[:1] == '"' else text
     except ValueError:
@@ -92,15 +102,39 @@ def _read(written: bytes) -> str:
     return str(found)
 
 
+def _is_too_much(text: bytes) -> bool:
+    """Whether comments tell more columns, or more of their cells, than are read."""
+    return _count(text, COLUMN_WORDS) > MOST_COLUMNS or _count(text, CELL_WORDS) > MOST_CELLS
+
+
+def _count(text: bytes, words: bytes) -> int:
+    """How many lines begin with these words."""
+    return text.startswith(words) + text.count(b"\n" + words)
+
+
+def left_out(text: bytes) -> list[str]:
+    """What there is to say of the columns that a problem's text leaves out, or `extra_in`."""
+    notes = []
+    if _is_too_much(text):
+        notes.append(f"comments tell more than {MOST_COLUMNS} other columns, or {MOST_CELLS} cells of these: none is kept")
+    begin = 0 if text.startswith(LEFT_OUT.encode()) else text.find(b"\n" + LEFT_OUT.encode()) + 1
+    if begin or text.startswith(LEFT_OUT.encode()):
+        titles = text[begin + len(LEFT_OUT) : begin + len(LEFT_OUT) + LONGEST_NOTE].partition(b"\n")[0].decode(errors="replace")
+        notes.append(f"other columns of the table were left out when this problem was written: {titles}")
+    return notes
+
+
 def extra_in(text: bytes) -> Extra:
     """The columns that the comments of a problem's text tell. Of two that say the same thing the first counts. Raises nothing."""
+    if _is_too_much(text):
+        return Extra()
     titles: dict[int, str] = {}
-    for number, written in _COLUMN.findall(between(text, COLUMN_WORDS)):
-        titles.setdefault(int(number), _read(written))
+    for found in _COLUMN.finditer(between(text, COLUMN_WORDS)):
+        titles.setdefault(int(found[1]), _read(found[2]))
     columns: dict[int, dict[int, str]] = {number: {} for number in sorted(titles)}
-    for arc, number, written in _CELL.findall(between(text, CELL_WORDS)):
-        if int(number) in columns:
-            columns[int(number)].setdefault(int(arc) - 1, _read(written))
+    for found in _CELL.finditer(between(text, CELL_WORDS)):
+        if int(found[2]) in columns:
+            columns[int(found[2])].setdefault(int(found[1]) - 1, _read(found[3]))
     return Extra([titles[number] for number in columns], [*columns.values()])
 
 

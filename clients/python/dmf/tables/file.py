@@ -1,4 +1,4 @@
-"""From the bytes of a file to rows of cells: tables of comma-separated values in any usual encoding, and sheets of workbooks.
+"""From the bytes of a file to rows of cells: tables of comma-separated values in any usual encoding.
 
 Commas, semicolons, tabs or bars separate columns, whichever fits the first rows best. A row with quoted ends of lines goes by its first
 line. A file of another kind is named for what it is.
@@ -10,37 +10,31 @@ import codecs
 import contextlib
 import csv
 import io
+import os
 import re
-from array import array
 from collections.abc import Callable, Iterator, Sequence
-from dataclasses import dataclass
-from decimal import Context
 from functools import partial
-from itertools import islice, zip_longest
-from typing import TYPE_CHECKING, Any, Optional
+from itertools import islice
+from typing import TYPE_CHECKING, Any, NamedTuple, Optional
 
 from .. import arrays
-from ..numbering import NODES
-from ..quantity import plain_text, readings
+from ..quantity import readings
 from ..text import fields
+from .cells import shown
 from .faults import TableFault
+from .sheet import DELIMITERS, PIECE, Rows, Sheet
 
 if TYPE_CHECKING:
-    from .quantities import Amounts
     from .spans import Spans
 
-DELIMITERS = ",;\t|"
-# How many rows the search for the delimiter reads, of how many bytes; and how many rows are read at once.
-SAMPLE, SAMPLE_BYTES = 20, 1 << 18
-PIECE = 1 << 10
+# Of how many bytes the search for the delimiter reads rows.
+SAMPLE_BYTES = 1 << 18
 # The same in bytes where rows have no quotes; and encodings in which the byte of an end of a line is nothing else, with
 # what they are after the first bytes.
 PIECE_BYTES = 1 << 16
 BARE_ENCODINGS = {"utf-8": "utf-8", "utf-8-sig": "utf-8", "cp1252": "cp1252"}
 # The same where numpy reads them, and of how many lines a table is worth it.
 LARGE_PIECE_BYTES, LEAST_LINES = 1 << 24, 10_000
-# The most bytes that a workbook may unpack to.
-LARGEST_WORKBOOK = 1 << 30
 BYTE_ORDER_MARKS = {
     codecs.BOM_UTF8: "utf-8-sig",
     codecs.BOM_UTF32_LE: "utf-32",
@@ -70,127 +64,15 @@ PROBLEMS = {b"max": "a max-flow problem", b"min": "a min-cost problem", b"sp": "
 WANTED = "a table is a CSV file, or a workbook (.xlsx or .ods)"
 _MARKUP = re.compile(rb"\s*(?:<\?xml|<!doctype|<html|\{\s*\"|\[\s*[\[{])", re.IGNORECASE)
 _SEPARATOR = re.compile(rb"(?:\xef\xbb\xbf)?sep=([,;\t|])\r?\n", re.IGNORECASE)
+# The names of files that Excel and LibreOffice put beside one that is open in them.
+_LOCK = re.compile(r"~\$(.+)|\.~lock\.(.+)#")
 _LINE_END = re.compile("\r\n|\r|\n")
-_SHOWN = Context(prec=15)
-
-
-class Exact(str):
-    """A cell that a workbook has as a number: digits, and a point if it needs one."""
-
-    __slots__ = ()
-
-
-def shown_number(text: str) -> str:
-    """The cell of a number with the 15 digits that a workbook shows. What is no number stays a text."""
-    number = _SHOWN.create_decimal(text)
-    return Exact(plain_text(number)) if number.is_finite() else text
-
-
-class Rows:
-    """Rows one below the other: the line in which each begins, and its cells as texts. Iterated over it is these two."""
-
-    def __init__(self, lines: Sequence[int], cells: Optional[list[list[str]]] = None, columns: Sequence[Sequence[str]] = ()) -> None:
-        """Either the cells are given, or all columns, in which no cell is missing."""
-        self.lines = lines
-        self._cells = cells
-        self._columns = columns
-
-    @property
-    def cells(self) -> list[list[str]]:
-        """The cells of each row."""
-        if self._cells is None:
-            self._cells = [[*row] for row in zip(*self._columns)]
-        return self._cells
-
-    def widths(self) -> set[int]:
-        """How many cells rows have."""
-        return set(map(len, self._cells)) if self._cells is not None else {len(self._columns)}
-
-    def columns(self) -> Sequence[Sequence[str]]:
-        """The columns; where a row has no cell, that is empty."""
-        if self._cells is None:
-            return self._columns
-        return list(zip_longest(*self._cells, fillvalue="") if len(self.widths()) > 1 else zip(*self._cells))
-
-    def column(self, place: int) -> list[str]:
-        """The cells of a column."""
-        columns = self.columns()
-        return [*columns[place]] if place < len(columns) else [""] * len(self)
-
-    def has(self, place: int, cell: str) -> bool:
-        """Whether this cell stands in a column."""
-        return cell in self.columns()[place]
-
-    def has_something(self, place: int) -> bool:
-        """Whether a cell of a column is not blank."""
-        return any(map(str.strip, self.columns()[place]))
-
-    def named(self, places: Sequence[int]) -> tuple[list[str], Any]:
-        """The cells of these columns, row by row, with what `spread` needs to tell which is which."""
-        columns = self.columns()
-        cells = [""] * (len(places) * len(self))
-        for at, place in enumerate(places):
-            cells[at :: len(places)] = columns[place]
-        return cells, None
-
-    def spread(self, numbers: Sequence[int], found: Any) -> tuple[array[int], array[int]]:
-        """The numbers of the cells of two columns, by those of what `named` gave."""
-        return array(NODES, numbers[0::2]), array(NODES, numbers[1::2])
-
-    def put_amounts(self, amounts: Amounts, place: int) -> None:
-        """Adds the cells of a column to amounts."""
-        amounts.add(self.column(place))
-
-    def smaller(self) -> Iterator[Rows]:
-        """The same rows, fewer at once, if there are many."""
-        return iter(())
-
-    def after_first(self) -> Rows:
-        """The rows but the first."""
-        if self._cells is None:
-            return Rows(self.lines[1:], None, [column[1:] for column in self._columns])
-        return Rows(self.lines[1:], self._cells[1:])
-
-    def __iter__(self) -> Iterator[Any]:
-        return iter((self.lines, self.cells))
-
-    def __len__(self) -> int:
-        return len(self.lines)
-
-
-@dataclass(frozen=True)
-class Sheet:
-    """A table whose rows can be read again and again. `path` names it, with its sheet if it has one, and `notes` say what was taken for
-    granted."""
-
-    path: str
-    read: Callable[[], Iterator[Rows]]
-    notes: tuple[str, ...] = ()
-
-    def sample(self, most: int = SAMPLE) -> Rows:
-        """The first rows that are not blank. What is wrong with a quote is left for later."""
-        lines: list[int] = []
-        cells: list[list[str]] = []
-        try:
-            for piece in self.read():
-                for line, row in zip(*piece):
-                    if not is_blank(row):
-                        lines.append(line)
-                        cells.append(row)
-                    if len(cells) == most:
-                        return Rows(lines, cells)
-        except TableFault:
-            pass
-        return Rows(lines, cells)
-
-
-def is_blank(row: list[str]) -> bool:
-    """Whether a row has only white space or delimiters, since another delimiter may have been guessed."""
-    return not any(cell and cell.strip(DELIMITERS + " ") and not cell.isspace() for cell in row)
 
 
 def csv_sheet(data: bytes, path: str, encoding: Optional[str], width: int) -> Sheet:
     """The table of at least so many columns in the bytes of a CSV file. Raises a `TableFault`."""
+    if mark := _LOCK.fullmatch(os.path.basename(path)):
+        raise TableFault(f"it only marks that a program has {shown(mark[1] or mark[2])} open: name that file")
     what = _other_kind(data)
     if what:
         raise TableFault(f"it is {what}; {WANTED}")
@@ -330,21 +212,44 @@ def _bare_rows(data: bytes, encoding: str, delimiter: str, line: int, np: Any) -
     begin, size = 0, PIECE_BYTES if np is not None else len(data)
     while begin < len(data):
         end = data.find(b"\n", begin + size) + 1 or len(data)
-        spans = None if begin == 0 else _spans(np, data[begin:end], encoding, delimiter, line)
+        spans = None if begin == 0 else _spans(np, Block(data, begin, end, BARE_ENCODINGS[encoding], delimiter, line))
         for rows in [spans] if spans else small_rows(data[begin:end], encoding if begin == 0 else BARE_ENCODINGS[encoding], delimiter, line):
             line += len(rows)
             yield rows
         begin, size = end, LARGE_PIECE_BYTES
 
 
-def _spans(np: Any, data: bytes, encoding: str, delimiter: str, line: int) -> Optional[Spans]:
+class Block(NamedTuple):
+    """Whole lines of a table without quotes, from one byte of its file to another, of which the first is this line."""
+
+    file: bytes
+    begin: int
+    end: int
+    encoding: str
+    delimiter: str
+    line: int
+
+    @property
+    def data(self) -> bytes:
+        """The bytes of the lines."""
+        return self.file[self.begin : self.end]
+
+    def rows(self) -> Iterator[Rows]:
+        """The rows, some thousands at once."""
+        return small_rows(self.data, self.encoding, self.delimiter, self.line)
+
+    def column(self, place: int) -> list[str]:
+        """The cells of a column."""
+        return [cell for rows in self.rows() for cell in rows.column(place)]
+
+
+def _spans(np: Any, block: Block) -> Optional[Spans]:
     from .spans import spans_of
 
-    encoding = BARE_ENCODINGS[encoding]
     with contextlib.suppress(UnicodeError):
         # The bytes are judged here, and no text is kept.
-        if data.isascii() or data.decode(encoding):
-            return spans_of(np, data, encoding, delimiter, line)
+        if (data := block.data).isascii() or data.decode(block.encoding):
+            return spans_of(np, block)
     return None
 
 

@@ -89,7 +89,7 @@ def network_of_problem(problem: Opened, said: Described) -> TableNetwork:
     """The network of a problem of whose table its comments say this. Which arcs are of the table is told by their ends, as in all tools."""
     from ..sources import unique
     from ..ways import started
-    from .extra import extra_in
+    from .extra import extra_in, left_out
     from .live import TableNetwork
 
     said = renumbered(said, zip(problem.tails, problem.heads)) if said.joints or said.halves else replace(said, roles={})
@@ -116,7 +116,7 @@ def network_of_problem(problem: Opened, said: Described) -> TableNetwork:
         session.program = problem.session.program
     made = TableNetwork.__new__(TableNetwork)
     made._begin(session, kept)
-    made._load = lambda: extra_in(problem.text)
+    made._load, made.notes = lambda: extra_in(problem.text), left_out(problem.text)
     made._rows = [number for number in range(1, len(problem.tails) + 1) if number not in said.roles]
     return made
 

@@ -77,7 +77,7 @@ class Net:
     tails: array[int]
     heads: array[int]
     capacities: array[int]
-    labels: list[str]
+    labels: Sequence[str]
     ways: int
     inner_names: dict[int, str]
     described: Described

@@ -15,13 +15,13 @@ from ..ways import chosen
 from .columns import DEMAND, LIMIT, SUPPLY
 from .extra import extra_of
 from .faults import TableFault, naming
-from .file import Rows, Sheet
 from .folded import FoldedColumns, Inner, with_room
 from .live import TableNetwork
 from .network import Plan, net_of
 from .opening import Wanted, plan_of, plan_of_sheet, split_path
 from .places import Term
 from .rows import Reading
+from .sheet import Rows, Sheet
 from .subject import complete
 from .warnings import warnings
 from .workbook import cell_text

@@ -12,10 +12,11 @@ from ..tool import read_file, standard_input
 from .cells import shown
 from .columns import ARCS, DEMAND, LIMIT, PLACE, PLACE_COLUMNS, SUPPLY, USUAL, Form, layout_of
 from .faults import Faults, TableFault, naming
-from .file import Sheet, csv_sheet
+from .file import csv_sheet
 from .network import Plan, term_of
 from .places import read_places, terms_of
 from .rows import Reading, Table, read_arcs
+from .sheet import Sheet
 from .workbook import is_workbook, workbook_sheets
 
 # By the option of a table of places, what it says.
@@ -100,7 +101,7 @@ def _add_file(plan: Plan, wanted: Wanted, option: str) -> None:
             sheets = workbook_sheets(data, told)
             sheet = _of_name(sheets, name) if name else _only(sheets, name)
         else:
-            sheet = csv_sheet(data, told, wanted.encoding, 2)
+            sheet = _csv(data, told, name, wanted.encoding, 2)
     _add_places(plan, sheet, PLACE_TABLES[option], wanted)
 
 
@@ -114,7 +115,7 @@ def _add_places(plan: Plan, sheet: Sheet, kinds: Sequence[str], wanted: Wanted) 
 def _arcs_sheet(data: bytes, path: str, name: str, encoding: Optional[str]) -> tuple[Sheet, list[Sheet]]:
     """The sheet of arcs, and those of places beside it in a workbook."""
     if not is_workbook(data):
-        return csv_sheet(data, path, encoding, 3), []
+        return _csv(data, path, name, encoding, 3), []
     sheets = workbook_sheets(data, path)
     places = [sheet for sheet in sheets if _fits(sheet, Form((PLACE,), PLACE_COLUMNS)) and not _fits(sheet, ARCS)]
     if name:
@@ -123,6 +124,14 @@ def _arcs_sheet(data: bytes, path: str, name: str, encoding: Optional[str]) -> t
         fit = [sheet for sheet in sheets if _fits(sheet, ARCS)]
         chosen = _only(fit or [sheet for sheet in sheets if sheet not in places] or sheets, name)
     return chosen, [sheet for sheet in places if sheet is not chosen]
+
+
+def _csv(data: bytes, path: str, name: str, encoding: Optional[str], width: int) -> Sheet:
+    """The table in a CSV file, which has no sheet of a name."""
+    sheet = csv_sheet(data, path, encoding, width)
+    if name:
+        raise TableFault(f"a CSV file has no sheets, and so none that is called {shown(name)}; name the file alone")
+    return sheet
 
 
 def _fits(sheet: Sheet, form: Form) -> bool:
@@ -140,10 +149,11 @@ def _fits(sheet: Sheet, form: Form) -> bool:
 
 
 def _of_name(sheets: Sequence[Sheet], name: str) -> Sheet:
-    found = [sheet for sheet in sheets if sheet.path.rpartition("#")[2] == name]
-    if not found:
+    """The sheet of a name, in whose case workbooks see no difference."""
+    found = {sheet.path.rpartition("#")[2].casefold(): sheet for sheet in reversed(sheets)}
+    if name.casefold() not in found:
         raise TableFault(f"no sheet is called {shown(name)}; the sheets are {_names(sheets)}")
-    return found[0]
+    return found[name.casefold()]
 
 
 def _only(sheets: Sequence[Sheet], name: str) -> Sheet:

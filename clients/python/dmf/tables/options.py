@@ -3,10 +3,11 @@
 from __future__ import annotations
 
 import argparse
+import os
 import re
 from decimal import Decimal
 
-from .cells import cleaned
+from .cells import cleaned, near
 from .columns import CAPACITY, HEAD, NAME, TAIL
 from .opening import PLACE_TABLES, Wanted
 from .rows import Reading
@@ -57,11 +58,16 @@ def parsed(parser: argparse.ArgumentParser, given: list[str], fixed: int | None 
     """The arguments, of which `places` gets those that are no options: so many that are `fixed`, and then the source and the sink. None
     says that all are fixed. Arguments that do not go together are refused."""
     end = given.index("--") if "--" in given else len(given)
-    words = parser.parse_intermixed_args(given[:end])
+    words, unknown = parser.parse_known_intermixed_args(given[:end])
+    if unknown:
+        options = re.findall(r"^  (?:-[a-z], )?(--[a-z-]+)", parser.format_help(), re.MULTILINE)
+        parser.error(f"unrecognized arguments: {' '.join(unknown)}{near(unknown[0], options)}")
     # After -- no argument is an option, so a place there may begin with a dash.
     places = [*words.places, *given[end + 1 :]]
     fixed = len(places) if fixed is None else fixed
     words.fixed, words.places = places[:fixed], places[fixed:]
+    if words.fixed and words.places and not os.path.exists(words.fixed[0]) and os.path.exists(path := " ".join(places)):
+        parser.error(f'put a path with spaces in quotes: "{path}"')
     if words.places and names_terminals(words) or len(words.places) not in (0, 2):
         parser.error("name a source and a sink, as two words or by options such as --source and --sink")
     if words.places:

@@ -9,9 +9,9 @@ from typing import NamedTuple, Optional
 from .cells import cleaned
 from .columns import LIMIT, PLACE, PLACE_COLUMNS, Form, Layout, layout_of
 from .faults import Faults, TableFault
-from .file import Rows, Sheet
 from .quantities import Amounts
 from .rows import Reader, Reading, Said, amounts_of, first_rows, take_all
+from .sheet import Rows, Sheet
 
 # What stands in the cell of a source or a sink that has no limit.
 MARKS = {"x", "yes", "ja", "oui", "si", "s\xed", "true", "wahr", "vrai", "unlimited", "unbegrenzt", "\u2713"}

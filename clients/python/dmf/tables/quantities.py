@@ -7,34 +7,32 @@ from __future__ import annotations
 import re
 import unicodedata
 from array import array
-from collections.abc import Iterator, Sequence
-from dataclasses import dataclass, field
+from collections.abc import Callable, Iterator, Sequence
+from dataclasses import dataclass
 from decimal import Decimal
 from itertools import repeat
 from math import gcd
 from operator import mul
 from typing import Optional
 
-from .. import arrays
 from ..numbering import AMOUNTS
 from ..quantity import COMMA, EXACT, LARGEST, LONGEST_NUMBER, POINT, SIGNS, Measure, decimals, plain_text, readings
 from .cells import shown
 from .faults import Faults
-from .file import Exact
+from .sheet import PIECE, Exact
 
 # The most characters of a number that is read together with others.
 PLAIN_LENGTH = 18
-# From how many numbers on numpy reads them, if it is loaded; and up to where floats have each whole number and a bit more.
-LEAST_BY_NUMPY, LARGEST_EXACT = 1000, 1 << 50
+# Up to where floats have each whole number and a bit more.
+LARGEST_EXACT = 1 << 50
 # A cell of digits and one kind of sign in which that sign does not stand between thousands.
 _UNGROUPED = {sign: re.compile(rf"^(?![1-9][0-9]{{0,2}}(?:{re.escape(sign)}[0-9]{{3}})+$)[0-9{sign}]*{re.escape(sign)}", re.MULTILINE) for sign in SIGNS}
 _WITH_UNIT = re.compile(r"(.*?[0-9.,])\s+([^\s\d.,'+-][^\d]*(?:[23\xb2\xb3][^\d]*)?)", re.DOTALL)
-_DATE = re.compile(r"[0-9]{1,4}[./-](?:[0-9]{1,2}|[^\W\d]{3,9})[./-][0-9]{2,4}(?:[ T][0-9:.]+)?|[0-9]{4}-[0-9]{2}-[0-9]{2}.*")
+_DATE = re.compile(r"[0-9]{1,4}[./-](?:[0-9]{1,2}|[^\W\d]{3,9})[./-][0-9]{2,4}(?:[ T][0-9:.]+)?|[0-9]{4}-[0-9]{2}-[0-9]{2}.*|[0-9]{1,2}\.? [^\W\d]{3,9}\.?,? [0-9]{2,4}")
 _ENDLESS = re.compile(r"[+-]?(?:nan|inf(?:inity)?|\u221e|unlimited|unendlich|unbegrenzt)", re.IGNORECASE)
-# Cells of at least 1 decimal, 2 and so on.
 # Cells without a digit, or with two signs, among cells of digits and signs.
-_EMPTY = re.compile(r"^$", re.MULTILINE)
 _NO_NUMBER = {sign: re.compile(rf"^{re.escape(sign)}?$|{re.escape(sign)}[0-9]*{re.escape(sign)}", re.MULTILINE) for sign in SIGNS}
+# Cells of at least 1 decimal, 2 and so on.
 _DECIMALS = {sign: [re.compile(rf"{re.escape(sign)}[0-9]{{{count}}}") for count in range(1, PLAIN_LENGTH + 1)] for sign in SIGNS}
 OTHER = {POINT: COMMA, COMMA: POINT}
 NAMES = {POINT: "point", COMMA: "comma"}
@@ -46,7 +44,7 @@ def no_number(text: str) -> str:
         return "is a date, and no number"
     if _ENDLESS.fullmatch(text):
         return "is no number; where there is no limit, write a number that is large enough"
-    if text[:1] in "=#" and text[1:2].isalpha():
+    if text[:1] == "=" or text[:1] == "#" and text[1:2].isalpha():
         return "is no number, but a formula or its fault"
     return "is no number; a number is digits, perhaps with a decimal sign, as 47.3 or 47,3"
 
@@ -64,19 +62,23 @@ def read_cell(cell: str) -> tuple[dict[str, Decimal], str]:
 
 
 @dataclass
+class Plain:
+    """Cells with nothing but digits and at most one decimal sign, which is the same in all: their numbers, over ten to the power of
+    `decimals`. `telling` is one of those with the sign, and its place: one that admits no other, if there is one."""
+
+    numbers: Sequence[int]
+    decimals: int = 0
+    sign: str = ""
+    telling: tuple[int, str] = (0, "")
+
+
+@dataclass
 class _Piece:
-    """Some cells of a column: as one text if they are plain, else as they are. `first` is the place of the first one in the column. If
-    `sign` is the decimal sign, the numbers are `numbers`, over ten to the power of `decimals`; no sign says that there is none."""
+    """Some cells of a column, and what they are if they are plain. `first` is the place of the first one in the column."""
 
     first: int
-    text: str
-    cells: Optional[list[str]] = None
-    sign: str = ""
-    decimals: int = 0
-    numbers: Sequence[int] = field(default_factory=list)
-
-    def all_cells(self) -> list[str]:
-        return self.text.split("\n") if self.cells is None else self.cells
+    cells: Callable[[], list[str]]
+    plain: Optional[Plain] = None
 
 
 class Amounts:
@@ -101,18 +103,16 @@ class Amounts:
 
     def add(self, cells: list[str]) -> None:
         """Takes in cells below those that are there."""
-        piece = _plain(self._count, cells)
-        self._count += len(cells)
-        self._pieces.append(piece or _Piece(self._count - len(cells), "", [it if isinstance(it, Exact) else it.strip() for it in cells]))
+        cells = [it if isinstance(it, Exact) else it.strip() for it in cells]
+        self._put(len(cells), lambda: cells, _plain(cells))
 
-    def add_text(self, text: str, count: int, longest: int) -> None:
-        """Takes in so many cells, each in a line, of which the longest has so many characters at most."""
-        piece = _plain_text(self._count, text, count) if longest <= PLAIN_LENGTH else None
-        if piece is None:
-            self.add(text.split("\n"))
-        else:
-            self._count += count
-            self._pieces.append(piece)
+    def add_plain(self, plain: Plain, count: int, cells: Callable[[], list[str]]) -> None:
+        """The same of so many cells that are plain."""
+        self._put(count, cells, plain)
+
+    def _put(self, count: int, cells: Callable[[], list[str]], plain: Optional[Plain]) -> None:
+        self._pieces.append(_Piece(self._count, cells, plain))
+        self._count += count
 
     @property
     def named_unit(self) -> str:
@@ -139,14 +139,12 @@ class Amounts:
         self.lines = lines
         self.sign = given or self._settled_sign(faults, usual)
         self._judge_units(faults)
-        for piece in self._pieces:
-            if piece.cells is not None or piece.sign not in ("", self.sign):
-                self._read_slowly(piece, faults)
-        most = max((piece.decimals - _zeros(piece) for piece in self._pieces), default=0)
+        read = [self._read_piece(piece, faults) for piece in self._pieces]
+        most = max((plain.decimals - _zeros(plain) for plain in read), default=0)
         numbers = array(AMOUNTS)
         rest: list[int] = []
-        for piece in self._pieces:
-            over = _over(piece, most)
+        for plain in read:
+            over = _over(plain, most)
             try:
                 if rest:
                     raise OverflowError
@@ -187,30 +185,24 @@ class Amounts:
     def _telling(self) -> Iterator[tuple[int, str, dict[str, Decimal]]]:
         """The cells that tell something of the sign, with their readings: enough of them."""
         for piece in self._pieces:
-            if piece.cells is None:
-                if piece.sign:
-                    yield from self._plain_telling(piece)
+            if piece.plain:
+                place, cell = piece.plain.telling
+                if piece.plain.sign:
+                    yield piece.first + place, cell, readings(cell)
                 continue
-            for place, cell in enumerate(piece.cells, piece.first):
+            for place, cell in enumerate(piece.cells(), piece.first):
                 found = self.reading(cell)[0]
                 if found and (len(found) == 1 or found[POINT] != found[COMMA]):
                     yield place, cell, found
-
-    def _plain_telling(self, piece: _Piece) -> Iterator[tuple[int, str, dict[str, Decimal]]]:
-        """One cell of plain ones: one that admits their sign alone, if there is one."""
-        found = _UNGROUPED[piece.sign].search(piece.text)
-        at = found.start() if found else piece.text.rfind("\n", 0, piece.text.index(piece.sign)) + 1
-        cell = piece.text[at:].partition("\n")[0]
-        yield piece.first + piece.text.count("\n", 0, at), cell, readings(cell)
 
     def _judge_units(self, faults: Faults) -> None:
         """Sees to it that all cells have one unit, or that of the title."""
         units: dict[str, int] = {}
         for piece in self._pieces:
-            if piece.cells is None:
+            if piece.plain:
                 units.setdefault("", piece.first)
                 continue
-            for place, cell in enumerate(piece.cells, piece.first):
+            for place, cell in enumerate(piece.cells(), piece.first):
                 found, unit = self.reading(cell)
                 if found and (unit or any(found.values())):
                     units.setdefault(unit, place)
@@ -227,11 +219,13 @@ class Amounts:
             faults.add(told, self.lines[units[""]], self.column)
         self.unit = wanted
 
-    def _read_slowly(self, piece: _Piece, faults: Faults) -> None:
-        """Reads each cell of a piece by itself, with the sign that was settled."""
-        numbers = [self._number(place, cell, faults) for place, cell in enumerate(piece.all_cells(), piece.first)]
-        piece.decimals = max(map(decimals, numbers))
-        piece.numbers = [int(EXACT.scaleb(number, piece.decimals)) for number in numbers]
+    def _read_piece(self, piece: _Piece, faults: Faults) -> Plain:
+        """The numbers of a piece with the sign that was settled. If that is another one, or cells are not plain, each is read by itself."""
+        if piece.plain and piece.plain.sign in ("", self.sign):
+            return piece.plain
+        numbers = [self._number(place, cell, faults) for place, cell in enumerate(piece.cells(), piece.first)]
+        most = max(map(decimals, numbers))
+        return Plain([int(EXACT.scaleb(number, most)) for number in numbers], most)
 
     def _number(self, place: int, cell: str, faults: Faults) -> Decimal:
         found = self.reading(cell)[0]
@@ -251,11 +245,10 @@ class Amounts:
         return Decimal(0)
 
     def _judge_negative(self, faults: Faults) -> None:
-        if self.numbers and min(self.numbers) < 0:
+        if isinstance(self.numbers, list) and min(self.numbers) < 0:
             for place, number in enumerate(self.numbers):
                 if number < 0:
-                    quantity = plain_text(EXACT.scaleb(Decimal(number), -self.decimals))
-                    faults.add(f"the {self.what} {shown(quantity)} is below 0", self.lines[place], self.column)
+                    faults.add(f"the {self.what} {self._shown(place)} is below 0", self.lines[place], self.column)
 
     def wholes(self, measure: Measure, faults: Faults) -> Sequence[int]:
         """The whole numbers by which these numbers stand in a problem. One past 64 bits, or no whole number, goes to the faults."""
@@ -267,7 +260,7 @@ class Amounts:
         if over != 1:
             self._judge_whole(wholes, over, measure, faults)
             wholes = [number // over for number in wholes]
-        if wholes and max(wholes) > LARGEST:
+        if isinstance(wholes, list) and max(wholes, default=0) > LARGEST:
             for place, number in enumerate(wholes):
                 if number > LARGEST:
                     faults.add(f"the {self.what} {self._shown(place)} is past {measure.text(LARGEST)}", self.lines[place], self.column)
@@ -282,7 +275,8 @@ class Amounts:
                 faults.add(told, self.lines[place], self.column)
 
     def _shown(self, place: int) -> str:
-        return shown(plain_text(self.quantity(place)))
+        """A number as messages show it: with the decimal sign of the column."""
+        return shown(plain_text(self.quantity(place)).replace(POINT, self.sign or POINT))
 
     def quantity(self, place: int) -> Decimal:
         """The number at a place."""
@@ -294,74 +288,56 @@ def _folded(unit: str) -> str:
     return "".join(unicodedata.normalize("NFKC", unit).replace("^", "").split())
 
 
-def _plain(first: int, cells: list[str]) -> _Piece | None:
-    """Cells that have nothing but digits and at most one kind of decimal sign, read together; None if one is odd."""
-    if set(map(type, cells)) != {str}:
+def _plain(cells: list[str]) -> Plain | None:
+    """These cells, if they are plain and not too long."""
+    if set(map(type, cells)) != {str} or not 0 < min(map(len, cells)) <= max(map(len, cells)) <= PLAIN_LENGTH:
         return None
     text = "\n".join(cells)
-    if " " in text:
-        cells = list(map(str.strip, cells))
-        text = "\n".join(cells)
-    return _plain_text(first, text, len(cells)) if max(map(len, cells)) <= PLAIN_LENGTH else None
-
-
-def _plain_text(first: int, text: str, count: int) -> _Piece | None:
-    """The same of so many cells, each in a line."""
-    if not text or not text.isascii() or text.count("\n") >= count:
-        return None
-    digits = text.replace("\n", "")
-    if digits.isdigit():
-        return None if _EMPTY.search(text) else _Piece(first, text, numbers=_wholes(text, count))
+    digits = "".join(cells)
+    if not text.isascii() or digits.isdigit():
+        return Plain([*map(int, cells)]) if text.isascii() else None
     for sign in SIGNS:
         if digits.replace(sign, "").isdigit():
-            return None if _NO_NUMBER[sign].search(text) else _plain_decimals(first, text, sign, count)
+            return None if _NO_NUMBER[sign].search(text) else _plain_decimals(cells, text, sign)
     return None
 
 
-def _wholes(text: str, count: int) -> Sequence[int]:
-    np = arrays.loaded()
-    if np is None or count < LEAST_BY_NUMPY:
-        return [*map(int, text.split("\n"))]
-    return array(AMOUNTS, np.fromstring(text, np.uint64, sep="\n").tobytes())
-
-
-def _plain_decimals(first: int, text: str, sign: str, count: int) -> _Piece:
+def _plain_decimals(cells: list[str], text: str, sign: str) -> Plain:
+    found = _UNGROUPED[sign].search(text)
+    at = found.start() if found else text.rfind("\n", 0, text.index(sign)) + 1
+    telling = text.count("\n", 0, at), text[at:].partition("\n")[0]
     most = 0
     while _DECIMALS[sign][most].search(text):
         most += 1
-    pointed = text if sign == POINT else text.replace(sign, POINT)
-    return _Piece(first, text, None, sign, most, _scaled(pointed, most, count))
+    numbers = _scaled(cells if sign == POINT else text.replace(sign, POINT).split("\n"), most)
+    return Plain(numbers, most, sign, telling)
 
 
-def _scaled(text: str, most: int, count: int) -> Sequence[int]:
-    """The decimal numbers in the lines of a text, times ten to this power."""
+def _scaled(cells: list[str], most: int) -> list[int]:
+    """Decimal numbers, times ten to this power."""
     # A number whose digits are below 2^50 is exact: each step is off by less than its 2^52nd part.
-    np = arrays.loaded()
-    if np is not None and count >= LEAST_BY_NUMPY:
-        found = np.rint(np.fromstring(text, sep="\n") * 10.0**most)
-        if len(found) == count and found.max() < LARGEST_EXACT:
-            return array(AMOUNTS, found.astype(np.uint64).tobytes())
-    cells = text.split("\n")
     numbers: list[int] = list(map(round, map(mul, map(float, cells), repeat(10.0**most))))
     if max(numbers) >= LARGEST_EXACT:
         numbers = list(map(int, map(mul, map(Decimal, cells), repeat(Decimal(10) ** most))))
     return numbers
 
 
-def _zeros(piece: _Piece) -> int:
-    """How many of the decimals of all numbers of a piece are zeros at the end."""
-    if not piece.decimals:
-        return 0
-    common = gcd(10**piece.decimals, *piece.numbers)
-    return next(zeros for zeros in range(piece.decimals, -1, -1) if common % 10**zeros == 0)
+def _zeros(plain: Plain) -> int:
+    """How many of the decimals of all numbers are zeros at the end."""
+    common = 10**plain.decimals
+    for begin in range(0, len(plain.numbers), PIECE):
+        common = gcd(common, *plain.numbers[begin : begin + PIECE])
+        if common % 10:
+            return 0
+    return next(zeros for zeros in range(plain.decimals, -1, -1) if common % 10**zeros == 0)
 
 
-def _over(piece: _Piece, most: int) -> Sequence[int]:
-    """The numbers of a piece, over ten to this power."""
-    if piece.decimals == most:
-        return piece.numbers
-    if piece.decimals > most:
-        rest = 10 ** (piece.decimals - most)
-        return [number // rest for number in piece.numbers]
-    more = 10 ** (most - piece.decimals)
-    return [number * more for number in piece.numbers]
+def _over(plain: Plain, most: int) -> Sequence[int]:
+    """The numbers, over ten to this power."""
+    if plain.decimals == most:
+        return plain.numbers
+    if plain.decimals > most:
+        rest = 10 ** (plain.decimals - most)
+        return [number // rest for number in plain.numbers]
+    more = 10 ** (most - plain.decimals)
+    return [number * more for number in plain.numbers]

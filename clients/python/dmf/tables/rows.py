@@ -1,26 +1,20 @@
-"""From rows to columns: the places of a table of arcs, each with its number, and the amounts. White space of any kind inside a name becomes
-one space, and around it none."""
+"""From rows to columns: the places of a table of arcs, each with its number, and the amounts."""
 
 from __future__ import annotations
 
-import unicodedata
 from array import array
-from collections import defaultdict
-from collections.abc import Iterable, Mapping
+from collections.abc import Iterable, Mapping, Sequence
 from dataclasses import dataclass, field
-from itertools import count, islice
 from typing import NamedTuple, Union
 
 from ..numbering import NODES
 from ..spreadsheet import name_in
-from .cells import cleaned, shown
+from .cells import Cells, cleaned, shown
 from .columns import ARCS, CAPACITY, HEAD, NAME, PLACE_COLUMNS, TAIL, Form, Layout, layout_of, unit_of
 from .faults import Faults, TableFault
-from .file import Exact, Rows, Sheet, is_blank
+from .numbered import LONGEST_CELL, Numbers, are_plain, name_of
 from .quantities import Amounts
-
-# The most characters of a cell. A longer one mostly has a quote that is not closed.
-LONGEST_CELL = 131_072
+from .sheet import Exact, Rows, Sheet, is_blank
 
 
 @dataclass(frozen=True)
@@ -56,7 +50,7 @@ class Table:
     tails: array[int] = field(default_factory=lambda: array(NODES))
     heads: array[int] = field(default_factory=lambda: array(NODES))
     lines: Union[range, array[int]] = range(0)
-    labels: list[str] = field(default_factory=list)
+    labels: Sequence[str] = ()
     said: list[Said] = field(default_factory=list)
     heading: list[str] = field(default_factory=list)
     begins_bare: bool = False
@@ -80,85 +74,6 @@ class Table:
 
     def fault(self, reason: str, line: int = 0) -> TableFault:
         return TableFault(reason, line, self.path)
-
-
-def name_of(cell: str, *, is_raw: bool = False) -> str:
-    """The name in a cell. Raises a ValueError if it has a control character, or half a character."""
-    name = cleaned(name_in(cell.strip(), is_raw=is_raw))
-    for letter in name if not name.isprintable() else "":
-        if unicodedata.category(letter) in ("Cc", "Cs"):
-            raise ValueError(f"has the character U+{ord(letter):04X}, which no name may have")
-    return name
-
-
-def are_plain(cells: list[str]) -> bool:
-    """Whether each of these cells is a name as it stands."""
-    text = "\n".join(("", *cells, ""))
-    is_cleaned = not any(odd in text for odd in ("  ", "\n ", " \n", "\n'"))
-    return is_cleaned and text.replace("\n", "").isprintable() and text.count("\n") == len(cells) + 1 and (
-        len(text) <= LONGEST_CELL or max(map(len, cells)) <= LONGEST_CELL
-    )
-
-
-class _Numbers:
-    """The number of the place that each cell names; 0 if it names none. A new place gets the next number."""
-
-    def __init__(self, is_raw: bool) -> None:
-        self.is_raw = is_raw
-        # What is looked up here and is not there gets the next number.
-        self._places: defaultdict[str, int] = defaultdict(count(1).__next__)
-        # The numbers of cells that are not the name of a place as it stands.
-        self._odd: dict[str, int] = {}
-        # For each name the first cell that writes it, where cells differ; and see `Table`.
-        self.spellings: dict[str, str] = {}
-        self.respelled: dict[str, str] = {}
-
-    @property
-    def places(self) -> dict[str, int]:
-        """The places, each with its number."""
-        return dict(self._places)
-
-    def of(self, cells: list[str]) -> list[int] | None:
-        """The numbers of these cells; None, and no new number, if one names no place."""
-        if are_plain(cells) and self.spellings.keys().isdisjoint(cells):
-            return list(map(self._places.__getitem__, cells))
-        known = len(self._places)
-        numbers = list(map(self.number, cells))
-        if 0 not in numbers:
-            return numbers
-        for name in [*islice(self._places, known, None)]:
-            del self._places[name]
-        self._places.default_factory = count(known + 1).__next__
-        self._odd = {cell: number for cell, number in self._odd.items() if 0 < number <= known}
-        return None
-
-    def number(self, cell: str) -> int:
-        """The number of a cell."""
-        if cell in self._odd:
-            return self._odd[cell]
-        if cell in self._places and cell[0] != "'" and cell not in self.spellings:
-            return self._places[cell]
-        number = 0
-        if cell.strip() and len(cell) <= LONGEST_CELL:
-            try:
-                name = name_of(cell, is_raw=self.is_raw)
-            except ValueError:
-                name = ""
-            if name:
-                is_new = name not in self._places
-                number = self._places[name]
-                if name != cell or name in self.spellings:
-                    self._respell(name, cell, is_new)
-                if name == cell:
-                    return number
-        self._odd[cell] = number
-        return number
-
-    def _respell(self, name: str, cell: str, is_new: bool) -> None:
-        # A name that is first written as it is needs no entry.
-        first = self.spellings.setdefault(name, cell if is_new else name)
-        if first != cell:
-            self.respelled[name] = cell if cell != name else first
 
 
 class Reader:
@@ -222,8 +137,9 @@ class _ArcReader(Reader):
     def __init__(self, sheet: Sheet, layout: Layout, reading: Reading) -> None:
         super().__init__(sheet, ARCS, layout, reading)
         self.table = Table(sheet, layout, amounts_of(CAPACITY, layout, sheet.path))
-        self.numbers = _Numbers(reading.raw_names)
+        self.numbers = Numbers(reading.raw_names)
         self.label = layout.at.get(NAME)
+        self.labels = Cells()
         self.needed = max(layout.at[column] for column in (TAIL, HEAD, CAPACITY))
         # Once a row was not taken together with others, there may be more.
         self.titles_again: list[int] = []
@@ -245,15 +161,14 @@ class _ArcReader(Reader):
         widths, lines, at = rows.widths(), rows.lines, self.layout.at
         if min(widths) <= self.needed or self.width is not None and max(widths) > self.width or not isinstance(lines, range):
             return False
-        names, found = rows.named((at[TAIL], at[HEAD]))
-        if "" in names or self.heading and rows.has(at[CAPACITY], self.heading[at[CAPACITY]]):
+        if self.heading and rows.has(at[CAPACITY], self.heading[at[CAPACITY]]):
             return False
-        labels = [] if self.label is None else self._labels(rows.column(self.label))
-        numbers = None if labels is None else self.numbers.of(names)
-        if numbers is None:
+        labels = self._labels(rows)
+        ends = None if labels is None else rows.numbered((at[TAIL], at[HEAD]), self.numbers)
+        if labels is None or ends is None:
             return False
-        self._put_labels(labels or [""] * len(rows))
-        for column, more in zip((self.table.tails, self.table.heads), rows.spread(numbers, found)):
+        self.labels.add(labels, len(rows))
+        for column, more in zip((self.table.tails, self.table.heads), ends):
             column.extend(more)
         self.table.add_lines(lines)
         rows.put_amounts(self.table.amounts, at[CAPACITY])
@@ -261,21 +176,19 @@ class _ArcReader(Reader):
             self._keep(place for place in range(max(widths)) if rows.has_something(place))
         return True
 
-    def _labels(self, labels: list[str]) -> list[str] | None:
-        """The names in these cells; None if one cannot be read."""
-        if are_plain(labels):
-            return labels
-        if max(map(len, labels)) > LONGEST_CELL or not "".join(labels).isprintable():
+    def _labels(self, rows: Rows) -> str | None:
+        """The names of rows, each in a line; None if one cannot be read."""
+        text = "\n" * (len(rows) - 1) if self.label is None else rows.text(self.label)
+        if are_plain(text, len(rows)):
+            return text
+        cells = rows.column(self.label or 0)
+        if max(map(len, cells)) > LONGEST_CELL or not "".join(cells).isprintable():
             return None
-        return [cleaned(name_in(it.strip(), is_raw=self.reading.raw_names)) for it in labels]
+        return "\n".join(cleaned(name_in(it.strip(), is_raw=self.reading.raw_names)) for it in cells)
 
     def _keep(self, places: Iterable[int]) -> None:
         """Notes which columns of a table without titles have something, and are read for nothing."""
         self.table.others.update({*places} - {*self.layout.at.values()})
-
-    def _put_labels(self, labels: list[str]) -> None:
-        if any(labels) or self.table.labels:
-            self.table.labels += [""] * (len(self.table.tails) - len(self.table.labels)) + labels
 
     def _take_row(self, line: int, row: list[str]) -> None:
         if self.is_passed_over(line, row):
@@ -294,7 +207,7 @@ class _ArcReader(Reader):
         label = self.name(line, row, NAME) if self.label is not None and cleaned(self.cell(row, NAME)) else ""
         if self.faults.count > before and not amount.strip():
             return
-        self._put_labels([label])
+        self.labels.add(label, 1)
         numbers = [self.numbers.number(self.cell(row, column)) for column in (TAIL, HEAD)]
         self.table.tails.append(numbers[0])
         self.table.heads.append(numbers[1])
@@ -318,7 +231,7 @@ class _ArcReader(Reader):
     def end(self) -> Table:
         """The table. Raises a `TableFault` if a row has a fault."""
         table = self.table
-        table.labels += [""] * (len(table.tails) - len(table.labels)) if table.labels else []
+        table.labels = self.labels if self.labels.has_some() else ()
         table.places, table.respelled, table.is_raw = self.numbers.places, self.numbers.respelled, self.reading.raw_names
         if self.titles_again:
             told = ", ".join(map(str, self.titles_again[:9])) + ", .." * (len(self.titles_again) > 9)

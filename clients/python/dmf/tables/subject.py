@@ -4,18 +4,19 @@ from __future__ import annotations
 
 import argparse
 from collections.abc import Mapping
-from dataclasses import dataclass, field
-from functools import cached_property
+from dataclasses import dataclass, field, replace
+from functools import cached_property, partial
 from typing import Any, Optional
 
+from ..carried import problem_in
 from ..quantity import Measure
 from ..text import display, fields, lines
-from ..tool import ToolFault
+from ..tool import ToolFault, read_file
 from .cells import MOST_TOLD, shown
 from .columns import DEMAND, NAME, PLACE_COLUMNS, SUPPLY, spoken
 from .comments import Described, described
 from .ends import ends_alone
-from .extra import Extra, extra_in, extra_of
+from .extra import Extra, extra_in, extra_of, left_out
 from .faults import TableFault
 from .network import KINDS, Plan, net_of
 from .opening import Wanted, data_of, plan_of, split_path
@@ -82,12 +83,12 @@ def read_subject(words: argparse.Namespace, *, unreadable: int = UNREADABLE, in_
     """The problem that the words name. Where nothing tells whether a file has a problem, it has one if `in_doubt`. Raises a `ToolFault`,
     with the status `unreadable` for a file that cannot be read."""
     try:
-        data = data_of(words.path, unreadable)
+        data = problem_in(data_of(words.path, unreadable))
         if is_problem(words.path, data, in_doubt=in_doubt and not says_table(words)):
             if says_table(words):
                 raise ToolFault(f"{words.path} has a problem, which names its own source and sink: the options are for tables", 2)
-            return Subject(words.path, data, raw_names=words.raw_names)
-        return subject_of(wanted_of(words), words.path, data)
+            return Subject(words.path, data, notes=tuple(left_out(data)), raw_names=words.raw_names)
+        return subject_of(replace(wanted_of(words), read=partial(read_file, status=unreadable)), words.path, data)
     except TableFault as fault:
         fault.name_path(words.path)
         first, *more = fault.lines()

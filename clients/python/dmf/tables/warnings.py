@@ -87,11 +87,20 @@ def _lone_first_row(plan: Plan) -> Iterator[str]:
 def _rows(plan: Plan) -> Iterator[str]:
     """Self loops, capacities of 0, and rows that are the same."""
     table = plan.arcs
-    if loops := [*compress(table.lines, map(eq, table.tails, table.heads))]:
-        yield f"tail and head are the same place: {_lines(loops)}"
+    if loops := _equal(table.tails, table.heads):
+        yield f"tail and head are the same place: {_lines([table.lines[place] for place in loops])}"
     if 0 in table.amounts.numbers:
         yield f"the capacity is 0: {_lines([*compress(table.lines, map(not_, table.amounts.numbers))])}"
     yield from _same_rows(plan)
+
+
+def _equal(column: array[int], other: array[int]) -> list[int]:
+    """The places where two columns have the same number."""
+    np = arrays.numpy_for(len(column))
+    if np is None:
+        return [*compress(count(), map(eq, column, other))]
+    found: list[int] = np.flatnonzero(np.equal(*(np.frombuffer(it, it.typecode) for it in (column, other)))).tolist()
+    return found
 
 
 def _same_rows(plan: Plan) -> Iterator[str]:

@@ -31,5 +31,8 @@ export async function choose(what) {
  * @param {string} text
  */
 export function pick(arc, text = arc.label ?? "") {
-  return cell(button(text, () => choose(arc.node ? { node: arc.node } : { arc: arc.number }), "link"));
+  const made = button(text, () => choose(arc.node ? { node: arc.node } : { arc: arc.number }), "link");
+  // Another arc may have the same name.
+  made.dataset.arc = String(arc.number);
+  return cell(made);
 }

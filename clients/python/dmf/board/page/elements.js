@@ -91,24 +91,39 @@ const controls = (host) => [...host.querySelectorAll("button:enabled, input:enab
  * @param {() => unknown} change
  */
 export function keepInSight(change) {
-  const top = at("picture").getBoundingClientRect().top;
+  const top = scrollY > 0 ? at("picture").getBoundingClientRect().top : 0;
   change();
-  if (scrollY > 0) scrollBy(0, at("picture").getBoundingClientRect().top - top);
+  if (top) scrollBy(0, at("picture").getBoundingClientRect().top - top);
 }
 
 /**
- * Replaces what is in an element. The focus stays on what is like the one that had it, or else where that was.
+ * Gives an element these children. Those that are there already stay, so that nothing has to be laid out anew. The focus stays on what is
+ * like the one that had it, or else where that was.
  * @param {Element} host
- * @param {Piece[]} pieces
+ * @param {Element[]} children
  */
-export function replace(host, pieces) {
-  const held = document.activeElement;
+export function replace(host, children) {
+  const held = document.activeElement, wanted = new Set(children);
   const place = held && host.contains(held) ? controls(host).indexOf(held) : -1;
-  host.replaceChildren(...pieces);
-  if (!held || place < 0) return;
+  for (const child of [...host.children]) if (!wanted.has(child)) child.remove();
+  let next = host.firstElementChild;
+  for (const child of children) {
+    if (child === next) next = next.nextElementSibling;
+    else host.insertBefore(child, next);
+  }
+  if (!held || place < 0 || held === document.activeElement) return;
   const now = controls(host), like = now.find((it) => it.id && it.id === held.id) ?? now.find((it) => it.textContent === held.textContent);
   const found = like ?? now[Math.min(place, now.length - 1)] ?? host;
   if (found instanceof HTMLElement) found.focus();
+}
+
+/**
+ * Replaces what is in a list or a table by rows whose buttons do the same wherever they look the same. So those that look as before stay.
+ * @param {Element} host
+ * @param {Element[]} rows
+ */
+export function replaceAlike(host, rows) {
+  replace(host, rows.map((row, place) => (host.children[place]?.isEqualNode(row) ? host.children[place] : row)));
 }
 
 /** @param {Piece | Piece[]} content */
@@ -131,5 +146,5 @@ export function fill(id, caption, heads, rows, isWords = false) {
     { scope: "col", class: place && head && !isWords ? "number" : "" }));
   table.createCaption().textContent = caption;
   table.tHead?.replaceChildren(make("tr", titles));
-  replace(table.tBodies[0], rows.map((row) => make("tr", row)));
+  replaceAlike(table.tBodies[0], rows.map((row) => make("tr", row)));
 }

@@ -103,27 +103,29 @@ function isMarked(it) {
   return "number" in it ? chosen?.arc === it.number || isPicked(it.number) : chosen?.node === it.node;
 }
 
+/** Whether nothing can be read. Then the arcs of the picture are drawn as the others are. */
+const isFar = () => lines.length > 0 && scale() < NAMES;
+
 /** Draws what is seen of it. */
 export function paint() {
   const canvas = /** @type {HTMLCanvasElement} */ (at("ground")), pen = canvas.getContext("2d"), box = seenBox(), by = devicePixelRatio;
-  if (!pen) return;
+  // Where nothing lies behind the picture, an empty canvas would be drawn with it.
+  canvas.hidden = !lines.length;
+  at("picture").classList.toggle("far", isFar());
+  if (!pen || !lines.length) return;
   const [wide, high] = [Math.round(at("picture").clientWidth * by), Math.round(at("picture").clientHeight * by)];
   if (canvas.width !== wide || canvas.height !== high) Object.assign(canvas, { width: wide, height: high });
   pen.resetTransform();
   pen.clearRect(0, 0, wide, high);
-  // Where nothing can be read, the arcs of the picture are drawn as the others are.
-  const isFar = lines.length > 0 && scale() < NAMES;
-  at("picture").classList.toggle("far", isFar);
-  if (!lines.length) return;
   pen.setTransform(scale() * by, 0, 0, scale() * by, -box.x * scale() * by, -box.y * scale() * by);
   const seen = lines.filter((line) => isIn(box, line)), style = getComputedStyle(document.documentElement);
   const colour = (/** @type {string} */ name) => style.getPropertyValue(`--${name}`);
-  if (isFar) shade(pen, colour("side"));
+  if (isFar()) shade(pen, colour("side"));
   stroke(pen, seen.filter(isMarked), colour("mark"), 9);
   for (const look of LOOKS) {
-    const alike = seen.filter((line) => line.look === look && (isFar || !before.has(`arc-${line.number}`)));
+    const alike = seen.filter((line) => line.look === look && (isFar() || !before.has(`arc-${line.number}`)));
     const ink = colour(look === "l" ? "limit" : look === "u" || look === "c" ? "unused" : "ink");
-    stroke(pen, alike, ink, look === "l" ? 3 : look === "F" ? 2 : isFar ? 0.6 : 1, look === "c" ? [5, 3] : []);
+    stroke(pen, alike, ink, look === "l" ? 3 : look === "F" ? 2 : isFar() ? 0.6 : 1, look === "c" ? [5, 3] : []);
     if (scale() >= ARROWS && look !== "c") point(pen, alike, ink);
   }
   paintPlaces(pen, box, colour);

@@ -38,6 +38,12 @@ export function pickThese(numbers) {
  */
 export const pickMore = (numbers) => pickThese([...picked, ...numbers]);
 
+/** Chooses none, and goes back to the table. */
+export function pickNone() {
+  pickThese([]);
+  at("grid").focus();
+}
+
 /** @param {number} number */
 export const toggle = (number) => pickThese(picked.has(number) ? [...picked].filter((it) => it !== number) : [...picked, number]);
 
@@ -76,10 +82,7 @@ function about(told) {
       () => act({ what: "cap-all", arcs: told.open, capacity: room.value })));
   }
   if (closed) parts.push(button(`Open ${closed} again`, () => act({ what: "open-all", arcs: told.closed })));
-  parts.push(button("Choose none", () => {
-    pickThese([]);
-    at("grid").focus();
-  }, "plain"));
+  parts.push(button("Choose none", pickNone, "plain"));
   return parts;
 }
 

@@ -5,6 +5,7 @@
  */
 import { moved } from "./amounts.js";
 import { choose, theChoice } from "./choice.js";
+import { parts, show } from "./drawing.js";
 import { at, onClick } from "./elements.js";
 import { chooseNear, groundBox, isGround, lookAtGround, middlePlace, nextPlace, paint, setBefore } from "./ground.js";
 import { arrange, labelsOf } from "./labels.js";
@@ -52,7 +53,7 @@ export async function showPicture() {
   const where = near && theChoice()?.node ? "the chosen place" : near ? "a place" : "the limit";
   const part = isGround() ? `All ${present().arcs} are drawn, and as one moves in those beside with their names and numbers. `
     : isPart() ? `${count} of ${present().arcs}: what lies nearest to ${where}. ` : "";
-  at("drawn-note").textContent = `${told.reason || part}Click a ${noun()} or a place to see more, and to change it.`;
+  at("drawn-note").textContent = `${told.reason ? `${told.reason}. ` : part}Click a ${noun()} or a place to see more, and to change it.`;
   at("near-limit").hidden = !near;
   at("take-svg").setAttribute("href", `picture.svg?near=${near}&turn=${present().turn}`);
   draw(told.svg);
@@ -62,15 +63,8 @@ export async function showPicture() {
 function draw(text) {
   const active = document.activeElement;
   const held = active && at("picture").contains(active) ? active.id : "";
-  at("picture").querySelector("svg")?.remove();
-  if (!text) return;
-  const made = document.importNode(new DOMParser().parseFromString(text, "image/svg+xml").documentElement, true);
-  const svg = /** @type {SVGSVGElement} */ (/** @type {unknown} */ (made));
-  const whole = svg.viewBox.baseVal, box = { x: whole.x, y: whole.y, width: whole.width, height: whole.height };
-  for (const name of ["width", "height"]) svg.removeAttribute(name);
-  svg.setAttribute("aria-hidden", "false");
-  for (const group of svg.querySelectorAll("g.arc, g.node")) prepare(group);
-  at("picture").append(svg);
+  const box = show(text);
+  if (!box) return;
   labels = labelsOf(parts());
   setBefore(parts().map((part) => part.id));
   mark();
@@ -84,26 +78,8 @@ function draw(text) {
     fit(nearShown === "none" ? all : box);
     nearShown = near;
   }
-  if (held) document.getElementById(held)?.focus();
+  if (held && document.activeElement?.id !== held) document.getElementById(held)?.focus();
 }
-
-/**
- * Makes a part of the picture a button, with room for a click, and for the mark of what is chosen beside it.
- * @param {Element} group
- */
-function prepare(group) {
-  group.setAttribute("role", "button");
-  group.setAttribute("tabindex", "-1");
-  group.setAttribute("aria-label", group.querySelector("title")?.textContent ?? "");
-  const line = group.querySelector("path, ellipse");
-  if (!line) return;
-  const beside = /** @type {Element} */ (line.cloneNode());
-  beside.setAttribute("class", line.matches("path") ? "wide" : "halo");
-  group.insertBefore(beside, group.querySelector("path, ellipse"));
-}
-
-/** @returns {SVGGElement[]} */
-const parts = () => [...at("picture").querySelectorAll("g")].filter((group) => group.matches(".node, .arc"));
 
 /** Marks what is chosen, and has its label seen. */
 export function mark() {
@@ -111,7 +87,7 @@ export function mark() {
   for (const part of parts()) {
     const is = part === chosen || part.matches(".arc") && isPicked(Number(part.id.slice("arc-".length)));
     part.classList.toggle("chosen", is);
-    part.setAttribute("aria-pressed", String(is));
+    if (part.ariaPressed !== String(is)) part.ariaPressed = String(is);
   }
   label();
 }

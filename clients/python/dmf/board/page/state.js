@@ -5,7 +5,8 @@
  * @typedef {{ node: number, name: string, in: string, out: string, roles: Arc[], is_source: boolean, is_sink: boolean, shut: boolean,
  *   open: boolean, side: boolean }} Place
  * @typedef {{ turn: number, title: string, unit: string, noun: string, notes: string[], source: string, sink: string, value: string,
- *   arcs: number, given: number, places: number, kept_in: string, scenario: string, why_not: string, floor: number, at: number,
+ *   arcs: number, given: number, places: number, kept_in: string, scenario: string, why_not: string, floor: number, offer: string,
+ *   flows_follow: boolean, at: number,
  *   steps: { text: string, value: string }[], limit: Arc[], limit_count: number, side: string[], side_count: number,
  *   names: string[] }} State
  * @typedef {{ arc?: number, node?: number }} Choice
@@ -93,11 +94,17 @@ async function catchUp() {
   if (state && newest > state.turn) await renew();
 }
 
-/** @param {State} told */
+/**
+ * Shows a state. Of a large network the board tells first what can be sent, and the limit; the parts that need the flows wait for them.
+ * @param {State} told
+ */
 async function show(told) {
   const before = state;
   state = told;
-  await Promise.all(watchers.map((watcher) => watcher(told, before)));
+  const shown = Promise.all(watchers.map((watcher) => watcher(told, before)));
+  if (told.flows_follow) news("What can be sent and the limit are known; the flows follow.");
+  await (told.flows_follow ? patiently(shown) : shown);
+  if (told.flows_follow) news("The flows are there.");
 }
 
 /**
@@ -128,9 +135,10 @@ export async function act(content, words = "") {
 export const undo = () => present().at > present().floor && act({ what: "go", step: present().at - 1 }, "undone");
 export const redo = () => present().at < present().steps.length - 1 && act({ what: "go", step: present().at + 1 }, "done again");
 
-// The board lives as long as a page holds this connection, by which it tells the turn of each newer state.
+// The board lives as long as a page holds this connection, by which it tells the turn of each newer state. Where it breaks, and the board
+// still answers, the browser makes it anew.
 const life = new EventSource("life");
-life.addEventListener("error", lost);
+life.addEventListener("error", () => (life.readyState === EventSource.CLOSED ? lost() : ask("state")));
 life.addEventListener("message", (event) => {
   newest = Number(event.data);
   if (!acting) catchUp();

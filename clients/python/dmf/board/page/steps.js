@@ -3,7 +3,7 @@
  * @typedef {import("./state.js").State} State
  */
 import { moved } from "./amounts.js";
-import { at, button, field, make, onClick, replace } from "./elements.js";
+import { at, button, field, make, onClick, replaceAlike } from "./elements.js";
 import { act, redo, undo } from "./state.js";
 
 /** @param {State} state */
@@ -13,7 +13,7 @@ export function showSteps(state) {
   field("redo").disabled = state.at === state.steps.length - 1;
   if (held === at("undo") && state.at <= state.floor) at("redo").focus();
   if (held === at("redo") && field("redo").disabled) at("undo").focus();
-  replace(at("way"), state.steps.map((step, place) => {
+  replaceAlike(at("way"), state.steps.map((step, place) => {
     const words = place ? step.text : "as in the file";
     const by = place ? ` (${moved(state.steps[place - 1].value, step.value)})` : "";
     const go = button(`${words}: ${step.value}${by}`, () => act({ what: "go", step: place }, `at the step “${words}”`));

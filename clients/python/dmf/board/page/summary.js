@@ -4,8 +4,8 @@
  */
 import { moved, upper } from "./amounts.js";
 import { pick } from "./choice.js";
-import { at, fill, keepInSight, make, numberCell } from "./elements.js";
-import { caption, noun, units } from "./state.js";
+import { at, fill, keepInSight, make, numberCell, onClick, replaceAlike } from "./elements.js";
+import { act, caption, noun, present, units } from "./state.js";
 
 /** @param {State} state */
 export function showSummary(state) {
@@ -25,12 +25,18 @@ function tell(state) {
   at("legend").textContent = `45/60: 45${units()} flow where 60 fit`;
   at("notes").hidden = !state.notes.length;
   at("notes").lastElementChild?.replaceChildren(...state.notes.map((note) => make("li", note)));
-  at("places").replaceChildren(...state.names.map((name) => make("option", [], { value: name })));
+  replaceAlike(at("places"), state.names.map((name) => make("option", [], { value: name })));
   at("kept").textContent = state.why_not ? `Nothing is kept, since ${state.why_not}: what is done here changes nothing.` : state.kept_in
     ? `Each step is kept in ${state.kept_in}.` : "Nothing is saved of itself: the steps end with this page.";
+  at("keep").hidden = !state.offer;
+  at("keep").textContent = `Keep them, and go on another day: ${state.offer}`;
   for (const [id, file] of [["take-csv", "plan.csv"], ["take-max", "problem.max"], ["take-report", "report.html"]]) {
     at(id).setAttribute("href", `${file}?turn=${state.turn}`);
   }
+}
+
+export function beginKeeping() {
+  onClick("keep", () => act({ what: "keep" }, `the steps are kept in ${present().offer}`));
 }
 
 /** @param {State} state */

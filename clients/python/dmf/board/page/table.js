@@ -14,6 +14,11 @@ const HEIGHT = 32, AT_ONCE = 120, PAGE = 10;
 const COLUMNS = [["name", ""], ["from", "From"], ["to", "To"], ["flow", "flows"], ["capacity", "fits"]];
 /** @type {Part} */
 let part = { total: 0, first: 0, rows: [], reading: "", fault: "" };
+/**
+ * The rows that are shown, by what stands in them.
+ * @type {Map<string, HTMLTableRowElement>}
+ */
+let shown = new Map();
 let order = "", asked = 0, current = 0, anchor = 0, isAsking = false, isLate = false;
 
 const words = () => `filter=${encodeURIComponent(field("filter").value.trim())}&sort=${order}`;
@@ -75,8 +80,10 @@ function draw() {
   const keys = "arrow keys move, Space chooses, Control and A all, Enter shows one";
   grid.setAttribute("aria-label", `All ${noun()}s ${caption()}; ${keys}`);
   if (grid.tHead) replace(grid.tHead, [make("tr", [title("tick", "chosen"), ...heads, title("marks", "state")])]);
-  const rest = part.total - part.first - part.rows.length;
-  grid.tBodies[0].replaceChildren(spacer(part.first), ...part.rows.map(row), spacer(rest));
+  const rest = part.total - part.first - part.rows.length, before = shown;
+  const told = part.rows.map((arc, place) => /** @type {[string, number]} */ ([JSON.stringify([part.first + place, arc]), place]));
+  shown = new Map(told.map(([text, place]) => [text, before.get(text) ?? row(part.rows[place], place)]));
+  replace(grid.tBodies[0], [spacer(part.first), ...shown.values(), spacer(rest)]);
   point();
 }
 
@@ -115,10 +122,9 @@ function row(arc, place) {
 /** Marks the row that keys move from, and those that are chosen. */
 function point() {
   for (const [place, { number }] of part.rows.entries()) {
-    const shown = document.getElementById(`row-${part.first + place}`), is = isPicked(number);
-    shown?.classList.toggle("current", part.first + place === current);
-    shown?.setAttribute("aria-selected", String(is));
-    const tick = shown?.querySelector("input");
+    const made = document.getElementById(`row-${part.first + place}`), is = isPicked(number), tick = made?.querySelector("input");
+    made?.classList.toggle("current", part.first + place === current);
+    if (made && made.ariaSelected !== String(is)) made.ariaSelected = String(is);
     if (tick) tick.checked = is;
   }
   at("grid").setAttribute("aria-activedescendant", part.total ? `row-${current}` : "");
@@ -154,9 +160,9 @@ async function pickAll() {
 /** @param {MouseEvent} event */
 async function clicked(event) {
   const target = event.target instanceof Element ? event.target : null;
-  const shown = target?.closest("tbody tr[id]");
-  if (!shown) return;
-  current = Number(shown.id.slice("row-".length));
+  const made = target?.closest("tbody tr[id]");
+  if (!made) return;
+  current = Number(made.id.slice("row-".length));
   const arc = arcAt(current);
   if (event.shiftKey) {
     await pickRange();

@@ -3,14 +3,20 @@
  * @typedef {import("./state.js").Arc} Arc
  * @typedef {import("./state.js").State} State
  * @typedef {Arc & { doubled: string, without: string }} Row
+ * @typedef {{ row: Row, lost: bigint, won: bigint }} Trial
  */
 import { amount, upper, whole } from "./amounts.js";
 import { pick } from "./choice.js";
 import { at, cell, fill, make, numberCell, onClick } from "./elements.js";
 import { ask, caption, noun, present, units } from "./state.js";
 
-const MOST_ROWS = 300, AT_ONCE = 5000, MOST_NAMED = 5;
-let sweeping = 0;
+/** How many rows the table has; how many arcs are asked for at once; how many are named; how often what is found so far is shown, in ms. */
+const MOST_ROWS = 300, AT_ONCE = 5000, MOST_NAMED = 5, PAUSE = 400;
+/**
+ * The sweep that goes on: what it has found, the arcs that are left, and which they all are if that is not all.
+ * @type {{ trials: Trial[], left: number[], which: string } | null}
+ */
+let going = null;
 
 /**
  * Tries these in turn. Where they are not all, `which` says so. The table has those that matter most.
@@ -18,50 +24,71 @@ let sweeping = 0;
  * @param {string} which
  */
 async function sweep(numbers, which) {
-  const turn = (sweeping += 1), all = numbers.length;
-  /** @type {Row[]} */
-  const rows = [];
+  /** @type {NonNullable<typeof going>} */
+  const mine = { trials: [], left: numbers, which };
+  going = mine;
   at("trials").hidden = false;
   at("stop").hidden = false;
-  let left = numbers;
-  while (left.length && turn === sweeping) {
-    const told = await ask("sweep", { arcs: left.slice(0, AT_ONCE) });
-    if (!told || turn !== sweeping) break;
-    rows.push(...told.trials);
-    left = told.left.concat(left.slice(AT_ONCE));
-    showTrials(rows);
-    at("verdict").textContent = left.length ? `${rows.length} of ${all} are tried ..` : verdict(rows, which);
+  let shown = -Infinity;
+  while (mine.left.length) {
+    const told = await ask("sweep", { arcs: mine.left.slice(0, AT_ONCE) });
+    if (going !== mine) return;
+    if (!told) break;
+    mine.trials.push(...told.trials.map(trial));
+    mine.left = told.left.concat(mine.left.slice(AT_ONCE));
+    if (!mine.left.length || performance.now() < shown + PAUSE) continue;
+    showTrials(mine.trials);
+    at("verdict").textContent = `${mine.trials.length} of ${numbers.length} are tried ..`;
+    shown = performance.now();
   }
-  if (document.activeElement === at("stop")) at("try-all").focus();
-  at("stop").hidden = true;
-  if (left.length && !at("verdict").textContent?.startsWith("The network")) {
-    const found = rows.length ? verdict(rows, `of these ${rows.length}`) : "";
-    at("verdict").textContent = `Stopped: ${rows.length} of ${all} are tried. ${found}`;
-  }
+  stop();
 }
 
-/** @param {Row} row */
-const loss = (row) => whole(present().value) - whole(row.without);
-/** @param {Row} row */
-const gain = (row) => (row.doubled ? whole(row.doubled) - whole(present().value) : 0n);
+/** Ends the sweep that goes on, and tells what it has found. What is being tried is not waited for. */
+function stop() {
+  if (!going) return;
+  const { trials, left, which } = going;
+  leave();
+  showTrials(trials);
+  const found = trials.length || !left.length ? verdict(trials, left.length ? `of these ${trials.length}` : which) : "";
+  at("verdict").textContent = left.length ? `Stopped: ${trials.length} of ${trials.length + left.length} are tried. ${found}` : found;
+}
+
+/** Leaves the sweep that goes on. */
+function leave() {
+  going = null;
+  if (document.activeElement === at("stop")) at("try-all").focus();
+  at("stop").hidden = true;
+}
 
 /**
- * @param {Row[]} rows
- * @param {(row: Row) => bigint} of
+ * What is lost without an arc, and won by a second one beside it.
+ * @param {Row} row
+ * @returns {Trial}
  */
-const largest = (rows, of) => rows.reduce((most, row) => (of(row) > most ? of(row) : most), 0n);
+function trial(row) {
+  const value = whole(present().value);
+  return { row, lost: value - whole(row.without), won: row.doubled ? whole(row.doubled) - value : 0n };
+}
 
 /**
- * @param {Row[]} rows
+ * @param {Trial[]} trials
+ * @param {"lost" | "won"} which
+ */
+const largest = (trials, which) => trials.reduce((most, it) => (it[which] > most ? it[which] : most), 0n);
+
+/**
+ * @param {Trial[]} trials
  * @param {string} which
  */
-function verdict(rows, which) {
-  const lost = largest(rows, loss), won = largest(rows, gain);
-  const worst = rows.filter((row) => loss(row) === lost), best = rows.filter((row) => gain(row) === won);
-  /** @param {Row[]} some */
-  const named = (some) => some.map((row) => row.short).slice(0, MOST_NAMED).join(" or ") + (some.length > MOST_NAMED ? " or others" : "");
-  const second = worst.length !== 1 || !worst[0].doubled ? ""
-    : gain(worst[0]) ? `; a second one brings ${amount(gain(worst[0]))} more` : "; a second one brings nothing";
+function verdict(trials, which) {
+  const lost = largest(trials, "lost"), won = largest(trials, "won");
+  const worst = trials.filter((it) => it.lost === lost), best = trials.filter((it) => it.won === won);
+  /** @param {Trial[]} some */
+  const named = (some) => some.slice(0, MOST_NAMED).map(({ row }) => row.short).join(" or ")
+    + (some.length > MOST_NAMED ? " or others" : "");
+  const second = worst.length !== 1 || !worst[0].row.doubled ? ""
+    : worst[0].won ? `; a second one brings ${amount(worst[0].won)} more` : "; a second one brings nothing";
   const those = which ? " " + which : "", any = which || "of them";
   return (lost ? `Worst to lose${those}: ${named(worst)}, ${amount(lost)}${units()} less${second}. ` : `None ${any} is missed alone. `)
     + (won ? `Best${those} to have a second of: ${named(best)}, ${amount(won)}${units()} more.`
@@ -80,16 +107,15 @@ function bar(by, most, kind) {
   return made;
 }
 
-/** @param {Row[]} rows */
-function showTrials(rows) {
-  const most = [largest(rows, loss), largest(rows, gain)].reduce((one, other) => (one > other ? one : other), 1n);
+/** @param {Trial[]} trials */
+function showTrials(trials) {
+  const most = [largest(trials, "lost"), largest(trials, "won")].reduce((one, other) => (one > other ? one : other), 1n);
   /**
    * @param {bigint} one
    * @param {bigint} other
    */
   const greater = (one, other) => (one > other ? -1 : one < other ? 1 : 0);
-  const sorted = rows.map((row) => ({ lost: loss(row), won: gain(row), row }))
-    .sort((one, other) => greater(one.lost, other.lost) || greater(one.won, other.won)).slice(0, MOST_ROWS);
+  const sorted = [...trials].sort((one, other) => greater(one.lost, other.lost) || greater(one.won, other.won)).slice(0, MOST_ROWS);
   fill("trials", caption(), [upper(noun()), "with it closed", "", "with a second one", ""], sorted.map(({ lost, won, row }) => [
     pick(row, row.short), numberCell(row.without), cell(lost ? [bar(lost, most, ""), `${amount(lost)} less`] : "no change"),
     numberCell(row.doubled || "too large"), cell(won ? [bar(won, most, "gain"), `${amount(won)} more`] : "no change")]));
@@ -104,7 +130,7 @@ export function showOutdated(state, before) {
   at("try-all").textContent = `Try each ${noun()}`;
   at("try-limit").textContent = `Try each ${noun()} of the limit`;
   if (before && before.turn !== state.turn && !at("trials").hidden) {
-    sweeping += 1;
+    leave();
     at("verdict").textContent = "The network has changed since the table below was made.";
   }
 }
@@ -118,7 +144,5 @@ export function beginTrials() {
     const { limit, limit_count } = present();
     sweep(limit.map((arc) => arc.number), `of the ${limit.length < limit_count ? "first " : ""}${limit.length} of the limit`);
   });
-  onClick("stop", () => {
-    sweeping += 1;
-  });
+  onClick("stop", stop);
 }

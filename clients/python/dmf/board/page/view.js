@@ -35,7 +35,8 @@ function show(x, y, pixels) {
 
 /** Has the picture show what is to be seen. */
 function put() {
-  at("picture").querySelector("svg")?.setAttribute("viewBox", [seen.x, seen.y, seen.width, seen.height].join(" "));
+  const svg = at("picture").querySelector("svg"), box = [seen.x, seen.y, seen.width, seen.height].join(" ");
+  if (svg?.getAttribute("viewBox") !== box) svg?.setAttribute("viewBox", box);
   told();
 }
 

@@ -1,0 +1,71 @@
+/**
+ * The drawing that the board makes of the picture. Of a new one those parts alone are put in place that look otherwise than before: it
+ * takes far longer to lay out and to paint all.
+ * @typedef {import("./view.js").Box} Box
+ */
+import { at, replace } from "./elements.js";
+
+/** A part of a drawing as the board writes it. No part has a group in it, and names in it are text, so that this is its end. */
+const PART = /<g id="((?:arc|node)-\d+)"[^]*?<\/g>/g;
+const ROOT = '<svg xmlns="http://www.w3.org/2000/svg" xmlns:xlink="http://www.w3.org/1999/xlink">';
+/**
+ * Each part, as the board wrote it last.
+ * @type {Map<string, string>}
+ */
+let written = new Map();
+
+/** @returns {SVGGElement[]} */
+export const parts = () => [...at("picture").querySelectorAll("g")].filter((group) => group.matches(".node, .arc"));
+
+/**
+ * Shows a drawing, or none if the text is empty.
+ * @param {string} text
+ * @returns {Box | null} its size
+ */
+export function show(text) {
+  const before = written, shown = at("picture").querySelector("svg");
+  written = new Map([...text.matchAll(PART)].map(([part, id]) => [id, part]));
+  if (!text) {
+    shown?.remove();
+    return null;
+  }
+  const frame = read(text.replace(PART, "")), { x, y, width, height } = frame.viewBox.baseVal;
+  const present = new Map(parts().map((part) => [part.id, part]));
+  const others = [...written].filter(([id, part]) => before.get(id) !== part).map(([, part]) => part);
+  for (const part of read(`${ROOT}${others.join("")}</svg>`).querySelectorAll("g")) {
+    prepare(part);
+    present.set(part.id, part);
+  }
+  const wanted = [...written.keys()].map((id) => /** @type {SVGGElement} */ (present.get(id)));
+  const layer = shown?.querySelector("g") ?? frame.querySelector("g");
+  if (layer) replace(layer, [...frame.querySelectorAll("svg > g > *"), ...wanted]);
+  if (!shown) {
+    for (const name of ["width", "height"]) frame.removeAttribute(name);
+    frame.setAttribute("aria-hidden", "false");
+    at("picture").append(frame);
+  }
+  return { x, y, width, height };
+}
+
+/**
+ * @param {string} text
+ * @returns {SVGSVGElement}
+ */
+function read(text) {
+  const root = /** @type {Node} */ (new DOMParser().parseFromString(text, "image/svg+xml").documentElement);
+  return /** @type {SVGSVGElement} */ (document.importNode(root, true));
+}
+
+/**
+ * Makes a part of the picture a button, which its title names, with room for a click, and for the mark of what is chosen beside it.
+ * @param {Element} group
+ */
+function prepare(group) {
+  group.setAttribute("role", "button");
+  group.setAttribute("tabindex", "-1");
+  const line = group.querySelector("path, ellipse");
+  if (!line) return;
+  const beside = /** @type {Element} */ (line.cloneNode());
+  beside.setAttribute("class", line.matches("path") ? "wide" : "halo");
+  group.insertBefore(beside, group.querySelector("path, ellipse"));
+}

@@ -1,0 +1,56 @@
+"""A project with all that one can have, and what the tests of its file and its journal do with it."""
+
+from __future__ import annotations
+
+import os
+from pathlib import Path
+
+import pytest
+from dmf.project.file import ProjectFile, created, opened
+from dmf.project.form import File, KeptStep, KeptTable, Project, ProjectFault, Scenario, said_scenario, said_step
+
+ARC = ("Mill", "Town", 'Main "pipe"\n2')
+STEP = KeptStep('close "it"\nnow', "47.3", (("close", ARC), ("cap", (*ARC, 2), "0.25"), ("shut", "Mill"), ("add", ("Mill", 7, ""), "12")))
+
+
+def a_project() -> Project:
+    """A project that has all that one can have."""
+    table = KeptTable(
+        File("t.csv", "00"), "Sheet 1", {"source": ["Mill"], "both_ways": True, "decimal": ","}, {"sinks": File("s.csv", "11")}, "l/s", "pipe",
+        ["a note"],
+    )  # fmt: skip
+    project = Project("ab", table, "p max 2 0\nn 1 s\nn 2 t\n", notes="for\nMay", positions={"Mill": (1.5, -2.0)})
+    project.scenarios = [
+        Scenario("first", [STEP, STEP], 1, note='"so"', left_out=[STEP]), Scenario("Flood \u00fc\udc80", [STEP], 1, "first", 1),
+    ]  # fmt: skip
+    project.present = "first"
+    return project
+
+
+def made_project(folder: Path) -> str:
+    """The path of a project that was made and closed."""
+    path = str(folder / "water.dmf.json")
+    created(path, a_project()).end()
+    return path
+
+
+def refused(path: str) -> str:
+    """Why a project is not opened."""
+    with pytest.raises(ProjectFault) as fault:
+        opened(path)
+    return str(fault.value)
+
+
+def begun(path: str) -> ProjectFile:
+    """The project with some acts in its journal, as a kill leaves it."""
+    file = opened(path)
+    file.keep("step", said_step(STEP))
+    file.keep("new", said_scenario(Scenario("more")))
+    file.keep("note", "a note\nin two lines")
+    return file
+
+
+def left(file: ProjectFile) -> None:
+    """Drops the lock, as a kill does."""
+    assert file._journal
+    os.close(file._journal._file)
