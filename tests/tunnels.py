@@ -15,6 +15,7 @@ class Tunnel:
         self.way_in = socket.create_server(("127.0.0.1", 0))
         self.port = int(self.way_in.getsockname()[1])
         self.ends: list[socket.socket] = []
+        self.closed = 0
 
     def lead_to(self, port: int) -> None:
         threading.Thread(target=self._lead_to, args=(port,), daemon=True).start()
@@ -23,6 +24,10 @@ class Tunnel:
         with contextlib.suppress(OSError):
             while True:
                 here = self.way_in.accept()[0]
+                if self.closed > 0:
+                    self.closed -= 1
+                    here.close()
+                    continue
                 there = socket.create_connection(("127.0.0.1", port))
                 self.ends += [here, there]
                 for ends in (here, there), (there, here):
@@ -36,11 +41,13 @@ class Tunnel:
             with contextlib.suppress(OSError):
                 end.shutdown(socket.SHUT_RDWR)
 
-    def break_all(self) -> None:
-        """Breaks the connections that there are. Later ones are passed on as before."""
-        while self.ends:
+    def break_all(self, later: int = 0) -> None:
+        """Breaks the connections that there are, and so many of the next ones. Those after them are passed on as before."""
+        self.closed = later
+        broken, self.ends = self.ends, []
+        for end in broken:
             with contextlib.suppress(OSError):
-                self.ends.pop().shutdown(socket.SHUT_RDWR)
+                end.shutdown(socket.SHUT_RDWR)
 
 
 @contextlib.contextmanager

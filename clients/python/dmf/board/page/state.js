@@ -15,6 +15,9 @@ import { moved, upper } from "./amounts.js";
 import { at, button } from "./elements.js";
 import { hasTrouble, news, patiently, trouble } from "./messages.js";
 
+// How long it is waited until a question is asked again whose connection broke, in milliseconds. Then the board is taken to have ended.
+const PAUSES = [200, 800, 2000];
+
 /** @type {State | null} */
 let state = null;
 let acting = false, newest = 0;
@@ -40,24 +43,47 @@ export function watch(watcher) {
 }
 
 /**
+ * What the board answers, or null if it is not reached. A question whose connection breaks is asked again; what is to be done is not sent
+ * twice, since it may have been heard.
+ * @param {string} path
+ * @param {RequestInit} sent
+ * @returns {Promise<{ answer: Response, told: any } | null>}
+ */
+async function heard(path, sent = {}) {
+  for (const pause of [...(sent.method ? [] : PAUSES), null]) {
+    try {
+      const answer = await fetch(path, sent);
+      return { answer, told: await answer.json() };
+    } catch (error) {
+      if (pause !== null) await new Promise((go) => setTimeout(go, pause));
+    }
+  }
+  return null;
+}
+
+/**
  * Asks the board, which answers with JSON. Gives null where it refuses, and says why; and undefined where the answer is of another state
- * than this page shows, which is then, or soon, shown anew.
+ * than this page shows, which is then, or soon, shown anew, or where the connection broke before it came.
  * @param {string} path
  * @param {object} [content] what is sent, if something is to be done
  * @param {boolean} isQuiet that a refusal is not told
  * @returns {Promise<any>}
  */
 export async function ask(path, content, isQuiet = false) {
-  let answer, told;
-  try {
-    answer = await fetch(path, content === undefined ? {} : {
-      method: "POST", headers: { "Content-Type": "application/json" }, body: JSON.stringify({ turn: state?.turn, ...content }),
-    });
-    told = await answer.json();
-  } catch (error) {
-    lost();
-    return null;
+  const isDone = content !== undefined;
+  const reply = await heard(path, isDone ? {
+    method: "POST", headers: { "Content-Type": "application/json" }, body: JSON.stringify({ turn: state?.turn, ...content }),
+  } : {});
+  if (!reply) {
+    if (!isDone || !await heard("state")) {
+      lost();
+      return null;
+    }
+    trouble("The connection broke: look whether this was done.");
+    await renew();
+    return undefined;
   }
+  const { answer, told } = reply;
   if (answer.status === 410) {
     trouble(`The session ended by itself: ${told.ended}. To take along, there is the problem below.`, button(
       told.steps ? `Begin again, with the steps made so far (${told.steps})` : "Begin again", () => act({ what: "again" }, "begun again")));
