@@ -24,14 +24,20 @@ class Tunnel:
         with contextlib.suppress(OSError):
             while True:
                 here = self.way_in.accept()[0]
-                if self.closed > 0:
-                    self.closed -= 1
+                try:
+                    self._take(here, port)
+                except OSError:
                     here.close()
-                    continue
-                there = socket.create_connection(("127.0.0.1", port))
-                self.ends += [here, there]
-                for ends in (here, there), (there, here):
-                    threading.Thread(target=self._pass_on, args=ends, daemon=True).start()
+
+    def _take(self, here: socket.socket, port: int) -> None:
+        """Passes on what comes by a connection, or raises an OSError."""
+        if self.closed > 0:
+            self.closed -= 1
+            raise ConnectionAbortedError
+        there = socket.create_connection(("127.0.0.1", port))
+        self.ends += [here, there]
+        for ends in (here, there), (there, here):
+            threading.Thread(target=self._pass_on, args=ends, daemon=True).start()
 
     def _pass_on(self, source: socket.socket, target: socket.socket) -> None:
         with contextlib.suppress(OSError):

@@ -1,0 +1,30 @@
+"""Builds a static library over the crates that `rt ci` has just proved, and left in their out/: `rt lib` would prove each once more.
+
+    python3 tools/over_proved.py KIT ROOT CRATE
+
+KIT is the toolchain's folder, ROOT the repository's, CRATE the library's crate, which is proved here. The status is 0 if it was built, and
+2 where other work than that of `rt ci` lies in out/, or none.
+"""
+
+from __future__ import annotations
+
+import importlib
+import os
+import sys
+from typing import Any
+
+
+def main(kit: str, root: str, name: str) -> int:
+    sys.dont_write_bytecode = True
+    sys.path.insert(0, f"{kit}/bin")
+    # The module on which the toolchain's command `rt` stands.
+    rtlib: Any = importlib.import_module("rtlib")
+    crate = next(it for it in rtlib.crates_below(root) if it.name == name)
+    # Other commands leave a stamp, by which they know of which sources their work is.
+    if not all(os.path.isdir(it.rlib) and not os.path.exists(f"{it.folder}/out/rlib/stamp") for it in crate.below()):
+        return 2
+    return int(crate.build_static([]))
+
+
+if __name__ == "__main__":
+    sys.exit(main(*sys.argv[1:]))
