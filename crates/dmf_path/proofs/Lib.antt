@@ -53,6 +53,7 @@ mod Untouched
 mod TouchedIndices
 pub mod Lowered
 pub mod LoweredLabels
+pub mod RaisedLabels
 pub mod RoomsSet
 pub mod Released
 pub mod PairLists

@@ -10,6 +10,7 @@ pub mod Residual
 pub mod Search
 pub mod Touched
 pub mod Searching
+pub mod Raising
 pub mod Ball
 pub mod Going
 pub mod Astray

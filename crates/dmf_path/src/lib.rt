@@ -19,6 +19,7 @@ mod noted;
 mod open;
 mod phase;
 mod push;
+mod raise;
 mod reach;
 mod redirect;
 mod relabel;

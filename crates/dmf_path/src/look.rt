@@ -220,7 +220,7 @@ impl Links {
 
     /// The first place from `from` up to `end` whose link has room and leads to a node whose label is lower than `label` by one, or
     /// `end`.
-    fn first_admissible(&self, labels: &[u32], from: u32, end: u32, label: u32) -> u32
+    pub fn first_admissible(&self, labels: &[u32], from: u32, end: u32, label: u32) -> u32
         requires range { from ≤ end }
         requires links { end ≤ length self.now.table.value.heads.items }
         requires one_label_each { length labels.now ≡ self.now.table.value.nodes + 1 }

@@ -3,23 +3,25 @@ ghost use Rattle.std.specs.Prelude.{◌≡◌, ◌≢◌, ℕ, List, true, false
 ghost use Rattle.dmf_node.specs.Node.{IsNode};
 ghost use Rattle.dmf_links.specs.LinkTable.{links_of};
 ghost use Rattle.dmf_path.specs.Going.{Goes, HasGoneOn, IsAimedAnew, IsBetweenLooks};
+ghost use Rattle.dmf_path.specs.Ball.{IsFitFor};
 ghost use Rattle.dmf_path.specs.Walk.{IsWalk};
 ghost use Rattle.dmf_path.specs.Held.{way_of, with_slots};
 ghost use Rattle.dmf_path.specs.Residual.{residual_of, told};
-ghost use Rattle.dmf_path.specs.Searching.{labelling_of, sought, AreAside, AreReady, IsSearching, IsFound, IsFresh, IsReady, IsParted, fresh_labels};
+ghost use Rattle.dmf_path.specs.Searching.{labelling_of, sought, AreAside, AreReady, AreRedirected, IsSearching, IsFound, IsFresh, IsReady, IsParted, fresh_labels};
 
 use crate::aside::{Aside, Ends, take_up};
 use crate::ball::Ball;
 use crate::levels::{Levels, set_current};
 use crate::push::Links;
+use crate::raise::raise;
 use crate::redirect::{redirect, refit};
 use crate::relabel::label_anew;
 use crate::trail::Trail;
 use crate::walk::walk;
 use dmf_links::LinkTable;
 
-/// Finds the least path from the start to the goal: goes on with the walk, and if none is left, lowers labels near the goal or labels the
-/// nodes anew, and walks again. If there is none, marks the nodes on the start's side, if there is a mark for each node.
+/// Finds the least path from the start to the goal: goes on with the walk, and if none is left, mends the labels or labels the nodes
+/// anew, and walks again. If there is none, marks the nodes on the start's side, if there is a mark for each node.
 pub fn find(
     links: &mut Links,
     levels: &mut Levels,
@@ -44,7 +46,7 @@ pub fn find(
     go_on_anew(links, levels, ball, trail, marks)
 }
 
-/// Lowers labels near the goal, and walks again if this helps. Whether the walk comes to the goal.
+/// Mends the labels, and walks again if this helps. Whether the walk comes to the goal.
 fn go_on_mended(links: &mut Links, levels: &mut Levels, ball: &mut Ball, trail: &mut Trail) -> bool
     requires goes { Goes links.old levels.old ball.old trail.old }
     ensures on { HasGoneOn (sought (residual_of links.old) (way_of trail.old)) links.new levels.new ball.new trail.new result }
@@ -87,23 +89,50 @@ fn go_on(links: &mut Links, levels: &mut Levels, ball: &Ball, trail: &mut Trail)
     )
 }
 
-/// Lowers labels near the goal, where all nodes have labels from the start, and frees the slots; no push is held. Returns whether that of
-/// the goal fell, so that a longer walk may lead there.
+/// Mends the labels, where all nodes have some, and frees the slots; no push is held. Returns whether a walk may lead to the goal then.
 fn mend_labels(links: &Links, levels: &mut Levels, ball: &mut Ball, trail: &mut Trail) -> bool
     requires goes { Goes links.now levels.old ball.old trail.old }
     requires settled { told (residual_of links.now) (way_of trail.old) ≡ residual_of links.now }
     ensures goes { Goes links.now levels.new ball.new trail.new }
     ensures same { sought (residual_of links.now) (way_of trail.new) ≡ sought (residual_of links.now) (way_of trail.old) }
 {
-    if !levels.all || !levels.course.is_from_start() || levels.noted.lost {
+    if !levels.all {
         return false;
     }
-    let before = levels.near.label(trail.goal);
-    refit(links, levels, ball, trail.start, trail.goal);
+    let is_mended = mend(links, levels, ball, trail.start, trail.goal);
     let start_label = levels.near.label(trail.start);
     let goal_label = levels.near.label(trail.goal);
     trail.free(start_label - goal_label);
-    goal_label < before
+    is_mended
+}
+
+/// Lowers the labels near the goal, if they are those from the start, and raises labels to the goal. Returns whether a walk may lead to
+/// the goal then: whether the goal's label fell, or a trial found such a walk.
+fn mend(links: &Links, levels: &mut Levels, ball: &mut Ball, start: u32, goal: u32) -> bool
+    requires ready { IsReady links.now.table.value.nodes levels.old.near levels.old.far }
+    requires redirected { AreRedirected levels.old (residual_of links.now) start goal }
+    requires fit { IsFitFor ball.old (residual_of links.now) goal }
+    requires start { IsNode links.now.table.value.nodes start }
+    requires goal { IsNode links.now.table.value.nodes goal }
+    ensures ready { IsReady links.now.table.value.nodes levels.new.near levels.new.far }
+    ensures redirected { AreRedirected levels.new (residual_of links.now) start goal }
+    ensures fit { IsFitFor ball.new (residual_of links.now) goal }
+{
+    if !levels.course.is_from_start() {
+        return raise(
+            links,
+            Ends { start, goal },
+            &mut levels.near,
+            &mut levels.current,
+            &mut levels.course,
+        );
+    }
+    if levels.noted.lost {
+        return false;
+    }
+    let before = levels.near.label(goal);
+    refit(links, levels, ball, start, goal);
+    levels.near.label(goal) < before
 }
 
 /// Labels the nodes anew, and frees the slots; no push is held. Returns whether the start has a label, so that a path is left.
