@@ -1,5 +1,5 @@
 -- Draining path by path, and its moves.
-use Rattle.std.proofs.Common.{ℕ, ◌≡◌, ◌≢◌, ◌<◌, ◌≤◌, true, ◌+◌, ◌-◌, zero, suc, List, [], ◌∷◌, length, get_or, set, refl, ap, sym, ◌∙◌, subst, arith, Option, eq-eqb}
+use Rattle.std.proofs.Common.{ℕ, ◌≡◌, ◌≢◌, ◌<◌, ◌≤◌, true, ◌+◌, ◌-◌, zero, suc, List, [], ◌∷◌, length, get_or, set, refl, ap, sym, ◌∙◌, subst, arith, Option, Result, Ok, Err, IfOk, inr, eq-eqb}
 use Rattle.std.proofs.lemmas.Bool.{ne_eqb}
 use Rattle.std.proofs.lemmas.List.{length-set}
 use Rattle.std.proofs.lemmas.Slice.Zip.{AllZip-long}
@@ -9,11 +9,12 @@ use Rattle.dmf_state.specs.Network.{Network, arc_number, has_arc}
 use Rattle.dmf_state.specs.Flow.{flow_on}
 use Rattle.dmf_state.specs.NetworkState.{NetworkState, IsState, with_flows}
 use Rattle.dmf_solver.specs.Drain.{lowered, Drains}
+use Rattle.dmf_solver.specs.declared.drain.Drained.{Drained}
 use Rattle.dmf_solver.specs.declared.watch.Turn.{Turn}
 use Rattle.dmf_solver.specs.Turns.{Taken, TellsDrain, TellsDrains, taken_of}
 use Rattle.dmf_solver.specs.Told.{AreTold}
 use Rattle.dmf_state.specs.Edit.{moved, differences}
-use Rattle.dmf_solver.specs.Moves.{AreDrainingMoves}
+use Rattle.dmf_solver.specs.Moves.{AreDrainingMoves, TellsMoves}
 use Rattle.dmf_state.proofs.ChangedArc.{has_arc-within}
 use Rattle.dmf_solver.proofs.DrainedLoop.{drained-loop, tells-loop}
 use Rattle.dmf_solver.proofs.Draining.{lowered-state, drains-state}
@@ -62,6 +63,13 @@ pub tells-moved : (s : NetworkState) (turns : List Turn) (last : List ℕ) (move
     → TellsDrains s.network turns s.flows (moved moves s.flows) before after
 tells-moved s turns last moves before after long is tells =
     subst (λ flows. TellsDrains s.network turns s.flows flows before after) (sym (moves-between moves s.flows last long is).makes) tells
+
+-- So it does if memory is refused for the moves.
+pub tells-listed : {E : Type 0} (s : NetworkState) (turns : List Turn) (last : List ℕ) (result : Result Drained E) (before after : Option (List Taken))
+    → length last ≡ length s.flows → IfOk result (λ drained. drained.moves.items ≡ differences 1 s.flows last)
+    → TellsDrains s.network turns s.flows last before after → TellsMoves s turns result before after
+tells-listed s turns last (Ok drained) before after long is tells = tells-moved s turns last drained.moves.items before after long is tells
+tells-listed s turns last (Err fault) before after long is tells = inr (last, tells)
 
 -- It holds for the moves between the flows before and after draining.
 pub draining-moves : (s : NetworkState) (j limit : ℕ) (last : List ℕ) (moves : List Move) → IsState s → has_arc s.network j ≡ true

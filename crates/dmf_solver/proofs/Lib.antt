@@ -41,5 +41,6 @@ pub mod DrainingSearch
 pub mod DrainedInTurn
 pub mod ClosedInTurn
 pub mod DrainedEdits
-pub mod UnpairedLoop
+pub mod DrainedNext
+mod Emptied
 mod Untouched

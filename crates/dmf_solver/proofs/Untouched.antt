@@ -11,10 +11,11 @@ use Rattle.dmf_path.specs.Touched.{IsTouched, AreBelow, KeepsUntouched, Touches}
 use Rattle.dmf_path.proofs.Covering.{Covers-weaker}
 use Rattle.dmf_state.specs.NetworkState.{NetworkState, IsState}
 use Rattle.dmf_solver.specs.declared.solve.Solved.{Solved}
-use Rattle.dmf_solver.specs.Moves.{CoverDifferences}
-use Rattle.dmf_solver.specs.Pairs.{PairLink, Against, flow_read, flows_read, reached_flows, IsSolved}
+use Rattle.dmf_solver.specs.Moves.{CoverDifferences, UntouchedStay}
+use Rattle.dmf_solver.specs.Pairs.{PairLink, Along, Against, flow_read, flows_read, reached_flows, IsCarryingSearch, IsSolved}
 use Rattle.dmf_solver.specs.ResidualNetwork.{closed_return, network_pairs}
 use Rattle.dmf_solver.proofs.ArcPairs.{read-flows}
+use Rattle.dmf_solver.proofs.DrainingSearch.{length-carries}
 use Rattle.dmf_solver.proofs.NetworkPairs.{length-network_pairs}
 use Rattle.dmf_solver.proofs.ResidualPairs.{by_residual_pair}
 use Rattle.dmf_solver.proofs.FlowsRead.{get_or-flows_read, length-flows_read}
@@ -42,33 +43,50 @@ pub below-next : (s : NetworkState) (value : ℕ) (search : Searched) (old new :
     → AreBelow (length s.network.arcs + 1) old → AreBelow (length s.network.arcs + 1) new
 below-next s value search old new is next = subst (λ n. AreBelow n old → AreBelow n new) (solving-long s search value is) next
 
--- If the flows are read from the pairs, the touched indices cover all arcs whose flows differ,
-pub changed-cover : (link : PairLink) (s : NetworkState) (old new : List (Option Pair)) (touched : Option (List ℕ)) (indices : List ℕ) (count : ℕ)
-    → length s.flows ≤ length old → length s.flows ≤ length new → length s.flows ≤ count → flows_read link s.flows old ≡ s.flows
-    → KeepsUntouched touched old new → Covers count (λ k. ¬ IsTouched touched k) indices → CoverDifferences s.flows (flows_read link s.flows new) indices
-changed-cover link s old new touched indices count old_long new_long most same keeps covers = record {
+-- The flows that are read from the pairs stay where the pairs do,
+pub untouched-stay : (link : PairLink) (firsts : List ℕ) (old new : List (Option Pair)) (touched : Option (List ℕ)) → length firsts ≤ length old
+    → length firsts ≤ length new → KeepsUntouched touched old new → UntouchedStay touched (flows_read link firsts old) (flows_read link firsts new)
+untouched-stay link firsts old new touched old_long new_long keeps = λ k untouched.
+    let first = length-flows_read link firsts old old_long in
+    let last = length-flows_read link firsts new new_long in
+    ⊎_elim
+    (λ (inside : k < length firsts).
+    get_or-flows_read link firsts old k old_long inside
+    ∙ ap (flow_read link (get_or firsts k 0)) (sym (keeps k untouched))
+    ∙ sym (get_or-flows_read link firsts new k new_long inside))
+    (λ (past : length firsts ≤ k).
+    stays-past (flows_read link firsts old) (flows_read link firsts new) (last ∙ sym first) k (omega (arith, past, first)))
+    (cases_lt k (length firsts))
+
+-- and then the touched indices cover all arcs whose flows differ:
+pub changed-cover : (count : ℕ) (touched : Option (List ℕ)) (before after indices : List ℕ) → length before ≤ count → UntouchedStay touched before after
+    → Covers count (λ k. ¬ IsTouched touched k) indices → CoverDifferences before after indices
+changed-cover count touched before after indices most stay covers = record {
   count = count;
   most = most;
-  covers = Covers-weaker count _ _ indices (λ k h untouched. ⊎_elim
-      (λ (inside : k < length s.flows).
-      ap (λ (flows : List ℕ). get_or flows k 0) (sym same)
-      ∙ get_or-flows_read link s.flows old k old_long inside
-      ∙ ap (flow_read link (get_or s.flows k 0)) (sym (keeps k untouched))
-      ∙ sym (get_or-flows_read link s.flows new k new_long inside))
-      (λ (past : length s.flows ≤ k). stays-past s.flows (flows_read link s.flows new) (length-flows_read link s.flows new new_long) k past)
-      (cases_lt k (length s.flows))) covers;
+  covers = Covers-weaker count _ _ indices (λ k h untouched. stay k untouched) covers;
 }
 
--- and so after a solve.
+-- after a solve,
 pub touched-cover : (s : NetworkState) (solved : Solved) (indices : List ℕ) → IsState s → IsSolved s solved
     → Covers (length s.network.arcs + 1) (λ k. ¬ IsTouched solved.touched k) indices → CoverDifferences s.flows (reached_flows s solved.search) indices
 touched-cover s solved indices state is covers =
     let flows_long = AllZip-long _ s.network.arcs s.flows state.flow.within in
     let old = length-network_pairs s.network s.flows flows_long in
     let pairs = pairs-long s solved.search state is.search_is is.state.flow.within in
-    changed-cover Against s (network_pairs s.network s.flows) solved.search.pairs solved.touched indices (length s.network.arcs + 1)
-    (omega (arith, old, flows_long)) (omega (arith, pairs)) (omega (arith, flows_long))
-    (read-flows by_residual_pair s.network s.flows s.flows (closed_return s.network ∷ []) flows_long flows_long (λ k h loop. refl)) is.kept covers
+    let first = read-flows by_residual_pair s.network s.flows s.flows (closed_return s.network ∷ []) flows_long flows_long (λ k h loop. refl) in
+    let stay = untouched-stay Against s.flows (network_pairs s.network s.flows) solved.search.pairs solved.touched (omega (arith, old, flows_long))
+    (omega (arith, pairs)) is.kept in
+    changed-cover (length s.network.arcs + 1) solved.touched s.flows (reached_flows s solved.search) indices (omega (arith, flows_long))
+    (subst (λ flows. UntouchedStay solved.touched flows (reached_flows s solved.search)) first stay) covers
+
+-- and after a drain.
+pub drained-stay : (s : NetworkState) (unpaired : List ℕ) (old new : Searched) (touched : Option (List ℕ)) → IsCarryingSearch s unpaired old
+    → IsCarryingSearch s unpaired new → KeepsUntouched touched old.pairs new.pairs
+    → UntouchedStay touched (flows_read Along unpaired old.pairs) (flows_read Along unpaired new.pairs)
+drained-stay s unpaired old new touched before after keeps =
+    untouched-stay Along unpaired old.pairs new.pairs touched (omega (arith, length-carries s unpaired _ old before, before.listed))
+    (omega (arith, length-carries s unpaired _ new after, after.listed)) keeps
 
 -- One more path is drained: it touches its pairs, and the pair of the drained arc counts as touched.
 pub touches-lowered : (first old new : Option (List ℕ)) (pairs before after : List (Option Pair)) (i amount : ℕ) → length before ≡ length pairs

@@ -1,13 +1,15 @@
 -- The moves that drain an arc.
 -- Private: only contracts inside the crate and proofs use this.
-use Rattle.std.specs.Prelude.{ℕ, ◌≡◌, ◌≢◌, ◌+◌, ◌-◌, ◌≤◌, List, [], ◌∷◌, length, slice_index, IfSome, Option, Result, MatchResult}
-use Rattle.dmf_path.specs.Search.{Covers}
+use Rattle.std.specs.Prelude.{ℕ, ◌≡◌, ◌≢◌, ◌+◌, ◌-◌, ◌≤◌, List, [], ◌∷◌, length, slice_index, slice_set, IfSome, Option, Result, MatchResult}
+use Rattle.dmf_path.specs.Search.{Covers, Searched}
+use Rattle.dmf_path.specs.Touched.{IsTouched}
 use Rattle.dmf_state.specs.declared.edit.Move.{Move}
 use Rattle.dmf_solver.specs.declared.drain.Drained.{Drained}
 use Rattle.dmf_solver.specs.CarryingNetwork.{MayCarry}
 use Rattle.dmf_solver.specs.declared.watch.Turn.{Turn}
 use Rattle.dmf_solver.specs.Drain.{Drains, TakesOff}
-use Rattle.dmf_solver.specs.Turns.{Taken, TellsDrains, MayTellDrains}
+use Rattle.dmf_solver.specs.Turns.{Taken, TellsDrain, TellsDrains, MayTellDrains}
+use Rattle.dmf_solver.specs.Pairs.{Along, IsCarryingSearch, flows_read}
 use Rattle.dmf_state.specs.Flow.{flow_on, flow_on_all}
 use Rattle.dmf_state.specs.Edit.{moved, MovesFit, differences}
 use Rattle.dmf_state.specs.Network.{Network}
@@ -54,8 +56,21 @@ pub record IsMoveAt (before after : List ℕ) (k : ℕ) (m : Move) : Type 0 wher
   pub is : m ≡ record { arc = k + 1; from = slice_index before k; to = slice_index after k }
   pub differs : slice_index before k ≢ slice_index after k
 
+-- The flow on each arc that does not count as touched stays as it was.
+abbrev pub UntouchedStay : Option (List ℕ) → List ℕ → List ℕ → Type 0
+UntouchedStay touched before after = (k : ℕ) → ¬ IsTouched touched k → Stays before after k
+
 -- The indices ascend, and each arc whose index is left out keeps its flow. Some indices may be past the last arc.
 pub record CoverDifferences (before after indices : List ℕ) : Type 0 where
   pub count : ℕ
   pub most : length before ≤ count
   pub covers : Covers count (Stays before after) indices
+
+-- The arc whose turn it is is drained in the search, and its own number in the list is 0 then. The drain was reported, and the flows
+-- of arcs that do not count as touched stay.
+pub record DrainsNext (s : NetworkState) (turn : Turn) (unpaired : List ℕ) (touched : Option (List ℕ)) (old new : Searched)
+    (before after : Option (List Taken)) : Type 0 where
+  pub carrying : IsCarryingSearch s (slice_set unpaired (turn.arc - 1) 0) new
+  pub drains : TellsDrain s.network turn (flows_read Along unpaired old.pairs) (flows_read Along (slice_set unpaired (turn.arc - 1) 0) new.pairs)
+      before after
+  pub others_stay : UntouchedStay touched (flows_read Along unpaired old.pairs) (flows_read Along (slice_set unpaired (turn.arc - 1) 0) new.pairs)

@@ -12,6 +12,7 @@ use Rattle.dmf_path.specs.Path.{IsReachable}
 use Rattle.dmf_path.specs.Search.{Searched, pair_with}
 use Rattle.dmf_links.specs.Pair.{pair_number}
 use Rattle.dmf_state.specs.declared.arc.Arc.{Arc}
+use Rattle.dmf_state.specs.declared.edit.Shutting.{Shutting}
 use Rattle.dmf_state.specs.Arc.{no_arc}
 use Rattle.dmf_solver.specs.declared.solve.Solved.{Solved}
 use Rattle.dmf_state.specs.Network.{Network}
@@ -58,6 +59,15 @@ pub record Carries (s : NetworkState) (unpaired flows : List ℕ) (search : Sear
 -- The search is over the carrying steps of the flows that are read from it and from the list.
 abbrev pub IsCarryingSearch : NetworkState → List ℕ → Searched → Type 0
 IsCarryingSearch s unpaired search = Carries s unpaired (flows_read Along unpaired search.pairs) search
+
+-- the flows, without the flow on these arcs
+abbrev pub emptied : List Shutting → List ℕ → List ℕ
+emptied [] flows = flows
+emptied (a ∷ arcs) flows = emptied arcs (slice_set flows (a.arc - 1) 0)
+
+-- the flows that a search over carrying steps has reached from the state's, if these arcs are drained to 0
+abbrev pub drained_flows : NetworkState → List Shutting → Searched → List ℕ
+drained_flows s shut search = flows_read Along (emptied shut s.flows) search.pairs
 
 -- the flows that a search for augmenting paths has reached from the state's
 abbrev pub reached_flows : NetworkState → Searched → List ℕ

@@ -1,12 +1,13 @@
-ghost use Rattle.std.specs.Prelude.{◌≡◌, ◌≢◌, ◌+◌, ◌≤◌, ℕ, true, List, [], ◌∷◌, IfOk, IsOk};
+ghost use Rattle.std.specs.Prelude.{◌≡◌, ◌≢◌, ◌+◌, ◌≤◌, ℕ, true, length, List, [], ◌∷◌, IfOk, IsOk};
 ghost use Rattle.dmf_state.specs.Network.{arc_number, has_arc};
 ghost use Rattle.dmf_state.specs.Flow.{flow_on};
 ghost use Rattle.dmf_state.specs.NetworkState.{IsState};
-ghost use Rattle.dmf_path.specs.Touched.{Touches};
+ghost use Rattle.dmf_state.specs.Edit.{differences, AreOpenWith};
+ghost use Rattle.dmf_path.specs.Touched.{AreBelow, Touches};
 ghost use Rattle.dmf_solver.specs.CarryingNetwork.{IsCarryingOf};
 ghost use Rattle.dmf_solver.specs.KeptNetwork.{Keeps};
-ghost use Rattle.dmf_solver.specs.Moves.{AreDrainingMoves, CarriesMoved, TellsMoves};
-ghost use Rattle.dmf_solver.specs.Pairs.{Along, IsCarryingSearch, flows_read};
+ghost use Rattle.dmf_solver.specs.Moves.{AreDrainingMoves, CarriesMoved, TellsMoves, UntouchedStay};
+ghost use Rattle.dmf_solver.specs.Pairs.{Along, IsCarryingSearch, drained_flows, emptied, flows_read};
 ghost use Rattle.dmf_solver.specs.Told.{AreTold};
 ghost use Rattle.dmf_solver.specs.Turns.{TellsDrain};
 
@@ -15,7 +16,7 @@ use crate::moves::list_moves;
 use crate::residual_network::{ResidualNetwork, kept_or_new};
 use crate::watch::{Turn, Watch};
 use dmf_path::{Search, Touched};
-use dmf_state::{Move, State};
+use dmf_state::{Move, Shutting, State};
 use std::alloc::{AllocError, Global};
 
 /// The result of draining.
@@ -113,16 +114,35 @@ fn drain_by<W: Watch>(
     ensures told { AreTold (W.told watch.old) (W.told watch.new) [] }
     ensures drained { TellsMoves state.now (turn ∷ []) result (W.drained watch.old) (W.drained watch.new) }
 {
-    let before = state.flows();
     let mut touched = carrying.none_touched(alloc, state.nodes() as usize / 8)?;
     drain_along(state, turn, &mut carrying, &mut touched, watch);
+    list_drained(alloc, state, &[], carrying, touched)
+}
+
+/// What draining comes to: the moves, listed from the touched pairs, and the carrying search. A self loop has no pair: it is drained if
+/// it is one of the arcs of `shut`. No flow on an arc that does not count as touched may differ.
+pub fn list_drained(
+    alloc: Global,
+    state: &State,
+    shut: &[Shutting],
+    carrying: Search,
+    mut touched: Touched,
+) -> Result<Drained, AllocError>
+    requires shut { AreOpenWith 0 shut.now state.now.network }
+    requires carrying { IsCarryingSearch state.now (emptied shut.now state.now.flows) carrying }
+    requires below { AreBelow (length state.now.flows + 1) touched }
+    requires others_stay { UntouchedStay touched state.now.flows (drained_flows state.now shut.now carrying) }
+    ensures moves { IfOk result (λ drained. drained.moves.items ≡ differences 1 state.now.flows (drained_flows state.now shut.now carrying)) }
+    ensures carrying { IfOk result (CarriesMoved state.now) }
+{
     touched.sort();
+    let indices = touched.indices(state.flows().len() + 1);
     let drained = DrainedFlows {
         state,
-        unpaired: before,
+        shut,
         search: &carrying,
     };
-    let moves = list_moves(alloc, state, &drained, touched.indices(before.len() + 1))?;
+    let moves = list_moves(alloc, state, &drained, indices)?;
     Ok(Drained {
         moves,
         carrying: Some(carrying),

@@ -1,32 +1,57 @@
 //! The flows after draining.
+ghost use Rattle.std.specs.Prelude.{◌≡◌, ◌<◌, length, slice_index};
+ghost use Rattle.dmf_state.specs.Edit.{AreOpenWith};
+ghost use Rattle.dmf_solver.specs.Pairs.{emptied};
+
 use crate::moves::Flows;
 use dmf_path::Search;
-use dmf_state::State;
+use dmf_state::{Shutting, State};
 use std::marker::Model;
 
-/// The flows of a state after draining. The list has the flow on each arc without a pair.
+/// The flows of a state after draining, which has drained these arcs to 0. An arc without a pair carries what it carried before, or
+/// nothing if it is one of these.
 #[derive(Drop)]
 pub struct DrainedFlows<'a> {
     pub state: &'a State,
-    pub unpaired: &'a [u64],
+    pub shut: &'a [Shutting],
     pub search: &'a Search,
 }
 
 impl<'a> Model for DrainedFlows<'a> {
     ghost use Rattle.std.specs.Prelude.{ℕ, List};
-    ghost use Rattle.dmf_solver.specs.Pairs.{Along, flows_read, IsCarryingSearch};
+    ghost use Rattle.dmf_state.specs.Edit.{AreOpenWith};
+    ghost use Rattle.dmf_solver.specs.Pairs.{IsCarryingSearch, drained_flows, emptied};
 
     ghost Value = { List ℕ };
 
-    ghost view = { λ a. flows_read Along a.unpaired.now a.search.now.pairs };
+    ghost view = { λ a. drained_flows a.state.now a.shut.now a.search.now };
 
-    ghost invariant = { λ a. IsCarryingSearch a.state.now a.unpaired.now a.search.now };
+    ghost invariant = { λ a. record {
+      shut : AreOpenWith 0 a.shut.now a.state.now.network;
+      carrying : IsCarryingSearch a.state.now (emptied a.shut.now a.state.now.flows) a.search.now;
+    } };
 }
 
 impl Flows for DrainedFlows<'_> {
     ghost flows = { λ flows. flows };
 
     fn flow(&self, k: usize) -> u64 {
-        self.search.along(k).unwrap_or(self.unpaired[k])
+        match self.search.along(k) {
+            Some(flow) => flow,
+            None => emptied_flow(self.state, self.shut, k),
+        }
+    }
+}
+
+/// The flow on the arc at index `k`: none if it is one of these arcs, else the state's.
+fn emptied_flow(state: &State, shut: &[Shutting], k: usize) -> u64
+    requires shut { AreOpenWith 0 shut.now state.now.network }
+    requires within { k < length state.now.flows }
+    ensures { result ≡ slice_index (emptied shut.now state.now.flows) k }
+{
+    let flow = state.flows()[k];
+    match shut.binary_search_by_key(&(k + 1), |shutting| shutting.arc as usize) {
+        Ok(_) => 0,
+        Err(_) => flow,
     }
 }

@@ -1,20 +1,19 @@
 //! Closing every open arc at a node.
-ghost use Rattle.std.specs.Prelude.{◌≡◌, true, [], IfOk};
+ghost use Rattle.std.specs.Prelude.{◌≡◌, ℕ, true, List, [], IfOk};
 ghost use Rattle.dmf_state.specs.Arc.{open_arcs_at};
 ghost use Rattle.dmf_solver.specs.CarryingNetwork.{IsCarryingOf};
 ghost use Rattle.dmf_solver.specs.KeptNetwork.{Keeps};
 ghost use Rattle.dmf_state.specs.Edit.{AreOpenWith, numbers};
-ghost use Rattle.dmf_state.specs.Flow.{flow_on_all};
-ghost use Rattle.dmf_solver.specs.Moves.{AreShuttingMoves, CarriesMoved, TellsMoves};
+ghost use Rattle.dmf_state.specs.Flow.{flow_on, flow_on_all};
+ghost use Rattle.dmf_path.specs.Touched.{Touches};
+ghost use Rattle.dmf_solver.specs.Moves.{AreShuttingMoves, CarriesMoved, DrainsNext, TellsMoves};
 ghost use Rattle.dmf_state.specs.Network.{has_arc};
 ghost use Rattle.dmf_state.specs.NetworkState.{IsState};
-ghost use Rattle.dmf_solver.specs.Pairs.{Along, IsCarryingSearch, flows_read};
+ghost use Rattle.dmf_solver.specs.Pairs.{IsCarryingSearch};
 ghost use Rattle.dmf_solver.specs.Told.{AreTold};
-ghost use Rattle.dmf_solver.specs.Turns.{TellsDrain, turns_to_zero};
+ghost use Rattle.dmf_solver.specs.Turns.{turns_to_zero};
 
-use crate::drain::{Drained, drain_along, take_carrying};
-use crate::drained_flows::DrainedFlows;
-use crate::moves::list_all_moves;
+use crate::drain::{Drained, drain_along, list_drained, take_carrying};
 use crate::residual_network::ResidualNetwork;
 use crate::watch::{Turn, Watch};
 use dmf_path::{Search, Touched};
@@ -96,7 +95,7 @@ fn drain_all_by<W: Watch>(
     ensures told { AreTold (W.told watch.old) (W.told watch.new) [] }
     ensures drained { TellsMoves state.now (turns_to_zero (numbers arcs.now)) result (W.drained watch.old) (W.drained watch.new) }
 {
-    let mut unpaired = Vec::from_slice(alloc, state.flows())?;
+    let mut touched = search.none_touched(alloc, state.nodes() as usize / 8)?;
     for (i, shutting) in arcs.iter().enumerate() {
         let turn = Turn {
             arc: shutting.arc,
@@ -104,18 +103,9 @@ fn drain_all_by<W: Watch>(
             place: i + 1,
             count: arcs.len(),
         };
-        drain_in_turn(state, turn, &mut search, &mut unpaired, watch);
+        drain_in_turn(state, turn, &mut search, &mut touched, watch);
     }
-    let drained = DrainedFlows {
-        state,
-        unpaired: &unpaired,
-        search: &search,
-    };
-    let moves = list_all_moves(alloc, state, &drained)?;
-    Ok(Drained {
-        moves,
-        carrying: Some(search),
-    })
+    list_drained(alloc, state, arcs, search, touched)
 }
 
 /// Whether none of these arcs carries flow.
@@ -131,31 +121,31 @@ fn are_without_flow(state: &State, arcs: &[Shutting]) -> bool
     true
 }
 
-/// Drains the arc whose turn it is to the limit, in the search and the list that have the flows. The search drains an arc that is no
-/// self loop. A self loop has no pair: its flow in the list is lowered.
+/// Drains the arc whose turn it is to 0. The search drains an arc that is no self loop. A self loop has no pair, and its own flow comes
+/// off: it counts as touched.
 fn drain_in_turn<W: Watch>(
     state: &State,
     turn: Turn,
     search: &mut Search,
-    unpaired: &mut [u64],
+    touched: &mut Touched,
     watch: &mut W,
 )
     requires is_there { has_arc state.now.network turn.arc ≡ true }
-    requires carrying { IsCarryingSearch state.now unpaired.old search.old }
-    ensures carrying { IsCarryingSearch state.now unpaired.new search.new }
-    ensures drains { TellsDrain state.now.network turn (flows_read Along unpaired.old search.old.pairs) (flows_read Along unpaired.new search.new.pairs)
-        (W.drained watch.old) (W.drained watch.new) }
+    requires to_zero { turn.limit ≡ 0 }
+    requires carrying { (unpaired : List ℕ) × IsCarryingSearch state.now unpaired search.old }
+    ensures touched { Touches touched.old touched.new search.old.pairs search.new.pairs }
+    ensures drains { (unpaired : List ℕ) → IsCarryingSearch state.now unpaired search.old → flow_on unpaired turn.arc ≡ flow_on state.now.flows turn.arc →
+        DrainsNext state.now turn unpaired touched.new search.old search.new (W.drained watch.old) (W.drained watch.new) }
     ensures told { AreTold (W.told watch.old) (W.told watch.new) [] }
 {
     let arc = state.arc(turn.arc);
     if arc.tail == arc.head {
-        let i = turn.arc as usize - 1;
-        let flow = unpaired[i];
-        if flow > turn.limit {
-            watch.lowered(turn, flow - turn.limit);
-            unpaired[i] = turn.limit;
+        let flow = state.flow(turn.arc);
+        if flow > 0 {
+            touched.add(turn.arc - 1);
+            watch.lowered(turn, flow);
         }
     } else {
-        drain_along(state, turn, search, &mut Touched::all(), watch);
+        drain_along(state, turn, search, touched, watch);
     }
 }
