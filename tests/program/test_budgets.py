@@ -133,10 +133,12 @@ def test_shuts(name: str, tmp_path: Path) -> None:
 @needs_valgrind
 @pytest.mark.seconds(6)
 @pytest.mark.parametrize("family", FAMILIES)
-def test_sinks_of_families(family: str, maker: Path, tmp_path: Path) -> None:
+@pytest.mark.parametrize("end", "st")
+def test_ends_of_families(end: str, family: str, maker: Path, tmp_path: Path) -> None:
+    """The source and the sink of each family."""
     text = subprocess.run([maker, family, str(ARCS), "1990"], capture_output=True, check=True, text=True).stdout
-    (sink,) = re.findall(r"^n ([0-9]+) t$", text, re.MULTILINE)
-    assert 0 < shut_instructions(tmp_path, Network(text, int(sink))) < BUDGET
+    (node,) = re.findall(rf"^n ([0-9]+) {end}$", text, re.MULTILINE)
+    assert 0 < shut_instructions(tmp_path, Network(text, int(node))) < BUDGET
 
 
 @needs_valgrind

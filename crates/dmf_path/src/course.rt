@@ -23,7 +23,7 @@ pub enum Course {
     FromBoth {
         /// The end that was kept.
         kept: Kept,
-        /// So many links were looked at since all nodes got a label, or since both ends of the search changed.
+        /// So many links were looked at, to label or to raise, since all nodes got a label, or since both ends of the search changed.
         spent: u64,
     },
 }
@@ -34,6 +34,16 @@ impl Course {
         match self {
             Course::FromGoal { .. } => false,
             Course::FromBoth { kept, spent } => kept.is_one() && spent > links,
+        }
+    }
+
+    /// Whether labels may be raised, among so many links: the goal was kept, and no more links than these were looked at.
+    pub fn may_raise(self, links: u64) -> bool {
+        match self {
+            Course::FromGoal { .. } => false,
+            Course::FromBoth { kept, spent } => {
+                kept.is_one() && !kept.is_start() && spent <= links
+            }
         }
     }
 

@@ -17,7 +17,7 @@ const MOST: u32 = 16384;
 
 /// Raises labels on trials, until a trial raises none: then a walk leads from the start to the goal. A trial goes from the start to the
 /// goal along admissible links, and where a node has none, it raises the node's label. Whether such a walk is found; if not, that would
-/// take too many steps, or more links were looked at than there are since all nodes got a label.
+/// take too many steps, or [`Course::may_raise`] says that no label may be raised.
 pub fn raise(
     links: &Links,
     ends: Ends,
@@ -60,7 +60,7 @@ pub fn raise(
 }
 
 /// Makes the first link of this node its current one, and raises its label, if it is lower, to one above the least label to which a link
-/// with room leads from it. Whether that can be done: not if there is no such label, or more links were looked at than there are.
+/// with room leads from it. Whether that can be done: not if there is no such label, or no label may be raised.
 fn raise_node(
     links: &Links,
     goal: u32,
@@ -77,8 +77,11 @@ fn raise_node(
 {
     let places = links.table.places_at(node);
     *course = course.after((places.end - places.start) as u64);
+    if !course.may_raise(links.table.heads.len() as u64) {
+        return false;
+    }
     let label = least_label(links, node, near.labels());
-    if label >= links.table.nodes || course.is_to_all(links.table.heads.len() as u64) {
+    if label >= links.table.nodes {
         return false;
     }
     current[node as usize] = links.table.first[node as usize];

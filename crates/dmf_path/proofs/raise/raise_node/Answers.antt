@@ -13,7 +13,7 @@ first : (c : After-label) → get_or c.args.links.now.table.value.first.items c.
 first c =
     let table = c.args.links.now.table.value in
     let within : c.args.node < length table.first.items = omega (arith, c.requires.node.to_last, table.are.first_long) in
-    get_or_default table.first.items c.args.node 0 c.index.result.now within ∙ sym (rw c.deref-3.ensures at c.index.ensures)
+    get_or_default table.first.items c.args.node 0 c.index.result.now within ∙ sym (rw c.deref-4.ensures at c.index.ensures)
 
 -- It is current.
 back : (c : After-label) → AreRaised (residual_of c.args.links.now) c.args.goal (record { labels = c.args.near.now.labels; current = c.args.current.now })
@@ -37,7 +37,7 @@ may c =
       other = c.requires.other;
       current = get_or-set_same c.args.current.now c.args.node c.index.result.now 0 long ∙ sym (first at);
       higher = omega (arith, c.if-label.true, c.label.ensures);
-      small = omega (arith, rw c.deref-2.ensures at c.if-label-deref.false);
+      small = omega (arith, rw c.deref-3.ensures at c.if-label-deref.false);
       low = λ p lies room. omega (arith, least.most p lies room);
     }
 
