@@ -1,6 +1,6 @@
 -- What a search has while it looks for the next path.
 -- Private: only contracts inside the crate and proofs use this.
-use Rattle.std.specs.Prelude.{Bool, List}
+use Rattle.std.specs.Prelude.{◌≡◌, Bool, true, List}
 use Rattle.dmf_links.specs.LinkTable.{links_of}
 use Rattle.dmf_path.specs.declared.aside.Aside.{Aside}
 use Rattle.dmf_path.specs.declared.ball.Ball.{Ball}
@@ -9,8 +9,9 @@ use Rattle.dmf_path.specs.declared.push.Links.{Links as Roomy}
 use Rattle.dmf_path.specs.declared.trail.Trail.{Trail}
 use Rattle.dmf_path.specs.Ball.{IsAround, IsFit}
 use Rattle.dmf_path.specs.Held.{way_of}
+use Rattle.dmf_path.specs.BothEnds.{AreWhole, IsLabelled}
 use Rattle.dmf_path.specs.Residual.{residual_of, told}
-use Rattle.dmf_path.specs.Searching.{labelling_of, AreAside, AreKept, AreReady, IsMarked, IsSearching, MayLast}
+use Rattle.dmf_path.specs.Searching.{labelling_of, AreAside, AreKept, AreReady, IsMarked, IsReady, IsSearching, MayLast}
 
 -- What a search has between two looks for a path: labels that are sound, with current links and held pushes; what another search may keep of
 -- them; and nodes near some goal.
@@ -36,3 +37,13 @@ pub record Goes (links : Roomy) (levels : Levels) (ball : Ball) (trail : Trail) 
   pub lasting : MayLast levels (told (residual_of links) (way_of trail))
   pub fit : IsFit ball (told (residual_of links) (way_of trail))
   pub around : IsAround ball trail.goal
+
+-- What it has once the nodes are labelled anew: all but the labels is as it was, with no push held, and a walk leads along the labels.
+pub record IsRelabelledFor (links : Roomy) (levels : Levels) (ball : Ball) (trail : Trail) : Type 0 where
+  pub before : Levels
+  pub goes : Goes links before ball trail
+  pub settled : told (residual_of links) (way_of trail) ≡ residual_of links
+  pub current : levels.current ≡ before.current
+  pub ready : IsReady links.table.value.nodes levels.near levels.far
+  pub labelled : IsLabelled (links_of links.table.value) links.rooms.items levels.near.labels trail.start trail.goal
+  pub whole : levels.all ≡ true → AreWhole (links_of links.table.value) levels.near.labels links.rooms.items

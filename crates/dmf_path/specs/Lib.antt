@@ -19,3 +19,4 @@ pub mod Frontier
 pub mod Touching
 pub mod Apart
 pub mod ClosedSide
+pub mod Through

@@ -28,6 +28,7 @@ mod apart;
 mod growing;
 mod making;
 mod shrinking;
+mod through;
 
 /// What was pushed along a path.
 #[derive(Clone, Copy)]

@@ -56,7 +56,7 @@ has-room room h = grind (arith, nat_tests)
 -- ---- the steps of pairs
 
 -- What holds of both links of a pair, if they have room,
-abbrev OfPair : (ℕ → ℕ → Type 0) → Pair → Type 0
+abbrev pub OfPair : (ℕ → ℕ → Type 0) → Pair → Type 0
 OfPair P p = (0 < p.along → P p.tail p.head) × (0 < p.against → P p.head p.tail)
 
 -- holds of its steps,
@@ -75,7 +75,7 @@ each-own P j (Some p) s each c =
     (Contains-append_cases (cond (nat_lt 0 p.along) (along ∷ []) []) (cond (nat_lt 0 p.against) (against ∷ []) []) s c)
 
 -- and if of all pairs, of all steps.
-each-step : (P : ℕ → ℕ → Type 0) (j : ℕ) (pairs : List (Option Pair)) (s : Step)
+pub each-step : (P : ℕ → ℕ → Type 0) (j : ℕ) (pairs : List (Option Pair)) (s : Step)
     → ((k : ℕ) (p : Pair) → pair_number pairs k ≡ Some p → OfPair P p) → Contains (steps_from j pairs) s → P s.from s.to
 each-step P j [] s each c = absurd (omega (arith, c.1))
 each-step P j (q ∷ pairs) s each c = ⊎_elim
@@ -84,14 +84,14 @@ each-step P j (q ∷ pairs) s each c = ⊎_elim
     (Contains-append_cases (pair_steps j q) (steps_from (j + 1) pairs) s c)
 
 -- A step leads from one node to the other.
-record HasStep (steps : List Step) (from to : ℕ) : Type 0 where
-  step : Step
-  there : Contains steps step
-  from_is : step.from ≡ from
-  to_is : step.to ≡ to
+pub record HasStep (steps : List Step) (from to : ℕ) : Type 0 where
+  pub step : Step
+  pub there : Contains steps step
+  pub from_is : step.from ≡ from
+  pub to_is : step.to ≡ to
 
 -- The steps of a pair are steps of the pairs.
-has-step : (j : ℕ) (pairs : List (Option Pair)) (k : ℕ) (p : Pair) (from to : ℕ) → pair_number pairs k ≡ Some p
+pub has-step : (j : ℕ) (pairs : List (Option Pair)) (k : ℕ) (p : Pair) (from to : ℕ) → pair_number pairs k ≡ Some p
     → ((i : ℕ) → HasStep (pair_steps i (Some p)) from to) → HasStep (steps_from j pairs) from to
 has-step j [] k p from to is has = absurd (cc)
 has-step j (q ∷ pairs) zero p from to is has =
@@ -111,7 +111,7 @@ has-step j (q ∷ pairs) (suc k) p from to is has =
       to_is = later.to_is;
     }
 
-has-along : (p : Pair) → 0 < p.along → (i : ℕ) → HasStep (pair_steps i (Some p)) p.tail p.head
+pub has-along : (p : Pair) → 0 < p.along → (i : ℕ) → HasStep (pair_steps i (Some p)) p.tail p.head
 has-along p room i = record {
   step = _;
   there = Contains-append_left _ _ _ (optional-has (nat_lt 0 p.along) _ (some-room p.along room));
@@ -119,7 +119,7 @@ has-along p room i = record {
   to_is = refl;
 }
 
-has-against : (p : Pair) → 0 < p.against → (i : ℕ) → HasStep (pair_steps i (Some p)) p.head p.tail
+pub has-against : (p : Pair) → 0 < p.against → (i : ℕ) → HasStep (pair_steps i (Some p)) p.head p.tail
 has-against p room i = record {
   step = _;
   there = Contains-append_right _ _ _ (optional-has (nat_lt 0 p.against) _ (some-room p.against room));

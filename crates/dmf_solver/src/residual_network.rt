@@ -150,10 +150,13 @@ impl ResidualNetwork {
             looks,
         } = self;
         let looks = look_or_number(alloc, &mut search, looks)?;
-        let search = search.into_search();
+        let (search, way) = search.into_way_out();
         let touched = search.none_touched(alloc, state.nodes() as usize / 8)?;
-        let mut marks = marks_or_none(alloc, state.nodes());
-        let solved = solve(search, state, touched, &mut marks, watch);
+        let (mut marks, way_out) = match way {
+            Some(way) => (way.marks, Some(way.node)),
+            None => (marks_or_none(alloc, state.nodes()), None),
+        };
+        let solved = solve(search, state, touched, &mut marks, way_out, watch);
         let side = wanted_side(alloc, state, &solved.search, solved.value, want_side)?;
         let moves = touched_moves(alloc, state, &solved)?;
         let carrying = carry_flows(carrying, state, &moves, Direction::Forward);

@@ -1,4 +1,4 @@
-ghost use Rattle.std.specs.Prelude.{◌≡◌, ◌+◌, ◌↔◌, false, [], length, IfOk, IsTrue};
+ghost use Rattle.std.specs.Prelude.{◌≡◌, ◌+◌, ◌↔◌, false, [], length, IfOk, IfSome, IsTrue};
 ghost use Rattle.dmf_path.specs.ClosedSide.{IsClosedSide};
 ghost use Rattle.dmf_path.specs.Pair.{steps_of};
 ghost use Rattle.dmf_path.specs.Touched.{AreBelow};
@@ -7,6 +7,7 @@ ghost use Rattle.dmf_solver.specs.Greatest.{IsGreatest, IsSurpassed};
 ghost use Rattle.dmf_solver.specs.Pairs.{reached_flows, IsSolved};
 ghost use Rattle.dmf_solver.specs.ResidualNetwork.{IsResidualOf};
 ghost use Rattle.dmf_solver.specs.Told.{AreTold, TellsSolve};
+ghost use Rattle.dmf_solver.specs.WayOut.{IsWayThrough};
 
 use crate::enclosed::is_enclosed;
 use crate::residual::residual_search;
@@ -23,16 +24,23 @@ pub struct Solved {
     pub touched: Touched,
 }
 
+/// At most so many paths are looked for from the way out of a side. More are found sooner from the source and the sink.
+const MOST_THROUGH: u32 = 16;
+
 /// Augments the flow of the state along least paths until none is left, and reports each to the watch. Afterwards the pairs of these
 /// paths count as touched. If there is a mark for each node, they are those of a closed side then.
+///
+/// If links with room leave the marked nodes to one node alone, looks for the first paths from there.
 pub fn solve<W: Watch>(
     mut search: Search,
     state: &State,
     mut touched: Touched,
     marks: &mut [bool],
+    way_out: Option<u32>,
     watch: &mut W,
 ) -> Solved
     requires residual { IsResidualOf state.now search }
+    requires way { IfSome way_out (IsWayThrough search marks.old) }
     requires below { AreBelow (length state.now.network.arcs + 1) touched }
     ensures solved { IsSolved state.now result }
     ensures told { TellsSolve state.now (reached_flows state.now result.search) (W.told watch.old) (W.told watch.new) }
@@ -42,6 +50,28 @@ pub fn solve<W: Watch>(
     ensures state { IsState state.now }
 {
     let mut value = state.value();
+    if let Some(node) = way_out {
+        let mut left = MOST_THROUGH;
+        while left > 0 {
+            let Some(is_left) = search.label_through(node, marks) else {
+                break;
+            };
+            if !is_left {
+                touched.sort();
+                return Solved {
+                    search,
+                    value,
+                    touched,
+                };
+            }
+            let Some(found) = search.augment(u64::MAX, &mut touched) else {
+                break;
+            };
+            value += found.amount;
+            watch.augmented(value, found.links);
+            left -= 1;
+        }
+    }
     while let Some(found) = search.augment_or_mark(u64::MAX, &mut touched, marks) {
         value += found.amount;
         watch.augmented(value, found.links);
