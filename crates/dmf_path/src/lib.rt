@@ -25,6 +25,7 @@ mod relabel;
 mod release;
 mod room;
 mod search;
+mod through;
 mod touched;
 mod trail;
 mod walk;
