@@ -44,7 +44,7 @@ pub mod BothEnds
 pub mod Expanding
 pub mod Meeting
 pub mod Gated
-pub mod Through
+pub mod OneWayOut
 pub mod Marking
 pub mod Joining
 pub mod Beginning

@@ -163,13 +163,16 @@ pub fn relabel_through(
         start: trail.start,
         goal: trail.goal,
     };
-    let found = label_through(links, levels, Through { ends, way_out }, marks);
-    let Some(true) = found else {
+    let Some(is_left) = label_through(links, levels, Through { ends, way_out }, marks) else {
         make_fresh(&links.table, levels, trail);
-        return found;
+        return None;
     };
+    if !is_left {
+        make_fresh(&links.table, levels, trail);
+        return Some(false);
+    }
     begin_phase(links, levels, ball, trail);
-    found
+    Some(true)
 }
 
 /// Begins the walks along new labels, by which one leads to the goal, and frees the slots.

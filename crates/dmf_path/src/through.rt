@@ -1,5 +1,5 @@
 //! Labels where each path passes one node: two short searches from that node, one on to the goal, and one back to the start.
-ghost use Rattle.std.specs.Prelude.{◌≡◌, ◌≢◌, ◌+◌, Some, false, map, length};
+ghost use Rattle.std.specs.Prelude.{◌≡◌, ◌≢◌, ◌+◌, Some, true, false, map, length};
 ghost use Rattle.dmf_node.specs.Node.{IsNode};
 ghost use Rattle.dmf_links.specs.LinkTable.{links_of};
 ghost use Rattle.dmf_links.specs.Links.{open_flag};

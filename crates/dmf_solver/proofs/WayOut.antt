@@ -100,7 +100,7 @@ module _ (steps : List Step) (start goal x : ℕ) (marks : List Bool) (way : Has
       | inl here ↦ inr here
       | inr other ↦
           let at = step-within path start goal s least.leads c in
-          let early = splits at.before start s.from way.start_in (λ yes. false≢true (sym out ∙ yes)) at.first in
+          let early = splits at.before start s.from way.start_in (λ in_it. false≢true (sym out ∙ in_it)) at.first in
           let late = splits at.after s.to goal inside way.goal_out at.second in
           let short = least.shortest (early.before ++ late.after) (path-append steps start x goal early.before late.after early.first late.second) in
           absurd (omega (arith, short, length_append early.before late.after, early.long, late.long, at.long))
@@ -206,7 +206,7 @@ module _ (takes_back : Bool) (amount : ℕ) (pairs : List (Option Pair)) (start 
               elim s.1.1 [
                 | inl along ↦ absurd (omega (arith, along.0))
                 | inr against ↦ ⊎_elim
-                    (λ (yes : IsTrue (is_marked marks s.0.from)). inl (subst (λ v. IsTrue (is_marked marks v)) against.1 yes))
+                    (λ (in_it : IsTrue (is_marked marks s.0.from)). inl (subst (λ v. IsTrue (is_marked marks v)) against.1 in_it))
                     (λ (here : s.0.from ≡ x). inr (sym against.1 ∙ here))
                     (none-returns (steps_of pairs) start goal x marks way path s.0 least s.1.0
                     (subst (λ v. IsTrue (is_marked marks v)) (sym against.2) inside))
@@ -223,7 +223,7 @@ module _ (takes_back : Bool) (amount : ℕ) (pairs : List (Option Pair)) (start 
               elim s.1.1 [
                 | inr against ↦ absurd (omega (arith, against.0))
                 | inl along ↦ ⊎_elim
-                    (λ (yes : IsTrue (is_marked marks s.0.from)). inl (subst (λ v. IsTrue (is_marked marks v)) along.1 yes))
+                    (λ (in_it : IsTrue (is_marked marks s.0.from)). inl (subst (λ v. IsTrue (is_marked marks v)) along.1 in_it))
                     (λ (here : s.0.from ≡ x). inr (sym along.1 ∙ here))
                     (none-returns (steps_of pairs) start goal x marks way path s.0 least s.1.0
                     (subst (λ v. IsTrue (is_marked marks v)) (sym along.2) inside))
@@ -304,14 +304,14 @@ module _ (search : Searched) (side : ClosedSide) (is : IsClosedBut search side) 
       let marks = side.marks.items in
       let Leave : ℕ → ℕ → Type 0 = λ from to. IsTrue (is_marked marks from) → IsTrue (is_marked marks to) ⊎ (to ≡ v) in
       let one : (from to : ℕ) → (is_marked marks from ≡ true → is_marked marks to ≡ false → v ≡ to) → Leave from to = λ from to same inside.
-      elim (cases_Bool (is_marked marks to)) [ inl yes ↦ inl yes | inr no ↦ inr (sym (same inside no)) ] in
+      elim (cases_Bool (is_marked marks to)) [ inl in_it ↦ inl in_it | inr off_it ↦ inr (sym (same inside off_it)) ] in
       record {
         node_is = node;
         one_each = is.one_each;
         one_leaves = record {
           start_in = is.start_in;
           goal_out = is.goal_out;
-          way_out_is = λ yes. false≢true (sym out ∙ yes);
+          way_out_is = λ in_it. false≢true (sym out ∙ in_it);
           one_leaves = λ s c. each-step Leave 1 search.pairs s (λ k p at.
               let each = out-each (λ from to. v ≡ to) k p at (λ from to gate leads. only k from to gate leads) in
               ((λ room. one p.tail p.head (each.0 room)), (λ room. one p.head p.tail (each.1 room)))) c;
@@ -338,8 +338,8 @@ module _ (search : Searched) (side : ClosedSide) (is : IsClosedBut search side) 
           | inr rest ↦
               let still = on to (λ e. rest (omega (arith, e, from_one, node.from_one))) in
               elim (cases_Bool (is_marked marks to)) [
-                | inl yes ↦ inl (still ∙ yes)
-                | inr no ↦ absurd (apart (ap (λ (u : ℕ). u - 1) (sym (same (sym (on from apart) ∙ inside) no))))
+                | inl in_it ↦ inl (still ∙ in_it)
+                | inr off_it ↦ absurd (apart (ap (λ (u : ℕ). u - 1) (sym (same (sym (on from apart) ∙ inside) off_it))))
               ]
         ]
       ] in
@@ -348,11 +348,11 @@ module _ (search : Searched) (side : ClosedSide) (is : IsClosedBut search side) 
         one_each = rw after_is (length-set marks (v - 1) false ∙ is.one_each);
         one_leaves = record {
           start_in = on search.start (λ e. other (omega (arith, e, start_is.from_one, node.from_one))) ∙ is.start_in;
-          goal_out = λ yes. elim (cases_eq (search.goal - 1) (v - 1)) [
-            | inl same ↦ false≢true (sym (off search.goal same) ∙ yes)
-            | inr apart ↦ is.goal_out (sym (on search.goal apart) ∙ yes)
+          goal_out = λ in_it. elim (cases_eq (search.goal - 1) (v - 1)) [
+            | inl same ↦ false≢true (sym (off search.goal same) ∙ in_it)
+            | inr apart ↦ is.goal_out (sym (on search.goal apart) ∙ in_it)
           ];
-          way_out_is = λ yes. false≢true (sym (off v refl) ∙ yes);
+          way_out_is = λ in_it. false≢true (sym (off v refl) ∙ in_it);
           one_leaves = λ s c. each-step Leave 1 search.pairs s (λ k p at.
               let valid = is_pair search.nodes search.pairs k p pairs at in
               let each = out-each (λ from to. v ≡ from) k p at (λ from to gate leads. only k from to gate leads) in

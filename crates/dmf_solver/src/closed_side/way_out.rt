@@ -164,7 +164,7 @@ fn leaving(search: &Search, marks: &[bool], k: usize) -> Option<Leaving>
 }
 
 /// A mark for each of so many nodes, or none if memory for them is refused.
-fn marks_or_none(alloc: Global, nodes: u32) -> Vec<bool> {
+pub fn marks_or_none(alloc: Global, nodes: u32) -> Vec<bool> {
     match vec![in alloc; false; nodes as usize] {
         Ok(marks) => marks,
         Err(_) => Vec::new(alloc),

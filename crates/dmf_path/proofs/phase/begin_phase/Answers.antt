@@ -31,8 +31,8 @@ set_current-requires c =
     let is = c.requires.ready in
     let same = ap (λ v. v.items) c.requires.current in
     record {
-      nodes = rw (c.deref-2.ensures, c.queue.ensures.value) (λ i before. omega (arith, c.queue.ensures.queued.within i before, is.one_label_each));
-      current = rw c.deref-2.ensures (subst (AreCurrent (links_of c.args.links.now.table.value)) (sym (c.deref_mut.ensures.value ∙ same))
+      nodes = rw (c.deref.ensures, c.queue.ensures.value) (λ i before. omega (arith, c.queue.ensures.queued.within i before, is.one_label_each));
+      current = rw c.deref.ensures (subst (AreCurrent (links_of c.args.links.now.table.value)) (sym (c.deref_mut.ensures.value ∙ same))
           c.requires.goes.keeps.searching.under_way.walking.current_is);
     }
 
@@ -70,12 +70,12 @@ returns c =
     let slots = c.free.new.self.slots.items in
     let current = with_items_is levels.current c.set_current.new.current (c.set_current.auto.current ∙ c.deref_mut.ensures.len) in
     let first = first-queued l levels.near.labels levels.near.queue c.set_current.new.current is.one_label_each c.queue.ensures.queued
-    (rw (c.deref-2.ensures, c.queue.ensures.value) at c.set_current.ensures.first) in
+    (rw (c.deref.ensures, c.queue.ensures.value) at c.set_current.ensures.first) in
     let skipped : AreSkipped l levels.near.labels links.rooms.items c.set_current.new.current = skipped-first l levels.near.labels links.rooms.items c.set_current.new.current a.links labelled.sound.small first in
     let aimed = aimed-with (residual_of links) w a labelled.start_label labelled.sound in
     let v : Labelling = record { labels = levels.near.labels; current = c.set_current.new.current } in
     let searching = searching-free (residual_of links) v w slots aimed links.rooms_are c.requires.goes.keeps.searching.holding.small
-    (rw c.deref-2.ensures at c.set_current.ensures.current)
+    (rw c.deref.ensures at c.set_current.ensures.current)
     (λ v p ps node lies before walk. skipped v p node lies before walk.0)
     (omega (
       arith,

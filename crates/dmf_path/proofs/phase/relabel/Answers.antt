@@ -15,7 +15,7 @@ use Rattle.dmf_path.proofs.Beginning.{first-queued, skipped-first, ready-at}
 use Rattle.dmf_path.proofs.SearchTurns.{aimed-with, plainly, searching-free, searching-anew, sought-free}
 use Rattle.dmf_path.proofs.Settling.{told-free}
 use Rattle.dmf_path.proofs.phase.relabel.Goals as goal
-use Rattle.dmf_path.proofs.phase.relabel.Goals.{Start, After-label-goal_label}
+use Rattle.dmf_path.proofs.phase.relabel.Goals.{Start}
 
 -- With other free slots the network and the ends are the same.
 same : (c : Start) {new : Way} (slots : List Slot) → new ≡ with_slots (way_of c.args.trail.now) slots

@@ -1,6 +1,5 @@
 -- Labels through the way out, or fresh ones.
-use Rattle.std.proofs.Common.{ℕ, ◌≡◌, ◌≤◌, true, List, [], replicate, get_or, ap, sym, ◌∙◌, subst, arith}
-use Rattle.std.proofs.lemmas.List.{with_items_is}
+use Rattle.std.proofs.Common.{ℕ, ◌≡◌, true, Some, List, [], replicate, get_or, refl, ap, sym, ◌∙◌, subst}
 use Rattle.dmf_links.specs.LinkTable.{links_of}
 use Rattle.dmf_path.specs.declared.trail.Slot.{Slot}
 use Rattle.dmf_path.specs.Ball.{IsFit}
@@ -9,13 +8,12 @@ use Rattle.dmf_path.specs.Reach.{Reach}
 use Rattle.dmf_path.specs.Walk.{AreCurrent, IsWalk}
 use Rattle.dmf_path.specs.Held.{Way, way_of, with_slots}
 use Rattle.dmf_path.specs.Residual.{residual_of, told}
-use Rattle.dmf_path.specs.Searching.{Labelling, labelling_of, sought, AreLasting}
-use Rattle.dmf_path.proofs.LeastTrail.{walk-path}
-use Rattle.dmf_path.proofs.Beginning.{first-queued, skipped-first, ready-at}
-use Rattle.dmf_path.proofs.SearchTurns.{aimed-with, plainly, searching-free, searching-anew, sought-free}
+use Rattle.dmf_path.specs.Searching.{labelling_of, sought, IsReady}
+use Rattle.dmf_path.proofs.Beginning.{ready-at}
+use Rattle.dmf_path.proofs.SearchTurns.{plainly, searching-anew, sought-free}
 use Rattle.dmf_path.proofs.Settling.{told-free}
 use Rattle.dmf_path.proofs.phase.relabel_through.Goals as goal
-use Rattle.dmf_path.proofs.phase.relabel_through.Goals.{Start, After-label-goal_label}
+use Rattle.dmf_path.proofs.phase.relabel_through.Goals.{Start, After-label_through}
 
 -- With other free slots the network and the ends are the same.
 same : (c : Start) {new : Way} (slots : List Slot) → new ≡ with_slots (way_of c.args.trail.now) slots
@@ -31,39 +29,102 @@ label_through-requires c =
     let a = c.requires.goes.keeps.searching.aimed in
     let is = ready-at c.args.links.now.table.value.nodes c.args.levels.now c.requires.goes.keeps.ready a.one_label_each in
     record {
-      near_is = ap (λ (f : Reach). f.labels) c.unlabel.ensures ∙ ap (λ n. replicate n no_label) is.one_label_each;
-      far_is = is.far_is;
-      start_is = a.start_is;
-      goal_is = a.goal_is;
-      apart = a.apart;
+      clean = record {
+        near_is = ap (λ (f : Reach). f.labels) c.unlabel.ensures ∙ ap (λ n. replicate n no_label) is.one_label_each;
+        far_is = is.far_is;
+        start_is = a.start_is;
+        goal_is = a.goal_is;
+        apart = a.apart;
+      };
+      way = c.requires.way;
     }
+
+-- The levels are ready for the next labels.
+ready : (c : After-label_through) → IsReady c.args.links.now.table.value.nodes c.label_through.new.levels.near c.label_through.new.levels.far
+ready c = record { one_label_each = c.label_through.ensures.passed.one_label_each; far_is = c.label_through.ensures.far }
 
 pub make_fresh-requires : goal.make_fresh-requires
 make_fresh-requires c = record {
-  ready = rw c.deref.ensures c.label_through.ensures.relabelled.ready;
+  ready = rw c.deref.ensures (ready (goal.at.make_fresh-requires c).After-label_through);
   start = rw c.deref.ensures c.requires.goes.keeps.searching.aimed.start_is;
   goal = rw c.deref.ensures c.requires.goes.keeps.searching.aimed.goal_is;
 }
 
-pub returns-then-not-label_through : goal.returns-then-not-label_through
-returns-then-not-label_through c =
+pub make_fresh-requires-then-not-is_left : goal.make_fresh-requires-then-not-is_left
+make_fresh-requires-then-not-is_left c = record {
+  ready = rw c.deref-then-not-is_left.ensures (ready (goal.at.make_fresh-requires-then-not-is_left c).After-label_through);
+  start = rw c.deref-then-not-is_left.ensures c.requires.goes.keeps.searching.aimed.start_is;
+  goal = rw c.deref-then-not-is_left.ensures c.requires.goes.keeps.searching.aimed.goal_is;
+}
+
+pub returns-in_default : goal.returns-in_default
+returns-in_default c =
     let a = c.requires.goes.keeps.searching.aimed in
     let m = rw c.deref.ensures at c.make_fresh.ensures in
-    let w = way_of c.args.trail.now in
-    let current = subst (AreCurrent (links_of c.args.links.now.table.value)) (sym (ap (λ v. v.items) (m.current ∙ c.label_through.ensures.relabelled.current)))
+    let current = subst (AreCurrent (links_of c.args.links.now.table.value)) (sym (ap (λ v. v.items) (m.current ∙ c.label_through.ensures.current)))
     c.requires.goes.keeps.searching.under_way.walking.current_is in
-    let still = same (goal.at.returns-then-not-label_through c).Start [] m.way in
+    let still = same (goal.at.returns-in_default c).Start [] m.way in
     let anew = searching-anew (labelling_of c.make_fresh.new.levels) c.requires.goes.keeps.searching a.start_is a.goal_is a.apart m.labels current m.way in
     record {
       goes = record {
-        searching = anew.0;
-        ready = (c.args.links.now.table.value.nodes, m.ready);
-        lasting = λ e. let no = m.all in absurd (cc);
-        fit = subst (IsFit c.args.ball.now) (c.requires.settled ∙ sym still.0) c.requires.goes.keeps.fit;
+        keeps = record {
+          searching = anew.0;
+          ready = (c.args.links.now.table.value.nodes, m.ready);
+          lasting = λ e. let no = m.all in absurd (cc);
+          fit = subst (IsFit c.args.ball.now) (c.requires.settled ∙ sym still.0) c.requires.goes.keeps.fit;
+        };
         around = λ some. c.requires.goes.around some ∙ sym (ap (λ (u : Way). u.goal) m.way);
       };
       same = still.1;
       labelled = λ e. absurd (cc);
-      none = λ e. c.label_through.ensures.relabelled.none c.if-not-label_through.true;
+      parted = λ e. absurd (cc);
+      marks = λ _. c.label_through.ensures.passed.same (λ e. let is = c.in_default.is in cc);
     }
 
+pub returns-then-not-is_left : goal.returns-then-not-is_left
+returns-then-not-is_left c =
+    let a = c.requires.goes.keeps.searching.aimed in
+    let m = rw c.deref-then-not-is_left.ensures at c.make_fresh-then-not-is_left.ensures in
+    let current = subst (AreCurrent (links_of c.args.links.now.table.value)) (sym (ap (λ v. v.items) (m.current ∙ c.label_through.ensures.current)))
+    c.requires.goes.keeps.searching.under_way.walking.current_is in
+    let still = same (goal.at.returns-then-not-is_left c).Start [] m.way in
+    let anew = searching-anew (labelling_of c.make_fresh-then-not-is_left.new.levels) c.requires.goes.keeps.searching a.start_is a.goal_is a.apart m.labels current m.way in
+    record {
+      goes = record {
+        keeps = record {
+          searching = anew.0;
+          ready = (c.args.links.now.table.value.nodes, m.ready);
+          lasting = λ e. let no = m.all in absurd (cc);
+          fit = subst (IsFit c.args.ball.now) (c.requires.settled ∙ sym still.0) c.requires.goes.keeps.fit;
+        };
+        around = λ some. c.requires.goes.around some ∙ sym (ap (λ (u : Way). u.goal) m.way);
+      };
+      same = still.1;
+      labelled = λ e. absurd (cc);
+      parted = λ _. c.label_through.ensures.passed.parted (c.in-Some.is ∙ ap Some c.if-not-is_left.true);
+      marks = λ other. absurd (other refl);
+    }
+
+-- The labels are new, and all else is as it was.
+pub begin_phase-requires : goal.begin_phase-requires
+begin_phase-requires c = record {
+  before = c.args.levels.now;
+  goes = c.requires.goes;
+  settled = c.requires.settled;
+  current = c.label_through.ensures.current;
+  ready = ready (goal.at.begin_phase-requires c).After-label_through;
+  labelled = c.label_through.ensures.passed.labelled (c.in-Some.is ∙ ap Some c.if-not-is_left.false);
+  whole = λ all. absurd (cc);
+}
+
+pub returns : goal.returns
+returns c =
+    let labelled = c.label_through.ensures.passed.labelled (c.in-Some.is ∙ ap Some c.if-not-is_left.false) in
+    record {
+      goes = c.begin_phase.ensures.goes;
+      same = c.begin_phase.ensures.same;
+      labelled = λ yes. subst (λ (f : Reach). (ps : List ℕ) × IsWalk (links_of c.args.links.now.table.value) f.labels c.args.links.now.rooms.items
+          c.args.trail.now.goal c.args.trail.now.start ps) (sym c.begin_phase.ensures.near) labelled.walk;
+      parted = λ e. absurd (cc);
+      marks = λ _. c.label_through.ensures.passed.same (λ e. let found = c.if-not-is_left.false in let is = c.in-Some.is in cc);
+    }

@@ -52,7 +52,7 @@ loop-node-preserved c =
       | then-labels-node w ↦
           let items : c.if-labels-node.queue.items ≡ c.loop-node.queue.items ++ v ∷ [] = ap (λ q. q.items) w.queue-is ∙ w.push_reserved.ensures.items in
           record {
-            joining = rw (w.labels-is, items)
+            joining = rw (w.labels-is, items, w.saturating_sub.ensures)
                 (joining-next so_far inside w.if-labels-node.true (labelled k c.loop-node-test.true) (λ none. omega (arith, none, c.requires.small)));
             queue_capacity = ap (λ q. vec_capacity q) w.queue-is ∙ w.push_reserved.ensures.capacity ∙ c.loop-node.invariant.queue_capacity;
             longer = omega (arith, ap length items, length_push c.loop-node.queue.items v, c.loop-node.invariant.longer);

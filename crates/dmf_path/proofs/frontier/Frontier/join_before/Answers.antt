@@ -1,5 +1,5 @@
 -- The labels are joined node by node: a node that has no label of the goal's side gets one.
-use Rattle.std.proofs.Common.{◌≡◌, ◌≢◌, ◌-◌, ◌<◌, ◌++◌, ◌∷◌, [], length, get_or, inl, refl, ap, sym, ◌∙◌, arith, vec_capacity}
+use Rattle.std.proofs.Common.{◌≡◌, ◌≢◌, ◌+◌, ◌<◌, ◌++◌, ◌∷◌, [], length, get_or, inl, refl, ap, sym, ◌∙◌, arith, vec_capacity}
 use Rattle.std.proofs.lemmas.List.{length_push, with_items_is}
 use Rattle.dmf_path.specs.Labels.{no_label, AreQueued}
 use Rattle.dmf_path.proofs.Spreading.{unlabelled_count-set}
@@ -86,10 +86,3 @@ returns c =
     let labels = with_items_is c.self.inside.labels c.loop-node.labels (c.loop-node.auto.labels ∙ c.deref_mut.ensures.len) in
     rw (← c.self.view_is, labels, ← c.deref_mut.ensures.value, ← c.labels-distances.ensures)
     (joining-last c.loop-node.invariant.joining c.loop-node-test.false (one-each at) (queued at))
-
-pub overflow_add : goal.overflow_add
-overflow_add c =
-    let k = c.loop-node.node-index in
-    let labelled = rw (← c.labels-distances.ensures, ← c.queue-nodes.ensures.value) at c.requires.labelled in
-    let fits = rw (← c.labels-distances.ensures) at c.requires.small in
-    omega (arith, fits _ (labelled k c.loop-node-test.true))

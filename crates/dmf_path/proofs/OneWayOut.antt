@@ -1,7 +1,7 @@
 -- Labels through a node that each path passes: they are sound, and a walk leads from the start to the goal. Where one of the two searches
 -- ends without its end, the marks are those of a closed side.
 use Rattle.std.proofs.Common.{ℕ, ◌≡◌, ◌≢◌, ◌+◌, ◌-◌, ◌<◌, ◌≤◌, ◌⊎◌, Bool, true, false, List, [], ◌∷◌, length, get_or, set, replicate, map, not, cond, zero, suc, inl, inr}
-use Rattle.std.proofs.Common.{ap, refl, sym, subst, ◌∙◌, arith, eq-eqb}
+use Rattle.std.proofs.Common.{ap, refl, sym, subst, ◌∙◌, arith, eq-eqb, ◌==◌}
 use Rattle.std.specs.List.{range_with_len}
 use Rattle.std.proofs.lemmas.Bool.{cases_eq, cases_lt, cases_Bool, ne_eqb, not-true, not_from_false, false≢true}
 use Rattle.std.proofs.lemmas.List.{get_or-replicate, get_or-set_same, length-replicate, length-set}
@@ -46,6 +46,26 @@ on-cond false flag is = absurd (omega (arith, is))
 
 cond-on : (b : Bool) (flag : ℕ) → b ≡ true → flag ≡ 1 → cond b flag 0 ≡ 1
 cond-on b flag e is = rw e is
+
+cond-open : (b : Bool) (flag : ℕ) → (flag == 1) ≡ true → (cond b flag 0 == 1) ≡ b
+cond-open true flag is = is
+cond-open false flag is = refl
+
+cond-shut : (b : Bool) (flag : ℕ) → (flag == 1) ≡ false → (cond b flag 0 == 1) ≡ false
+cond-shut true flag is = is
+cond-shut false flag is = refl
+
+-- A link that is open is so among them if it leads to a node with the mark,
+pub open-to : (mark : Bool) (marks : List Bool) (heads flags : List ℕ) (p : ℕ) → length flags ≡ length heads → p < length heads
+    → (get_or flags p 0 == 1) ≡ true → (get_or (flags_to mark marks heads flags) p 0 == 1) ≡ has_mark mark marks (get_or heads p 0)
+open-to mark marks heads flags p long within is =
+    ap (λ (f : ℕ). (f == 1)) (flag-to mark marks heads flags p long within) ∙ cond-open (has_mark mark marks (get_or heads p 0)) (get_or flags p 0) is
+
+-- and one that is not open is not.
+pub shut-to : (mark : Bool) (marks : List Bool) (heads flags : List ℕ) (p : ℕ) → length flags ≡ length heads → p < length heads
+    → (get_or flags p 0 == 1) ≡ false → (get_or (flags_to mark marks heads flags) p 0 == 1) ≡ false
+shut-to mark marks heads flags p long within is =
+    ap (λ (f : ℕ). (f == 1)) (flag-to mark marks heads flags p long within) ∙ cond-shut (has_mark mark marks (get_or heads p 0)) (get_or flags p 0) is
 
 cond-either : (a b : Bool) → b ≡ true → cond a true b ≡ true
 cond-either true b e = refl
@@ -119,9 +139,9 @@ module _ {l : Links} (rooms flags opens : List ℕ) {start goal x : ℕ} (marks 
             let is : IsNode l.nodes u = record { from_one = omega arith; to_last = omega (arith, within, beyond.one_each) } in
             elim (cases_eq (get_or f.labels u 0) no_label) [
               | inl unset ↦ inl unset
-              | inr set ↦ elim (cases_eq (get_or g.labels u 0) no_label) [
+              | inr has_one ↦ elim (cases_eq (get_or g.labels u 0) no_label) [
                 | inl unset ↦ inr unset
-                | inr also ↦ absurd (false≢true (sym (out-beyond beyond u is set) ∙ in-before before u is other also))
+                | inr also ↦ absurd (false≢true (sym (out-beyond beyond u is has_one) ∙ in-before before u is other also))
               ]
             ]
       ] in
@@ -146,19 +166,19 @@ module _ {l : Links} (rooms flags opens : List ℕ) {start goal x : ℕ} (marks 
               let w : ℕ = get_or l.heads p 0 in
               let head = (links.each p (lies-within l v p links node lies)).head in
               at w head ∙ (elim (cases_Bool (is_marked marks w)) [
-                | inl yes ↦ cond-either (is_label (get_or f w 0)) (is_marked marks w) yes
-                | inr no ↦
+                | inl in_it ↦ cond-either (is_label (get_or f w 0)) (is_marked marks w) in_it
+                | inr off_it ↦
                     let has : get_or f w 0 ≢ no_label = elim (cases_eq (get_or f v 0) no_label) [
                       | inl none ↦
                           let was : is_marked marks v ≡ true = sym (ap (λ b. cond b true (is_marked marks v)) (label-none (get_or f v 0) none))
                           ∙ sym (at v node) ∙ inside in
                           elim (way.leaves v p node lies room was) [
-                            | inl yes ↦ absurd (false≢true (sym no ∙ yes))
+                            | inl in_it ↦ absurd (false≢true (sym off_it ∙ in_it))
                             | inr here ↦ λ unset. omega (arith, unset, are.root_is, ap (λ u. get_or f u 0) here)
                           ]
-                      | inr set ↦
-                          let near = on-beyond are v p node lies room no (omega (arith, missed, are.small v node, set, links.at_most_nodes)) in
-                          λ unset. omega (arith, near, unset, are.small v node, set, links.at_most_nodes)
+                      | inr has_one ↦
+                          let near = on-beyond are v p node lies room off_it (omega (arith, missed, are.small v node, has_one, links.at_most_nodes)) in
+                          λ unset. omega (arith, near, unset, are.small v node, has_one, links.at_most_nodes)
                     ]
                     in
                     ap (λ b. cond b true (is_marked marks w)) (label-to (get_or f w 0) has)
@@ -183,13 +203,13 @@ module _ {l : Links} (rooms flags opens : List ℕ) {start goal x : ℕ} (marks 
               let was = cond-false (is_label (get_or g v 0)) (is_marked marks v) (sym (at v node) ∙ inside) in
               let none : get_or g w 0 ≡ no_label = elim (cases_eq (get_or g w 0) no_label) [
                 | inl none ↦ none
-                | inr set ↦
-                    let near = on-before are v p node lies room was.1 (omega (arith, missed, are.small w head, set, links.at_most_nodes)) in
-                    let here : get_or g v 0 ≢ no_label = λ unset. omega (arith, near, unset, are.small w head, set, links.at_most_nodes) in
+                | inr has_one ↦
+                    let near = on-before are v p node lies room was.1 (omega (arith, missed, are.small w head, has_one, links.at_most_nodes)) in
+                    let here : get_or g v 0 ≢ no_label = λ unset. omega (arith, near, unset, are.small w head, has_one, links.at_most_nodes) in
                     absurd (false≢true (sym was.0 ∙ label-to (get_or g v 0) here))
               ] in
               let still : is_marked marks w ≡ true = elim (way.leaves v p node lies room was.1) [
-                | inl yes ↦ yes
+                | inl in_it ↦ in_it
                 | inr here ↦ absurd (omega (arith, none, are.root_is, ap (λ u. get_or g u 0) here))
               ] in
               at w head ∙ ap (λ b. cond b false (is_marked marks w)) (label-none (get_or g w 0) none) ∙ still;
@@ -199,7 +219,7 @@ module _ {l : Links} (rooms flags opens : List ℕ) {start goal x : ℕ} (marks 
 
   -- ---- both come to their ends
 
-  module _ {f g labels : List ℕ} {long : ℕ} (beyond : AreLabels l (flags_to false marks l.heads opens) x goal f)
+  module _ (f g labels : List ℕ) (long : ℕ) (beyond : AreLabels l (flags_to false marks l.heads opens) x goal f)
       (before : AreLabels l (flags_to true marks l.heads flags) x start g) (start_is : IsNode l.nodes start) (goal_is : IsNode l.nodes goal)
       (long_is : long ≡ get_or f goal 0) (goal_has : get_or f goal 0 ≢ no_label) (start_has : get_or g start 0 ≢ no_label)
       (few : (v : ℕ) → IsNode l.nodes v → get_or g v 0 ≢ no_label → long + get_or g v 0 ≤ l.nodes) (labels_long : length labels ≡ l.nodes + 1)
@@ -283,7 +303,7 @@ module _ {l : Links} (rooms flags opens : List ℕ) {start goal x : ℕ} (marks 
       | inl same ↦ omega (arith, x-label, before.root_is, ap (λ u. get_or labels u 0) same, ap (λ u. get_or g u 0) same)
       | inr other ↦ elim (cases_eq (get_or f v 0) no_label) [
         | inl none ↦ with_g v node none has
-        | inr set ↦ absurd (false≢true (sym (out-beyond beyond v node set) ∙ in-before before v node other has))
+        | inr has_one ↦ absurd (false≢true (sym (out-beyond beyond v node has_one) ∙ in-before before v node other has))
       ]
     ]
 
@@ -293,8 +313,8 @@ module _ {l : Links} (rooms flags opens : List ℕ) {start goal x : ℕ} (marks 
     -- Where a link leads out of the side, it leads to `x`.
     is-x : (v p : ℕ) → IsNode l.nodes v → LiesAt l v p → 0 < get_or rooms p 0 → is_marked marks v ≡ true → is_marked marks (get_or l.heads p 0) ≡ false
         → get_or l.heads p 0 ≡ x
-    is-x v p node lies room yes no = elim (way.leaves v p node lies room yes) [
-      | inl inside ↦ absurd (false≢true (sym no ∙ inside))
+    is-x v p node lies room in_it off_it = elim (way.leaves v p node lies room in_it) [
+      | inl inside ↦ absurd (false≢true (sym off_it ∙ inside))
       | inr here ↦ here
     ]
 
@@ -304,49 +324,49 @@ module _ {l : Links} (rooms flags opens : List ℕ) {start goal x : ℕ} (marks 
         let w : ℕ = get_or l.heads p 0 in
         let head = (links.each p (lies-within l v p links node lies)).head in
         let most = few start start_is start_has in
-        let out_far : is_marked marks v ≡ false → get_or counts v 0 ≤ long + 1 = λ no. elim (at v node) [
-          | in_unset yes a b c ↦ absurd (false≢true (sym no ∙ yes))
-          | in_set yes a b c ↦ absurd (false≢true (sym no ∙ yes))
+        let out_far : is_marked marks v ≡ false → get_or counts v 0 ≤ long + 1 = λ off_it. elim (at v node) [
+          | in_unset in_it a b c ↦ absurd (false≢true (sym off_it ∙ in_it))
+          | in_set in_it a b c ↦ absurd (false≢true (sym off_it ∙ in_it))
           | out_unset _ a b c ↦ omega (arith, c)
           | out_set _ a b c ↦ omega (arith, c)
         ] in
-        let inner : is_marked marks v ≡ true → get_or g w 0 + 1 < get_or g start 0 → get_or counts v 0 ≤ long + get_or g w 0 + 1 = λ yes low.
-            let near = on-before before v p node lies room yes low in
+        let inner : is_marked marks v ≡ true → get_or g w 0 + 1 < get_or g start 0 → get_or counts v 0 ≤ long + get_or g w 0 + 1 = λ in_it low.
+            let near = on-before before v p node lies room in_it low in
             elim (at v node) [
               | in_unset _ none b c ↦ absurd (omega (arith, near, none, low, most, links.at_most_nodes))
               | in_set _ a b c ↦ omega (arith, near, c)
-              | out_unset no a b c ↦ absurd (false≢true (sym no ∙ yes))
-              | out_set no a b c ↦ absurd (false≢true (sym no ∙ yes))
+              | out_unset off_it a b c ↦ absurd (false≢true (sym off_it ∙ in_it))
+              | out_set off_it a b c ↦ absurd (false≢true (sym off_it ∙ in_it))
             ] in
         elim (at w head) [
           | in_unset _ none b c ↦ absurd (omega (arith, below, c, top-is, most, links.at_most_nodes))
           | in_set _ has b c ↦ elim (cases_Bool (is_marked marks v)) [
-            | inl yes ↦ omega (arith, inner yes (omega (arith, below, c, top-is)), c)
-            | inr no ↦ omega (arith, out_far no, c)
+            | inl in_it ↦ omega (arith, inner in_it (omega (arith, below, c, top-is)), c)
+            | inr off_it ↦ omega (arith, out_far off_it, c)
           ]
-          | out_unset no none b c ↦ elim (at v node) [
-            | in_unset yes a d e ↦ absurd (omega (arith, ap (λ u. get_or f u 0) (is-x v p node lies room yes no), beyond.root_is, none))
-            | in_set yes a d e ↦ absurd (omega (arith, ap (λ u. get_or f u 0) (is-x v p node lies room yes no), beyond.root_is, none))
+          | out_unset off_it none b c ↦ elim (at v node) [
+            | in_unset in_it a d e ↦ absurd (omega (arith, ap (λ u. get_or f u 0) (is-x v p node lies room in_it off_it), beyond.root_is, none))
+            | in_set in_it a d e ↦ absurd (omega (arith, ap (λ u. get_or f u 0) (is-x v p node lies room in_it off_it), beyond.root_is, none))
             | out_unset _ a d e ↦ omega (arith, c, e)
             | out_set out a d e ↦
-                let near = on-beyond beyond v p node lies room no in
+                let near = on-beyond beyond v p node lies room off_it in
                 elim (cases_lt (get_or f v 0 + 1) (get_or f goal 0)) [
                   | inl low ↦ absurd (omega (arith, near low, none, low, long_is, few_long, links.at_most_nodes))
                   | inr high ↦ omega (arith, c, e, high, long_is)
                 ]
           ]
-          | out_set no has b c ↦ elim (at v node) [
-            | in_unset yes a d e ↦
-                let same = is-x v p node lies room yes no in
-                omega (arith, inner yes (omega (arith, below, c, top-is, ap (λ u. get_or g u 0) same, before.root_is, ap (λ u. get_or f u 0) same, beyond.root_is)), c,
+          | out_set off_it has b c ↦ elim (at v node) [
+            | in_unset in_it a d e ↦
+                let same = is-x v p node lies room in_it off_it in
+                omega (arith, inner in_it (omega (arith, below, c, top-is, ap (λ u. get_or g u 0) same, before.root_is, ap (λ u. get_or f u 0) same, beyond.root_is)), c,
                 ap (λ u. get_or g u 0) same, before.root_is, ap (λ u. get_or f u 0) same, beyond.root_is)
-            | in_set yes a d e ↦
-                let same = is-x v p node lies room yes no in
-                omega (arith, inner yes (omega (arith, below, c, top-is, ap (λ u. get_or g u 0) same, before.root_is, ap (λ u. get_or f u 0) same, beyond.root_is)), c,
+            | in_set in_it a d e ↦
+                let same = is-x v p node lies room in_it off_it in
+                omega (arith, inner in_it (omega (arith, below, c, top-is, ap (λ u. get_or g u 0) same, before.root_is, ap (λ u. get_or f u 0) same, beyond.root_is)), c,
                 ap (λ u. get_or g u 0) same, before.root_is, ap (λ u. get_or f u 0) same, beyond.root_is)
             | out_unset _ a d e ↦ omega (arith, e)
             | out_set out a d e ↦
-                let near = on-beyond beyond v p node lies room no in
+                let near = on-beyond beyond v p node lies room off_it in
                 elim (cases_lt (get_or f v 0 + 1) (get_or f goal 0)) [
                   | inl low ↦ omega (arith, near low, c, e)
                   | inr high ↦ omega (arith, e, high, long_is)
@@ -368,12 +388,12 @@ module _ {l : Links} (rooms flags opens : List ℕ) {start goal x : ℕ} (marks 
             | out_set _ a' b' c' ↦ omega (arith, level, b', c, few_long, links.at_most_nodes)
           ]
           | in_set _ a b c ↦ omega (arith, none, b, few w head a, links.at_most_nodes)
-          | out_unset no a b c ↦ elim (at v node) [
-            | in_unset yes a' b' c' ↦ absurd (omega (arith, ap (λ u. get_or f u 0) (is-x v p node lies room yes no), beyond.root_is, a))
-            | in_set yes a' b' c' ↦ absurd (omega (arith, ap (λ u. get_or f u 0) (is-x v p node lies room yes no), beyond.root_is, a))
+          | out_unset off_it a b c ↦ elim (at v node) [
+            | in_unset in_it a' b' c' ↦ absurd (omega (arith, ap (λ u. get_or f u 0) (is-x v p node lies room in_it off_it), beyond.root_is, a))
+            | in_set in_it a' b' c' ↦ absurd (omega (arith, ap (λ u. get_or f u 0) (is-x v p node lies room in_it off_it), beyond.root_is, a))
             | out_unset _ a' b' c' ↦ omega (arith, level, b', c)
             | out_set _ a' b' c' ↦
-                let near = on-beyond beyond v p node lies room no in
+                let near = on-beyond beyond v p node lies room off_it in
                 omega (arith, near (omega (arith, level, b', c, long_is)), a, level, b', c, few_long, links.at_most_nodes)
           ]
           | out_set _ a b c ↦ omega (arith, none, b, few_long, links.at_most_nodes)
@@ -456,7 +476,7 @@ joined-none : (made : ℕ → ℕ) (own other : ℕ) → own ≡ no_label → ot
 joined-none made own other none also = rw (eq-eqb own no_label none, eq-eqb other no_label also) refl
 
 -- First those of the search beyond `x` are joined to the goal's, and then those of the search before it to these.
-module _ {nodes goal long : ℕ} {first second third f g : List ℕ} (first_is : first ≡ set (replicate (nodes + 1) no_label) goal 0) (goal_is : IsNode nodes goal)
+module _ (nodes goal long : ℕ) (first second third f g : List ℕ) (first_is : first ≡ set (replicate (nodes + 1) no_label) goal 0) (goal_is : IsNode nodes goal)
     (f_long : length f ≡ nodes + 1) (on : AreJoinedBy (λ s. long - s) first f second) (back : AreJoinedBy (λ s. long + s) second g third)
     (long_is : long ≡ get_or f goal 0) (small : long < no_label) where
   goal-within : goal < length (replicate (nodes + 1) no_label)
