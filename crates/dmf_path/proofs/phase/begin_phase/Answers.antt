@@ -1,18 +1,16 @@
 -- The labels, the current links and the slots fit together; or the search is fresh.
-use Rattle.std.proofs.Common.{◌≡◌, ◌≤◌, true, List, [], replicate, get_or, ap, sym, refl, ◌∙◌, subst, arith}
+use Rattle.std.proofs.Common.{◌≡◌, ◌≤◌, true, List, get_or, ap, sym, refl, ◌∙◌, subst, arith}
 use Rattle.std.proofs.lemmas.List.{with_items_is}
 use Rattle.dmf_links.specs.LinkTable.{links_of}
 use Rattle.dmf_path.specs.declared.trail.Slot.{Slot}
 use Rattle.dmf_path.specs.Ball.{IsFit}
-use Rattle.dmf_path.specs.Labels.{no_label}
-use Rattle.dmf_path.specs.Reach.{Reach}
 use Rattle.dmf_path.specs.Walk.{AreCurrent, AreSkipped}
 use Rattle.dmf_path.specs.Held.{Way, way_of, with_slots}
 use Rattle.dmf_path.specs.Residual.{residual_of, told}
-use Rattle.dmf_path.specs.Searching.{Labelling, labelling_of, sought, AreLasting}
+use Rattle.dmf_path.specs.Searching.{Labelling, sought, AreLasting}
 use Rattle.dmf_path.proofs.LeastTrail.{walk-path}
-use Rattle.dmf_path.proofs.Beginning.{first-queued, skipped-first, ready-at}
-use Rattle.dmf_path.proofs.SearchTurns.{aimed-with, plainly, searching-free, searching-anew, sought-free}
+use Rattle.dmf_path.proofs.Beginning.{first-queued, skipped-first}
+use Rattle.dmf_path.proofs.SearchTurns.{aimed-with, plainly, searching-free, sought-free}
 use Rattle.dmf_path.proofs.Settling.{told-free}
 use Rattle.dmf_path.proofs.phase.begin_phase.Goals as goal
 use Rattle.dmf_path.proofs.phase.begin_phase.Goals.{Start, After-label-goal_label}

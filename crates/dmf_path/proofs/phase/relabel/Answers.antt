@@ -1,6 +1,5 @@
 -- The labels, the current links and the slots fit together; or the search is fresh.
-use Rattle.std.proofs.Common.{ℕ, ◌≡◌, ◌≤◌, true, List, [], replicate, get_or, ap, sym, ◌∙◌, subst, arith}
-use Rattle.std.proofs.lemmas.List.{with_items_is}
+use Rattle.std.proofs.Common.{ℕ, ◌≡◌, List, [], replicate, ap, sym, ◌∙◌, subst}
 use Rattle.dmf_links.specs.LinkTable.{links_of}
 use Rattle.dmf_path.specs.declared.trail.Slot.{Slot}
 use Rattle.dmf_path.specs.Ball.{IsFit}
@@ -9,10 +8,9 @@ use Rattle.dmf_path.specs.Reach.{Reach}
 use Rattle.dmf_path.specs.Walk.{AreCurrent, IsWalk}
 use Rattle.dmf_path.specs.Held.{Way, way_of, with_slots}
 use Rattle.dmf_path.specs.Residual.{residual_of, told}
-use Rattle.dmf_path.specs.Searching.{Labelling, labelling_of, sought, AreLasting}
-use Rattle.dmf_path.proofs.LeastTrail.{walk-path}
-use Rattle.dmf_path.proofs.Beginning.{first-queued, skipped-first, ready-at}
-use Rattle.dmf_path.proofs.SearchTurns.{aimed-with, plainly, searching-free, searching-anew, sought-free}
+use Rattle.dmf_path.specs.Searching.{labelling_of, sought}
+use Rattle.dmf_path.proofs.Beginning.{ready-at}
+use Rattle.dmf_path.proofs.SearchTurns.{plainly, searching-anew, sought-free}
 use Rattle.dmf_path.proofs.Settling.{told-free}
 use Rattle.dmf_path.proofs.phase.relabel.Goals as goal
 use Rattle.dmf_path.proofs.phase.relabel.Goals.{Start}

@@ -1,5 +1,5 @@
 -- Labels through the way out, or fresh ones.
-use Rattle.std.proofs.Common.{ℕ, ◌≡◌, true, Some, List, [], replicate, get_or, refl, ap, sym, ◌∙◌, subst}
+use Rattle.std.proofs.Common.{ℕ, ◌≡◌, Some, List, [], replicate, refl, ap, sym, ◌∙◌, subst}
 use Rattle.dmf_links.specs.LinkTable.{links_of}
 use Rattle.dmf_path.specs.declared.trail.Slot.{Slot}
 use Rattle.dmf_path.specs.Ball.{IsFit}

@@ -25,8 +25,9 @@ settle-requires c = record { can = can-settle c.self.invariant.1.searching }
 -- After all links have left, the search goes on.
 settled : (c : After-settle) → Goes c.settle.new.links c.self.inside.levels c.keep_for.new.self c.settle.new.self
 settled c =
+    let of = c.self.inside in
     let i = c.self.invariant in
-    goes-settled (record {
+    let goes : Goes of.links of.levels c.keep_for.new.self of.trail = record {
       keeps = record {
         searching = i.1.searching;
         ready = i.0.0;
@@ -34,7 +35,8 @@ settled c =
         fit = c.keep_for.ensures.fit _ i.0.4;
       };
       around = c.keep_for.ensures.around;
-    }) c.settle.ensures.links c.settle.ensures.way
+    } in
+    goes-settled goes c.settle.ensures.links c.settle.ensures.way
 
 -- The network and the ends stay.
 plain : (c : After-settle) → plainly (residual_of c.settle.new.links) (way_of c.settle.new.self)
@@ -99,10 +101,10 @@ returns-clause-left c = λ left.
     let found = c.relabel_through.ensures.labelled left in
     let labels = c.relabel_through.new.levels.near.labels in
     let walk = subst (λ (s : Sought). IsWalk s.residual.links labels s.residual.rooms s.goal s.start found.0) (plain at) found.1 in
-    let open = walk-path s.residual.links s.residual.rooms labels s.goal s.start found.0 walk in
+    let leads = walk-path s.residual.links s.residual.rooms labels s.goal s.start found.0 walk in
     rw (← c.self.view_is) (
       path_on s.residual.links of.places.value s.residual.rooms found.0,
-      path-of_links s.residual.links of.places.value s.residual.rooms s.goal s.start found.0 a.links i.places_are fit a.start_is open.0,
+      path-of_links s.residual.links of.places.value s.residual.rooms s.goal s.start found.0 a.links i.places_are fit a.start_is leads.0,
     )
 
 pub returns-clause-parted : goal.returns-clause-parted
