@@ -3,7 +3,7 @@ use Rattle.std.proofs.Common.{ℕ, ◌≡◌, ◌≢◌, ◌+◌, ◌-◌, ◌<�
 use Rattle.std.proofs.lemmas.Bool.{cases_eq}
 use Rattle.std.proofs.lemmas.List.{get_or_default, get_or-set_other, get_or-set_same, length-set}
 use Rattle.dmf_path.specs.ClosedSide.{is_marked}
-use Rattle.dmf_path.specs.Labels.{no_label, is_label, AreQueued}
+use Rattle.dmf_path.specs.Labels.{no_label, AreQueued}
 use Rattle.dmf_path.specs.Through.{AreMarked}
 use Rattle.dmf_path.proofs.Reaching.{label-none, label-to}
 

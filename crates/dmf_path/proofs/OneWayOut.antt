@@ -10,7 +10,7 @@ use Rattle.dmf_node.specs.Node.{IsNode}
 use Rattle.dmf_links.specs.Links.{Links, LiesAt, AreLinks, AreFlags, tail_of}
 use Rattle.dmf_links.proofs.LinkPlaces.{lies-within, lies-partner}
 use Rattle.dmf_links.proofs.Flags.{room-of_flag, flag-of_room}
-use Rattle.dmf_path.specs.BothEnds.{AreJoinedBy, AreSmall, AreSound, IsLabelled, joined_by}
+use Rattle.dmf_path.specs.BothEnds.{AreJoinedBy, IsLabelled, joined_by}
 use Rattle.dmf_path.specs.ClosedSide.{is_marked}
 use Rattle.dmf_path.specs.Frontier.{IsSpread}
 use Rattle.dmf_path.specs.Labels.{no_label, is_label, AreLabels}
@@ -22,7 +22,7 @@ use Rattle.dmf_path.proofs.Labelled.{opposite}
 use Rattle.dmf_path.proofs.Labelling.{queued-at}
 use Rattle.dmf_path.proofs.Meeting.{beside-count}
 use Rattle.dmf_path.proofs.Spreading.{cases-set}
-use Rattle.dmf_path.proofs.Reaching.{AreOpen, label-none, label-to, label-from}
+use Rattle.dmf_path.proofs.Reaching.{AreOpen, label-none, label-to}
 
 -- ---- the flags of links to nodes with a mark
 

@@ -1,6 +1,6 @@
 -- A set of nodes that no link with room leaves, by its marks, is a closed side. One that links with room leave to one node alone is a set
 -- that steps leave so.
-use Rattle.std.proofs.Common.{ℕ, ◌≡◌, ◌<◌, ◌⊎◌, ◌∙◌, inl, inr, Bool, true, false, List, length, get_or, ap, sym}
+use Rattle.std.proofs.Common.{ℕ, ◌≡◌, ◌∙◌, inl, inr, Bool, true, false, List, length, get_or, ap, sym}
 use Rattle.std.proofs.lemmas.Bool.{cases_Bool, false≢true}
 use Rattle.dmf_links.specs.Links.{Links, AreLinks, ArePlaces, AreRooms, pairs_at, tail_of}
 use Rattle.dmf_node.specs.Node.{IsNode}

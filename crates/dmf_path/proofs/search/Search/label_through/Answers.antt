@@ -1,9 +1,8 @@
 -- The search goes on from the labels through the way out, or is fresh.
-use Rattle.std.proofs.Common.{◌≡◌, length, refl, ap, sym, subst, ◌∙◌}
+use Rattle.std.proofs.Common.{◌≡◌, refl, ap, sym, subst, ◌∙◌}
 use Rattle.dmf_path.specs.Going.{Goes}
 use Rattle.dmf_path.specs.Held.{way_of, filled_slots}
 use Rattle.dmf_path.specs.Residual.{residual_of}
-use Rattle.dmf_path.specs.Search.{Searched}
 use Rattle.dmf_path.specs.Searching.{Sought, sought, searched, AreAside, IsParted, begun}
 use Rattle.dmf_path.specs.Through.{IsOnlyWay}
 use Rattle.dmf_path.specs.Walk.{IsWalk}
