@@ -1,10 +1,10 @@
 -- Marked nodes with one way out keep it when a push is made along a least path: the path leaves them once, to the way out.
 use Rattle.std.proofs.Common.{ℕ, ◌≡◌, ◌≢◌, ◌+◌, ◌-◌, ◌*◌, ◌<◌, ◌≤◌, ◌⊎◌, ⊎_elim, inl, inr, Bool, true, false, List, [], ◌∷◌, ◌++◌, length, zero, suc, refl, sym}
 use Rattle.std.proofs.Common.{◌∙◌, ◌==◌, subst, ap, arith, Option, Some, None, cond, get_or, set}
-use Rattle.std.specs.Prelude.{IsTrue, nat_lt}
+use Rattle.std.specs.Prelude.{IfSome, IsTrue, MatchOption, nat_lt}
 use Rattle.std.specs.List.{Contains}
 use Rattle.std.proofs.lemmas.Bool.{cases_eq, cases_Bool, false≢true}
-use Rattle.std.proofs.lemmas.List.{get_or-set_other, get_or-set_same, length_append, length-set}
+use Rattle.std.proofs.lemmas.List.{get_or_default, get_or-set_other, get_or-set_same, length-append, length-set}
 use Rattle.std.proofs.lemmas.Bool.{or_cases, eqb-true}
 use Rattle.std.proofs.lemmas.List.Elements.{Contains-append_cases}
 use Rattle.dmf_links.specs.declared.pair.Pair.{Pair}
@@ -53,14 +53,14 @@ module _ (steps : List Step) (start goal x : ℕ) (marks : List Bool) (way : Has
               after = rest.after;
               first = (leads.0, leads.1, rest.first);
               second = rest.second;
-              long = ap suc rest.long;
+              long = omega (arith, rest.long);
             }
         | inr here ↦ record {
           before = s ∷ [];
           after = path;
           first = (leads.0, leads.1, here);
           second = subst (λ v. IsPath steps v b path) here leads.2;
-          long = refl;
+          long = omega arith;
         }
       ]
 
@@ -79,7 +79,7 @@ module _ (steps : List Step) (start goal x : ℕ) (marks : List Bool) (way : Has
     after = path;
     first = sym leads.1 ∙ ap (λ (u : Step). u.from) is;
     second = subst (λ (u : Step). IsPath steps u.to b path) is leads.2;
-    long = refl;
+    long = omega arith;
   }
   step-within (t ∷ path) a b s leads (suc k, within, is) =
       let rest = step-within path t.to b s leads.2 (k, omega (arith, within), is) in
@@ -88,7 +88,7 @@ module _ (steps : List Step) (start goal x : ℕ) (marks : List Bool) (way : Has
         after = rest.after;
         first = (leads.0, leads.1, rest.first);
         second = rest.second;
-        long = ap suc rest.long;
+        long = omega (arith, rest.long);
       }
 
   -- A step of a shortest path that leads to a marked node leads from a marked one, or from the way out.
@@ -103,7 +103,7 @@ module _ (steps : List Step) (start goal x : ℕ) (marks : List Bool) (way : Has
           let early = splits at.before start s.from way.start_in (λ in_it. false≢true (sym out ∙ in_it)) at.first in
           let late = splits at.after s.to goal inside way.goal_out at.second in
           let short = least.shortest (early.before ++ late.after) (path-append steps start x goal early.before late.after early.first late.second) in
-          absurd (omega (arith, short, length_append early.before late.after, early.long, late.long, at.long))
+          absurd (omega (arith, short, length-append early.before late.after, early.long, late.long, at.long))
     ]
   ]
 
@@ -143,8 +143,8 @@ link-of j (q ∷ pairs) s c = ⊎_elim
 ranked : (path : List Step) (rank : ℕ) → has_rank path rank ≡ true → (s : Step) × (Contains path s × (s.rank ≡ rank))
 ranked [] rank has = absurd (false≢true has)
 ranked (s ∷ path) rank has = elim (or_cases (s.rank == rank) (has_rank path rank) has) [
-  | inl here ↦ (s, (0, omega arith, refl), eqb-true s.rank rank here)
-  | inr later ↦ let rest = ranked path rank later in (rest.0, (suc rest.1.0.0, omega (arith, rest.1.0.1), rest.1.0.2), rest.1.1)
+  | inl here ↦ (s, ((0, omega arith, refl), eqb-true s.rank rank here))
+  | inr later ↦ let rest = ranked path rank later in (rest.0, ((suc rest.1.0.0, omega (arith, rest.1.0.1), rest.1.0.2), rest.1.1))
 ]
 
 -- The steps of a path are among all steps.
@@ -160,7 +160,7 @@ pushed-number : (takes_back : Bool) (j amount : ℕ) (path : List Step) (pairs :
 pushed-number takes_back j amount path [] k after is = absurd (cc)
 pushed-number takes_back j amount path (None ∷ pairs) zero after is = absurd (cc)
 pushed-number takes_back j amount path (Some p ∷ pairs) zero after is =
-    let number : j + 0 ≡ j = omega arith in (p, refl, rw number is)
+    let number : j + 0 ≡ j = omega arith in (p, (refl, rw number is))
 pushed-number takes_back j amount path (q ∷ pairs) (suc k) after is =
     let number : j + 1 + k ≡ j + suc k = omega arith in
     rw number at (pushed-number takes_back (j + 1) amount path pairs k after is)
@@ -168,7 +168,7 @@ pushed-number takes_back j amount path (q ∷ pairs) (suc k) after is =
 -- What a push can give a link is the room of its opposite: where that is not on the path, the link had room before.
 was-open : (takes_back has other : Bool) (room amount : ℕ) → other ≡ false
     → 0 < room - cond has amount 0 + cond takes_back (cond other amount 0) 0 → 0 < room
-was-open true has other room amount off some = rw off at (omega (arith, some))
+was-open true has other room amount off some = let s = rw off at some in omega (arith, s)
 was-open false has other room amount off some = omega (arith, some)
 
 module _ (takes_back : Bool) (amount : ℕ) (pairs : List (Option Pair)) (start goal x : ℕ) (marks : List Bool) (path : List Step)
@@ -184,10 +184,10 @@ module _ (takes_back : Bool) (amount : ℕ) (pairs : List (Option Pair)) (start 
       let link = link-of 1 pairs s (on-path (steps_of pairs) path start goal s least.leads on.1.0) in
       let same : link.index ≡ k = omega (arith, link.link, which, on.1.1) in
       let pair : link.p ≡ p = some-same (sym link.is ∙ ap (pair_number pairs) same ∙ is) in
-      (s, on.1.0, elim link.link [
+      (s, (on.1.0, elim link.link [
         | inl along ↦ inl (omega (arith, along.0, on.1.1, same), along.1 ∙ ap (λ (q : Pair). q.tail) pair, along.2 ∙ ap (λ (q : Pair). q.head) pair)
         | inr against ↦ inr (omega (arith, against.0, on.1.1, same), against.1 ∙ ap (λ (q : Pair). q.head) pair, against.2 ∙ ap (λ (q : Pair). q.tail) pair)
-      ])
+      ]))
 
   -- Links with room still leave the marked nodes to the way out alone.
   Leaves : ℕ → ℕ → Type 0
@@ -212,8 +212,8 @@ module _ (takes_back : Bool) (amount : ℕ) (pairs : List (Option Pair)) (start 
                     (subst (λ v. IsTrue (is_marked marks v)) (sym against.2) inside))
               ]
           | inr off ↦
-              let open = was-open takes_back (has_rank path (2 * (1 + k))) (has_rank path (2 * (1 + k) + 1)) p.along amount off room in
-              let step = has-step 1 pairs k p p.tail p.head was.1.0 (has-along p open) in
+              let had = was-open takes_back (has_rank path (2 * (1 + k))) (has_rank path (2 * (1 + k) + 1)) p.along amount off room in
+              let step = has-step 1 pairs k p p.tail p.head was.1.0 (has-along p had) in
               subst (λ v. IsTrue (is_marked marks v) ⊎ (v ≡ x)) step.to_is
               (way.one_leaves step.step step.there (subst (λ v. IsTrue (is_marked marks v)) (sym step.from_is) inside))
         ]),
@@ -229,8 +229,8 @@ module _ (takes_back : Bool) (amount : ℕ) (pairs : List (Option Pair)) (start 
                     (subst (λ v. IsTrue (is_marked marks v)) (sym along.2) inside))
               ]
           | inr off ↦
-              let open = was-open takes_back (has_rank path (2 * (1 + k) + 1)) (has_rank path (2 * (1 + k))) p.against amount off room in
-              let step = has-step 1 pairs k p p.head p.tail was.1.0 (has-against p open) in
+              let had = was-open takes_back (has_rank path (2 * (1 + k) + 1)) (has_rank path (2 * (1 + k))) p.against amount off room in
+              let step = has-step 1 pairs k p p.head p.tail was.1.0 (has-against p had) in
               subst (λ v. IsTrue (is_marked marks v) ⊎ (v ≡ x)) step.to_is
               (way.one_leaves step.step step.there (subst (λ v. IsTrue (is_marked marks v)) (sym step.from_is) inside))
         ]),
@@ -359,3 +359,68 @@ module _ (search : Searched) (side : ClosedSide) (is : IsClosedBut search side) 
               ((λ room. one p.tail p.head valid.head.from_one (each.0 room)), (λ room. one p.head p.tail valid.tail.from_one (each.1 room)))) c;
         };
       }
+
+-- ---- the one end of all gates
+
+-- What the first `k` gates over which a link leads out have found is the end of this link.
+pub record AreOnly (pairs : List (Option Pair)) (marks : List Bool) (gates : List ℕ) (heads : Bool) (found : Option ℕ) (k : ℕ) : Type 0 where
+  pub each : (i from to : ℕ) → i < k → LeadsOut marks (pair_number pairs (get_or gates i 0)) from to → found ≡ Some (cond heads to from)
+
+module _ {pairs : List (Option Pair)} {marks : List Bool} {gates : List ℕ} {heads : Bool} {k : ℕ} where
+  -- No link leads out over the next one,
+  pub only-skip : {found : Option ℕ} → AreOnly pairs marks gates heads found k
+      → ((from to : ℕ) → ¬ LeadsOut marks (pair_number pairs (get_or gates k 0)) from to) → AreOnly pairs marks gates heads found (k + 1)
+  only-skip so_far none = record {
+    each = λ i from to low leads. elim (cases_eq i k) [
+      | inl same ↦ absurd (none from to (subst (λ j. LeadsOut marks (pair_number pairs (get_or gates j 0)) from to) same leads))
+      | inr other ↦ so_far.each i from to (omega arith) leads
+    ];
+  }
+
+  -- or one does, the first,
+  pub only-first : {from to : ℕ} → AreOnly pairs marks gates heads None k → LeadsOut marks (pair_number pairs (get_or gates k 0)) from to
+      → AreOnly pairs marks gates heads (Some (cond heads to from)) (k + 1)
+  only-first so_far link = record {
+    each = λ i next other low leads. elim (cases_eq i k) [
+      | inl same ↦
+          let one = leads-one link (subst (λ j. LeadsOut marks (pair_number pairs (get_or gates j 0)) next other) same leads) in
+          ap Some (λ t. cond heads (one.1 t) (one.0 t))
+      | inr before ↦ let none = so_far.each i next other (omega arith) leads in absurd (cc)
+    ];
+  }
+
+  -- or to the same end as before.
+  pub only-same : {from to node : ℕ} → AreOnly pairs marks gates heads (Some node) k → LeadsOut marks (pair_number pairs (get_or gates k 0)) from to
+      → node ≡ cond heads to from → AreOnly pairs marks gates heads (Some node) (k + 1)
+  only-same so_far link is = record {
+    each = λ i next other low leads. elim (cases_eq i k) [
+      | inl same ↦
+          let one = leads-one link (subst (λ j. LeadsOut marks (pair_number pairs (get_or gates j 0)) next other) same leads) in
+          ap Some (is ∙ (λ t. cond heads (one.1 t) (one.0 t)))
+      | inr before ↦ so_far.each i next other (omega arith) leads
+    ];
+  }
+
+-- After all gates this is their only end.
+pub only-last : {pairs : List (Option Pair)} {marks : List Bool} {gates : List ℕ} {heads : Bool} {k : ℕ} (found : Option ℕ)
+    → AreOnly pairs marks gates heads found k → length gates ≤ k → IfSome found (IsOnlyEnd pairs marks gates heads)
+only-last None so_far all = tt
+only-last {pairs} {marks} {gates} (Some v) so_far all = λ j from to gate leads.
+    let is : get_or gates gate.0 0 ≡ j = get_or_default gates gate.0 0 j gate.1 ∙ gate.2 in
+    some-same (so_far.each gate.0 from to (omega (arith, gate.1, all)) (subst (λ i. LeadsOut marks (pair_number pairs i) from to) (sym is) leads))
+
+-- The one end of a link that leads out is a node, and has a mark if it is the tail.
+pub end-node : (nodes : ℕ) (heads : Bool) (from to : ℕ) → IsNode nodes from → IsNode nodes to → IsNode nodes (cond heads to from)
+end-node nodes true from to tail head = head
+end-node nodes false from to tail head = tail
+
+pub end-outside : (marks : List Bool) (heads : Bool) (from to : ℕ) → is_marked marks from ≡ true → is_marked marks to ≡ false
+    → is_marked marks (cond heads to from) ≡ cond heads false true
+end-outside marks true from to inside outside = outside
+end-outside marks false from to inside outside = inside
+
+-- If a path was found, the way out stays.
+pub way-after : (old new : Searched) (limit : ℕ) (result : Option AugmentingPath) (marks : List Bool) (node : ℕ) (P : Type 0)
+    → IsWayThrough old marks node → MatchOption result P (λ found. Augments limit found old new) → result ≢ None → IsWayThrough new marks node
+way-after old new limit None marks node P way found some = absurd (some refl)
+way-after old new limit (Some path) marks node P way found some = way-next old new limit path marks node way found

@@ -63,6 +63,15 @@ struct Leaving {
     to: u32,
 }
 
+impl Leaving {
+    /// Its head, or else its tail.
+    fn end(self, head: bool) -> u32
+        ensures { result ≡ (if head then self.to else self.from) }
+    {
+        if head { self.to } else { self.from }
+    }
+}
+
 impl SidedSearch {
     /// The search alone, with the marks of its side and the way out of it, if the side is known and has one. Else with some mark for each
     /// node, or with none if memory for them is refused.
@@ -125,20 +134,23 @@ fn only_end(search: &Search, marks: &[bool], gates: &[usize], heads: bool) -> Op
 {
     let mut found = None;
     for k in gates {
-        let Some(link) = leaving(search, marks, *k) else {
+        let Some(link) = link_out(search, marks, *k) else {
             continue;
         };
-        let end = if heads { link.to } else { link.from };
-        if found.is_some_and(|node| node != end) {
+        let end = link.end(heads);
+        let Some(node) = found else {
+            found = Some(end);
+            continue;
+        };
+        if node != end {
             return None;
         }
-        found = Some(end);
     }
     found
 }
 
 /// The link with room of the pair at index `k` that leads out of the marked nodes, if there is one.
-fn leaving(search: &Search, marks: &[bool], k: usize) -> Option<Leaving>
+fn link_out(search: &Search, marks: &[bool], k: usize) -> Option<Leaving>
     requires { length marks.now ≡ search.now.nodes }
     ensures { MatchOption result
         ((from to : ℕ) → ¬ LeadsOut marks.now (pair_number search.now.pairs k) from to)
