@@ -104,3 +104,7 @@ returns-clause-drained g c =
     let here = (goal.at.returns-clause-drained g c).After-loop-i in
     let listed = rw c.deref.ensures.value at c.in_ok-moves.ensures in
     tells-moved c.args.state.now _ _ c.in_ok-moves.moves.items _ _ (long g here) listed (told g here)
+
+-- Nothing was reported.
+pub returns-in_err-unpaired-clause-told : goal.returns-in_err-unpaired-clause-told
+returns-in_err-unpaired-clause-told g c = AreTold-none _

@@ -1,8 +1,7 @@
 -- The way out stays after a path from it. If no path is left there, the side is closed.
-use Rattle.std.proofs.Common.{◌≡◌, Some, false, ap, sym, subst, ◌∙◌}
+use Rattle.std.proofs.Common.{Some, ap, sym, subst, ◌∙◌}
 use Rattle.std.specs.Prelude.{IfSome}
 use Rattle.std.proofs.lemmas.Option.{IfSome_then}
-use Rattle.dmf_path.specs.Search.{Searched}
 use Rattle.dmf_solver.specs.WayOut.{IsWayOut, IsWayThrough}
 use Rattle.dmf_solver.proofs.Gates.{no_path-closed}
 use Rattle.dmf_solver.proofs.WayOut.{way-after}
