@@ -331,13 +331,13 @@ module _ {l : Links} (rooms flags opens : List ℕ) {start goal x : ℕ} (marks 
           | out_set _ a b c ↦ omega (arith, c)
         ] in
         let inner : is_marked marks v ≡ true → get_or g w 0 + 1 < get_or g start 0 → get_or counts v 0 ≤ long + get_or g w 0 + 1 = λ in_it low.
-            let near = on-before before v p node lies room in_it low in
-            elim (at v node) [
-              | in_unset _ none b c ↦ absurd (omega (arith, near, none, low, most, links.at_most_nodes))
-              | in_set _ a b c ↦ omega (arith, near, c)
-              | out_unset off_it a b c ↦ absurd (false≢true (sym off_it ∙ in_it))
-              | out_set off_it a b c ↦ absurd (false≢true (sym off_it ∙ in_it))
-            ] in
+        let near = on-before before v p node lies room in_it low in
+        elim (at v node) [
+          | in_unset _ none b c ↦ absurd (omega (arith, near, none, low, most, links.at_most_nodes))
+          | in_set _ a b c ↦ omega (arith, near, c)
+          | out_unset off_it a b c ↦ absurd (false≢true (sym off_it ∙ in_it))
+          | out_set off_it a b c ↦ absurd (false≢true (sym off_it ∙ in_it))
+        ] in
         elim (at w head) [
           | in_unset _ none b c ↦ absurd (omega (arith, below, c, top-is, most, links.at_most_nodes))
           | in_set _ has b c ↦ elim (cases_Bool (is_marked marks v)) [
@@ -358,12 +358,26 @@ module _ {l : Links} (rooms flags opens : List ℕ) {start goal x : ℕ} (marks 
           | out_set off_it has b c ↦ elim (at v node) [
             | in_unset in_it a d e ↦
                 let same = is-x v p node lies room in_it off_it in
-                omega (arith, inner in_it (omega (arith, below, c, top-is, ap (λ u. get_or g u 0) same, before.root_is, ap (λ u. get_or f u 0) same, beyond.root_is)), c,
-                ap (λ u. get_or g u 0) same, before.root_is, ap (λ u. get_or f u 0) same, beyond.root_is)
+                omega (
+                  arith,
+                  inner in_it (omega (arith, below, c, top-is, ap (λ u. get_or g u 0) same, before.root_is, ap (λ u. get_or f u 0) same, beyond.root_is)),
+                  c,
+                  ap (λ u. get_or g u 0) same,
+                  before.root_is,
+                  ap (λ u. get_or f u 0) same,
+                  beyond.root_is,
+                )
             | in_set in_it a d e ↦
                 let same = is-x v p node lies room in_it off_it in
-                omega (arith, inner in_it (omega (arith, below, c, top-is, ap (λ u. get_or g u 0) same, before.root_is, ap (λ u. get_or f u 0) same, beyond.root_is)), c,
-                ap (λ u. get_or g u 0) same, before.root_is, ap (λ u. get_or f u 0) same, beyond.root_is)
+                omega (
+                  arith,
+                  inner in_it (omega (arith, below, c, top-is, ap (λ u. get_or g u 0) same, before.root_is, ap (λ u. get_or f u 0) same, beyond.root_is)),
+                  c,
+                  ap (λ u. get_or g u 0) same,
+                  before.root_is,
+                  ap (λ u. get_or f u 0) same,
+                  beyond.root_is,
+                )
             | out_unset _ a d e ↦ omega (arith, e)
             | out_set out a d e ↦
                 let near = on-beyond beyond v p node lies room off_it in

@@ -25,6 +25,7 @@ pub struct Through {
 
 /// Each search looks at so many links, or at this part of all of them.
 const FEW: u64 = 1024;
+
 const PART: u64 = 256;
 
 /// Labels nodes on the two sides of the way out. Returns whether a path is left; if not, changes marks, so that they are those of a

@@ -21,7 +21,7 @@ use Rattle.dmf_solver.specs.Gates.{leads_from, leads_out, IsClosedBut}
 use Rattle.dmf_solver.specs.WayOut.{IsOnlyEnd, IsWayThrough, LeadsOut}
 use Rattle.dmf_solver.specs.declared.closed_side.ClosedSide.{ClosedSide}
 use Rattle.dmf_solver.proofs.ByArc.{optional-each}
-use Rattle.dmf_solver.proofs.Gates.{HasStep, OfPair, each-step, first-not, has-step, has-along, has-against, second-not, some-room, stays}
+use Rattle.dmf_solver.proofs.Gates.{OfPair, each-step, first-not, has-step, has-along, has-against, second-not, some-room, stays}
 
 some-same : {A : Type 0} {x y : A} → Some x ≡ Some y → x ≡ y
 some-same same = cc
@@ -183,11 +183,16 @@ module _ (takes_back : Bool) (amount : ℕ) (pairs : List (Option Pair)) (start 
       let s : Step = on.0 in
       let link = link-of 1 pairs s (on-path (steps_of pairs) path start goal s least.leads on.1.0) in
       let same : link.index ≡ k = omega (arith, link.link, which, on.1.1) in
-      let pair : link.p ≡ p = some-same (sym link.is ∙ ap (pair_number pairs) same ∙ is) in
-      (s, (on.1.0, elim link.link [
-        | inl along ↦ inl (omega (arith, along.0, on.1.1, same), along.1 ∙ ap (λ (q : Pair). q.tail) pair, along.2 ∙ ap (λ (q : Pair). q.head) pair)
-        | inr against ↦ inr (omega (arith, against.0, on.1.1, same), against.1 ∙ ap (λ (q : Pair). q.head) pair, against.2 ∙ ap (λ (q : Pair). q.tail) pair)
-      ]))
+      let pair : link.p ≡ p = some-same (sym link.is ∙ ap (pair_number pairs) same ∙ is) in (
+        s,
+        (
+          on.1.0,
+          elim link.link [
+            | inl along ↦ inl (omega (arith, along.0, on.1.1, same), along.1 ∙ ap (λ (q : Pair). q.tail) pair, along.2 ∙ ap (λ (q : Pair). q.head) pair)
+            | inr against ↦ inr (omega (arith, against.0, on.1.1, same), against.1 ∙ ap (λ (q : Pair). q.head) pair, against.2 ∙ ap (λ (q : Pair). q.tail) pair)
+          ],
+        ),
+      )
 
   -- Links with room still leave the marked nodes to the way out alone.
   Leaves : ℕ → ℕ → Type 0

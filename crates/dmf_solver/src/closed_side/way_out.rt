@@ -155,7 +155,7 @@ fn link_out(search: &Search, marks: &[bool], k: usize) -> Option<Leaving>
     ensures { MatchOption result
         ((from to : ℕ) → ¬ LeadsOut marks.now (pair_number search.now.pairs k) from to)
         (λ link. IsNode search.now.nodes link.from × IsNode search.now.nodes link.to
-            × LeadsOut marks.now (pair_number search.now.pairs k) link.from link.to) }
+        × LeadsOut marks.now (pair_number search.now.pairs k) link.from link.to) }
 {
     let pair = search.pair(k)?;
     let tail = marks[pair.tail as usize - 1];

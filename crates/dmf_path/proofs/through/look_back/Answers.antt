@@ -22,7 +22,7 @@ returns-clause-parted c = λ _.
     let l = links_of links.table.value in
     let rooms = links.rooms.items in
     let are = rw (c.deref.ensures.value, c.deref-3.ensures.value, c.deref-2.ensures, c.deref-4.ensures, c.begin.ensures) at
-        (c.label_within.ensures.labels c.if-not-label_within.false) in
+    (c.label_within.ensures.labels c.if-not-label_within.false) in
     parted-before rooms links.flags.items (map open_flag rooms) c.args.marks.now links.table.value.are links.flags_are
     (AreOpen-map l rooms (map open_flag rooms) links.rooms_are refl) (length-map rooms open_flag ∙ links.rooms_are.0) c.requires.way
     c.mark_queued.new.marks are (c.has_label.ensures.none c.if-has_label.false) c.requires.start c.requires.goal c.mark_queued.ensures
