@@ -1,5 +1,5 @@
 -- The beginning of a search: what its labels and current links say.
-use Rattle.std.proofs.Common.{ℕ, ◌≡◌, ◌≢◌, ◌+◌, ◌<◌, List, length, get_or, set, replicate, ◌∙◌, arith}
+use Rattle.std.proofs.Common.{ℕ, ◌≡◌, ◌≢◌, ◌+◌, ◌<◌, List, length, get_or, set, replicate, refl, ◌∙◌, arith}
 use Rattle.std.proofs.lemmas.List.{get_or_default, get_or-replicate, length-replicate, get_or-set_same, get_or-set_other, length-set}
 use Rattle.dmf_node.specs.Node.{IsNode}
 use Rattle.dmf_links.specs.Links.{Links, AreLinks}
@@ -29,10 +29,11 @@ passed-fresh l labels rooms start goal current links fresh v p ps node lies befo
 pub sound-fresh : (l : Links) (labels rooms : List ℕ) (start : ℕ) → length labels ≡ l.nodes + 1 → IsFresh l labels start
     → AreSound l labels rooms (get_or labels start 0)
 sound-fresh l labels rooms start long fresh = record {
-  beyond = no_label;
+  counts = labels;
   small = (long, λ v node. grind (arith, fresh.others v node));
+  filled_are = λ v node has. refl;
   valid = λ v p node lies room below. absurd (omega (arith, below, fresh.label));
-  gated = λ v p node lies room is none. omega (arith, is, fresh.others v node);
+  gated = λ v p node lies room is none. omega (arith, is, none, fresh.others v node);
 }
 
 -- The labels with which a fresh search begins

@@ -1,6 +1,6 @@
 -- After two searches have met, their joined labels are valid, and a walk leads from the start to the goal.
 use Rattle.std.proofs.Common.{ℕ, ◌≡◌, ◌≢◌, ◌+◌, ◌-◌, ◌<◌, ◌≤◌, ◌⊎◌, List, ◌∷◌, get_or, zero, suc, inl, inr, ap, refl, sym, subst, ◌∙◌, arith}
-use Rattle.std.proofs.lemmas.Bool.{cases_eq, ne_eqb}
+use Rattle.std.proofs.lemmas.Bool.{cases_eq, ne_eqb, eq-eqb}
 use Rattle.std.proofs.lemmas.Bool.Decides.{nat_tests}
 use Rattle.std.proofs.lemmas.List.{get_or-map}
 use Rattle.dmf_node.specs.Node.{IsNode}
@@ -26,6 +26,12 @@ joined-goal long g s other = rw (ne_eqb g no_label other) refl
 -- and of a node that has a label of the start's side, with or without one of the goal's
 joined-both : (long g s : ℕ) → s ≢ no_label → (g ≡ no_label) ⊎ ((s ≡ no_label) ⊎ (g + s ≡ long)) → joined_label long g s ≡ long - s
 joined-both long g s has both = grind (arith, nat_tests)
+
+filled-has : (beyond label : ℕ) → label ≢ no_label → filled_label beyond label ≡ label
+filled-has beyond label has = rw (ne_eqb label no_label has) refl
+
+filled-none : (beyond label : ℕ) → label ≡ no_label → filled_label beyond label ≡ beyond
+filled-none beyond label none = rw (eq-eqb label no_label none) refl
 
 small-near : (near far g s nodes : ℕ) → near + far < nodes → AreNear near far g s
     → (joined_label (near + far + 1) g s ≡ no_label) ⊎ (joined_label (near + far + 1) g s ≤ nodes)
@@ -126,18 +132,21 @@ module _ {l : Links} (rooms flags : List ℕ) {opens : List ℕ} {start goal nea
       let last = label-goal goal goal_is (λ none. omega (arith, none, goal_side.root_is)) in
       record {
         sound = record {
-          beyond = near + 1;
+          counts = filled (near + 1) labels;
           small = (
             joined.one_each ∙ goal_side.one_each,
             λ v node. rw (label-of v node)
                 (small-near near far (get_or g v 0) (get_or s v 0) l.nodes few (near-of v node)),
           );
+          filled_are = λ v node has. filled-of v node ∙ ap (filled_label (near + 1)) (sym (label-of v node)) ∙ filled-has (near + 1) (get_or labels v 0) has;
           valid = valid-joined (get_or labels start 0);
-          gated = λ v p node lies room label.
+          gated = λ v p node lies room label none.
               let head : ℕ = get_or l.heads p 0 in
               let head_is = (links.each p (lies-within l v p links node lies)).head in
-              rw (label-of head head_is) (closed-joined near far (get_or g v 0) (get_or s v 0) (get_or g head 0) (get_or s head 0) small (near-of v node)
-              (near-of head head_is) (near-start v p node lies room) (omega (arith, label, label-of v node)));
+              let level : get_or (filled (near + 1) labels) head 0 ≡ near + 1 =
+              filled-of head head_is ∙ ap (filled_label (near + 1)) (sym (label-of head head_is)) ∙ filled-none (near + 1) (get_or labels head 0) none in
+              (closed-joined near far (get_or g v 0) (get_or s v 0) (get_or g head 0) (get_or s head 0) small (near-of v node)
+              (near-of head head_is) (near-start v p node lies room) (omega (arith, label, level, label-of v node))) (sym (label-of head head_is) ∙ none);
         };
         start_label = omega (arith, first, few);
         walk = walk-start (get_or s at 0 + 1) at to_goal.0 (omega arith) met.node met.start_label to_goal.1;

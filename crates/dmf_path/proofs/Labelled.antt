@@ -2,13 +2,11 @@
 -- a walk leads to the goal.
 use Rattle.std.proofs.Common.{ℕ, ◌≡◌, ◌≢◌, ◌+◌, ◌<◌, ◌≤◌, inl, inr, List, [], ◌∷◌, length, get_or, zero, suc, ap, sym, refl, ◌∙◌, arith}
 use Rattle.std.proofs.lemmas.Bool.{cases_eq}
-use Rattle.std.proofs.lemmas.Bool.Decides.{nat_tests}
-use Rattle.std.proofs.lemmas.List.{ext_get_or, get_or-map, length-map}
 use Rattle.dmf_node.specs.Node.{IsNode}
 use Rattle.dmf_links.specs.Links.{Links, LiesAt, AreLinks, AreFlags, open_flag, tail_of}
 use Rattle.dmf_path.specs.Labels.{no_label, AreLabels, IsBacked}
 use Rattle.dmf_path.specs.Walk.{IsWalk, AreValid}
-use Rattle.dmf_path.specs.BothEnds.{AreSmall, AreSound, AreWhole, IsLabelled, filled, filled_label}
+use Rattle.dmf_path.specs.BothEnds.{AreSmall, AreSound, AreWhole, IsLabelled}
 use Rattle.dmf_links.proofs.LinkPlaces.{lies-within, lies-partner}
 use Rattle.dmf_links.proofs.Flags.{room-of_flag, flag-of_room}
 
@@ -61,22 +59,14 @@ walk-down {l = l} rooms flags lower labels {goal = goal} links flagged backed mo
       (p ∷ on.0, (record { lies = lies; room = room; falls = omega (arith, same v node has, same x tail set, back.label) }, on.1))
 ]
 
--- If nodes without a label count as `no_label`, the filled label of each node is its label.
-filled_label-none : (label : ℕ) → filled_label no_label label ≡ label
-filled_label-none label = grind (arith, nat_tests)
-
-filled-none : (labels : List ℕ) → filled no_label labels ≡ labels
-filled-none labels = ext_get_or 0 (filled no_label labels) labels (length-map labels (filled_label no_label)) (λ v within.
-    get_or-map (filled_label no_label) labels v 0 0 (omega (arith, within, length-map labels (filled_label no_label)))
-    ∙ filled_label-none (get_or labels v 0))
-
 -- Labels that are valid without being filled are sound.
 sound-valid : (l : Links) (labels rooms : List ℕ) (top : ℕ) → AreLinks l → AreSmall l.nodes labels → AreValid l labels rooms top → AreSound l labels rooms top
 sound-valid l labels rooms top links small valid = record {
-  beyond = no_label;
+  counts = labels;
   small = small;
-  valid = rw (filled-none labels) valid;
-  gated = λ v p is lies room label none. omega (arith, label, small.1 v is, links.at_most_nodes);
+  filled_are = λ v is has. refl;
+  valid = valid;
+  gated = λ v p is lies room label none. omega (arith, label, none, small.1 v is, links.at_most_nodes);
 }
 
 -- Labels that are whole are sound.
@@ -86,8 +76,9 @@ sound-whole l labels rooms links whole = sound-valid l labels rooms no_label lin
 -- Labels that are sound below a label are sound below each smaller one.
 pub sound-below : (l : Links) (labels rooms : List ℕ) (low top : ℕ) → low ≤ top → AreSound l labels rooms top → AreSound l labels rooms low
 sound-below l labels rooms low top less sound = record {
-  beyond = sound.beyond;
+  counts = sound.counts;
   small = sound.small;
+  filled_are = sound.filled_are;
   valid = λ v p node lies room below. sound.valid v p node lies room (omega (arith, below, less));
   gated = sound.gated;
 }

@@ -9,10 +9,10 @@ use Rattle.dmf_path.specs.Path.{IsPath, ComesBefore, ranks, IsLeastPath}
 use Rattle.dmf_path.specs.Pair.{steps_of}
 use Rattle.dmf_links.specs.Links.{Links, LiesAt, AreLinks, ArePlaces, AreRooms, IsSpare, pairs_at}
 use Rattle.dmf_path.specs.Labels.{no_label}
-use Rattle.dmf_path.specs.BothEnds.{AreSound, filled}
+use Rattle.dmf_path.specs.BothEnds.{AreSound}
 use Rattle.dmf_path.specs.Walk.{IsWalk, AreValid, ArePassed, IsTrail, end_of, IsWalking}
 use Rattle.dmf_links.proofs.LinkPlaces.{lies-within, room-used}
-use Rattle.dmf_path.proofs.Gated.{counts-set, walk-labels}
+use Rattle.dmf_path.proofs.Gated.{walk-labels}
 use Rattle.dmf_path.proofs.Steps.{rank_of, step_on, path_on}
 use Rattle.dmf_path.proofs.Ranks.{rank_of-ascends}
 use Rattle.dmf_path.proofs.OpenPaths.{IsOpenPath, head-node, path-of_links, links-of_path}
@@ -97,10 +97,10 @@ least-trail l places rooms labels current trail start goal links are fit node go
     let count = λ (other : List Step) (leads : IsPath (steps_of (pairs_at l places rooms)) start goal other).
     sym (length-map (on other leads).on (step_on l places rooms)) ∙ ap length (on other leads).steps in
     let trail_count : length path ≡ length trail = length-map trail (step_on l places rooms) in
-    let counts : List ℕ = filled sound.beyond labels in
+    let counts : List ℕ = sound.counts in
     let has : get_or labels start 0 ≢ no_label = λ none. omega (arith, none, start_label, links.at_most_nodes) in
-    let at_start : get_or counts start 0 ≡ get_or labels start 0 = counts-set l.nodes sound.beyond labels start sound.small node has in
-    let at_goal : get_or counts goal 0 ≡ get_or labels goal 0 = counts-set l.nodes sound.beyond labels goal sound.small goal_is
+    let at_start : get_or counts start 0 ≡ get_or labels start 0 = sound.filled_are start node has in
+    let at_goal : get_or counts goal 0 ≡ get_or labels goal 0 = sound.filled_are goal goal_is
     (λ none. omega (arith, none, walk.1, start_label, links.at_most_nodes)) in
     let top : ℕ = get_or labels start 0 in
     record {
@@ -111,7 +111,7 @@ least-trail l places rooms labels current trail start goal links are fit node go
       first = λ other leads same before.
           let counted = walk-from_label l rooms counts goal top links sound.valid start (on other leads).on node (on other leads).leads
           (omega (arith, walk.1, trail_count, count other leads, same, at_start, at_goal)) (omega (arith, at_start)) in
-          let other_walk = walk-labels l labels rooms sound.beyond goal start (on other leads).on links sound.small sound.gated node has counted in
+          let other_walk = walk-labels l labels rooms counts goal start (on other leads).on links sound.filled_are sound.gated node has counted in
           none-before l rooms labels goal places current links are fit walking.passed start trail (on other leads).on node walking.trail_is other_walk
           (subst (λ (p : List Step). ComesBefore (ranks p) (ranks path)) (sym (on other leads).steps) before);
     }

@@ -44,6 +44,8 @@ pub mod BothEnds
 pub mod Expanding
 pub mod Meeting
 pub mod Gated
+pub mod OneWayOut
+pub mod Marking
 pub mod Joining
 pub mod Beginning
 pub mod Marks

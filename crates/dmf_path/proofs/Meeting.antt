@@ -1,5 +1,5 @@
 -- Two searches meet: what their labels say then, and that a path has no more links than there are nodes.
-use Rattle.std.proofs.Common.{Bool, ℕ, ◌≡◌, ◌≢◌, ◌+◌, ◌≤◌, ◌<◌, ◌⊎◌, inl, inr, List, [], ◌∷◌, Option, None, length, get_or, set, replicate, map, suc, refl, ap, sym, ◌∙◌, arith}
+use Rattle.std.proofs.Common.{Bool, ℕ, ◌≡◌, ◌≢◌, ◌+◌, ◌≤◌, ◌<◌, ◌⊎◌, inl, inr, List, [], ◌∷◌, Option, None, length, get_or, set, replicate, map, zero, suc, refl, ap, sym, ◌∙◌, arith}
 use Rattle.std.proofs.Common.{◌==◌, cond}
 use Rattle.std.proofs.lemmas.Bool.{cases_lt}
 use Rattle.std.proofs.lemmas.Bool.Decides.{nat_tests}
@@ -56,6 +56,21 @@ apart-count (x ∷ g) (y ∷ s) long apart =
     let rest = apart-count g s (omega (arith, long)) (λ v within. apart (suc v) (omega (arith, within))) in
     let f : ℕ → ℕ = λ label. cond (label == no_label) 1 0 in
     omega (arith, rest, one-of x y (apart 0 (omega arith)), sum_by-cons f x g, sum_by-cons f y s)
+
+-- If they are apart but for one number, at least as many but one do.
+pub beside-count : (g s : List ℕ) (x : ℕ) → length g ≡ length s
+    → ((v : ℕ) → v < length g → v ≢ x → (get_or g v 0 ≡ no_label) ⊎ (get_or s v 0 ≡ no_label))
+    → length g ≤ unlabelled_count g + unlabelled_count s + 1
+beside-count [] s x long apart = omega arith
+beside-count (a ∷ g) [] x long apart = absurd (omega (arith, long))
+beside-count (a ∷ g) (b ∷ s) zero long apart =
+    let rest = apart-count g s (omega (arith, long)) (λ v within. apart (suc v) (omega (arith, within)) (λ same. omega (arith, same))) in
+    let f : ℕ → ℕ = λ label. cond (label == no_label) 1 0 in
+    omega (arith, rest, sum_by-cons f a g, sum_by-cons f b s)
+beside-count (a ∷ g) (b ∷ s) (suc x) long apart =
+    let rest = beside-count g s x (omega (arith, long)) (λ v within other. apart (suc v) (omega (arith, within)) (λ same. other (omega (arith, same)))) in
+    let f : ℕ → ℕ = λ label. cond (label == no_label) 1 0 in
+    omega (arith, rest, one-of a b (apart 0 (omega arith) (λ same. omega (arith, same))), sum_by-cons f a g, sum_by-cons f b s)
 
 -- the open links of the search from the start
 abbrev opens_of : Roomy → List ℕ

@@ -78,6 +78,9 @@ label-from label is same = let no : is_label label ≡ false = rw (eq-eqb label 
 pub label-to : (label : ℕ) → label ≢ no_label → is_label label ≡ true
 label-to label other = rw (ne_eqb label no_label other) refl
 
+pub label-none : (label : ℕ) → label ≡ no_label → is_label label ≡ false
+label-none label none = rw (eq-eqb label no_label none) refl
+
 -- a path, and one more link
 open-push : (l : Links) (rooms : List ℕ) (u v : ℕ) (ps : List ℕ) (p : ℕ) → IsOpenPath l rooms v u ps → LiesAt l v p → 0 < get_or rooms p 0
     → IsOpenPath l rooms (get_or l.heads p 0) u (ps ++ p ∷ [])

@@ -77,16 +77,22 @@ pub record HaveGoneOn (links : Roomy) (to_goal from_start new_goal new_start : R
   pub goal_root : new_goal.root ≡ to_goal.root
   pub start_root : new_start.root ≡ from_start.root
 
+-- a node's label, if it gets one that is made of its label in another search where it has none
+abbrev pub joined_by : (ℕ → ℕ) → ℕ → ℕ → ℕ
+joined_by made own other = if own == no_label then (if other == no_label then no_label else made other) else own
+
+-- Labels are joined in this way.
+pub record AreJoinedBy (made : ℕ → ℕ) (own others labels : List ℕ) : Type 0 where
+  pub one_each : length labels ≡ length own
+  pub each : (v : ℕ) → v < length labels → slice_index labels v ≡ joined_by made (slice_index own v) (slice_index others v)
+
 -- a node's joined label, if a shortest path has `long` links: the number of links that are left to the goal
 abbrev pub joined_label : ℕ → ℕ → ℕ → ℕ
-joined_label long to_goal from_start =
-    if to_goal == no_label then (if from_start == no_label then no_label else long - from_start) else to_goal
+joined_label long = joined_by (λ from_start. long - from_start)
 
 -- The labels of both searches are joined.
-pub record AreJoined (long : ℕ) (to_goal from_start labels : List ℕ) : Type 0 where
-  pub one_each : length labels ≡ length to_goal
-  pub each : (v : ℕ) → v < length labels
-      → slice_index labels v ≡ joined_label long (slice_index to_goal v) (slice_index from_start v)
+abbrev pub AreJoined : ℕ → List ℕ → List ℕ → List ℕ → Type 0
+AreJoined long = AreJoinedBy (λ from_start. long - from_start)
 
 -- The labels are the number of nodes less these distances from the start, or 0 where there is none.
 pub record AreTurned (nodes : ℕ) (from_start labels : List ℕ) : Type 0 where
@@ -100,24 +106,25 @@ filled_label beyond label = if label == no_label then beyond else label
 abbrev pub filled : ℕ → List ℕ → List ℕ
 filled beyond labels = map (filled_label beyond) labels
 
--- Each link with room from a node one level above the nodes without a label leads to a node with a label.
-abbrev pub IsGated : Links → List ℕ → List ℕ → ℕ → Type 0
-IsGated l labels rooms beyond =
-    (v p : ℕ) → IsNode l.nodes v → LiesAt l v p → 0 < slice_index rooms p → slice_index labels v ≡ beyond + 1
-    → slice_index labels (slice_index l.heads p) ≢ no_label
+-- Each link with room from a node to one that counts as one level lower leads to a node with a label.
+abbrev pub IsGated : Links → List ℕ → List ℕ → List ℕ → Type 0
+IsGated l labels rooms counts =
+    (v p : ℕ) → IsNode l.nodes v → LiesAt l v p → 0 < slice_index rooms p
+    → slice_index labels v ≡ slice_index counts (slice_index l.heads p) + 1 → slice_index labels (slice_index l.heads p) ≢ no_label
 
 -- Each label is a small number.
 abbrev pub AreSmall : ℕ → List ℕ → Type 0
 AreSmall nodes labels =
     (length labels ≡ nodes + 1) × ((v : ℕ) → IsNode nodes v → (slice_index labels v ≡ no_label) ⊎ (slice_index labels v ≤ nodes))
 
--- Labels that lead to the goal along least paths. The nodes without one count as one level, no link with room falls by more than one
+-- Labels that lead to the goal along least paths. A node without one counts as some level, no link with room falls by more than one
 -- where it leads below `top`, and no walk goes through a node without a label.
 pub record AreSound (l : Links) (labels rooms : List ℕ) (top : ℕ) : Type 0 where
-  pub beyond : ℕ
+  pub counts : List ℕ
   pub small : AreSmall l.nodes labels
-  pub valid : AreValid l (filled beyond labels) rooms top
-  pub gated : IsGated l labels rooms beyond
+  pub filled_are : (v : ℕ) → IsNode l.nodes v → slice_index labels v ≢ no_label → slice_index counts v ≡ slice_index labels v
+  pub valid : AreValid l counts rooms top
+  pub gated : IsGated l labels rooms counts
 
 -- Labels of all nodes from which paths lead to the goal: no link with room falls by more than one, and none leads from a node without a
 -- label to one with a label.

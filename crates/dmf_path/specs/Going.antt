@@ -9,8 +9,9 @@ use Rattle.dmf_path.specs.declared.push.Links.{Links as Roomy}
 use Rattle.dmf_path.specs.declared.trail.Trail.{Trail}
 use Rattle.dmf_path.specs.Ball.{IsAround, IsFit}
 use Rattle.dmf_path.specs.Held.{way_of}
+use Rattle.dmf_path.specs.BothEnds.{AreWhole, IsLabelled}
 use Rattle.dmf_path.specs.Residual.{residual_of, told}
-use Rattle.dmf_path.specs.Searching.{sought, labelling_of, AreAside, AreKept, AreReady, IsFound, IsMarked, IsSearching, MayLast, Sought}
+use Rattle.dmf_path.specs.Searching.{sought, labelling_of, AreAside, AreKept, AreReady, IsFound, IsMarked, IsReady, IsSearching, MayLast, Sought}
 
 -- What a search has between two looks for a path: labels that are sound, with current links and held pushes; what another search may keep of
 -- them; and nodes near some goal.
@@ -39,3 +40,13 @@ pub record HasGoneOn (before : Sought) (links : Roomy) (levels : Levels) (ball :
   pub goes : Goes links levels ball trail
   pub same : sought (residual_of links) (way_of trail) ≡ before
   pub found_is : found ≡ true → IsFound (residual_of links) (way_of trail)
+
+-- What it has once the nodes are labelled anew: all but the labels is as it was, with no push held, and a walk leads along the labels.
+pub record IsRelabelledFor (links : Roomy) (levels : Levels) (ball : Ball) (trail : Trail) : Type 0 where
+  pub before : Levels
+  pub goes : Goes links before ball trail
+  pub settled : told (residual_of links) (way_of trail) ≡ residual_of links
+  pub current : levels.current ≡ before.current
+  pub ready : IsReady links.table.value.nodes levels.near levels.far
+  pub labelled : IsLabelled (links_of links.table.value) links.rooms.items levels.near.labels trail.start trail.goal
+  pub whole : levels.all ≡ true → AreWhole (links_of links.table.value) levels.near.labels links.rooms.items

@@ -21,3 +21,4 @@ pub mod Touching
 pub mod Apart
 pub mod Spares
 pub mod ClosedSide
+pub mod Through

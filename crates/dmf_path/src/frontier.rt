@@ -2,7 +2,7 @@
 ghost use Rattle.std.specs.Prelude.{◌≡◌, ◌≢◌, ℕ, ◌+◌, ◌*◌, ◌^◌, ◌≤◌, ◌<◌, true, false, drop, take, IfOk, length, replicate, slice_index};
 ghost use Rattle.dmf_node.specs.Node.{IsNode};
 ghost use Rattle.dmf_links.specs.LinkTable.{links_of};
-ghost use Rattle.dmf_path.specs.BothEnds.{AreJoined, AreTurned};
+ghost use Rattle.dmf_path.specs.BothEnds.{AreJoined, AreJoinedBy, AreTurned};
 ghost use Rattle.dmf_path.specs.Frontier.{HasExpanded, IsClean, IsSpread, begun_at, next_label, unlabelled, with_label};
 ghost use Rattle.dmf_path.specs.Labels.{AreLabels, AreQueued, no_label, unlabelled_count};
 ghost use Rattle.dmf_path.specs.Searching.{fresh_labels};
@@ -234,6 +234,7 @@ impl Frontier {
         requires so_far { IsSpread (links_of table.now) (O.flags opens.now) self.old }
         requires stop { stop ≤ table.now.nodes }
         ensures labels { result ≡ true → AreLabels (links_of table.now) (O.flags opens.now) self.old.root stop self.new.labels }
+        ensures spread { IsSpread (links_of table.now) (O.flags opens.now) self.new }
         ensures enough { 2 ^ 62 ≤ most → result ≡ true }
         ensures long { length self.new.labels ≡ table.now.nodes + 1 }
     {
@@ -269,9 +270,11 @@ impl Frontier {
     pub fn join(&mut self, from_start: &Frontier, long: u32)
         requires one_label_each { length self.old.labels ≡ length from_start.now.labels }
         requires counted { length self.old.queue + unlabelled_count self.old.labels ≤ length self.old.labels }
-        requires at_most { (i : ℕ) → i < length from_start.now.queue → slice_index from_start.now.labels (slice_index from_start.now.queue i) ≤ long }
+        requires labelled { (i : ℕ) → i < length from_start.now.queue
+            → slice_index from_start.now.labels (slice_index from_start.now.queue i) ≢ no_label }
         requires small { long < no_label }
-        ensures { AreJoined long self.old.labels from_start.now.labels self.new.labels }
+        ensures joined { AreJoined long self.old.labels from_start.now.labels self.new.labels }
+        ensures counted { length self.new.queue + unlabelled_count self.new.labels ≤ length self.new.labels }
     {
         let distances = from_start.labels();
         let nodes = from_start.queue();
@@ -279,7 +282,28 @@ impl Frontier {
         let queue = &mut self.queue;
         for node in nodes {
             if labels[*node as usize] == NO_LABEL {
-                labels[*node as usize] = long - distances[*node as usize];
+                labels[*node as usize] = long.saturating_sub(distances[*node as usize]);
+                queue.push_reserved(*node);
+            }
+        }
+    }
+
+    /// Gives each node that has only a label of the other search one of this: so many links more than that.
+    pub fn join_before(&mut self, before: &Frontier, long: u32)
+        requires one_label_each { length self.old.labels ≡ length before.now.labels }
+        requires counted { length self.old.queue + unlabelled_count self.old.labels ≤ length self.old.labels }
+        requires small { (v : ℕ) → slice_index before.now.labels v ≢ no_label → long + slice_index before.now.labels v < no_label }
+        requires labelled { (i : ℕ) → i < length before.now.queue
+            → slice_index before.now.labels (slice_index before.now.queue i) ≢ no_label }
+        ensures { AreJoinedBy (λ label. long + label) self.old.labels before.now.labels self.new.labels }
+    {
+        let distances = before.labels();
+        let nodes = before.queue();
+        let labels = &mut self.labels[..];
+        let queue = &mut self.queue;
+        for node in nodes {
+            if labels[*node as usize] == NO_LABEL {
+                labels[*node as usize] = long + distances[*node as usize];
                 queue.push_reserved(*node);
             }
         }

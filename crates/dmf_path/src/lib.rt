@@ -26,6 +26,7 @@ mod relabel;
 mod release;
 mod room;
 mod search;
+mod through;
 mod touched;
 mod trail;
 mod walk;

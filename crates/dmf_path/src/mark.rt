@@ -1,6 +1,7 @@
 //! Marks of the nodes on the start's side of a cut without room.
-ghost use Rattle.std.specs.Prelude.{◌≡◌, ◌≢◌, ◌<◌, true, false, length, slice_index};
+ghost use Rattle.std.specs.Prelude.{◌≡◌, ◌≢◌, ◌+◌, ◌<◌, ℕ, true, false, length, slice_index};
 ghost use Rattle.dmf_path.specs.Labels.{no_label, MarksLabelled, MarksUnlabelled};
+ghost use Rattle.dmf_path.specs.Through.{AreMarked};
 
 use crate::frontier::Frontier;
 use crate::label::NO_LABEL;
@@ -41,4 +42,17 @@ pub fn has_label_or_mark(search: &Frontier, node: u32, marks: &mut [bool]) -> bo
     }
     mark_unlabelled(search.labels(), marks);
     false
+}
+
+/// Gives the nodes with a label this mark. The other marks stay.
+pub fn mark_queued(search: &Frontier, mark: bool, marks: &mut [bool])
+    requires one_each { length search.now.labels ≡ length marks.old + 1 }
+    requires labelled { (i : ℕ) → i < length search.now.queue → slice_index search.now.labels (slice_index search.now.queue i) ≢ no_label }
+    requires zero { slice_index search.now.labels 0 ≡ no_label }
+    ensures { AreMarked search.now.labels mark marks.old marks.new }
+{
+    let nodes = search.queue();
+    for node in nodes {
+        marks[*node as usize - 1] = mark;
+    }
 }

@@ -1,4 +1,6 @@
-//! Which links a search may follow: by their flags, or by their rooms.
+//! Which links a search may follow: by their flags, or by their rooms, or by the marks of the nodes to which they lead.
+ghost use Rattle.std.specs.Prelude.{◌≡◌, ◌<◌, ℕ, length, slice_index};
+ghost use Rattle.dmf_node.specs.Node.{IsNode};
 
 /// A test for open links, by their places.
 pub trait OpenLinks {
@@ -37,5 +39,31 @@ impl OpenLinks for Roomy<'_> {
 
     fn is_open(&self, place: usize) -> bool {
         self.0[place] > 0
+    }
+}
+
+/// The open links that lead to nodes with a mark, or to those without one. The first mark belongs to node 1.
+#[derive(Drop)]
+pub struct LedTo<'a, O: OpenLinks> {
+    /// Which links are open.
+    pub opens: O,
+    /// The node to which each link leads.
+    pub heads: &'a [u32],
+    /// For each node whether it is marked.
+    pub marks: &'a [bool],
+    /// The mark of the nodes to which links may lead.
+    pub mark: bool,
+    ghost nodes: { (p : ℕ) → p < length heads.now → IsNode (length marks.now) (slice_index heads.now p) },
+    ghost one_flag_each: { length (O.flags opens) ≡ length heads.now },
+}
+
+impl<O: OpenLinks> OpenLinks for LedTo<'_, O> {
+    ghost use Rattle.dmf_path.specs.Through.{flags_to};
+
+    ghost flags = { λ to. flags_to to.mark to.marks.now to.heads.now (O.flags to.opens) };
+
+    fn is_open(&self, place: usize) -> bool {
+        let marked = self.marks[self.heads[place] as usize - 1];
+        self.opens.is_open(place) && (if self.mark { marked } else { !marked })
     }
 }

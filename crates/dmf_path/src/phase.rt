@@ -1,13 +1,14 @@
 //! The search for the next path: the walk goes on, or the nodes get new labels and it begins again.
-ghost use Rattle.std.specs.Prelude.{◌≡◌, ◌≢◌, ℕ, List, true, false, []};
+ghost use Rattle.std.specs.Prelude.{◌≡◌, ◌≢◌, ℕ, List, Some, true, false, []};
 ghost use Rattle.dmf_node.specs.Node.{IsNode};
 ghost use Rattle.dmf_links.specs.LinkTable.{links_of};
-ghost use Rattle.dmf_path.specs.Going.{Goes, HasGoneOn, IsAimedAnew, IsBetweenLooks};
+ghost use Rattle.dmf_path.specs.Going.{Goes, HasGoneOn, IsAimedAnew, IsBetweenLooks, IsRelabelledFor};
 ghost use Rattle.dmf_path.specs.Ball.{IsFitFor};
 ghost use Rattle.dmf_path.specs.Walk.{IsWalk};
 ghost use Rattle.dmf_path.specs.Held.{way_of, with_slots};
 ghost use Rattle.dmf_path.specs.Residual.{residual_of, told};
 ghost use Rattle.dmf_path.specs.Searching.{labelling_of, sought, AreAside, AreReady, AreRedirected, IsSearching, IsFound, IsFresh, IsReady, IsParted, fresh_labels};
+ghost use Rattle.dmf_path.specs.Through.{IsOnlyWay};
 
 use crate::aside::{Aside, Ends, take_up};
 use crate::ball::Ball;
@@ -16,6 +17,7 @@ use crate::push::Links;
 use crate::raise::raise;
 use crate::redirect::{redirect, refit};
 use crate::relabel::label_anew;
+use crate::through::{Through, label_through};
 use crate::trail::Trail;
 use crate::walk::walk;
 use dmf_links::LinkTable;
@@ -160,6 +162,55 @@ fn relabel(
         make_fresh(&links.table, levels, trail);
         return false;
     }
+    begin_phase(links, levels, ball, trail);
+    true
+}
+
+/// Labels the nodes anew from the way out, which each path passes, and frees the slots; no push is held. Returns whether a path is left,
+/// or `None` if that is not known; then the search is fresh.
+pub fn relabel_through(
+    links: &Links,
+    levels: &mut Levels,
+    ball: &mut Ball,
+    trail: &mut Trail,
+    way_out: u32,
+    marks: &mut [bool],
+) -> Option<bool>
+    requires goes { Goes links.now levels.old ball.old trail.old }
+    requires settled { told (residual_of links.now) (way_of trail.old) ≡ residual_of links.now }
+    requires way { IsOnlyWay (links_of links.now.table.value) links.now.rooms.items trail.old.start trail.old.goal way_out marks.old }
+    ensures goes { Goes links.now levels.new ball.new trail.new }
+    ensures same { sought (residual_of links.now) (way_of trail.new) ≡ sought (residual_of links.now) (way_of trail.old) }
+    ensures labelled { result ≡ Some true → (ps : List ℕ) × IsWalk (links_of links.now.table.value) levels.new.near.labels links.now.rooms.items
+        trail.old.goal trail.old.start ps }
+    ensures parted { result ≡ Some false → IsParted (links_of links.now.table.value) links.now.rooms.items trail.old.start trail.old.goal marks.new }
+    ensures marks { result ≢ Some false → marks.new ≡ marks.old }
+{
+    levels.near.unlabel();
+    levels.all = false;
+    let ends = Ends {
+        start: trail.start,
+        goal: trail.goal,
+    };
+    let Some(is_left) = label_through(links, levels, Through { ends, way_out }, marks) else {
+        make_fresh(&links.table, levels, trail);
+        return None;
+    };
+    if !is_left {
+        make_fresh(&links.table, levels, trail);
+        return Some(false);
+    }
+    begin_phase(links, levels, ball, trail);
+    Some(true)
+}
+
+/// Begins the walks along new labels, by which one leads to the goal, and frees the slots.
+fn begin_phase(links: &Links, levels: &mut Levels, ball: &mut Ball, trail: &mut Trail)
+    requires { IsRelabelledFor links.now levels.old ball.old trail.old }
+    ensures goes { Goes links.now levels.new ball.new trail.new }
+    ensures same { sought (residual_of links.now) (way_of trail.new) ≡ sought (residual_of links.now) (way_of trail.old) }
+    ensures near { levels.new.near ≡ levels.old.near }
+{
     set_current(&links.table, levels.near.queue(), &mut levels.current);
     levels.noted.clear();
     let is_wanted = levels.all && levels.course.is_from_start();
@@ -167,7 +218,6 @@ fn relabel(
     let start_label = levels.near.label(trail.start);
     let goal_label = levels.near.label(trail.goal);
     trail.free(start_label - goal_label);
-    true
 }
 
 /// Restarts the search between its two nodes: applies the held pushes and removes all labels, so that the next walk ends at once. From

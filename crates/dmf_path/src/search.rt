@@ -29,6 +29,7 @@ mod growing;
 mod making;
 mod shrinking;
 mod spares;
+mod through;
 
 /// What was pushed along a path.
 #[derive(Clone, Copy)]

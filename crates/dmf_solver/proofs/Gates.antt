@@ -22,7 +22,7 @@ use Rattle.dmf_solver.proofs.ByArc.{optional-each, optional-has}
 -- ---- the tests
 
 -- A link with room from a marked node that does not lead out leads to a marked node,
-stays : (room inside target : Bool) → (room && (inside && not target)) ≡ false → IsTrue room → IsTrue inside → IsTrue target
+pub stays : (room inside target : Bool) → (room && (inside && not target)) ≡ false → IsTrue room → IsTrue inside → IsTrue target
 stays true true true e r i = refl
 stays true true false e r i = absurd (false≢true (sym e))
 stays true false target e r i = absurd (false≢true i)
@@ -39,15 +39,15 @@ neither : (a b : Bool) → a ≡ false → b ≡ false → (a || b) ≡ false
 neither true b e f = absurd (false≢true (sym e))
 neither false b e f = f
 
-first-not : (a b : Bool) → (a || b) ≡ false → a ≡ false
+pub first-not : (a b : Bool) → (a || b) ≡ false → a ≡ false
 first-not true b e = e
 first-not false b e = refl
 
-second-not : (a b : Bool) → (a || b) ≡ false → b ≡ false
+pub second-not : (a b : Bool) → (a || b) ≡ false → b ≡ false
 second-not true b e = absurd (false≢true (sym e))
 second-not false b e = e
 
-some-room : (room : ℕ) → 0 < room → IsTrue (nat_lt 0 room)
+pub some-room : (room : ℕ) → 0 < room → IsTrue (nat_lt 0 room)
 some-room room h = grind (arith, nat_tests)
 
 has-room : (room : ℕ) → IsTrue (nat_lt 0 room) → 0 < room
@@ -56,7 +56,7 @@ has-room room h = grind (arith, nat_tests)
 -- ---- the steps of pairs
 
 -- What holds of both links of a pair, if they have room,
-abbrev OfPair : (ℕ → ℕ → Type 0) → Pair → Type 0
+abbrev pub OfPair : (ℕ → ℕ → Type 0) → Pair → Type 0
 OfPair P p = (0 < p.along → P p.tail p.head) × (0 < p.against → P p.head p.tail)
 
 -- holds of its steps,
@@ -75,7 +75,7 @@ each-own P j (Some p) s each c =
     (Contains-append_cases (cond (nat_lt 0 p.along) (along ∷ []) []) (cond (nat_lt 0 p.against) (against ∷ []) []) s c)
 
 -- and if of all pairs, of all steps.
-each-step : (P : ℕ → ℕ → Type 0) (j : ℕ) (pairs : List (Option Pair)) (s : Step)
+pub each-step : (P : ℕ → ℕ → Type 0) (j : ℕ) (pairs : List (Option Pair)) (s : Step)
     → ((k : ℕ) (p : Pair) → pair_number pairs k ≡ Some p → OfPair P p) → Contains (steps_from j pairs) s → P s.from s.to
 each-step P j [] s each c = absurd (omega (arith, c.1))
 each-step P j (q ∷ pairs) s each c = ⊎_elim
@@ -84,14 +84,14 @@ each-step P j (q ∷ pairs) s each c = ⊎_elim
     (Contains-append_cases (pair_steps j q) (steps_from (j + 1) pairs) s c)
 
 -- A step leads from one node to the other.
-record HasStep (steps : List Step) (from to : ℕ) : Type 0 where
-  step : Step
-  there : Contains steps step
-  from_is : step.from ≡ from
-  to_is : step.to ≡ to
+pub record HasStep (steps : List Step) (from to : ℕ) : Type 0 where
+  pub step : Step
+  pub there : Contains steps step
+  pub from_is : step.from ≡ from
+  pub to_is : step.to ≡ to
 
 -- The steps of a pair are steps of the pairs.
-has-step : (j : ℕ) (pairs : List (Option Pair)) (k : ℕ) (p : Pair) (from to : ℕ) → pair_number pairs k ≡ Some p
+pub has-step : (j : ℕ) (pairs : List (Option Pair)) (k : ℕ) (p : Pair) (from to : ℕ) → pair_number pairs k ≡ Some p
     → ((i : ℕ) → HasStep (pair_steps i (Some p)) from to) → HasStep (steps_from j pairs) from to
 has-step j [] k p from to is has = absurd (cc)
 has-step j (q ∷ pairs) zero p from to is has =
@@ -111,7 +111,7 @@ has-step j (q ∷ pairs) (suc k) p from to is has =
       to_is = later.to_is;
     }
 
-has-along : (p : Pair) → 0 < p.along → (i : ℕ) → HasStep (pair_steps i (Some p)) p.tail p.head
+pub has-along : (p : Pair) → 0 < p.along → (i : ℕ) → HasStep (pair_steps i (Some p)) p.tail p.head
 has-along p room i = record {
   step = _;
   there = Contains-append_left _ _ _ (optional-has (nat_lt 0 p.along) _ (some-room p.along room));
@@ -119,7 +119,7 @@ has-along p room i = record {
   to_is = refl;
 }
 
-has-against : (p : Pair) → 0 < p.against → (i : ℕ) → HasStep (pair_steps i (Some p)) p.head p.tail
+pub has-against : (p : Pair) → 0 < p.against → (i : ℕ) → HasStep (pair_steps i (Some p)) p.head p.tail
 has-against p room i = record {
   step = _;
   there = Contains-append_right _ _ _ (optional-has (nat_lt 0 p.against) _ (some-room p.against room));
@@ -136,7 +136,7 @@ module _ (steps : List Step) (start goal : ℕ) (marks : List Bool) (is : IsClos
   stays-in (s ∷ path) v inside leads =
       stays-in path s.to (is.none_leaves s leads.0 (subst (λ w. IsTrue (is_marked marks w)) (sym leads.1) inside)) leads.2
 
-  no_path-closed : HasNoPath steps start goal
+  pub no_path-closed : HasNoPath steps start goal
   no_path-closed path = stays-in path start is.start_in
 
 -- Nothing is one of no gates.

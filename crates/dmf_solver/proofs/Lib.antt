@@ -33,6 +33,7 @@ pub mod SolvingSearch
 pub mod SolvedEdit
 pub mod AtOnce
 pub mod Gates
+pub mod WayOut
 pub mod Followed
 pub mod CarryingPairs
 pub mod CarryingFollowed

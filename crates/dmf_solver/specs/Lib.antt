@@ -16,3 +16,4 @@ pub mod Planning
 pub mod SmallestSide
 pub mod Enclosed
 pub mod Gates
+pub mod WayOut

@@ -150,10 +150,9 @@ impl ResidualNetwork {
             looks,
         } = self;
         let looks = look_or_number(alloc, &mut search, looks)?;
-        let search = search.into_search();
+        let (search, mut marks, way_out) = search.into_way_out(alloc, state.nodes());
         let touched = search.none_touched(alloc, state.nodes() as usize / 8)?;
-        let mut marks = marks_or_none(alloc, state.nodes());
-        let solved = solve(search, state, touched, &mut marks, watch);
+        let solved = solve(search, state, touched, &mut marks, way_out, watch);
         let side = wanted_side(alloc, state, &solved.search, solved.value, want_side)?;
         let moves = touched_moves(alloc, state, &solved)?;
         let carrying = carry_flows(carrying, state, &moves, Direction::Forward);
@@ -336,14 +335,6 @@ pub fn kept_or_new(
         carrying: None,
         looks: 0,
     })
-}
-
-/// A mark for each of so many nodes, or none if memory for them is refused.
-fn marks_or_none(alloc: Global, nodes: u32) -> Vec<bool> {
-    match vec![in alloc; false; nodes as usize] {
-        Ok(marks) => marks,
-        Err(_) => Vec::new(alloc),
-    }
 }
 
 /// Counts one more look at all arcs, or after enough of them numbers the links. Returns how many looks there were.

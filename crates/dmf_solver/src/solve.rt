@@ -1,17 +1,21 @@
-ghost use Rattle.std.specs.Prelude.{◌≡◌, ◌+◌, ◌↔◌, false, [], length, IfOk, IsTrue};
+ghost use Rattle.std.specs.Prelude.{◌≡◌, ◌≢◌, ◌+◌, ◌-◌, ◌^◌, ◌↔◌, false, [], length, None, IfOk, IfSome, IsTrue, MatchOption};
 ghost use Rattle.dmf_path.specs.ClosedSide.{IsClosedSide};
 ghost use Rattle.dmf_path.specs.Pair.{steps_of};
-ghost use Rattle.dmf_path.specs.Touched.{AreBelow};
+ghost use Rattle.dmf_path.specs.Path.{HasNoPath};
+ghost use Rattle.dmf_path.specs.Search.{Augments};
+ghost use Rattle.dmf_path.specs.Touched.{AreBelow, Touches};
 ghost use Rattle.dmf_state.specs.NetworkState.{IsState};
 ghost use Rattle.dmf_solver.specs.Greatest.{IsGreatest, IsSurpassed};
 ghost use Rattle.dmf_solver.specs.Pairs.{reached_flows, IsSolved};
 ghost use Rattle.dmf_solver.specs.ResidualNetwork.{IsResidualOf};
 ghost use Rattle.dmf_solver.specs.Told.{AreTold, TellsSolve};
+ghost use Rattle.dmf_solver.specs.WayOut.{IsWayOut};
 
+use crate::closed_side::way_out::WayOut;
 use crate::enclosed::is_enclosed;
 use crate::residual::residual_search;
 use crate::watch::Watch;
-use dmf_path::{Search, Touched};
+use dmf_path::{AugmentingPath, Search, Touched};
 use dmf_state::{NoMemory, State};
 use std::alloc::Global;
 
@@ -25,14 +29,18 @@ pub struct Solved {
 
 /// Augments the flow of the state along least paths until none is left, and reports each to the watch. Afterwards the pairs of these
 /// paths count as touched. If there is a mark for each node, they are those of a closed side then.
+///
+/// If links with room leave the marked nodes to one node alone, the first paths are looked for from there.
 pub fn solve<W: Watch>(
     mut search: Search,
     state: &State,
     mut touched: Touched,
     marks: &mut [bool],
+    mut way_out: Option<WayOut>,
     watch: &mut W,
 ) -> Solved
     requires residual { IsResidualOf state.now search }
+    requires way { IfSome way_out (IsWayOut search marks.old) }
     requires below { AreBelow (length state.now.network.arcs + 1) touched }
     ensures solved { IsSolved state.now result }
     ensures told { TellsSolve state.now (reached_flows state.now result.search) (W.told watch.old) (W.told watch.new) }
@@ -42,7 +50,7 @@ pub fn solve<W: Watch>(
     ensures state { IsState state.now }
 {
     let mut value = state.value();
-    while let Some(found) = search.augment_or_mark(u64::MAX, &mut touched, marks) {
+    while let Some(found) = next_path(&mut search, &mut way_out, &mut touched, marks) {
         value += found.amount;
         watch.augmented(value, found.links);
     }
@@ -52,6 +60,34 @@ pub fn solve<W: Watch>(
         value,
         touched,
     }
+}
+
+/// Augments along the next least path, which is looked for from the way out while that is known. If no path is left, marks a closed side.
+fn next_path(
+    search: &mut Search,
+    way_out: &mut Option<WayOut>,
+    touched: &mut Touched,
+    marks: &mut [bool],
+) -> Option<AugmentingPath>
+    requires way { IfSome way_out.old (IsWayOut search.old marks.old) }
+    ensures found { MatchOption result
+        (HasNoPath (steps_of search.old.pairs) search.old.start search.old.goal × (search.new ≡ search.old))
+        (λ found. Augments (2 ^ 64 - 1) found search.old search.new) }
+    ensures touched { Touches touched.old touched.new search.old.pairs search.new.pairs }
+    ensures side { length marks.old ≡ search.old.nodes → result ≡ None
+        → IsClosedSide (steps_of search.old.pairs) search.old.start search.old.goal marks.new }
+    ensures way { result ≢ None → IfSome way_out.new (IsWayOut search.new marks.new) }
+{
+    if let Some(way) = way_out.take()
+        && let Some(is_left) = search.label_through(way.node, marks)
+    {
+        if !is_left {
+            return None;
+        }
+        *way_out = way.next();
+        return search.augment(u64::MAX, touched);
+    }
+    search.augment_or_mark(u64::MAX, touched, marks)
 }
 
 /// Whether no flow of the state's network has a larger value than the state's flow. Takes memory for a mark a node and, if a few passes

@@ -1,21 +1,19 @@
 -- The labels, the current links and the slots fit together; or the search is fresh.
-use Rattle.std.proofs.Common.{◌≡◌, ◌≤◌, true, List, [], replicate, get_or, ap, sym, ◌∙◌, subst, arith}
-use Rattle.std.proofs.lemmas.List.{with_items_is}
+use Rattle.std.proofs.Common.{ℕ, ◌≡◌, List, [], replicate, ap, sym, ◌∙◌, subst}
 use Rattle.dmf_links.specs.LinkTable.{links_of}
 use Rattle.dmf_path.specs.declared.trail.Slot.{Slot}
 use Rattle.dmf_path.specs.Ball.{IsFit}
 use Rattle.dmf_path.specs.Labels.{no_label}
 use Rattle.dmf_path.specs.Reach.{Reach}
-use Rattle.dmf_path.specs.Walk.{AreCurrent, AreSkipped}
+use Rattle.dmf_path.specs.Walk.{AreCurrent, IsWalk}
 use Rattle.dmf_path.specs.Held.{Way, way_of, with_slots}
 use Rattle.dmf_path.specs.Residual.{residual_of, told}
-use Rattle.dmf_path.specs.Searching.{Labelling, labelling_of, sought, AreLasting}
-use Rattle.dmf_path.proofs.LeastTrail.{walk-path}
-use Rattle.dmf_path.proofs.Beginning.{first-queued, skipped-first, ready-at}
-use Rattle.dmf_path.proofs.SearchTurns.{aimed-with, plainly, searching-free, searching-anew, sought-free}
+use Rattle.dmf_path.specs.Searching.{labelling_of, sought}
+use Rattle.dmf_path.proofs.Beginning.{ready-at}
+use Rattle.dmf_path.proofs.SearchTurns.{plainly, searching-anew, sought-free}
 use Rattle.dmf_path.proofs.Settling.{told-free}
 use Rattle.dmf_path.proofs.phase.relabel.Goals as goal
-use Rattle.dmf_path.proofs.phase.relabel.Goals.{Start, After-label-goal_label}
+use Rattle.dmf_path.proofs.phase.relabel.Goals.{Start}
 
 -- With other free slots the network and the ends are the same.
 same : (c : Start) {new : Way} (slots : List Slot) → new ≡ with_slots (way_of c.args.trail.now) slots
@@ -69,84 +67,27 @@ returns-then-not-label_anew c =
       none = λ e. c.label_anew.ensures.relabelled.none c.if-not-label_anew.true;
     }
 
-pub set_current-requires : goal.set_current-requires
-set_current-requires c =
-    let is = c.label_anew.ensures.relabelled.ready in
-    let same = ap (λ v. v.items) c.label_anew.ensures.relabelled.current in
-    record {
-      nodes = rw (c.deref-2.ensures, c.queue.ensures.value) (λ i before. omega (arith, c.queue.ensures.queued.within i before, is.one_label_each));
-      current = rw c.deref-2.ensures (subst (AreCurrent (links_of c.args.links.now.table.value)) (sym (c.deref_mut.ensures.value ∙ same))
-          c.requires.goes.keeps.searching.under_way.walking.current_is);
-    }
-
--- the labels of the start and of the goal are read
-read : (c : After-label-goal_label) → (c.label-start_label.result ≡ get_or c.label_anew.new.levels.near.labels c.args.trail.now.start 0)
-    × (c.label-goal_label.result ≡ get_or c.label_anew.new.levels.near.labels c.args.trail.now.goal 0)
-read c = (c.label-start_label.ensures, c.label-goal_label.ensures)
-
--- The goal is not above the start.
-low : (c : After-label-goal_label) → c.label_anew.result ≡ true → c.label-goal_label.result ≤ c.label-start_label.result
-low c labelled =
-    let walk = (c.label_anew.ensures.relabelled.labelled labelled).walk in
-    let long = walk-path (links_of c.args.links.now.table.value) c.args.links.now.rooms.items c.label_anew.new.levels.near.labels
-    c.args.trail.now.goal c.args.trail.now.start walk.0 walk.1 in
-    omega (arith, read c, long.1)
-
-pub overflow_sub-start_label : goal.overflow_sub-start_label
-overflow_sub-start_label c = low (goal.at.overflow_sub-start_label c).After-label-goal_label c.if-not-label_anew.false
-
-pub free-requires : goal.free-requires
-free-requires c =
+-- The labels are new, and all else is as it was.
+pub begin_phase-requires : goal.begin_phase-requires
+begin_phase-requires c =
     let labelled = c.label_anew.ensures.relabelled.labelled c.if-not-label_anew.false in
-    let read = (read (goal.at.free-requires c).After-label-goal_label).0 in
-    record { capacity = omega (arith, read, labelled.start_label, c.requires.goes.keeps.searching.aimed.capacity_is) }
+    record {
+      before = c.args.levels.now;
+      goes = c.requires.goes;
+      settled = c.requires.settled;
+      current = c.label_anew.ensures.relabelled.current;
+      ready = c.label_anew.ensures.relabelled.ready;
+      labelled = labelled;
+      whole = c.label_anew.ensures.whole c.if-not-label_anew.false;
+    }
 
 pub returns : goal.returns
 returns c =
-    let a = c.requires.goes.keeps.searching.aimed in
-    let links = c.args.links.now in
-    let l = links_of links.table.value in
-    let w = way_of c.args.trail.now in
-    let levels = c.label_anew.new.levels in
-    let is = c.label_anew.ensures.relabelled.ready in
     let labelled = c.label_anew.ensures.relabelled.labelled c.if-not-label_anew.false in
-    let slots = c.free.new.self.slots.items in
-    let current = with_items_is levels.current c.set_current.new.current (c.set_current.auto.current ∙ c.deref_mut.ensures.len) in
-    let first = first-queued l levels.near.labels levels.near.queue c.set_current.new.current is.one_label_each c.queue.ensures.queued
-    (rw (c.deref-2.ensures, c.queue.ensures.value) at c.set_current.ensures.first) in
-    let skipped : AreSkipped l levels.near.labels links.rooms.items c.set_current.new.current = skipped-first l levels.near.labels links.rooms.items c.set_current.new.current a.links labelled.sound.small first in
-    let aimed = aimed-with (residual_of links) w a labelled.start_label labelled.sound in
-    let v : Labelling = record { labels = levels.near.labels; current = c.set_current.new.current } in
-    let searching = searching-free (residual_of links) v w slots aimed links.rooms_are c.requires.goes.keeps.searching.holding.small
-    (rw c.deref-2.ensures at c.set_current.ensures.current)
-    (λ v p ps node lies before walk. skipped v p node lies before walk.0)
-    (omega (
-      arith,
-      c.free.ensures.count,
-      read (goal.at.returns c).After-label-goal_label,
-      low (goal.at.returns c).After-label-goal_label
-          c.if-not-label_anew.false,
-    )) in
-    let still = same (goal.at.returns c).Start slots c.free.ensures.way in
-    let lasting : levels.all ≡ true → AreLasting v c.clear.new.self (residual_of links) = λ all. record {
-      whole = c.label_anew.ensures.whole c.if-not-label_anew.false all;
-      skipped = λ known. rw c.clear.ensures.none
-          (record { within = λ i x none. absurd (omega (arith, none)); each = λ v p node lies before can. absurd (skipped v p node lies before can) });
-    } in
     record {
-      goes = record {
-        keeps = record {
-          searching = rw (current, c.free.ensures.way) searching;
-          ready = (links.table.value.nodes, is);
-          lasting = λ all. rw current (subst (AreLasting v c.clear.new.self) (sym still.0) (lasting all));
-          fit = subst (IsFit c.renew.new.self) (sym still.0) c.renew.ensures.fit;
-        };
-        around = λ some. c.renew.ensures.around some ∙ sym (ap (λ (u : Way). u.goal) c.free.ensures.way);
-      };
-      same = still.1;
-      labelled = λ yes. labelled.walk;
+      goes = c.begin_phase.ensures.goes;
+      same = c.begin_phase.ensures.same;
+      labelled = λ yes. subst (λ (f : Reach). (ps : List ℕ) × IsWalk (links_of c.args.links.now.table.value) f.labels c.args.links.now.rooms.items
+          c.args.trail.now.goal c.args.trail.now.start ps) (sym c.begin_phase.ensures.near) labelled.walk;
       none = λ e. absurd (cc);
     }
-
-pub renew-requires : goal.renew-requires
-renew-requires c = record { fit = record { fit = subst (IsFit c.args.ball.now) c.requires.settled c.requires.goes.keeps.fit; around = c.requires.goes.around }; goal = c.requires.goes.keeps.searching.aimed.goal_is }

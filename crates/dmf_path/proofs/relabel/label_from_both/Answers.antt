@@ -67,9 +67,7 @@ join-requires c =
     record {
       one_label_each = near.one_each ∙ sym far.one_each;
       counted = omega (arith, near.counted, near.one_each);
-      at_most = λ i before.
-          let small = met.start_side.small (get_or c.meet.new.from_start.queue i 0) (far.queued i before).node in
-          omega (arith, small, label-below far i c.args.links.now.table.value.are before, sum at.After-label-2, met-sum met.met);
+      labelled = λ i before none. omega (arith, none, label-below far i c.args.links.now.table.value.are before);
       small = omega (arith, sum at.After-label-2, met-sum met.met, met.long, c.args.links.now.table.value.are.at_most_nodes);
     }
 
@@ -82,11 +80,11 @@ returns-clause-relabelled c =
     let on = c.in-Some.ensures.on in
     record {
       ready = record {
-        one_label_each = c.join.ensures.one_each ∙ on.goal_side.one_each;
+        one_label_each = c.join.ensures.joined.one_each ∙ on.goal_side.one_each;
         far_is = ap (λ (f : Reach). f.labels) c.unlabel-2.ensures ∙ ap (λ n. replicate n no_label) on.start_side.one_each;
       };
       labelled = λ _. labelled-met rooms links.flags.items links.table.value.are links.flags_are (AreOpen-map l rooms (map open_flag rooms) links.rooms_are refl)
-          c.requires.start_is c.requires.goal_is (has_met at.In-Some) (sum at.After-label-2) c.join.ensures;
+          c.requires.start_is c.requires.goal_is (has_met at.In-Some) (sum at.After-label-2) c.join.ensures.joined;
       none = λ lost. absurd (cc);
       current = refl;
     }

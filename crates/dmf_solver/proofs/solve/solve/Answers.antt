@@ -9,13 +9,13 @@ use Rattle.dmf_solver.proofs.solve.solve.Goals as goal
 
 pub overflow_add-value : goal.overflow_add-value
 overflow_add-value g c = record {
-  fits = (solving-more c.args.state.now _ c.loop-found.value c.in-Some.found c.loop-found.search c.augment_or_mark.new.self refl c.loop-found.invariant.solving
+  fits = (solving-more c.args.state.now _ c.loop-found.value c.in-Some.found c.loop-found.search c.next_path.new.search refl c.loop-found.invariant.solving
       c.in-Some.ensures.found).small;
 }
 
 pub loop-found-smaller : goal.loop-found-smaller
 loop-found-smaller g c =
-    (solving-more c.args.state.now _ c.loop-found.value c.in-Some.found c.loop-found.search c.augment_or_mark.new.self refl c.loop-found.invariant.solving
+    (solving-more c.args.state.now _ c.loop-found.value c.in-Some.found c.loop-found.search c.next_path.new.search refl c.loop-found.invariant.solving
     c.in-Some.ensures.found).falls
 
 pub loop-found-init : goal.loop-found-init
@@ -31,6 +31,7 @@ loop-found-init g c = record {
   drained = AreTold-none _;
   kept = keeps-same _ _ _ (ap (λ (o : Searched). o.pairs) c.requires.residual);
   below = c.requires.below;
+  way = c.requires.way;
 }
 
 -- one more path: its pairs count as touched
@@ -38,14 +39,15 @@ pub loop-found-preserved : goal.loop-found-preserved
 loop-found-preserved g c =
     let s = c.args.state.now in
     let is = c.loop-found.invariant in
-    let more = solving-more s _ c.loop-found.value c.in-Some.found c.loop-found.search c.augment_or_mark.new.self refl is.solving c.in-Some.ensures.found in
-    let touches = c.augment_or_mark.ensures.touched in
+    let more = solving-more s _ c.loop-found.value c.in-Some.found c.loop-found.search c.next_path.new.search refl is.solving c.in-Some.ensures.found in
+    let touches = c.next_path.ensures.touched in
     record {
       solving = more.solving;
       told = rw more.told (AreTold-trans _ _ _ _ _ is.told c.augmented.ensures.told);
       drained = AreTold-trans _ _ _ [] [] is.drained c.augmented.ensures.drained;
-      kept = keeps-next c.loop-found.touched c.augment_or_mark.new.touched _ c.loop-found.search.pairs c.augment_or_mark.new.self.pairs is.kept touches;
-      below = below-next s c.loop-found.value c.loop-found.search c.loop-found.touched c.augment_or_mark.new.touched is.solving touches.below is.below;
+      kept = keeps-next c.loop-found.touched c.next_path.new.touched _ c.loop-found.search.pairs c.next_path.new.search.pairs is.kept touches;
+      below = below-next s c.loop-found.value c.loop-found.search c.loop-found.touched c.next_path.new.touched is.solving touches.below is.below;
+      way = c.next_path.ensures.way (λ none. let is = c.in-Some.is in cc);
     }
 
 pub returns-clause-solved : goal.returns-clause-solved
@@ -53,21 +55,21 @@ returns-clause-solved g c =
     let s = c.args.state.now in
     let is = c.loop-found.invariant in
     let none = c.in_default.ensures.found in
-    let touches = c.augment_or_mark.ensures.touched in
-    let kept = keeps-next c.loop-found.touched c.augment_or_mark.new.touched _ c.loop-found.search.pairs c.augment_or_mark.new.self.pairs is.kept touches in
-    let below = below-next s c.loop-found.value c.loop-found.search c.loop-found.touched c.augment_or_mark.new.touched is.solving touches.below is.below in
+    let touches = c.next_path.ensures.touched in
+    let kept = keeps-next c.loop-found.touched c.next_path.new.touched _ c.loop-found.search.pairs c.next_path.new.search.pairs is.kept touches in
+    let below = below-next s c.loop-found.value c.loop-found.search c.loop-found.touched c.next_path.new.touched is.solving touches.below is.below in
     solving-done s _ c.loop-found.search c.value-value.ensures.state is.solving none.0 none.1
-    (keeps-sorted c.augment_or_mark.new.touched c.sort.new.self _ _ kept c.sort.ensures.same) (c.sort.ensures.below _ below) c.sort.ensures.sorted
+    (keeps-sorted c.next_path.new.touched c.sort.new.self _ _ kept c.sort.ensures.same) (c.sort.ensures.below _ below) c.sort.ensures.sorted
 
 pub returns-clause-told : goal.returns-clause-told
 returns-clause-told g c =
     let none = c.in_default.ensures.found in
-    solving-told c.args.state.now c.loop-found.value c.loop-found.search c.augment_or_mark.new.self c.value-value.ensures.state c.loop-found.invariant.solving
+    solving-told c.args.state.now c.loop-found.value c.loop-found.search c.next_path.new.search c.value-value.ensures.state c.loop-found.invariant.solving
     none.0 none.1 _ _ c.loop-found.invariant.told
 
 pub returns-clause-side : goal.returns-clause-side
 returns-clause-side g c = λ long.
     let same = c.in_default.ensures.found.1 in
-    let marks = c.augment_or_mark.new.marks in
+    let marks = c.next_path.new.marks in
     subst (λ (s : Searched). IsClosedSide (steps_of s.pairs) s.start s.goal marks) (sym same)
     (c.in_default.ensures.side (c.loop-found.auto.marks ∙ long ∙ ap (λ (s : Searched). s.nodes) same) refl)

@@ -23,7 +23,7 @@ loop-node-init c = record {
     queued = rw c.deref_mut.ensures.value c.self.invariant.0;
     room =
         let counted = rw (← c.self.view_is) at c.requires.counted in
-        rw c.deref_mut.ensures.value (omega (arith, counted, c.self.invariant.1));
+        rw c.deref_mut.ensures.value (omega (arith, counted));
   };
   queue_capacity = refl;
   longer = omega arith;
@@ -38,7 +38,7 @@ push_reserved-requires c =
     let inside : v < length c.loop-node.labels = omega (arith, (queued at).within k c.loop-node-test.true, so_far.one_each, one-each at) in
     let has : c.args.long - get_or c.labels-distances.result.now v 0 ≢ no_label = λ none. omega (arith, none, c.requires.small) in
     let less = unlabelled_count-set c.loop-node.labels v (c.args.long - get_or c.labels-distances.result.now v 0) inside c.if-labels-node.true has in
-    omega (arith, so_far.room, less, c.loop-node.invariant.queue_capacity, c.loop-node.queue.ok.0)
+    omega (arith, so_far.room, less, c.loop-node.invariant.queue_capacity, c.loop-node.queue.ok.0, c.self.invariant.1, ap length c.deref_mut.ensures.value)
 
 pub loop-node-preserved : goal.loop-node-preserved
 loop-node-preserved c =
@@ -47,13 +47,13 @@ loop-node-preserved c =
     let so_far = c.loop-node.invariant.joining in
     let v = get_or c.queue-nodes.result.now k 0 in
     let inside : v < length c.loop-node.labels = omega (arith, (queued at).within k c.loop-node-test.true, so_far.one_each, one-each at) in
-    let most = rw (← c.labels-distances.ensures, ← c.queue-nodes.ensures.value) at c.requires.at_most in
+    let labelled = rw (← c.labels-distances.ensures, ← c.queue-nodes.ensures.value) at c.requires.labelled in
     elim c.if-labels-node.branch [
       | then-labels-node w ↦
           let items : c.if-labels-node.queue.items ≡ c.loop-node.queue.items ++ v ∷ [] = ap (λ q. q.items) w.queue-is ∙ w.push_reserved.ensures.items in
           record {
-            joining = rw (w.labels-is, items)
-                (joining-next so_far inside w.if-labels-node.true (most k c.loop-node-test.true) c.requires.small);
+            joining = rw (w.labels-is, items, w.saturating_sub.ensures)
+                (joining-next so_far inside w.if-labels-node.true (labelled k c.loop-node-test.true) (λ none. omega (arith, none, c.requires.small)));
             queue_capacity = ap (λ q. vec_capacity q) w.queue-is ∙ w.push_reserved.ensures.capacity ∙ c.loop-node.invariant.queue_capacity;
             longer = omega (arith, ap length items, length_push c.loop-node.queue.items v, c.loop-node.invariant.longer);
           }
@@ -77,9 +77,14 @@ invariant_of-self c =
       c.self.invariant.3,
     )
 
-pub returns : goal.returns
-returns c =
-    let at = (goal.at.returns c).After-deref_mut in
+pub returns-clause-joined : goal.returns-clause-joined
+returns-clause-joined c =
+    let at = (goal.at.returns-clause-joined c).After-deref_mut in
     let labels = with_items_is c.self.inside.labels c.loop-node.labels (c.loop-node.auto.labels ∙ c.deref_mut.ensures.len) in
     rw (← c.self.view_is, labels, ← c.deref_mut.ensures.value, ← c.labels-distances.ensures)
     (joining-last c.loop-node.invariant.joining c.loop-node-test.false (one-each at) (queued at))
+
+pub returns-clause-counted : goal.returns-clause-counted
+returns-clause-counted c =
+    let labels = with_items_is c.self.inside.labels c.loop-node.labels (c.loop-node.auto.labels ∙ c.deref_mut.ensures.len) in
+    rw labels (omega (arith, c.loop-node.invariant.joining.room, c.loop-node.auto.labels))

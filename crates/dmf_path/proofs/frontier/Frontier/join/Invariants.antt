@@ -1,10 +1,10 @@
-use Rattle.std.proofs.Common.{◌≡◌, ◌≤◌, length, vec_capacity}
+use Rattle.std.proofs.Common.{◌≡◌, ◌-◌, ◌≤◌, length, vec_capacity}
 use Rattle.dmf_path.proofs.Joining.{AreJoining}
 use Rattle.dmf_path.proofs.frontier.Frontier.join.Given as goal
 
 abbrev pub invariant-loop-node : goal.invariant-loop-node
 invariant-loop-node l = record {
-  joining : AreJoining l.long l.initial.labels l.distances l.nodes l.node-index l.labels l.queue.items (vec_capacity l.initial.queue);
+  joining : AreJoining (λ s. l.long - s) l.initial.labels l.distances l.nodes l.node-index l.labels l.queue.items (length l.initial.labels);
   queue_capacity : vec_capacity l.queue ≡ vec_capacity l.initial.queue;
   longer : length l.initial.queue.items ≤ length l.queue.items;
 }
