@@ -126,3 +126,7 @@ returns-clause-drained g c =
     c.list_drained.result _ _
     (one_each s (emptied c.args.arcs.now s.flows) _ c.loop-i.search (carrying g here)
     ∙ sym (AllZip-long _ s.network.arcs s.flows c.nodes.ensures.state.flow.within)) c.list_drained.ensures.moves (told g here)
+
+-- Nothing was reported.
+pub returns-in_err-touched-clause-told : goal.returns-in_err-touched-clause-told
+returns-in_err-touched-clause-told g c = AreTold-none _
