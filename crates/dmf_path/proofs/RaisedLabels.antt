@@ -8,18 +8,14 @@ use Rattle.dmf_links.specs.Links.{Links, LiesAt, AreLinks, AreRooms}
 use Rattle.dmf_path.specs.Labels.{no_label}
 use Rattle.dmf_path.specs.BothEnds.{AreWhole}
 use Rattle.dmf_path.specs.Residual.{Residual}
-use Rattle.dmf_path.specs.Raising.{AreRaised, IsLeast, MayBeRaised}
+use Rattle.dmf_path.specs.Raising.{AreRaised, MayBeRaised}
 use Rattle.dmf_path.specs.Searching.{Labelling}
 use Rattle.dmf_path.specs.Walk.{AreValid, IsAdmissible, IsWalk}
 use Rattle.dmf_links.proofs.LinkPlaces.{lies-within, room-used}
 use Rattle.dmf_path.proofs.Spreading.{cases-set}
 use Rattle.dmf_path.proofs.Walking.{AreCurrent-set}
 
--- Labels are raised as far as they are,
-pub raised-from : {r : Residual} {goal : ℕ} {v : Labelling} → MayBeRaised r goal v → AreRaised r goal v v
-raised-from is = record { further = is; noted = λ noted are. are; more = λ v. omega arith; labelled = λ v some. some; goal_is = refl }
-
--- and where they are raised once more, they are raised.
+-- Where raised labels are raised once more, they are raised.
 pub raised-again : {r : Residual} {goal : ℕ} {a b c : Labelling} → AreRaised r goal a b → AreRaised r goal b c → AreRaised r goal a c
 raised-again first next = record {
   further = next.further;
@@ -194,11 +190,3 @@ module _ {l : Links} {labels rooms : List ℕ} {from place label : ℕ} (so_far 
           (was.0, was.1, omega (arith, was.2), was.3, was.4 ∙ sym same)
     ];
   }
-
--- Over all links of a node that is it.
-pub least-all : {l : Links} {labels rooms : List ℕ} {v label : ℕ}
-    → IsLeastOf l labels rooms (get_or l.first v 0) (get_or l.first (v + 1) 0) label → IsLeast l labels rooms v label
-least-all all = record {
-  most = λ p lies room. all.most p lies.from lies.below room;
-  one = λ some. let is = all.one some in (is.0, record { from = is.1; below = is.2 }, is.3, is.4);
-}
