@@ -11,7 +11,7 @@ from typing import Any
 import pytest
 
 # How long the page is waited for, in seconds.
-SECONDS = 20
+SECONDS = 60
 # How long it is waited before the page is asked again whether something is so, at first and at most, in seconds.
 SOON, LATE = 0.01, 0.2
 
