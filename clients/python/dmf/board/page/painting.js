@@ -10,8 +10,9 @@ import { scale, seenBox } from "./view.js";
 
 /** How an arc looks: nothing flows, closed, something flows, full, of the limit; by these signs, and in this order over one another. */
 const LOOKS = "ucfFl", BEFORE = "b", SHUT = "s";
-/** From how many pixels for a unit on arrows are drawn, and how many names at most; how large letters are, and a shade. */
-const ARROWS = 0.2, MOST_NAMES = 400, LETTERS = 12, ROUND = 90;
+/** From how many pixels for a unit on arrows are drawn, and how many names at most; how large letters are; and in units a shade, and half
+ * of a place in the picture before it, which hides what lies there. */
+const ARROWS = 0.2, MOST_NAMES = 400, LETTERS = 12, ROUND = 90, HALF = 36;
 
 /** Whether nothing can be read. Then the arcs of the picture are drawn as the others are. */
 const isFar = () => lines.length > 0 && scale() < NAMES;
@@ -145,7 +146,8 @@ function paintNames(pen, seen, colour) {
     if (taken.length >= MOST_NAMES) return;
     const long = pen.measureText(place.name).width, edge = seenBox().x + seenBox().width;
     // To the left of a place that lies at the right edge.
-    const x = place.x + high / 2 + long > edge ? place.x - high / 2 - long : place.x + high / 2;
+    const aside = Math.max(high / 2, before.has(`node-${place.node}`) ? HALF : 0);
+    const x = place.x + aside + long > edge ? place.x - aside - long : place.x + aside;
     const box = { x, y: place.y - 1.4 * high, width: long, height: high };
     if (taken.some((it) => it.x < box.x + box.width && box.x < it.x + it.width && Math.abs(it.y - box.y) < high)) continue;
     taken.push(box);
