@@ -63,6 +63,6 @@ def test_shown(driver: Any, tmp_path: Path, width: int, scheme: str) -> None:
         assert not driver.find_element("id", "costs-way").is_displayed()
         # What is refused leaves nothing of an earlier answer.
         driver.find_element("id", "costs-column").send_keys("colour\n")
-        page.wait(lambda: "no column is called 'colour'" in page.text("#trouble"))
+        page.wait(lambda: "No column is called 'colour'" in page.text("#trouble"))
         assert page.text("#costs-told") == ""
         as_before(driver)

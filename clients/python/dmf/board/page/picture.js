@@ -190,10 +190,19 @@ function goByKeys(event) {
   event.preventDefault();
 }
 
+/**
+ * What a click means: the label that is there, though the line of another part may lie over it, or else what is uppermost.
+ * @param {MouseEvent} event
+ */
+function meant(event) {
+  const text = document.elementsFromPoint(event.clientX, event.clientY).find((it) => it.matches("#picture text"));
+  return text ?? (event.target instanceof Element ? event.target : null);
+}
+
 export function beginPicture() {
   beginView(label);
   at("picture").addEventListener("click", (event) => {
-    const part = event.target instanceof Element && event.target.closest("g.arc, g.node");
+    const part = meant(event)?.closest("g.arc, g.node");
     if (part) choosePart(part);
     else chooseNear(event);
   });
