@@ -11,7 +11,7 @@ from typing import Any
 import pytest
 
 # How long the page is waited for, in seconds.
-SECONDS = 20
+SECONDS = 60
 # How long it is waited before the page is asked again whether something is so, at first and at most, in seconds.
 SOON, LATE = 0.01, 0.2
 
@@ -106,10 +106,16 @@ class Page:
 
     def choose(self, place: str, name: str) -> None:
         """Clicks a part of the picture: its label, or if that has no room the part itself."""
+        from selenium.common.exceptions import ElementClickInterceptedException
+
         self.settle()
         label = self.driver.find_element("css selector", f"#{place} text")
         if label.is_displayed():
-            label.click()
+            try:
+                label.click()
+            except ElementClickInterceptedException:
+                # The line of another part lies over it.
+                self.actions().move_to_element(label).click().perform()
         else:
             self.driver.execute_script("arguments[0].dispatchEvent(new MouseEvent('click', { bubbles: true }))", label)
         self.wait(lambda: self.text("#what h3") == name)

@@ -63,6 +63,15 @@ def as_before(driver: Any) -> None:
     driver.get("about:blank")
 
 
+def judge_colours(page: Page, width: int) -> None:
+    """An arc is chosen: no colour is below AA, and the page is as wide as it may be."""
+    page.driver.execute_script("document.querySelector('#picture .arc').classList.add('unused')")
+    texts, marks = page.driver.execute_script(CONTRAST)
+    assert [text for text, ratio, is_large in texts if ratio < (3 if is_large else 4.5)] == []
+    assert all(ratio >= 3 for _, ratio in marks), marks
+    assert page.driver.execute_script("return document.documentElement.scrollWidth") <= width
+
+
 def focused(page: Page) -> str:
     """The text of what has the focus, or its id."""
     return str(page.driver.execute_script("const it = document.activeElement; return it.id || it.textContent"))
@@ -142,7 +151,7 @@ def test_focus_stays(driver: Any) -> None:
         head = driver.find_element("css selector", "#grid th.capacity button")
         head.send_keys(ENTER)
         page.wait(lambda: driver.find_element("css selector", "#grid th.capacity").get_attribute("aria-sort") == "ascending")
-        assert focused(page) == "fits"
+        page.wait(lambda: focused(page) == "fits")
         driver.get("about:blank")
 
 
@@ -153,12 +162,12 @@ def test_escape(driver: Any) -> None:
         page.choose("arc-9", "Mill Lane")
         driver.find_element("id", "capacity").send_keys(ESCAPE)
         page.wait(lambda: page.text("#what").startswith("Click a pipe"))
-        assert (focused(page), driver.find_elements("css selector", "#picture .chosen")) == ("arc-9", [])
+        page.wait(lambda: focused(page) == "arc-9")
+        assert driver.find_elements("css selector", "#picture .chosen") == []
         driver.find_element("id", "grid").send_keys(" ")
         page.wait(lambda: page.text("#many-told").startswith("1 chosen"))
         driver.find_element("id", "many-capacity").send_keys(ESCAPE)
-        page.wait(lambda: page.text("#many") == "")
-        assert focused(page) == "grid"
+        page.wait(lambda: page.text("#many") == "" and focused(page) == "grid")
         driver.get("about:blank")
 
 

@@ -10,7 +10,7 @@ from typing import Any, NamedTuple
 import pytest
 from board_pages import Page
 from board_running import Board, board
-from test_board_access import CONTRAST, ENTER, ESCAPE, RIGHT, SCHEMES, WIDTHS, as_before, judge_tree, show
+from test_board_access import ENTER, ESCAPE, RIGHT, SCHEMES, WIDTHS, as_before, judge_colours, judge_tree, show
 from test_board_ground import city, rows_of
 from test_board_view import HEIGHTS, is_in, spots
 
@@ -150,10 +150,7 @@ def judge_looks(page: Page, case: Case) -> None:
     page.press("The limit")
     driver.execute_async_script("requestAnimationFrame(() => requestAnimationFrame(arguments[0]))")
     assert min(driver.execute_script(HEIGHTS)) >= 10.99
-    driver.execute_script("document.querySelector('#picture .arc').classList.add('unused')")
-    texts, marks = driver.execute_script(CONTRAST)
-    assert [text for text, ratio, is_large in texts if ratio < (3 if is_large else 4.5)] == []
-    assert all(ratio >= 3 for _, ratio in marks)
+    judge_colours(page, case.width)
     page.write("#text", "e")
     page.wait(lambda: page.text("#found button"))
     page.write("#filter", "full")

@@ -227,7 +227,7 @@ def test_crowd() -> None:
             for _ in range(20):
                 begin = time.monotonic()
                 assert it.state()["value"] == "165"
-                assert time.monotonic() - begin < 10
+                assert time.monotonic() - begin < SECONDS / 2
             files, threads = (len(list(Path(f"/proc/{it.process.pid}/{kind}").iterdir())) for kind in ("fd", "task"))
             assert files < 50 and threads < 50, f"{files} files and {threads} threads for strangers"
             # Those that send a byte now and then may not stay either, and hold no port of this machine.
@@ -269,8 +269,10 @@ def test_no_file_left() -> None:
         for _ in range(60):
             pages.append(socket.create_connection(("127.0.0.1", it.port), SECONDS))
             pages[-1].sendall(f"GET {it.root}life HTTP/1.1\r\nHost: {it.host}\r\n\r\n".encode())
-        time.sleep(0.5)
-        assert len(list(Path(f"/proc/{it.process.pid}/fd").iterdir())) >= 39
+        until = time.monotonic() + SECONDS
+        while len(list(Path(f"/proc/{it.process.pid}/fd").iterdir())) < 39:
+            assert time.monotonic() < until, "the board has files left"
+            time.sleep(0.05)
 
         def ticks() -> int:
             return sum(map(int, Path(f"/proc/{it.process.pid}/stat").read_text().rpartition(") ")[2].split()[11:13]))

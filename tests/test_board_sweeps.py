@@ -61,7 +61,7 @@ def test_sweep_in_portions(tmp_path: Path) -> None:
                     stopped.add(copy)
                     os.kill(copy, signal.SIGSTOP)
                 again = json.loads(it.post("sweep", arcs=again["left"])[1])
-            assert (again["left"][-1], it.do(what="close", arc=1)["at"], time.monotonic() - begin < 20) == (count, 1, True)
+            assert (again["left"][-1], it.do(what="close", arc=1)["at"], time.monotonic() - begin < SECONDS) == (count, 1, True)
         finally:
             for copy in stopped:
                 with contextlib.suppress(ProcessLookupError):  # It was killed, if it did not end in time.

@@ -20,6 +20,11 @@ EventSource.prototype.addEventListener = function (kind, listener) {
   add.call(this, kind, (event) => { if (!window.deaf || kind !== "message") listener(event); });
 };
 """
+# What is typed, whether that can be changed, and how many buttons can be pressed.
+TYPED = """
+const field = document.getElementById("text");
+return [field.value, field.readOnly, document.querySelectorAll("button:enabled").length];
+"""
 
 
 def test_live(driver: Any) -> None:
@@ -48,19 +53,46 @@ def test_live(driver: Any) -> None:
 
 
 def test_broken_connection(driver: Any) -> None:
-    """A page whose connections break, as those of a tunnel do, goes on with the board, and hears of newer states. Where the board has
-    ended, the page says so."""
+    """A page whose connections break, as those of a tunnel do, goes on with the board, and hears of newer states, also where the next ones
+    break too. Where an answer is lost, the page says so and shows what is. Where the board is not reached, the page says so, and goes on
+    if it is reached again."""
     with tunnel() as way, board("--host-name", f"localhost:{way.port}", PIPES) as it:
         way.lead_to(it.port)
         page = Page(driver, f"http://localhost:{way.port}{it.root}")
-        way.break_all()
-        it.do(what="close", arc=10)
-        page.wait(lambda: page.value() == without("Bridge pipe"))
-        assert page.text("#trouble") == ""
+        for later, what, value in (0, {"what": "close", "arc": 10}, without("Bridge pipe")), (2, {"what": "go", "step": 0}, 165):
+            way.break_all(later)
+            it.do(**what)
+            page.wait(lambda: page.value() == value)  # noqa: B023
+            page.settle()
+            assert page.text("#trouble") == ""
+            way.closed = 0
         page.choose("arc-9", "Mill Lane")
-        assert page.after(lambda: page.press("Close it")) == without("Bridge pipe", "Mill Lane")
+        way.unanswered = b"/do HTTP/"
+        page.press("Close it")
+        page.wait(lambda: page.text("#trouble") == "The connection broke: look whether this was done.")
+        page.wait(lambda: page.value() == without("Mill Lane"))
+        page.settle()
+        assert it.state()["at"] == 1
+        way.unanswered = b""
+        page.wait(lambda: "It is closed." in page.text("#what"))
+        assert page.after(lambda: page.press("Open it again")) == 165
+        assert page.text("#trouble") == ""
+        page.write("#text", "Bridge")
+        way.break_all(later=1_000)
+        page.wait(lambda: page.text("#trouble").startswith("The board does not answer. Where it has ended, start it again"))
+        assert driver.execute_script(TYPED) == ["Bridge", True, 1]
+        it.do(what="close", arc=10)
+        way.closed = 0
+        page.press("Look again")
+        page.wait(lambda: page.value() == without("Bridge pipe"))
+        page.settle()
+        assert page.text("#trouble") == ""
+        assert driver.execute_script(TYPED)[:2] == ["Bridge", False]
+        assert page.undo() == 165
+        assert "error" not in it.do(what="close", arc=10)
+        page.wait(lambda: page.value() == without("Bridge pipe"))
         it.end()
-        page.wait(lambda: "The board does not answer: it has ended." in page.text("#trouble"))
+        page.wait(lambda: "The board does not answer." in page.text("#trouble"))
 
 
 def test_late(driver: Any) -> None:

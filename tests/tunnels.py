@@ -16,6 +16,9 @@ class Tunnel:
         self.port = int(self.way_in.getsockname()[1])
         self.ends: list[socket.socket] = []
         self.closed = 0
+        # The answers to requests that have this in them are lost, and their connections break.
+        self.unanswered = b""
+        self._losing: set[socket.socket] = set()
 
     def lead_to(self, port: int) -> None:
         threading.Thread(target=self._lead_to, args=(port,), daemon=True).start()
@@ -41,7 +44,9 @@ class Tunnel:
 
     def _pass_on(self, source: socket.socket, target: socket.socket) -> None:
         with contextlib.suppress(OSError):
-            while data := source.recv(65536):
+            while (data := source.recv(65536)) and source not in self._losing:
+                if self.unanswered and self.unanswered in data:
+                    self._losing.add(target)
                 target.sendall(data)
         for end in source, target:
             with contextlib.suppress(OSError):

@@ -7,9 +7,11 @@ from pathlib import Path
 from typing import Any
 from urllib.parse import quote
 
+import pytest
 from board_pages import Page
 from board_running import board
 from desk_shared import PIPES, ROOT
+from test_board_access import as_before, judge_colours, show
 
 # What a unit more costs, and the limit of the story.
 COSTS = {"North rise": 4, "Mill Lane": 9, "South main": 6}
@@ -42,8 +44,10 @@ def test_told(tmp_path: Path) -> None:
         assert status == 409 and "no column is called '<b>'" in body.decode()
 
 
-def test_shown(driver: Any, tmp_path: Path) -> None:
+@pytest.mark.parametrize("width, scheme", [(1280, "light"), (400, "dark")])
+def test_shown(driver: Any, tmp_path: Path, width: int, scheme: str) -> None:
     with board(priced(tmp_path)) as it:
+        show(driver, width, scheme)
         page = Page(driver, it.address)
         driver.execute_script("document.querySelector('#costs').open = true")
         driver.find_element("id", "costs-to").send_keys("175\n")
@@ -52,7 +56,13 @@ def test_shown(driver: Any, tmp_path: Path) -> None:
         assert len(rows) == 3 and all(any(name in row and row.endswith(f" {price}") for row in rows) for name, price in COSTS.items())
         way = [row.text for row in driver.find_elements("css selector", "#costs-way tbody tr")]
         assert way == ["North rise 5 wider 20 20 170", "South main 5 wider 30 50 175"]
+        page.choose("arc-9", "Mill Lane")
+        judge_colours(page, width)
         it.do(what="close", arc=10)
         page.wait(lambda: page.text("#costs-told") == "The network has changed since.")
         assert not driver.find_element("id", "costs-way").is_displayed()
-        driver.get("about:blank")
+        # What is refused leaves nothing of an earlier answer.
+        driver.find_element("id", "costs-column").send_keys("colour\n")
+        page.wait(lambda: "No column is called 'colour'" in page.text("#trouble"))
+        assert page.text("#costs-told") == ""
+        as_before(driver)

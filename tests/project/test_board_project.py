@@ -10,6 +10,7 @@ from typing import Any
 from board_pages import Page
 from board_running import board
 from desk_shared import PIPES, ROOT, run, without
+from test_board_access import as_before, judge_colours, show
 
 
 def test_kept(tmp_path: Path) -> None:
@@ -37,26 +38,31 @@ def test_kept(tmp_path: Path) -> None:
 
 
 def test_keep_beside(driver: Any, tmp_path: Path) -> None:
-    """The page of a table offers to keep a project beside it; it has the steps so far then, and those after them."""
+    """The page of a table, here a narrow one in the dark, offers to keep a project beside it; it has the steps so far then, and those after
+    them."""
     shutil.copy(ROOT / PIPES, tmp_path)
     with board(f"{tmp_path}/pipes.csv") as it:
+        show(driver, 400, "dark")
         page = Page(driver, it.address)
         it.do(what="close", arc=10)
         it.do(what="close", arc=9)
         it.do(what="go", step=1)
         page.wait(lambda: page.value() == without("Bridge pipe"))
         assert page.text("#keep") == "Keep them, and go on another day: pipes.dmf.json"
+        page.choose("arc-3", "North rise")
+        judge_colours(page, 400)
         turn = it.turn()
         page.click("#keep")
         page.wait(lambda: page.text("#kept") == "Each step is kept in pipes.dmf.json.")
         assert it.turn() > turn and not driver.find_element("id", "keep").is_displayed()
         assert page.text("#news").startswith("The steps are kept in pipes.dmf.json: 155")
-        assert driver.find_element("id", "scenarios").is_displayed()
+        page.wait(lambda: driver.find_element("id", "scenarios").is_displayed())
+        judge_colours(page, 400)
         assert it.do(what="close", arc=9)["value"] == str(without("Bridge pipe", "Mill Lane"))
         status, told = it.post("do", what="keep")
         assert status == 409 and b"no project can be kept of this" in told
         it.process.send_signal(signal.SIGKILL)
-    driver.get("about:blank")
+    as_before(driver)
     ran = run("dmf-plan", f"{tmp_path}/pipes.dmf.json", typed="steps\n")
     assert "close Bridge pipe" in ran.stdout and "close Mill Lane" in ran.stdout
     with board(f"{tmp_path}/pipes.csv") as it:

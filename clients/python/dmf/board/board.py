@@ -128,8 +128,8 @@ class Board:
         return answer({})
 
     def _judged(self, make: Callable[[], Made], tries: int = 1, needs_flows: bool = True) -> Answer:
-        """The answer, or why there is none. Where the flows are needed and not known yet, finds them first. If the session ends meanwhile, begins another with the steps that were made, and tries once
-        more if a try is left."""
+        """The answer, or why there is none. Where the flows are needed and not known yet, finds them first. If the session ends meanwhile,
+        begins another with the steps that were made, and tries once more if a try is left."""
         told = ""
         while True:
             try:

@@ -26,6 +26,8 @@ if TYPE_CHECKING:
     from .server import Server
 
 LONGEST_BODY = 1 << 20
+# What a page calls itself.
+PAGE_NAME = "[0-9a-f-]{1,40}"
 
 
 class Handler(BaseHTTPRequestHandler):
@@ -68,7 +70,7 @@ class Handler(BaseHTTPRequestHandler):
             self._send(outside("The address has not the token that the board told when it began"))
             return False
         self.server.strangers.admit(self.connection)
-        self.server.note_request()
+        self.server.guests.note_request()
         return super().parse_request()
 
     def finish(self) -> None:
@@ -115,11 +117,12 @@ class Handler(BaseHTTPRequestHandler):
         if path in ("", "/"):
             if not path:
                 return Answer(303, "text/plain", b"", to=f"/{self.server.token}/")
+            self.server.guests.note_request(is_page=True)
             return self.server.pages[PAGE]
         if path[1:] in self.server.pages:
             return self.server.pages[path[1:]]
         if path == "/life":
-            self._live()
+            self._live(urlsplit(self.path).query)
             return None
         try:
             pairs = parse_qsl(urlsplit(self.path).query, keep_blank_values=True, strict_parsing=bool(urlsplit(self.path).query))
@@ -135,6 +138,9 @@ class Handler(BaseHTTPRequestHandler):
         if path == "/stop":
             # It stops what has the lock.
             return self.server.board.stop()
+        if path == "/left":
+            self.server.guests.leave(_page_name(content.get("page")))
+            return answer({})
         return self._asked(lambda: self.server.board.post(path[1:], content))
 
     def _asked(self, ask: Callable[[], Answer]) -> Answer:
@@ -143,7 +149,7 @@ class Handler(BaseHTTPRequestHandler):
             try:
                 return ask()
             finally:
-                self.server.tell_pages()
+                self.server.guests.tell(self.server.board.desk.turn)
 
     def _content(self) -> Json:
         """The content of a request. Raises a `WrongForm`."""
@@ -176,7 +182,7 @@ class Handler(BaseHTTPRequestHandler):
         self.end_headers()
         self.wfile.write(made.body)
 
-    def _live(self) -> None:
+    def _live(self, words: str) -> None:
         """Holds the connection of a page until the page closes it. Events on it tell the turn."""
         self.close_connection = True
         self.send_response(200)
@@ -186,7 +192,7 @@ class Handler(BaseHTTPRequestHandler):
         self.end_headers()
         self.wfile.write(b": here\n\n")
         self.wfile.flush()
-        self.server.hold(self.connection)
+        self.server.guests.hold(self.connection, _page_name(dict(parse_qsl(words)).get("page")))
         try:
             while True:
                 select.select([self.connection], [], [])
@@ -197,3 +203,8 @@ class Handler(BaseHTTPRequestHandler):
             pass
         finally:
             self.server.let_go(self.connection)
+
+
+def _page_name(told: object) -> str:
+    """What a page calls itself, or nothing if that is no such name."""
+    return told if isinstance(told, str) and re.fullmatch(PAGE_NAME, told) else ""

@@ -1,11 +1,10 @@
 """The server of a board: a page in the browser over one desk, which this machine alone reaches.
 
-The page holds a connection open, `life`. Once no page has held one for a while, the board ends.
+Each page holds a connection open, `life`. Once no page has held one for a while, the board ends.
 """
 
 from __future__ import annotations
 
-import contextlib
 import errno
 import os
 import secrets
@@ -18,14 +17,12 @@ from typing import Any
 
 from .board import Board
 from .door import LOOPBACK
+from .guests import Guests
 from .handler import Handler
 from .pages import pages
 from .strangers import Strangers, user_of
 
 LOOPBACK_6 = "::1"
-# How long a board runs on without a page after the last request, in seconds: longer than a reload takes to the next one, also on a busy
-# machine.
-GRACE = 10.0
 # How long the server waits where it has no file left for a connection, in seconds.
 PAUSE = 0.2
 NO_FILE_LEFT = (errno.EMFILE, errno.ENFILE, errno.ENOBUFS, errno.ENOMEM)
@@ -60,11 +57,7 @@ class Server(ThreadingHTTPServer):
         self.hosts = {here, f"localhost:{port}", *others, *map(str.lower, names)}
         self.addresses = [f"http://{host}/{self.token}/" for host in (here, *others)]
         self.pages = pages()
-        self._held: set[socket.socket] = set()
-        self._counted = threading.Condition()
-        # When a page asked for something last.
-        self._asked = time.monotonic()
-        self._told = board.desk.turn
+        self.guests = Guests(board.desk.turn)
 
     def _listen(self, port: int) -> None:
         """Listens at a port, or at a free one. It takes the same port of the other family of addresses, too: a browser that is sent to
@@ -91,35 +84,11 @@ class Server(ThreadingHTTPServer):
         if self._other:
             self._other.close()
 
-    def hold(self, page: socket.socket) -> None:
-        """A page has come, which is told of each newer state by this connection."""
-        with self._counted:
-            self._held.add(page)
-            self._counted.notify_all()
-            _tell(page, self.board.desk.turn)
-
     def let_go(self, page: socket.socket) -> None:
-        """A page has gone. If it was the last one and none comes in time, the board ends. One that comes asks for its files first, and on
-        a busy machine that may take long."""
-        self.note_request()
-        with self._counted:
-            self._held.remove(page)
-            while not self._held and (left := self._asked + GRACE - time.monotonic()) > 0:
-                self._counted.wait(left)
-            if not self._held:
-                self.shutdown()
-
-    def note_request(self) -> None:
-        """A page asks for something."""
-        self._asked = time.monotonic()
-
-    def tell_pages(self) -> None:
-        """Tells each page the turn, if it is another than it was told before."""
-        turn = self.board.desk.turn
-        with self._counted:
-            for page in self._held if turn != self._told else ():
-                _tell(page, turn)
-            self._told = turn
+        """The connection of a page has ended. If it was the last one and none comes in time, the board ends."""
+        self.guests.let_go(page)
+        if self.guests.is_last():
+            self.shutdown()
 
     # The connections.
 
@@ -146,9 +115,3 @@ class Server(ThreadingHTTPServer):
 
     def handle_error(self, request: object, client_address: object) -> None:
         """A page that goes away during an answer is no fault."""
-
-
-def _tell(page: socket.socket, turn: int) -> None:
-    """Sends an event with the turn. A page that takes nothing, or has gone, is not waited for."""
-    with contextlib.suppress(OSError):
-        page.send(f"data: {turn}\n\n".encode(), socket.MSG_DONTWAIT)

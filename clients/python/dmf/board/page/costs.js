@@ -21,6 +21,7 @@ async function find() {
   /** @type {Costs | null | undefined} */
   const told = await patiently(ask(`costs?${new URLSearchParams(words)}`));
   hide(!told);
+  at("costs-told").textContent = "";
   if (told) show(told);
 }
 

@@ -1,6 +1,5 @@
 /**
- * All arcs where they lie, behind the picture, which has a part of them with their numbers. It is drawn on a canvas, since a picture of
- * that many elements would be slow to move in.
+ * All arcs where they lie, behind the picture, which has a part of them with their numbers: what lies where, and what is near a point.
  * @typedef {import("./view.js").Box} Box
  * @typedef {{ number: number, tail: number, head: number, from: [number, number], to: [number, number], look: string }} Line
  * @typedef {{ node: number, name: string, x: number, y: number, look: string, isEnd: boolean }} Spot
@@ -11,22 +10,23 @@ import { isPicked } from "./many.js";
 import { ask } from "./state.js";
 import { scale, seenBox } from "./view.js";
 
-/** How an arc looks: nothing flows, closed, something flows, full, of the limit; by these signs, and in this order over one another. */
-const LOOKS = "ucfFl", NONE = " ", BEFORE = "b", SHUT = "s";
-/** How far apart arcs with the same ends lie, in units; how near a click has to be, in pixels; from how many pixels for a unit on arrows
- * and names are drawn, and how many names at most. */
-const APART = 5, NEAR = 9, ARROWS = 0.2, NAMES = 0.3, MOST_NAMES = 400, LETTERS = 12, ROUND = 90;
+/** The look of an arc that is not there. */
+const NONE = " ";
+/** How far apart arcs with the same ends lie, in units; how near a click has to be, in pixels; from how many pixels for a unit on names
+ * are read. */
+const APART = 5, NEAR = 9;
+export const NAMES = 0.3;
 /** @type {Map<number, Spot>} */
-const places = new Map();
+export const places = new Map();
 /** @type {Line[]} */
-let lines = [];
+export let lines = [];
 /** @type {number[][] | null} */
 let ends = null;
 /**
  * The arcs and the places that the picture has, which is before it.
  * @type {Set<string>}
  */
-let before = new Set();
+export let before = new Set();
 
 export const isGround = () => lines.length > 0;
 
@@ -98,151 +98,9 @@ export function groundBox(like) {
  * Whether it is chosen.
  * @param {Line | Spot} it
  */
-function isMarked(it) {
+export function isMarked(it) {
   const chosen = theChoice();
   return "number" in it ? chosen?.arc === it.number || isPicked(it.number) : chosen?.node === it.node;
-}
-
-/** Whether nothing can be read. Then the arcs of the picture are drawn as the others are. */
-const isFar = () => lines.length > 0 && scale() < NAMES;
-
-/** Draws what is seen of it. */
-export function paint() {
-  const canvas = /** @type {HTMLCanvasElement} */ (at("ground")), pen = canvas.getContext("2d"), box = seenBox(), by = devicePixelRatio;
-  // Where nothing lies behind the picture, an empty canvas would be drawn with it.
-  canvas.hidden = !lines.length;
-  at("picture").classList.toggle("far", isFar());
-  if (!pen || !lines.length) return;
-  const [wide, high] = [Math.round(at("picture").clientWidth * by), Math.round(at("picture").clientHeight * by)];
-  if (canvas.width !== wide || canvas.height !== high) Object.assign(canvas, { width: wide, height: high });
-  pen.resetTransform();
-  pen.clearRect(0, 0, wide, high);
-  pen.setTransform(scale() * by, 0, 0, scale() * by, -box.x * scale() * by, -box.y * scale() * by);
-  const seen = lines.filter((line) => isIn(box, line)), style = getComputedStyle(document.documentElement);
-  const colour = (/** @type {string} */ name) => style.getPropertyValue(`--${name}`);
-  if (isFar()) shade(pen, colour("side"));
-  stroke(pen, seen.filter(isMarked), colour("mark"), 9);
-  for (const look of LOOKS) {
-    const alike = seen.filter((line) => line.look === look && (isFar() || !before.has(`arc-${line.number}`)));
-    const ink = colour(look === "l" ? "limit" : look === "u" || look === "c" ? "unused" : "ink");
-    stroke(pen, alike, ink, look === "l" ? 3 : look === "F" ? 2 : isFar() ? 0.6 : 1, look === "c" ? [5, 3] : []);
-    if (scale() >= ARROWS && look !== "c") point(pen, alike, ink);
-  }
-  paintPlaces(pen, box, colour);
-}
-
-/**
- * Shades the places before the limit, which are too small to be told from others.
- * @param {CanvasRenderingContext2D} pen
- * @param {string} ink
- */
-function shade(pen, ink) {
-  pen.beginPath();
-  for (const { x, y, look } of places.values()) {
-    if (look !== BEFORE) continue;
-    pen.moveTo(x, y);
-    pen.arc(x, y, ROUND, 0, 2 * Math.PI);
-  }
-  pen.fillStyle = ink;
-  pen.fill();
-}
-
-/**
- * Whether a line may be seen.
- * @param {Box} box
- * @param {Line} line
- */
-function isIn(box, { from, to }) {
-  return Math.max(from[0], to[0]) >= box.x && Math.min(from[0], to[0]) <= box.x + box.width
-    && Math.max(from[1], to[1]) >= box.y && Math.min(from[1], to[1]) <= box.y + box.height;
-}
-
-/**
- * @param {CanvasRenderingContext2D} pen
- * @param {Line[]} drawn
- * @param {string} ink
- * @param {number} wide in pixels
- * @param {number[]} dashes
- */
-function stroke(pen, drawn, ink, wide, dashes = []) {
-  pen.beginPath();
-  for (const { from, to } of drawn) {
-    pen.moveTo(...from);
-    pen.lineTo(...to);
-  }
-  Object.assign(pen, { strokeStyle: ink, lineWidth: wide / scale() });
-  pen.setLineDash(dashes.map((dash) => dash / scale()));
-  pen.stroke();
-}
-
-/**
- * Points in the middle of each line to where it leads.
- * @param {CanvasRenderingContext2D} pen
- * @param {Line[]} drawn
- * @param {string} ink
- */
-function point(pen, drawn, ink) {
-  const size = 5 / scale();
-  pen.beginPath();
-  for (const { from, to } of drawn) {
-    const long = Math.hypot(to[0] - from[0], to[1] - from[1]);
-    if (long < 5 * size) continue;
-    const [right, down] = [(to[0] - from[0]) / long * size, (to[1] - from[1]) / long * size];
-    const [x, y] = [(from[0] + to[0]) / 2, (from[1] + to[1]) / 2];
-    pen.moveTo(x + right, y + down);
-    pen.lineTo(x - right - down / 1.6, y - down + right / 1.6);
-    pen.lineTo(x - right + down / 1.6, y - down - right / 1.6);
-  }
-  pen.fillStyle = ink;
-  pen.fill();
-}
-
-/**
- * @param {CanvasRenderingContext2D} pen
- * @param {Box} box
- * @param {(name: string) => string} colour
- */
-function paintPlaces(pen, box, colour) {
-  const size = Math.min(5, Math.max(1, 14 * scale())) / scale(), rim = 60;
-  const seen = [...places.values()].filter(({ x, y }) => x >= box.x - rim && y >= box.y - rim && x <= box.x + box.width + rim
-    && y <= box.y + box.height + rim);
-  for (const place of seen) {
-    if (before.has(`node-${place.node}`) && scale() >= NAMES) continue;
-    pen.beginPath();
-    pen.arc(place.x, place.y, place.isEnd ? Math.max(1.6 * size, 5 / scale()) : size, 0, 2 * Math.PI);
-    pen.setLineDash([]);
-    const ink = colour(isMarked(place) ? "mark" : place.look === SHUT ? "unused" : "ink");
-    Object.assign(pen, { strokeStyle: ink, lineWidth: (isMarked(place) ? 5 : 1) / scale() });
-    pen.fillStyle = place.look === BEFORE ? colour("side") : colour("paper");
-    pen.stroke();
-    pen.fill();
-  }
-  paintNames(pen, seen.filter((place) => scale() >= NAMES ? !before.has(`node-${place.node}`) : place.isEnd || isMarked(place)), colour);
-}
-
-/**
- * Writes the names that have room, those of the source and the sink first.
- * @param {CanvasRenderingContext2D} pen
- * @param {Spot[]} seen
- * @param {(name: string) => string} colour
- */
-function paintNames(pen, seen, colour) {
-  const high = LETTERS / scale(), style = getComputedStyle(at("picture")).fontFamily;
-  /** @type {Box[]} */
-  const taken = [];
-  Object.assign(pen, { font: `${high}px ${style}`, textBaseline: "middle", lineWidth: 3 / scale() });
-  for (const place of [...seen].sort((one, other) => Number(other.isEnd) - Number(one.isEnd))) {
-    if (taken.length >= MOST_NAMES) return;
-    const long = pen.measureText(place.name).width, edge = seenBox().x + seenBox().width;
-    // To the left of a place that lies at the right edge.
-    const x = place.x + high / 2 + long > edge ? place.x - high / 2 - long : place.x + high / 2;
-    const box = { x, y: place.y - 1.4 * high, width: long, height: high };
-    if (taken.some((it) => it.x < box.x + box.width && box.x < it.x + it.width && Math.abs(it.y - box.y) < high)) continue;
-    taken.push(box);
-    Object.assign(pen, { strokeStyle: colour("paper"), fillStyle: colour("ink") });
-    pen.strokeText(place.name, box.x, box.y + high / 2);
-    pen.fillText(place.name, box.x, box.y + high / 2);
-  }
 }
 
 /**

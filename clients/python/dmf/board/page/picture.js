@@ -7,9 +7,10 @@ import { moved } from "./amounts.js";
 import { choose, theChoice } from "./choice.js";
 import { parts, show } from "./drawing.js";
 import { at, onClick } from "./elements.js";
-import { chooseNear, groundBox, isGround, lookAtGround, middlePlace, nextPlace, paint, setBefore } from "./ground.js";
+import { chooseNear, groundBox, isGround, lookAtGround, middlePlace, nextPlace, setBefore } from "./ground.js";
 import { arrange, labelsOf } from "./labels.js";
 import { isPicked, pickedCount } from "./many.js";
+import { paint } from "./painting.js";
 import { ask, noun, present, units } from "./state.js";
 import { beginView, fit, move, refresh, reveal, scale, zoom } from "./view.js";
 
@@ -51,7 +52,7 @@ export async function showPicture() {
   if (turn !== asked) return;
   count = told.arcs.length;
   const where = near && theChoice()?.node ? "the chosen place" : near ? "a place" : "the limit";
-  const part = isGround() ? `All ${present().arcs} are drawn, and as one moves in those beside with their names and numbers. `
+  const part = isGround() ? `All ${present().arcs} are drawn. Move in to read their names and numbers. `
     : isPart() ? `${count} of ${present().arcs}: what lies nearest to ${where}. ` : "";
   at("drawn-note").textContent = `${told.reason ? `${told.reason}. ` : part}Click a ${noun()} or a place to see more, and to change it.`;
   at("near-limit").hidden = !near;
@@ -78,7 +79,7 @@ function draw(text) {
     fit(nearShown === "none" ? all : box);
     nearShown = near;
   }
-  if (held && document.activeElement?.id !== held) document.getElementById(held)?.focus();
+  if (held && document.activeElement?.id !== held) (document.getElementById(held) ?? at("picture")).focus();
 }
 
 /** Marks what is chosen, and has its label seen. */
@@ -189,10 +190,19 @@ function goByKeys(event) {
   event.preventDefault();
 }
 
+/**
+ * What a click means: the label that is there, though the line of another part may lie over it, or else what is uppermost.
+ * @param {MouseEvent} event
+ */
+function meant(event) {
+  const text = document.elementsFromPoint(event.clientX, event.clientY).find((it) => it.matches("#picture text"));
+  return text ?? (event.target instanceof Element ? event.target : null);
+}
+
 export function beginPicture() {
   beginView(label);
   at("picture").addEventListener("click", (event) => {
-    const part = event.target instanceof Element && event.target.closest("g.arc, g.node");
+    const part = meant(event)?.closest("g.arc, g.node");
     if (part) choosePart(part);
     else chooseNear(event);
   });

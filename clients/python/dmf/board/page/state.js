@@ -15,12 +15,21 @@ import { moved, upper } from "./amounts.js";
 import { at, button } from "./elements.js";
 import { hasTrouble, news, patiently, trouble } from "./messages.js";
 
-// How long it is waited until a question is asked again whose connection broke, in milliseconds. Then the board is taken to have ended.
+/** How long it is waited until a question is asked again whose connection broke, in milliseconds. Then the board is not reached. */
 const PAUSES = [200, 800, 2000];
+/** What is not sent twice, since it may have been heard. */
+const ONCE = ["do", "stop"];
+/** What this page calls itself, so that the board knows it again. */
+const PAGE = [...crypto.getRandomValues(new Uint32Array(4))].map((word) => word.toString(16)).join("-");
 
 /** @type {State | null} */
 let state = null;
 let acting = false, newest = 0;
+/**
+ * What was shut since the board is not reached.
+ * @type {HTMLElement[]}
+ */
+let shut = [];
 /** @type {((state: State, before: State | null) => unknown)[]} */
 const watchers = [];
 
@@ -43,14 +52,14 @@ export function watch(watcher) {
 }
 
 /**
- * What the board answers, or null if it is not reached. A question whose connection breaks is asked again; what is to be done is not sent
- * twice, since it may have been heard.
+ * What the board answers, or null if it is not reached. Where the connection breaks, it is asked again.
  * @param {string} path
- * @param {RequestInit} sent
+ * @param {object} [content] what is sent, if there is something
  * @returns {Promise<{ answer: Response, told: any } | null>}
  */
-async function heard(path, sent = {}) {
-  for (const pause of [...(sent.method ? [] : PAUSES), null]) {
+async function heard(path, content) {
+  const sent = content === undefined ? {} : posted(content);
+  for (const pause of [...(ONCE.includes(path) ? [] : PAUSES), null]) {
     try {
       const answer = await fetch(path, sent);
       return { answer, told: await answer.json() };
@@ -61,6 +70,9 @@ async function heard(path, sent = {}) {
   return null;
 }
 
+/** @param {object} content */
+const posted = (content) => ({ method: "POST", headers: { "Content-Type": "application/json" }, body: JSON.stringify(content) });
+
 /**
  * Asks the board, which answers with JSON. Gives null where it refuses, and says why; and undefined where the answer is of another state
  * than this page shows, which is then, or soon, shown anew, or where the connection broke before it came.
@@ -70,12 +82,9 @@ async function heard(path, sent = {}) {
  * @returns {Promise<any>}
  */
 export async function ask(path, content, isQuiet = false) {
-  const isDone = content !== undefined;
-  const reply = await heard(path, isDone ? {
-    method: "POST", headers: { "Content-Type": "application/json" }, body: JSON.stringify({ turn: state?.turn, ...content }),
-  } : {});
+  const reply = await heard(path, content && { turn: state?.turn, ...content });
   if (!reply) {
-    if (!isDone || !await heard("state")) {
+    if (!ONCE.includes(path) || !await heard("state")) {
       lost();
       return null;
     }
@@ -98,19 +107,44 @@ export async function ask(path, content, isQuiet = false) {
   return answer.ok ? told : null;
 }
 
+/** Says that the board is not reached, and lets nothing be done but to look again. */
 function lost() {
-  const kept = state?.kept_in ? `Each step is in ${state.kept_in}.` : "The steps on this page are not kept: there they can still be read.";
-  trouble(`The board does not answer: it has ended. Start it again with “dmf-board ${state?.title ?? "FILE"}”, and open the address `
-    + `that it tells. ${kept} What you typed stays here.`);
-  for (const it of document.querySelectorAll("button, select")) it.setAttribute("disabled", "");
-  for (const it of document.querySelectorAll("input")) it.readOnly = true;
+  if (shut.length) return;
   life.close();
+  shut = [...document.querySelectorAll("button:enabled, select:enabled, input:enabled")].map((it) => /** @type {HTMLElement} */ (it));
+  for (const it of shut) put(it, true);
+  const kept = state?.kept_in ? `Each step is in ${state.kept_in}.` : "The steps on this page are not kept: there they can still be read.";
+  trouble(`The board does not answer. Where it has ended, start it again with “dmf-board ${state?.title ?? "FILE"}”, and open the address `
+    + `that it tells. ${kept} What you typed stays here.`, button("Look again", lookAgain));
 }
 
-/** Shows what the board has now, which another tab may have changed. */
-async function renew() {
+/**
+ * Shuts a control, or opens it. What was typed into one can be read and copied.
+ * @param {HTMLElement} it
+ * @param {boolean} isShut
+ */
+function put(it, isShut) {
+  if (it instanceof HTMLInputElement) it.readOnly = isShut;
+  else it.toggleAttribute("disabled", isShut);
+}
+
+/** Goes on with the board, if it is reached again. What was asked for meanwhile did not come. */
+async function lookAgain() {
+  if (!await heard("state")) return;
+  for (const it of shut) put(it, false);
+  shut = [];
+  trouble("");
+  life = live();
+  await renew(true);
+}
+
+/**
+ * Shows what the board has now, which another tab may have changed.
+ * @param {boolean} isAnew also if this page shows it already
+ */
+async function renew(isAnew = false) {
   const told = await patiently(ask("state"));
-  if (!told || state && told.turn < state.turn) return;
+  if (!told || state && (told.turn < state.turn || told.turn === state.turn && !isAnew)) return;
   if (state && state.turn !== told.turn) news(hasTrouble() ? "" : "The network has changed in another tab.");
   await show(told);
 }
@@ -161,14 +195,26 @@ export async function act(content, words = "") {
 export const undo = () => present().at > present().floor && act({ what: "go", step: present().at - 1 }, "undone");
 export const redo = () => present().at < present().steps.length - 1 && act({ what: "go", step: present().at + 1 }, "done again");
 
-// The board lives as long as a page holds this connection, by which it tells the turn of each newer state. Where it breaks, and the board
-// still answers, the browser makes it anew.
-const life = new EventSource("life");
-life.addEventListener("error", () => (life.readyState === EventSource.CLOSED ? lost() : ask("state")));
-life.addEventListener("message", (event) => {
-  newest = Number(event.data);
-  if (!acting) catchUp();
-});
+/**
+ * The board lives as long as a page holds this connection, by which it tells the turn of each newer state. Where it breaks, and the board
+ * still answers, the browser makes it anew.
+ */
+function live() {
+  const made = new EventSource(`life?page=${PAGE}`);
+  made.addEventListener("error", () => {
+    if (made.readyState === EventSource.CLOSED) lost();
+    else if (!acting) renew();
+  });
+  made.addEventListener("message", (event) => {
+    newest = Number(event.data);
+    if (!acting) catchUp();
+  });
+  return made;
+}
+
+let life = live();
+// A page that does not say so is waited for, since its connection has broken.
+addEventListener("pagehide", () => fetch("left", { ...posted({ page: PAGE }), keepalive: true }).catch(() => undefined));
 
 /** Shows the page for the first time. */
 export async function begin() {
