@@ -294,9 +294,6 @@ module _ {l : Links} (rooms flags opens : List ℕ) {start goal x : ℕ} (marks 
     x-label : get_or labels x 0 ≡ long
     x-label = omega (arith, with_f x way.way_out_is (λ none. omega (arith, none, beyond.root_is)), beyond.root_is)
 
-    x-count : get_or counts x 0 ≡ long
-    x-count = count-set x way.way_out_is (λ none. omega (arith, none, x-label, few_long, links.at_most_nodes)) ∙ x-label
-
     -- A label of the search before is `long` less than the node's.
     label-g : (v : ℕ) → IsNode l.nodes v → get_or g v 0 ≢ no_label → get_or labels v 0 ≡ long + get_or g v 0
     label-g v node has = elim (cases_eq v x) [

@@ -122,13 +122,6 @@ impl SidedSearch {
         SidedSearch { search, side }
     }
 
-    /// The search alone.
-    pub fn into_search(self) -> Search
-        ensures { result ≡ self }
-    {
-        self.search
-    }
-
     /// The search.
     pub fn as_search(&self) -> &Search
         ensures { result.now ≡ self.now }

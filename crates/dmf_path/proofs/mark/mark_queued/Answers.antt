@@ -1,1 +1,0 @@
--- The node numbers of the queue are nodes, since number 0 has no label.
