@@ -150,7 +150,7 @@ impl ResidualNetwork {
             looks,
         } = self;
         let looks = look_or_number(alloc, &mut search, looks)?;
-        let (search, mut marks, way_out) = search.into_way_out(alloc, state.nodes());
+        let (search, mut marks, way_out) = search.into_way_out(alloc, state.nodes(), state.sink());
         let touched = search.none_touched(alloc, state.nodes() as usize / 8)?;
         let solved = solve(search, state, touched, &mut marks, way_out, watch);
         let side = wanted_side(alloc, state, &solved.search, solved.value, want_side)?;

@@ -75,12 +75,17 @@ impl Leaving {
 impl SidedSearch {
     /// The search alone, with the marks of its side and the way out of it, if the side is known and has one. Else with some mark for each
     /// node, or with none if memory for them is refused.
-    pub fn into_way_out(self, alloc: Global, nodes: u32) -> (Search, Vec<bool>, Option<WayOut>)
+    pub fn into_way_out(
+        self,
+        alloc: Global,
+        nodes: u32,
+        sink: u32,
+    ) -> (Search, Vec<bool>, Option<WayOut>)
         ensures search { result.0 ≡ self }
         ensures way { IfSome result.2 (IsWayOut self result.1.items) }
     {
         let SidedSearch { search, side } = self;
-        let Some(marked) = into_marked(side, &search) else {
+        let Some(marked) = into_marked(side, &search, sink) else {
             return (search, marks_or_none(alloc, nodes), None);
         };
         (search, marked.marks, Some(marked.way_out))
@@ -88,20 +93,21 @@ impl SidedSearch {
 }
 
 /// The marks of the side, if there is one, and the way out of it, if it has one.
-fn into_marked(side: Option<ClosedSide>, search: &Search) -> Option<Marked>
+fn into_marked(side: Option<ClosedSide>, search: &Search, sink: u32) -> Option<Marked>
     requires { IfSome side (IsClosedBut search.now) }
     ensures { IfSome result (λ marked. IsWayOut search.now marked.marks.items marked.way_out) }
 {
-    side?.into_marked(search)
+    side?.into_marked(search, sink)
 }
 
 impl ClosedSide {
-    /// Where all gates lead to one node, that is the way out. Where all lead from one node, that node is, without its mark.
-    fn into_marked(mut self, search: &Search) -> Option<Marked>
+    /// Where all gates lead to one node, that is the way out. Where all lead from one node, that node is, without its mark. The sink is no
+    /// way out, since the links to it may be many, and nor is the start, which keeps its mark.
+    fn into_marked(mut self, search: &Search, sink: u32) -> Option<Marked>
         requires { IsClosedBut search.now self }
         ensures { IfSome result (λ marked. IsWayOut search.now marked.marks.items marked.way_out) }
     {
-        if let Some(node) = only_end(search, &self.marks, &self.gates, true) {
+        if let Some(node) = only_head(search, &self.marks, &self.gates, sink) {
             return Some(self.marked(node));
         }
         let node = only_end(search, &self.marks, &self.gates, false)?;
@@ -122,6 +128,20 @@ impl ClosedSide {
             way_out: WayOut::at(node),
         }
     }
+}
+
+/// The node other than the sink to which all gates over which links with room lead out lead. `None` if there is no such node.
+fn only_head(search: &Search, marks: &[bool], gates: &[usize], sink: u32) -> Option<u32>
+    requires { length marks.now ≡ search.now.nodes }
+    ensures node { IfSome result (IsNode search.now.nodes) }
+    ensures outside { IfSome result (λ v. is_marked marks.now v ≡ false) }
+    ensures only { IfSome result (IsOnlyEnd search.now.pairs marks.now gates.now true) }
+{
+    let node = only_end(search, marks, gates, true)?;
+    if node == sink {
+        return None;
+    }
+    Some(node)
 }
 
 /// The node to which all gates over which links with room lead out lead, or from which they lead if not `heads`. `None` if there is no
