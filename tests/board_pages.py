@@ -54,11 +54,12 @@ class Page:
 
     def wait(self, is_so: Callable[[], object]) -> None:
         """Waits until something is so. The longer it takes, the more seldom it is asked for, which takes time from the page too."""
-        from selenium.common.exceptions import NoSuchElementException, TimeoutException
+        from selenium.common.exceptions import NoSuchElementException, StaleElementReferenceException, TimeoutException
 
         pause, until = SOON, time.monotonic() + SECONDS
         while time.monotonic() < until:
-            with contextlib.suppress(NoSuchElementException):
+            # What was found may be shown anew before it is asked.
+            with contextlib.suppress(NoSuchElementException, StaleElementReferenceException):
                 if is_so():
                     return
             time.sleep(pause)
@@ -119,6 +120,18 @@ class Page:
         else:
             self.driver.execute_script("arguments[0].dispatchEvent(new MouseEvent('click', { bubbles: true }))", label)
         self.wait(lambda: self.text("#what h3") == name)
+
+    def choose_found(self, name: str) -> None:
+        """Chooses what a typed text finds first. What is found may be shown anew under the pointer, so this is clicked until it is chosen."""
+
+        def is_chosen() -> bool:
+            if self.text("#what h3") == name:
+                return True
+            if self.text("#found button").startswith(name + ","):
+                self.click("#found button")
+            return False
+
+        self.wait(is_chosen)
 
     def after(self, act: Callable[[], None]) -> int:
         """The value once a click has made a step, or has gone to one, and the picture shows it."""
