@@ -46,13 +46,13 @@ def terminal_text(old: str) -> str:
     rows = ""
     for it in COMMANDS.values():
         numbers = ", ".join(THINGS.get(field, "None") for field in it.fields if field != "WHAT")
-        rows += f'    Command {{ word: b"{it.word}", numbers: &[{numbers}], takes: "{takes_text(it)}" }},\n'
+        rows += f'    CommandForm {{ word: b"{it.word}", numbers: &[{numbers}], takes: "{takes_text(it)}" }},\n'
     listed = f"{', '.join(LISTED)} and {', '.join(LISTED_PRINTS)}"
     return (
         "//! The commands, as explanations speak of them.\nuse dmf_explain::Thing;\n\n"
         f"{NOTE}/// A command: its word, what each of its numbers stands for that may have a name, and the fields that it takes.\n"
-        "pub struct Command {\n    pub word: &'static [u8],\n    pub numbers: &'static [Option<Thing>],\n    pub takes: &'static str,\n}\n\n"
-        f"#[rattlefmt::skip]\npub const COMMANDS: &[Command] = &[\n{rows}];\n\n"
+        "pub struct CommandForm {\n    pub word: &'static [u8],\n    pub numbers: &'static [Option<Thing>],\n    pub takes: &'static str,\n}\n\n"
+        f"#[rattlefmt::skip]\npub const COMMANDS: &[CommandForm] = &[\n{rows}];\n\n"
         "/// The forms of all of them.\n#[rattlefmt::skip]\n"
         f'pub const LISTED: &str = "the commands are {listed}; Ctrl-D ends the session";\n\n'
         "/// What is said of a thing that is not printed.\n#[rattlefmt::skip]\n"

@@ -26,15 +26,20 @@ def first_words(file: Path) -> tuple[str, str]:
     return what, kind[0].lower() if kind else ""
 
 
+def says_something(file: Path) -> bool:
+    """Whether it has definitions or lemmas: it is no proof of one function, and no list of other files."""
+    return file.stem not in ("Lib", "Answers", "Invariants", "Proof") and not file.with_suffix("").is_dir()
+
+
 def tables(crate: Path) -> Iterator[str]:
     """The lines of a crate's tables: its definitions, and then its lemmas."""
     for part, head in ("specs", "| Definitions | What | |\n| --- | --- | --- |"), ("proofs", "| Lemmas | What |\n| --- | --- |"):
-        files = [file for file in sorted((crate / part).glob("*.antt")) if file.stem != "Lib"]
+        files = [file for file in sorted((crate / part).rglob("*.antt")) if says_something(file)]
         if files:
             yield head
         for file in files:
             what, kind = first_words(file)
-            yield f"| `{file.stem}` | {what} |" + (f" {kind} |" if part == "specs" else "")
+            yield f"| `{file.relative_to(crate / part).with_suffix('')}` | {what} |" + (f" {kind} |" if part == "specs" else "")
         if files:
             yield ""
 

@@ -30,9 +30,14 @@ MORE_WORDS = {"docs/DEFINITIONS.md": 3_800, "docs/FORMATS.md": 3_300, "docs/SEAR
 GROWING = {"CHANGELOG.md", "docs/DECISIONS.md"}
 
 
+def is_general(file: Path) -> bool:
+    """Whether it has definitions or lemmas, and not what else the proof of one function needs."""
+    return file.stem not in ("Lib", "Answers", "Invariants", "Proof")
+
+
 def headless_files() -> Iterator[str]:
     """The files of definitions and of lemmas that do not say what they are."""
-    for file in sorted(it for part in ("specs", "proofs") for it in Path("crates").glob(f"*/{part}/*.antt") if it.stem != "Lib"):
+    for file in sorted(it for part in ("specs", "proofs") for it in Path("crates").glob(f"*/{part}/**/*.antt") if is_general(it)):
         comment = "".join(takewhile(lambda line: line.startswith("--"), file.open()))
         if not comment:
             yield f"{file} begins with no comment"
@@ -190,7 +195,7 @@ def unused() -> Iterator[str]:
     texts = {file: file.read_text() for file in sources()}
     said = {file: words(text) for file, text in texts.items()}
     for file in sorted(texts):
-        if file.parent.name not in ("specs", "proofs") or file.stem == "Lib":
+        if file.suffix != ".antt" or not is_general(file):
             continue
         near = [other for other in said if other != file and file.stem in said[other]]
         for name, line, rest in definitions(texts[file]):

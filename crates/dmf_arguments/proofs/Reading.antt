@@ -8,7 +8,7 @@ use Rattle.clap.specs.declared.error.kind.ErrorKind.{ErrorKind}
 use Rattle.clap.specs.declared.error.kind.ErrorKind.TheVariants.{OutOfMemory}
 use Rattle.clap.proofs.OnLiterals.{clap_on_literals}
 use Rattle.dmf_arguments.specs.CommandLine.{Asked, arguments, asked_of}
-use Rattle.dmf_arguments.specs.Words.{Asks, IsToldOf, Tells, holding, solving}
+use Rattle.dmf_arguments.specs.Words.{Asks, IsToldOf, TellsKind, holding, solving}
 use Rattle.dmf_arguments.specs.declared.words.WordsFault.{WordsFault}
 use Rattle.dmf_arguments.specs.declared.words.WordsFault.TheVariants.{NoMemory}
 
@@ -28,9 +28,9 @@ no_kinds e = cc
 
 -- Reading failed, for want of memory or with one of these kinds of fault.
 module _ (kinds : Kinds) (kind : ErrorKind) (fault : WordsFault) (among : (kind ≡ OutOfMemory) ⊎ IsAmong kind kinds)
-    (tells : Tells kind fault) where
+    (tells : TellsKind kind fault) where
   -- if the words have no fault, reading can fail only for want of memory
-  pub short : (asked : Asked) → kinds ≡ [] → Asks asked (Err fault)
+  pub short : (asked : Option Asked) → kinds ≡ [] → Asks asked (Err fault)
   short asked clean =
       let memory : fault ≡ NoMemory = elim among [ inl e ↦ tells.memory e | inr one ↦ absurd (subst (IsAmong kind) clean one) ] in (
         λ is. memory,
@@ -52,24 +52,21 @@ pub record AskedRows (rows : List Row) (flag brief any progress bound path : Opt
   pub bound_is : one_of (codes "history") rows ≡ bound
   pub path_is : first_of (codes "problem") rows ≡ path
 
--- the name of a parsed command, and the texts of its arguments
-abbrev Parts : Type 0
-Parts = Text × Option Text × Option Text × Option Text × Option Text × Option Text × Option Text
-
 -- Where a command was found, what is asked for is what its rows say.
 pub asked_rows : (found : Option (Text × List Row)) (rows : List Row) (name : Text) (flag brief any progress bound path : Option Text)
-    → Some rows ≡ option_map (λ p. p.1) found → asked_of found ≡ Some (name, flag, brief, any, progress, bound, path)
+    → Some rows ≡ option_map (λ p. p.1) found → asked_of found
+    ≡ Some (record { command = name; cut = flag; brief = brief; any = any; progress = progress; history = bound; problem = path })
     → AskedRows rows flag brief any progress bound path
 asked_rows None rows name flag brief any progress bound path has asked = cc
 asked_rows (Some p) rows name flag brief any progress bound path has asked =
     let same : rows ≡ p.1 = cc in
     rw same (record {
-      flag_is = ap (option_and_then (λ (q : Parts). q.1)) asked;
-      brief_is = ap (option_and_then (λ (q : Parts). q.2)) asked;
-      any_is = ap (option_and_then (λ (q : Parts). q.3)) asked;
-      progress_is = ap (option_and_then (λ (q : Parts). q.4)) asked;
-      bound_is = ap (option_and_then (λ (q : Parts). q.5)) asked;
-      path_is = ap (option_and_then (λ (q : Parts). q.6)) asked;
+      flag_is = ap (option_and_then (λ (q : Asked). q.cut)) asked;
+      brief_is = ap (option_and_then (λ (q : Asked). q.brief)) asked;
+      any_is = ap (option_and_then (λ (q : Asked). q.any)) asked;
+      progress_is = ap (option_and_then (λ (q : Asked). q.progress)) asked;
+      bound_is = ap (option_and_then (λ (q : Asked). q.history)) asked;
+      path_is = ap (option_and_then (λ (q : Asked). q.problem)) asked;
     })
 
 -- Sessions that are asked for with equal parts are equal.

@@ -55,26 +55,32 @@ abbrev pub IsRule : Rule → Arg → Type 0
 IsRule rule arg = (rule_of arg ≡ rule) × (arg.global ≡ false)
 
 -- The command is this one, and shares no argument with another.
-abbrev pub IsLine : App → Command → Type 0
-IsLine line made = (app_of made ≡ line) × ((fields_of made).has_globals ≡ false)
+abbrev pub IsCommandLine : App → Command → Type 0
+IsCommandLine line made = (app_of made ≡ line) × ((fields_of made).has_globals ≡ false)
 
 -- the command that a parse finds, with the texts of its four flags, of its bound and of its path, where it has them
-abbrev pub Asked : Type 0
-Asked = Option (Text × Option Text × Option Text × Option Text × Option Text × Option Text × Option Text)
+pub record Asked : Type 0 where
+  pub command : Text
+  pub cut : Option Text
+  pub brief : Option Text
+  pub any : Option Text
+  pub progress : Option Text
+  pub history : Option Text
+  pub problem : Option Text
 
-abbrev pub asked_of : Option (Text × List Row) → Asked
-asked_of = option_map (λ found. (
-  found.0,
-  one_of (codes "cut") found.1,
-  one_of (codes "brief") found.1,
-  one_of (codes "any") found.1,
-  one_of (codes "progress") found.1,
-  one_of (codes "history") found.1,
-  first_of (codes "problem") found.1,
-))
+abbrev pub asked_of : Option (Text × List Row) → Option Asked
+asked_of = option_map (λ found. record {
+  command = found.0;
+  cut = one_of (codes "cut") found.1;
+  brief = one_of (codes "brief") found.1;
+  any = one_of (codes "any") found.1;
+  progress = one_of (codes "progress") found.1;
+  history = one_of (codes "history") found.1;
+  problem = first_of (codes "problem") found.1;
+})
 
 -- what a parse finds in these words, of which the first is the program's name
-abbrev pub asked_in : List Text → Asked
+abbrev pub asked_in : List Text → Option Asked
 asked_in words = asked_of (subcommand_of arguments words)
 
 -- the kinds of fault that a parse may find in these words: help and the version count as faults too

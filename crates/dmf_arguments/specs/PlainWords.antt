@@ -1,7 +1,7 @@
 -- What clap's definition of a parse makes of plain words on the program's command line: the usual calls, and words that the program
 -- refuses.
 -- Public: the law `plain_words_are_read` says it.
-use Rattle.std.specs.Prelude.{◌≡◌, ◌≢◌, ◌==◌, Bool, true, false, List, [], ◌∷◌, Some, None, codes, ⊤}
+use Rattle.std.specs.Prelude.{◌≡◌, ◌≢◌, ◌==◌, Bool, true, false, List, [], ◌∷◌, Option, Some, None, codes, ⊤}
 use Rattle.std.specs.List.{AllByRecursion}
 use Rattle.clap.specs.Words.{Kinds, Text}
 use Rattle.clap.specs.Values.{bool_text}
@@ -27,21 +27,38 @@ abbrev pub HasFaults : Kinds → List Text → Type 0
 HasFaults kinds words = (name : Text) → faults_in (name ∷ words) ≡ kinds
 
 -- They have no fault, and a parse finds this.
-abbrev pub IsTaken : List Text → Asked → Type 0
+abbrev pub IsTaken : List Text → Option Asked → Type 0
 IsTaken words asked = HasFaults [] words × ((name : Text) → asked_in (name ∷ words) ≡ asked)
 
 -- a solve, with the cut, a brief answer, any greatest flow and progress or without; a session, with the cut, brief replies and progress or
 -- without; a check
-abbrev pub solve_of : Bool → Bool → Bool → Bool → Asked
+abbrev pub solve_of : Bool → Bool → Bool → Bool → Option Asked
 solve_of cut brief any progress =
-    Some (codes "solve", Some (bool_text cut), Some (bool_text brief), Some (bool_text any), Some (bool_text progress), None, None)
+    Some (record {
+      command = codes "solve";
+      cut = Some (bool_text cut);
+      brief = Some (bool_text brief);
+      any = Some (bool_text any);
+      progress = Some (bool_text progress);
+      history = None;
+      problem = None;
+    })
 
-abbrev pub session_of : Bool → Bool → Bool → Text → Asked
+abbrev pub session_of : Bool → Bool → Bool → Text → Option Asked
 session_of cut brief progress path =
-    Some (codes "session", Some (bool_text cut), Some (bool_text brief), None, Some (bool_text progress), Some (codes "1000000"), Some path)
+    Some (record {
+      command = codes "session";
+      cut = Some (bool_text cut);
+      brief = Some (bool_text brief);
+      any = None;
+      progress = Some (bool_text progress);
+      history = Some (codes "1000000");
+      problem = Some path;
+    })
 
-abbrev pub check_of : Text → Asked
-check_of path = Some (codes "check", None, None, None, None, None, Some path)
+abbrev pub check_of : Text → Option Asked
+check_of path =
+    Some (record { command = codes "check"; cut = None; brief = None; any = None; progress = None; history = None; problem = Some path })
 
 -- words that begin with an option, whatever stands after it
 abbrev pub misplaced : List Text → List (List Text)

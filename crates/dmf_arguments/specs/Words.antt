@@ -30,8 +30,8 @@ abbrev pub task_of : Arguments → Task
 task_of asked = task_with asked.brief asked.progress asked.mode
 
 -- Reading the words gave this task, or memory was refused.
-abbrev pub Gives : Task → Result Arguments WordsFault → Type 0
-Gives task = λ result. MatchResult result (λ asked. task_of asked ≡ task) (λ fault. fault ≡ NoMemory)
+abbrev pub GivesTask : Task → Result Arguments WordsFault → Type 0
+GivesTask task = λ result. MatchResult result (λ asked. task_of asked ≡ task) (λ fault. fault ≡ NoMemory)
 
 -- The bound of a session's history is at most 1,000,000.
 abbrev pub HasBound : Mode → Type 0
@@ -48,24 +48,41 @@ pub record IsBound (text : Text) (bound : ℕ) : Type 0 where
 -- ---- what a parse finds asks for a task: each flag by its text, `true` or `false`
 
 -- No command asks to solve, with none of the flags.
-abbrev pub AsksNothing : Asked → Result Arguments WordsFault → Type 0
-AsksNothing asked result = asked ≡ None → Gives (solving false false false false) result
+abbrev pub AsksNothing : Option Asked → Result Arguments WordsFault → Type 0
+AsksNothing asked result = asked ≡ None → GivesTask (solving false false false false) result
 
-abbrev pub AsksSolve : Asked → Result Arguments WordsFault → Type 0
+abbrev pub AsksSolve : Option Asked → Result Arguments WordsFault → Type 0
 AsksSolve asked result = (cut brief any progress : Bool) (text path : Option Text)
-    → asked ≡ Some (codes "solve", Some (bool_text cut), Some (bool_text brief), Some (bool_text any), Some (bool_text progress), text, path)
-    → Gives (solving cut brief any progress) result
+    → asked ≡ Some (record {
+      command = codes "solve";
+      cut = Some (bool_text cut);
+      brief = Some (bool_text brief);
+      any = Some (bool_text any);
+      progress = Some (bool_text progress);
+      history = text;
+      problem = path;
+    })
+    → GivesTask (solving cut brief any progress) result
 
-abbrev pub AsksSession : Asked → Result Arguments WordsFault → Type 0
+abbrev pub AsksSession : Option Asked → Result Arguments WordsFault → Type 0
 AsksSession asked result = (cut brief progress : Bool) (any : Option Text) (text : Text) (bound : ℕ) (path : Text)
-    → asked ≡ Some (codes "session", Some (bool_text cut), Some (bool_text brief), any, Some (bool_text progress), Some text, Some path)
-    → IsBound text bound → Gives (holding cut brief progress bound path) result
+    → asked ≡ Some (record {
+      command = codes "session";
+      cut = Some (bool_text cut);
+      brief = Some (bool_text brief);
+      any = any;
+      progress = Some (bool_text progress);
+      history = Some text;
+      problem = Some path;
+    })
+    → IsBound text bound → GivesTask (holding cut brief progress bound path) result
 
-abbrev pub AsksCheck : Asked → Result Arguments WordsFault → Type 0
+abbrev pub AsksCheck : Option Asked → Result Arguments WordsFault → Type 0
 AsksCheck asked result = (cut brief any progress text : Option Text) (path : Text)
-    → asked ≡ Some (codes "check", cut, brief, any, progress, text, Some path) → Gives (checking path) result
+    → asked ≡ Some (record { command = codes "check"; cut = cut; brief = brief; any = any; progress = progress; history = text; problem = Some path })
+    → GivesTask (checking path) result
 
-abbrev pub Asks : Asked → Result Arguments WordsFault → Type 0
+abbrev pub Asks : Option Asked → Result Arguments WordsFault → Type 0
 Asks asked result = AsksNothing asked result × AsksSolve asked result × AsksSession asked result × AsksCheck asked result
 
 -- ---- the answer to words that ask for no task
@@ -82,7 +99,7 @@ IsUsage NoMemory = ⊤
 
 -- The answer to a fault of this kind. Help and the version are texts that the words ask for; any other fault is a fault of the words.
 -- In place of each, memory may be refused.
-pub record Tells (kind : ErrorKind) (fault : WordsFault) : Type 0 where
+pub record TellsKind (kind : ErrorKind) (fault : WordsFault) : Type 0 where
   pub memory : kind ≡ OutOfMemory → fault ≡ NoMemory
   pub help : kind ≡ DisplayHelp → IsHelp fault
   pub version : kind ≡ DisplayVersion → IsHelp fault
@@ -90,7 +107,7 @@ pub record Tells (kind : ErrorKind) (fault : WordsFault) : Type 0 where
 
 -- The answer is the one to a fault of these kinds, or memory was refused.
 abbrev pub IsToldOf : Kinds → WordsFault → Type 0
-IsToldOf kinds fault = (fault ≡ NoMemory) ⊎ ((kind : ErrorKind) × IsAmong kind kinds × Tells kind fault)
+IsToldOf kinds fault = (fault ≡ NoMemory) ⊎ ((kind : ErrorKind) × IsAmong kind kinds × TellsKind kind fault)
 
 -- What reading the program's words gives, for every list of them. The first word is the program's name.
 pub record ReadsWords (words : List Text) (result : Result Arguments WordsFault) : Type 0 where

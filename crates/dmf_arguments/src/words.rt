@@ -1,9 +1,9 @@
 //! The words of the program's arguments: what they ask for.
 ghost use Rattle.std.specs.Prelude.{ℕ, ◌≡◌, ◌≤◌, IfOk, Some, codes, map};
 ghost use Rattle.clap.specs.Words.{app_of, first_value, found_of, kind_of, new_app, one_text, subcommand_rows_of, Text};
-ghost use Rattle.dmf_arguments.specs.CommandLine.{IsLine, IsRule, asked_of, arguments, flag_rule, history_rule, problem_rule};
+ghost use Rattle.dmf_arguments.specs.CommandLine.{IsCommandLine, IsRule, asked_of, arguments, flag_rule, history_rule, problem_rule};
 ghost use Rattle.dmf_arguments.specs.CommandLine.{check_line, program_line, session_line, solve_line};
-ghost use Rattle.dmf_arguments.specs.Words.{AsksCheck, AsksNothing, AsksSession, AsksSolve, HasBound, IsBound, ReadsMode, ReadsWords, Tells};
+ghost use Rattle.dmf_arguments.specs.Words.{AsksCheck, AsksNothing, AsksSession, AsksSolve, HasBound, IsBound, ReadsMode, ReadsWords, TellsKind};
 
 use crate::help;
 use crate::help::Help;
@@ -120,7 +120,7 @@ fn program<'a>(alloc: Global) -> Command<'a>
 
 /// A command without arguments, with its texts of help.
 fn named<'a>(alloc: Global, name: &'a str, help: Help) -> Command<'a>
-    ensures { IsLine (new_app name.now) result }
+    ensures { IsCommandLine (new_app name.now) result }
 {
     Command::new(alloc, name)
         .about(help.about)
@@ -131,7 +131,7 @@ fn named<'a>(alloc: Global, name: &'a str, help: Help) -> Command<'a>
 /// The command `solve`.
 #[inline(never)]
 fn solve<'a>(alloc: Global) -> Result<Command<'a>, AllocError>
-    ensures { IfOk result (IsLine solve_line) }
+    ensures { IfOk result (IsCommandLine solve_line) }
 {
     named(alloc, "solve", help::SOLVE)
         .arg(flag(alloc, "any", help::ANY))?
@@ -143,7 +143,7 @@ fn solve<'a>(alloc: Global) -> Result<Command<'a>, AllocError>
 /// The command `session`.
 #[inline(never)]
 fn session<'a>(alloc: Global) -> Result<Command<'a>, AllocError>
-    ensures { IfOk result (IsLine session_line) }
+    ensures { IfOk result (IsCommandLine session_line) }
 {
     named(alloc, "session", help::SESSION)
         .arg(flag(alloc, "brief", help::BRIEF))?
@@ -156,7 +156,7 @@ fn session<'a>(alloc: Global) -> Result<Command<'a>, AllocError>
 /// The command `check`.
 #[inline(never)]
 fn check<'a>(alloc: Global) -> Result<Command<'a>, AllocError>
-    ensures { IfOk result (IsLine check_line) }
+    ensures { IfOk result (IsCommandLine check_line) }
 {
     named(alloc, "check", help::CHECK).arg(problem(alloc))
 }
@@ -260,7 +260,7 @@ fn path_of(alloc: Global, matches: &ArgMatches<'_>) -> Result<String, AllocError
 
 /// Why the program does not take the words.
 fn fault_of(alloc: Global, error: &Error) -> WordsFault
-    ensures { Tells (kind_of error.now) result }
+    ensures { TellsKind (kind_of error.now) result }
 {
     if error.kind() == ErrorKind::OutOfMemory {
         return WordsFault::NoMemory;

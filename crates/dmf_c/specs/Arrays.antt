@@ -37,16 +37,16 @@ abbrev pub Marks : CutSide → List ℕ → Type 0
 Marks side marks = (k : ℕ) → k < length marks → slice_index marks k ≡ (if has_node side.ids (k + 1) then 1 else 0)
 
 -- The array has the smallest side, or its refusal, and then is unchanged.
-abbrev pub TellsSide : Result Reply Refusal → ℕ → List ℕ → List ℕ → Type 0
-TellsSide (Ok (Cut side)) code before after = (code ≡ 0) × Marks side after
-TellsSide (Err refusal) code before after = (code ≡ refusal_code refusal) × (after ≡ before)
-TellsSide answer code before after = ⊥
+abbrev pub FillsSide : Result Reply Refusal → ℕ → List ℕ → List ℕ → Type 0
+FillsSide (Ok (Cut side)) code before after = (code ≡ 0) × Marks side after
+FillsSide (Err refusal) code before after = (code ≡ refusal_code refusal) × (after ≡ before)
+FillsSide answer code before after = ⊥
 
 -- The answer to `print cut`, told by an array.
 pub record AnswersSide (t : Timeline) (code : ℕ) (before after : List ℕ) : Type 0 where
   pub answer : Result Reply Refusal
   pub answers : Answers false t PrintCut answer t
-  pub tells : TellsSide answer code before after
+  pub tells : FillsSide answer code before after
 
 -- a fault's number, and the arc or the node that it names, or 0
 abbrev pub flow_code : FlowFault → ℕ

@@ -24,5 +24,5 @@ IsOutOfMemory (Err bad) = bad.code ≡ 1
 IsOutOfMemory (Ok s) = ⊥
 
 -- Memory was refused, or this is the result.
-abbrev pub Tells : Result NetworkState BadArc → Result NetworkState (ℕ × ℕ) → Type 0
-Tells result built = IsOutOfMemory result ⊎ Same result built
+abbrev pub TellsBuilt : Result NetworkState BadArc → Result NetworkState (ℕ × ℕ) → Type 0
+TellsBuilt result built = IsOutOfMemory result ⊎ Same result built

@@ -12,12 +12,12 @@ ReadsResult past (Ok s) code before after line fault = (code ≡ 0) × (after �
 ReadsResult past (Err found) code before after line fault = (code ≡ 12) × (line ≡ found.line) × (fault ≡ fault_number found.kind) × (after ≡ before)
 
 -- The same, if the bound is at most 1,000,000.
-abbrev pub Reads : ℕ → Result NetworkState ProblemFault → ℕ → Option Timeline → Option Timeline → ℕ → ℕ → Type 0
-Reads past read code before after line fault =
+abbrev pub ReadsBounded : ℕ → Result NetworkState ProblemFault → ℕ → Option Timeline → Option Timeline → ℕ → ℕ → Type 0
+ReadsBounded past read code before after line fault =
     MatchBool (nat_le past 1000000) (ReadsResult past read code before after line fault) ((code ≡ 11) × (after ≡ before))
 
 -- The array begins with the text, if it is long enough; else it is unchanged. `size` is the length of the text.
-abbrev pub Gives : List ℕ → ℕ → List ℕ → List ℕ → ℕ → Type 0
-Gives text code before after size =
+abbrev pub GivesText : List ℕ → ℕ → List ℕ → List ℕ → ℕ → Type 0
+GivesText text code before after size =
     (size ≡ length text)
     × MatchBool (nat_le (length text) (length before)) ((code ≡ 0) × (after ≡ text ++ drop (length text) before)) ((code ≡ 10) × (after ≡ before))

@@ -33,11 +33,11 @@ pub extern "C" fn dmf_session_capacities(session: &mut Handle, capacities: &mut 
     if capacities.len() != present.arcs().len() {
         return 10;
     }
-    put_capacities(present.arcs(), capacities);
+    copy_capacities(present.arcs(), capacities);
     0
 }
 
-fn put_capacities(arcs: &[Arc], capacities: &mut [u64])
+fn copy_capacities(arcs: &[Arc], capacities: &mut [u64])
     requires { length capacities.old ≡ length arcs.now }
     ensures capacities { AreCapacities arcs.now capacities.new }
     ensures size { length capacities.new ≡ length capacities.old }

@@ -1,7 +1,7 @@
 //! A network of arrays.
 ghost use Rattle.std.specs.Prelude.{◌≡◌, length};
 ghost use Rattle.dmf_c.specs.Building.{built};
-ghost use Rattle.dmf_c.specs.Built.{net_fault_code, Tells};
+ghost use Rattle.dmf_c.specs.Built.{net_fault_code, TellsBuilt};
 
 use dmf_state::{NetFault, State};
 
@@ -13,7 +13,7 @@ pub struct BadArc {
 }
 
 /// Appends these arcs to the state.
-pub fn build(
+pub fn build_network(
     mut state: State,
     tails: &[u32],
     heads: &[u32],
@@ -21,7 +21,7 @@ pub fn build(
 ) -> Result<State, BadArc>
     requires heads { length heads.now ≡ length tails.now }
     requires capacities { length capacities.now ≡ length tails.now }
-    ensures { Tells result (built 0 state tails.now heads.now capacities.now) }
+    ensures { TellsBuilt result (built 0 state tails.now heads.now capacities.now) }
 {
     for i in 0..tails.len() {
         let (tail, head) = (u64::from(tails[i]), u64::from(heads[i]));

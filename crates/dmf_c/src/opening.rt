@@ -4,7 +4,7 @@ ghost use Rattle.dmf_history.specs.Timeline.{start};
 ghost use Rattle.dmf_c.specs.Building.{has_terminals, opened, Opens};
 ghost use Rattle.dmf_c.specs.Opening.{Starts};
 
-use crate::building::build;
+use crate::building::build_network;
 use crate::handle::Handle;
 use crate::plan::Plan;
 use crate::slot::Slot;
@@ -38,7 +38,7 @@ pub extern "C" fn dmf_session_new(
         return 11;
     }
     let state = State::new(alloc, nodes, source, sink);
-    match build(state, tails, heads, capacities) {
+    match build_network(state, tails, heads, capacities) {
         Ok(state) => open(alloc, state, past, session),
         Err(bad) => {
             *bad_arc = bad.index;

@@ -1,7 +1,7 @@
 //! Problem texts that C reads.
 ghost use Rattle.std.specs.Prelude.{◌≡◌, ◌⊎◌};
 ghost use Rattle.dmf_text.specs.Problem.{problem_of};
-ghost use Rattle.dmf_c.specs.Texts.{Reads};
+ghost use Rattle.dmf_c.specs.Texts.{ReadsBounded};
 
 use crate::opening::open;
 use crate::slot::Slot;
@@ -20,7 +20,7 @@ pub extern "C" fn dmf_session_read(
     fault: &mut u32,
 ) -> u32
     ensures { ((result ≡ 1) × (session.new.session ≡ session.old.session))
-        ⊎ Reads past (problem_of text.now) result session.old.session session.new.session line.new fault.new }
+        ⊎ ReadsBounded past (problem_of text.now) result session.old.session session.new.session line.new fault.new }
 {
     *line = 0;
     *fault = 0;

@@ -2,7 +2,7 @@
 ghost use Rattle.std.specs.Prelude.{◌≡◌, ◌⊎◌, [], Some, IfOk};
 ghost use Rattle.dmf_text.specs.Written.{problem_text, solution_text};
 ghost use Rattle.dmf_c.specs.Codes.{OfPresent};
-ghost use Rattle.dmf_c.specs.Texts.{Gives};
+ghost use Rattle.dmf_c.specs.Texts.{GivesText};
 
 use crate::handle::Handle;
 use dmf_state::{NoMemory, State};
@@ -17,7 +17,7 @@ pub extern "C" fn dmf_session_problem(
     text: &mut [u8],
     size: &mut usize,
 ) -> u32
-    ensures told { (result ≡ 1) ⊎ OfPresent session.old.timeline (λ s. Gives (problem_text s.network) result text.old text.new size.new) }
+    ensures told { (result ≡ 1) ⊎ OfPresent session.old.timeline (λ s. GivesText (problem_text s.network) result text.old text.new size.new) }
     ensures unchanged { session.new.timeline ≡ session.old.timeline }
 {
     match problem_bytes(alloc, session.plan().present()) {
@@ -34,7 +34,7 @@ pub extern "C" fn dmf_session_solution(
     text: &mut [u8],
     size: &mut usize,
 ) -> u32
-    ensures told { (result ≡ 1) ⊎ OfPresent session.old.timeline (λ s. Gives (solution_text s) result text.old text.new size.new) }
+    ensures told { (result ≡ 1) ⊎ OfPresent session.old.timeline (λ s. GivesText (solution_text s) result text.old text.new size.new) }
     ensures unchanged { session.new.timeline ≡ session.old.timeline }
 {
     match solution_bytes(alloc, session.plan().present()) {
@@ -101,7 +101,7 @@ fn solution_bytes(alloc: Global, state: &State) -> Result<Vec<u8>, NoMemory>
 
 /// Gives the bytes if they fit, and says how many there are.
 fn give(bytes: &[u8], text: &mut [u8], size: &mut usize) -> u32
-    ensures { Gives bytes.now result text.old text.new size.new }
+    ensures { GivesText bytes.now result text.old text.new size.new }
 {
     *size = bytes.len();
     if text.len() < bytes.len() {

@@ -3,7 +3,7 @@ use crate::links::{BACK, OPPOSITE_ROOM, ROOM};
 
 /// From which end excess is pushed, and to which. From the sink it goes against the links, as if the network was turned round.
 #[derive(Clone, Copy)]
-pub struct Direction {
+pub struct PushDirection {
     /// The end from which excess comes.
     pub base: u32,
     /// The end to which it is to go.
@@ -18,10 +18,10 @@ pub struct Direction {
     carry: u32,
 }
 
-impl Direction {
+impl PushDirection {
     /// From the source to the sink.
-    pub fn forward(source: u32, sink: u32) -> Direction {
-        Direction {
+    pub fn forward(source: u32, sink: u32) -> PushDirection {
+        PushDirection {
             base: source,
             goal: sink,
             is_reversed: false,
@@ -32,8 +32,8 @@ impl Direction {
     }
 
     /// From the sink to the source.
-    pub fn backward(source: u32, sink: u32) -> Direction {
-        Direction {
+    pub fn backward(source: u32, sink: u32) -> PushDirection {
+        PushDirection {
             base: sink,
             goal: source,
             is_reversed: true,

@@ -1,7 +1,7 @@
 //! The engine: its state, and its first phase.
 use crate::buckets::Buckets;
-use crate::direction::Direction;
-use crate::links::{Links, head_of};
+use crate::direction::PushDirection;
+use crate::links::{PackedLinks, head_of};
 use crate::list::{Row, power_from, read, write};
 use dmf_state::NoMemory;
 use std::alloc::Global;
@@ -10,11 +10,11 @@ use std::alloc::Global;
 #[derive(Drop)]
 pub struct Engine {
     /// The links, with their rooms.
-    pub links: Links,
+    pub links: PackedLinks,
     /// The number of nodes, which is also the label of a node that is cut off from the goal.
     pub nodes: u32,
     /// From which end excess is pushed.
-    pub direction: Direction,
+    pub direction: PushDirection,
     /// The labels of the nodes: lower bounds of their distances to the goal. Their number is a power of two, so that a word's label is found
     /// without a test.
     pub labels: Vec<u32>,
@@ -38,9 +38,9 @@ impl Engine {
     /// An engine for these links that has pushed nothing. Takes memory for some numbers a node.
     pub fn new(
         alloc: Global,
-        links: Links,
+        links: PackedLinks,
         nodes: u32,
-        direction: Direction,
+        direction: PushDirection,
     ) -> Result<Engine, NoMemory> {
         let size = nodes as usize + 2;
         Ok(Engine {
@@ -59,7 +59,7 @@ impl Engine {
     }
 
     /// The links, with what has been pushed over them.
-    pub fn into_links(self) -> Links {
+    pub fn into_links(self) -> PackedLinks {
         let Engine {
             links,
             nodes: _,

@@ -1,5 +1,5 @@
 //! Which end to begin at.
-use crate::direction::Direction;
+use crate::direction::PushDirection;
 use crate::engine::Engine;
 use crate::links::head_of;
 use crate::list::{fill, write};
@@ -31,8 +31,8 @@ impl Engine {
             near_source: u64::MAX,
             near_sink: u64::MAX,
         };
-        let forward = Direction::forward(source, sink);
-        let backward = Direction::backward(source, sink);
+        let forward = PushDirection::forward(source, sink);
+        let backward = PushDirection::backward(source, sink);
         self.find_cuts(forward, &mut cuts);
         self.find_cuts(backward, &mut cuts);
         self.direction = if cuts.near_sink <= cuts.near_source {
@@ -43,7 +43,7 @@ impl Engine {
     }
 
     /// Counts the cuts between the levels from the base on, up to the level of the goal.
-    fn find_cuts(&mut self, direction: Direction, cuts: &mut LevelCuts) {
+    fn find_cuts(&mut self, direction: PushDirection, cuts: &mut LevelCuts) {
         fill(&mut self.labels, 0);
         self.queue.truncate(0);
         self.queue.push(direction.base);
@@ -67,7 +67,7 @@ impl Engine {
     }
 
     /// Labels the next level's nodes to which excess can leave a node, and answers how much can.
-    fn reach(&mut self, direction: Direction, node: u32, level: u32) -> u64 {
+    fn reach(&mut self, direction: PushDirection, node: u32, level: u32) -> u64 {
         let next = level.wrapping_add(1);
         let mut capacity = 0u64;
         for place in self.links.start(node)..self.links.end(node) {

@@ -1,8 +1,8 @@
 ghost use Rattle.std.specs.Prelude.{◌≡◌, ◌≤◌, ◌^◌, length, IfOk, IfSome};
 
-use crate::direction::Direction;
+use crate::direction::PushDirection;
 use crate::engine::Engine;
-use crate::links::Links;
+use crate::links::PackedLinks;
 use dmf_state::{Arc, NoMemory};
 use std::alloc::Global;
 
@@ -30,8 +30,8 @@ pub fn likely_greatest(
 ) -> Result<Option<Likely>, NoMemory>
     ensures { IfOk result (λ answer. IfSome answer (λ likely. length likely.flows.items ≡ length arcs.now)) }
 {
-    let links = Links::new(alloc, nodes, arcs)?;
-    let mut engine = Engine::new(alloc, links, nodes, Direction::forward(source, sink))?;
+    let links = PackedLinks::new(alloc, nodes, arcs)?;
+    let mut engine = Engine::new(alloc, links, nodes, PushDirection::forward(source, sink))?;
     engine.choose_end(source, sink);
     let count = arcs.len() as u64;
     engine.budget = usual_budget(nodes, count);

@@ -7,7 +7,7 @@ use Rattle.std.proofs.lemmas.List.Splits.{length-slice_split}
 use Rattle.std.proofs.lemmas.List.Sums.{length-filter, count_by-le-length}
 use Rattle.dmf_text.specs.declared.digits.NumberFault.{NumberFault}
 use Rattle.dmf_text.specs.Fields.{fields, is_blank}
-use Rattle.dmf_explain.specs.declared.fields.Places.{Places}
+use Rattle.dmf_explain.specs.declared.fields.FieldRange.{FieldRange}
 use Rattle.dmf_explain.specs.Fields.{IsFaulty}
 
 -- A line has at most one field more than bytes.
@@ -35,7 +35,7 @@ next-of (y ∷ xs) (suc n) x rest is =
     record { is = next.is; left = rw more next.left; within = omega (arith, next.within) }
 
 -- Fields up to this place have no such fault, and the next one has none: so have the fields up to the next place.
-pub none-next : (line : List ℕ) (places : Places) (fault : NumberFault) (n : ℕ) (x : List ℕ) → slice_get (fields line) n ≡ Some x
+pub none-next : (line : List ℕ) (places : FieldRange) (fault : NumberFault) (n : ℕ) (x : List ℕ) → slice_get (fields line) n ≡ Some x
     → ¬ IsFaulty line places fault (n + 1) x → ((place : ℕ) (field : List ℕ) → place ≤ n → ¬ IsFaulty line places fault place field)
     → (place : ℕ) (field : List ℕ) → place ≤ n + 1 → ¬ IsFaulty line places fault place field
 none-next line places fault n x is not_here none place field most faulty = ⊎_elim
@@ -49,7 +49,7 @@ none-next line places fault n x is not_here none place field most faulty = ⊎_e
     (cases_lt n place)
 
 -- Past the last field no field has it.
-pub none-left : (line : List ℕ) (places : Places) (fault : NumberFault) (n : ℕ) → drop n (fields line) ≡ []
+pub none-left : (line : List ℕ) (places : FieldRange) (fault : NumberFault) (n : ℕ) → drop n (fields line) ≡ []
     → ((place : ℕ) (field : List ℕ) → place ≤ n → ¬ IsFaulty line places fault place field)
     → (place : ℕ) (field : List ℕ) → ¬ IsFaulty line places fault place field
 none-left line places fault n ended none place field faulty =

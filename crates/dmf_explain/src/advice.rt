@@ -1,5 +1,5 @@
 //! What is wrong with the field of a number, in any text.
-use crate::fields::{Placed, Places, field_at, first_fault};
+use crate::fields::{FieldRange, Placed, field_at, first_fault};
 use crate::part::{Parts, about, no_number, words};
 use dmf_text::NumberFault;
 
@@ -81,7 +81,7 @@ pub fn too_large<'a>(line: Option<&'a [u8]>) -> Advice<'a> {
 /// The first field of a line of a problem or a solution that has this fault.
 fn faulty(line: &[u8], fault: NumberFault) -> Option<Placed<'_>> {
     let kind = field_at(line, 1)?;
-    first_fault(line, Places::of_numbers(kind), fault)
+    first_fault(line, FieldRange::of_numbers(kind), fault)
 }
 
 /// What to write instead of a field that is no number.

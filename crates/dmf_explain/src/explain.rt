@@ -76,7 +76,7 @@ pub fn explain_solution(rt: &HostRuntime, problem: Origin<'_>, fault: SolutionFa
 
 /// Explains why the file of a problem cannot be opened.
 pub fn explain_open(rt: &HostRuntime, origin: Origin<'_>) {
-    let path = path_of(origin);
+    let path = origin_path(origin);
     let shown = Shown(path.as_bytes());
     if let Err(error) = File::open(rt, path) {
         let _ = eprintln!(rt; "{shown}: {error}");
@@ -85,7 +85,7 @@ pub fn explain_open(rt: &HostRuntime, origin: Origin<'_>) {
 
 /// Explains why a read failed, if what was read is a folder.
 pub fn explain_read(rt: &HostRuntime, origin: Origin<'_>) {
-    let path = path_of(origin);
+    let path = origin_path(origin);
     let is_folder = matches!(fs::metadata(rt, path), Ok(told) if told.is_dir());
     if !is_folder {
         return;
@@ -128,7 +128,7 @@ pub fn invite(rt: &HostRuntime) {
     }
 }
 
-fn path_of<'a>(origin: Origin<'a>) -> &'a str {
+fn origin_path<'a>(origin: Origin<'a>) -> &'a str {
     match origin {
         Origin::File(path) => path,
         Origin::Input => INPUT,
@@ -137,7 +137,7 @@ fn path_of<'a>(origin: Origin<'a>) -> &'a str {
 
 /// The size of a regular file, in bytes.
 fn file_size(rt: &HostRuntime, origin: Origin<'_>) -> Option<u64> {
-    match fs::metadata(rt, path_of(origin)) {
+    match fs::metadata(rt, origin_path(origin)) {
         Ok(told) if told.is_file() => Some(told.len()),
         _ => None,
     }
@@ -148,7 +148,7 @@ pub fn text_of(rt: &HostRuntime, origin: Origin<'_>, most: u64) -> Option<Vec<u8
     if file_size(rt, origin)? > most {
         return None;
     }
-    fs::read(rt, path_of(origin)).ok()
+    fs::read(rt, origin_path(origin)).ok()
 }
 
 /// Whether this is the first fault of the problem text.

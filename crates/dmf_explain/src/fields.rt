@@ -13,18 +13,18 @@ pub struct Placed<'a> {
 
 /// The places of some fields: the first and the last.
 #[derive(Clone, Copy)]
-pub struct Places {
+pub struct FieldRange {
     pub first: usize,
     pub last: usize,
 }
 
-impl Places {
+impl FieldRange {
     /// The places of the numbers in a line of a problem or a solution with this first field.
-    pub fn of_numbers(kind: &[u8]) -> Places {
+    pub fn of_numbers(kind: &[u8]) -> FieldRange {
         match kind {
-            b"p" => Places { first: 3, last: 4 },
-            b"n" | b"s" => Places { first: 2, last: 2 },
-            _ => Places { first: 2, last: 4 },
+            b"p" => FieldRange { first: 3, last: 4 },
+            b"n" | b"s" => FieldRange { first: 2, last: 2 },
+            _ => FieldRange { first: 2, last: 4 },
         }
     }
 
@@ -57,7 +57,7 @@ pub fn count(line: &[u8]) -> u64 {
 }
 
 /// The first field at these places that has this fault.
-pub fn first_fault<'a>(line: &'a [u8], places: Places, fault: NumberFault) -> Option<Placed<'a>>
+pub fn first_fault<'a>(line: &'a [u8], places: FieldRange, fault: NumberFault) -> Option<Placed<'a>>
     ensures faulty { IfSome result (λ placed. IsFaulty line.now places fault placed.place placed.field.now) }
     ensures first { (place : ℕ) (field : List ℕ) → IsFaulty line.now places fault place field → IsSomeAnd result (λ placed. placed.place ≤ place) }
 {
@@ -74,7 +74,7 @@ pub fn first_fault<'a>(line: &'a [u8], places: Places, fault: NumberFault) -> Op
 /// The first field at these places whose number is below the least or past the most.
 pub fn first_outside<'a>(
     line: &'a [u8],
-    places: Places,
+    places: FieldRange,
     least: u64,
     most: u64,
 ) -> Option<Placed<'a>> {

@@ -19,9 +19,9 @@ pub use explain::{
     Origin, explain_open, explain_problem, explain_read, explain_solution, explain_words, invite,
     text_of,
 };
-pub use fields::{Placed, Places, count, field_at, first_fault};
+pub use fields::{FieldRange, Placed, count, field_at, first_fault};
 pub use front::Front;
-pub use names::{Ends, Named, Thing, behind, find_ends, find_named, without_last_field};
+pub use names::{ArcEnds, Named, Thing, behind, find_ends, find_named, without_last_field};
 pub use page::help_without_page;
 pub use part::{Part, Parts, Said, about, about_with, no_number, numbered, words};
 pub use problem::found;

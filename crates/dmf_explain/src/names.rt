@@ -72,7 +72,7 @@ impl Thing {
 
 /// The two nodes of an arc: from the tail to the head.
 #[derive(Clone, Copy)]
-pub struct Ends {
+pub struct ArcEnds {
     pub tail: u64,
     pub head: u64,
 }
@@ -81,8 +81,8 @@ pub struct Ends {
 const MOST_FIELDS: u64 = 12;
 
 /// The two nodes whose names or numbers stand one after the other, if there is just one way to take them apart.
-pub fn find_ends(text: &[u8], names: &[u8]) -> Option<Ends> {
-    let mut found: Option<Ends> = None;
+pub fn find_ends(text: &[u8], names: &[u8]) -> Option<ArcEnds> {
+    let mut found: Option<ArcEnds> = None;
     for fields in 1..count(names).min(MOST_FIELDS) {
         if let Some(ends) = ends_at(text, names, fields as usize) {
             if found.is_some() {
@@ -95,11 +95,11 @@ pub fn find_ends(text: &[u8], names: &[u8]) -> Option<Ends> {
 }
 
 /// The two nodes, if the name of the first has so many fields.
-fn ends_at(text: &[u8], names: &[u8], fields: usize) -> Option<Ends> {
+fn ends_at(text: &[u8], names: &[u8], fields: usize) -> Option<ArcEnds> {
     let head = behind(names, fields);
     let end = names.len().saturating_sub(head.len());
     let tail = (&names[..end]).trim_ascii();
-    Some(Ends {
+    Some(ArcEnds {
         tail: node_of(text, tail)?,
         head: node_of(text, head)?,
     })

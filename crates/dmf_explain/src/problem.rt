@@ -1,6 +1,6 @@
 //! The faults of problem texts, explained.
 use crate::advice::{Advice, not_a_number, too_large};
-use crate::fields::{Placed, Places, count, field_at, first_outside};
+use crate::fields::{FieldRange, Placed, count, field_at, first_outside};
 use crate::front::Front;
 use crate::look::{is_of_table, look_of};
 use crate::part::{Part, Parts, about_with, numbered};
@@ -171,7 +171,7 @@ pub fn found<'a>(form: &'a str, count: u64) -> Parts<'a> {
 
 fn count_out_of_range<'a>(line: Option<&'a [u8]>) -> Advice<'a> {
     let most_nodes = u64::from(MAX_NODES);
-    let nodes = Places { first: 3, last: 3 };
+    let nodes = FieldRange { first: 3, last: 3 };
     let Some(line) = line else {
         return Advice::saying("NODES is from 2 to 16777216, ARCS at most 134217728");
     };
@@ -191,8 +191,8 @@ fn node_out_of_range<'a>(front: Front, line: Option<&'a [u8]>) -> Advice<'a> {
         return Advice::saying("nodes are numbered from 1 to NODES of the problem line");
     };
     let places = match field_at(line, 1) {
-        Some(b"n") => Places { first: 2, last: 2 },
-        _ => Places { first: 2, last: 3 },
+        Some(b"n") => FieldRange { first: 2, last: 2 },
+        _ => FieldRange { first: 2, last: 3 },
     };
     let Some(placed) = first_outside(line, places, 1, nodes) else {
         return Advice::of_line(numbered("the nodes are numbered from 1 to ", nodes, ""));

@@ -16,11 +16,11 @@ pub fn solution_advice<'a>(fault: SolutionFault, text: Option<&'a [u8]>) -> Advi
             return Advice::saying(look);
         }
     }
-    line_advice(fault.kind, line_of(text, fault.line))
+    line_advice(fault.kind, line_at(text, fault.line))
 }
 
 /// The line of a text with this number.
-fn line_of(text: &[u8], wanted: u64) -> Option<&[u8]> {
+fn line_at(text: &[u8], wanted: u64) -> Option<&[u8]> {
     for (number, line) in Lines::new(text) {
         if number == wanted {
             return Some(line);

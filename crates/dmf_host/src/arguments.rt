@@ -7,7 +7,7 @@ use std::io::ErrorKind;
 pub fn words(rt: &HostRuntime) -> Result<Vec<String>, Fault> {
     let words = match env::args(rt) {
         Ok(words) => words,
-        Err(error) => return Err(fault_of(error.kind())),
+        Err(error) => return Err(fault_of_kind(error.kind())),
     };
     match words.collect(rt.alloc()) {
         Ok(words) => Ok(words),
@@ -16,7 +16,7 @@ pub fn words(rt: &HostRuntime) -> Result<Vec<String>, Fault> {
 }
 
 /// Why the words cannot be read: one of them is not UTF-8, or memory was refused.
-fn fault_of(kind: ErrorKind) -> Fault {
+fn fault_of_kind(kind: ErrorKind) -> Fault {
     if kind == ErrorKind::OutOfMemory {
         Fault::NO_MEMORY
     } else {

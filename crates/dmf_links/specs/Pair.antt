@@ -17,9 +17,9 @@ pub record ArePairs (nodes : ℕ) (pairs : List (Option Pair)) : Type 0 where
   pub at_most : length pairs ≤ 2 ^ 27 + 1
 
 -- the same pair without room
-abbrev pub emptied : Option Pair → Option Pair
-emptied None = None
-emptied (Some p) = Some (record { tail = p.tail; head = p.head; along = 0; against = 0 })
+abbrev pub without_room : Option Pair → Option Pair
+without_room None = None
+without_room (Some p) = Some (record { tail = p.tail; head = p.head; along = 0; against = 0 })
 
 -- the pair at index `k`
 abbrev pub pair_number : List (Option Pair) → ℕ → Option Pair

@@ -4,11 +4,11 @@ use Rattle.std.specs.Prelude.{ℕ, ◌≡◌, ◌≢◌, ◌+◌, ◌-◌, ◌<�
 use Rattle.dmf_links.specs.declared.pair.Pair.{Pair}
 use Rattle.dmf_links.specs.Links.{Links, AreFlags, ArePlaces, AreRooms, IsOf, IsSpare, pairs_at, tail_of}
 use Rattle.dmf_links.specs.Numbers.{AreNumbers}
-use Rattle.dmf_links.specs.Pair.{emptied, pair_number}
+use Rattle.dmf_links.specs.Pair.{without_room, pair_number}
 
 -- The pair at index `k`, if there is one, has no room.
 abbrev pub IsIdle : List (Option Pair) → ℕ → Type 0
-IsIdle pairs k = emptied (pair_number pairs k) ≡ pair_number pairs k
+IsIdle pairs k = without_room (pair_number pairs k) ≡ pair_number pairs k
 
 -- The links and places have become these: with those of this pair, which has no room, behind those of the others. Rooms and flags stay
 -- those of the links; and each link that is not spare is one of the new pair, or belongs to the pair to which it belonged.

@@ -3,7 +3,7 @@ ghost use Rattle.std.specs.Prelude.{◌≡◌, ◌≢◌, ℕ, ◌+◌, ◌-◌,
 ghost use Rattle.dmf_node.specs.Node.{IsNode};
 ghost use Rattle.dmf_links.specs.Links.{AreLinks, ArePlaces, IsSpare, pairs_at};
 ghost use Rattle.dmf_links.specs.LinkTable.{links_of};
-ghost use Rattle.dmf_links.specs.Pair.{IsPair, emptied, pair_number};
+ghost use Rattle.dmf_links.specs.Pair.{IsPair, without_room, pair_number};
 ghost use Rattle.dmf_links.specs.Stack.{AreCoupled, IsFirstSpare, IsPutOn, IsTakenOff, ending_at};
 
 use crate::links::NO_PLACE;
@@ -15,7 +15,7 @@ use crate::table::LinkTable;
 pub fn idle_pair(table: &LinkTable, places: &Places, k: usize) -> Option<Pair>
     requires places { ArePlaces (links_of table.now) places.now }
     requires index { k < length places.now }
-    ensures is { (rooms : List ℕ) → result ≡ emptied (pair_number (pairs_at (links_of table.now) places.now rooms) k) }
+    ensures is { (rooms : List ℕ) → result ≡ without_room (pair_number (pairs_at (links_of table.now) places.now rooms) k) }
     ensures pair { IfSome result (IsPair table.now.nodes) }
 {
     let place = places.place_of(k)?;
@@ -40,7 +40,7 @@ pub fn put_on(table: &mut LinkTable, places: &mut Places, pair: Option<Pair>) ->
     requires places { ArePlaces (links_of table.old) places.old }
     requires few { length places.old ≤ 2 ^ 27 }
     requires pair { IfSome pair (IsPair table.old.nodes) }
-    ensures { result ≡ true → IsPutOn (links_of table.old) places.old (emptied pair) (links_of table.new) places.new }
+    ensures { result ≡ true → IsPutOn (links_of table.old) places.old (without_room pair) (links_of table.new) places.new }
 {
     let Some(pair) = pair else {
         return places.put_on(NO_PLACE);

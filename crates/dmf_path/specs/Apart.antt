@@ -6,14 +6,14 @@ use Rattle.dmf_links.specs.declared.pair.Pair.{Pair}
 use Rattle.dmf_path.specs.declared.search.apart.Own.{Own}
 use Rattle.dmf_path.specs.declared.search.apart.Shared.{Shared}
 use Rattle.dmf_path.specs.declared.trail.Trail.{Trail}
-use Rattle.dmf_links.specs.Pair.{emptied, pair_number}
+use Rattle.dmf_links.specs.Pair.{without_room, pair_number}
 use Rattle.dmf_links.specs.Stack.{IsPutOn, IsTakenOff}
 use Rattle.dmf_path.specs.Walk.{AreCurrent}
 use Rattle.dmf_path.specs.Ball.{IsTidy}
 use Rattle.dmf_path.specs.Held.{way_of}
 use Rattle.dmf_links.specs.Links.{Links, AreFlags, AreLinks, ArePlaces, AreRooms, pairs_at}
 use Rattle.dmf_links.specs.LinkTable.{links_of}
-use Rattle.dmf_path.specs.Residual.{Residual}
+use Rattle.dmf_path.specs.Residual.{ResidualLinks}
 use Rattle.dmf_path.specs.Search.{Searched, with_pairs, with_rooms}
 use Rattle.dmf_path.specs.Searching.{labelling_of, AreReady, IsFresh, IsSearching}
 use Rattle.dmf_links.specs.Numbers.{MayBeNumbered}
@@ -25,7 +25,7 @@ pub record AreShared (shared : Shared) : Type 0 where
 
 -- A search with these labels and this trail has begun anew between so many nodes.
 pub record HasBegun (nodes : ℕ) (levels : Levels) (trail : Trail) : Type 0 where
-  pub residual : Residual
+  pub residual : ResidualLinks
   pub searching : IsSearching residual (labelling_of levels) (way_of trail)
   pub fresh : IsFresh residual.links levels.near.labels trail.start
   pub nodes_are : residual.links.nodes ≡ nodes
@@ -63,10 +63,10 @@ pub record TakesIn (l : Links) (places : List ℕ) (o : Option Pair) (n : Links)
   pub on : Links
   pub more : List ℕ
   pub on_links : AreLinks on
-  pub put_on : IsPutOn off left (emptied o) on more
+  pub put_on : IsPutOn off left (without_room o) on more
   pub last : Option Pair
-  pub last_is : (rooms : List ℕ) → last ≡ emptied (pair_number (pairs_at l places rooms) (length places - 1))
-  pub last_on : IsPutOn on more (emptied last) n after
+  pub last_is : (rooms : List ℕ) → last ≡ without_room (pair_number (pairs_at l places rooms) (length places - 1))
+  pub last_on : IsPutOn on more (without_room last) n after
 
 -- The links and the places have become these: without the last two pairs, and then with the last one, without room.
 pub record LeavesOut (l : Links) (places : List ℕ) (n : Links) (after : List ℕ) : Type 0 where
@@ -79,8 +79,8 @@ pub record LeavesOut (l : Links) (places : List ℕ) (n : Links) (after : List �
   pub less_links : AreLinks less
   pub next_off : IsTakenOff off left less fewer
   pub last : Option Pair
-  pub last_is : (rooms : List ℕ) → last ≡ emptied (pair_number (pairs_at l places rooms) (length places - 1))
-  pub last_on : IsPutOn less fewer (emptied last) n after
+  pub last_is : (rooms : List ℕ) → last ≡ without_room (pair_number (pairs_at l places rooms) (length places - 1))
+  pub last_on : IsPutOn less fewer (without_room last) n after
 
 -- The search has become this one: without room at the pair at index `k`, the last one, which had these rooms.
 pub record IsIdled (old : Searched) (k : ℕ) (new : Searched) (along against : ℕ) : Type 0 where

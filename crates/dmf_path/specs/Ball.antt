@@ -4,7 +4,7 @@ use Rattle.std.specs.Prelude.{ℕ, ◌≡◌, ◌+◌, ◌<◌, ◌≤◌, false
 use Rattle.dmf_node.specs.Node.{IsNode}
 use Rattle.dmf_links.specs.Links.{Links, LiesAt}
 use Rattle.dmf_path.specs.declared.ball.Ball.{Ball}
-use Rattle.dmf_path.specs.Residual.{Residual}
+use Rattle.dmf_path.specs.Residual.{ResidualLinks}
 
 -- Each node with a label below the radius is one of the first `done` in the queue.
 abbrev pub AreInside : List ℕ → List ℕ → ℕ → ℕ → Type 0
@@ -28,12 +28,12 @@ abbrev pub AreNodes : ℕ → List ℕ → ℕ → Type 0
 AreNodes nodes queue done = (i : ℕ) → i < done → IsNode nodes (slice_index queue i)
 
 -- What is known is right in this residual network, in which no room rises.
-pub record IsKnown (ball : Ball) (r : Residual) : Type 0 where
+pub record IsKnown (ball : Ball) (r : ResidualLinks) : Type 0 where
   pub falls : r.takes_back ≡ false
   pub nodes : AreNodes r.links.nodes ball.around.queue ball.around.done
   pub near : AreNear r.links r.rooms ball.around.root ball.radius ball.around.labels
 
-pub record IsFit (ball : Ball) (r : Residual) : Type 0 where
+pub record IsFit (ball : Ball) (r : ResidualLinks) : Type 0 where
   pub tidy : IsTidy ball
   pub known : 0 < ball.radius → IsKnown ball r
 
@@ -42,6 +42,6 @@ abbrev pub IsAround : Ball → ℕ → Type 0
 IsAround ball goal = 0 < ball.radius → ball.around.root ≡ goal
 
 -- What is known is right, and about this goal.
-pub record IsFitFor (ball : Ball) (r : Residual) (goal : ℕ) : Type 0 where
+pub record IsFitFor (ball : Ball) (r : ResidualLinks) (goal : ℕ) : Type 0 where
   pub fit : IsFit ball r
   pub around : IsAround ball goal

@@ -4,7 +4,7 @@
 use Rattle.std.specs.Prelude.{ℕ, ◌≡◌, ◌≢◌, ◌+◌, ◌-◌, ◌<◌, ◌≤◌, ◌⊎◌, ◌==◌, if◌then◌else◌, List, Option, None, Some, length, slice_index, map}
 use Rattle.dmf_node.specs.Node.{IsNode}
 use Rattle.dmf_path.specs.Reach.{Reach}
-use Rattle.dmf_path.specs.declared.push.Links.{Links as Roomy}
+use Rattle.dmf_path.specs.declared.residual.Residual.{Residual}
 use Rattle.dmf_path.specs.Frontier.{AreApart, IsAtRest, IsSpread, MeetBeyond, next_label}
 use Rattle.dmf_links.specs.Links.{Links, LiesAt, open_flag}
 use Rattle.dmf_links.specs.LinkTable.{links_of}
@@ -52,14 +52,14 @@ pub record HasExpandedLevel (l : Links) (opens : List ℕ) (old new : Reach) (ot
   pub root : new.root ≡ old.root
 
 -- The search from the goal goes on where it stopped, and so does the search from the start.
-abbrev pub IsGoalSide : Roomy → Reach → Type 0
+abbrev pub IsGoalSide : Residual → Reach → Type 0
 IsGoalSide links f = IsSpread (links_of links.table.value) links.flags.items f
 
-abbrev pub IsStartSide : Roomy → Reach → Type 0
+abbrev pub IsStartSide : Residual → Reach → Type 0
 IsStartSide links f = IsSpread (links_of links.table.value) (map open_flag links.rooms.items) f
 
 -- The two searches have not met yet: each has labelled all nodes up to the level of its next one, and no node has a label of both.
-pub record AreNearing (links : Roomy) (to_goal from_start : Reach) : Type 0 where
+pub record AreNearing (links : Residual) (to_goal from_start : Reach) : Type 0 where
   pub goal : IsNode links.table.value.nodes to_goal.root
   pub start : IsNode links.table.value.nodes from_start.root
   pub goal_side : IsGoalSide links to_goal
@@ -69,7 +69,7 @@ pub record AreNearing (links : Roomy) (to_goal from_start : Reach) : Type 0 wher
   pub apart : AreApart to_goal.labels from_start.labels
 
 -- They have gone on from there. If they have met, then at this node.
-pub record HaveGoneOn (links : Roomy) (to_goal from_start new_goal new_start : Reach) (node : Option ℕ) : Type 0 where
+pub record HaveGoneOn (links : Residual) (to_goal from_start new_goal new_start : Reach) (node : Option ℕ) : Type 0 where
   pub goal_side : IsGoalSide links new_goal
   pub start_side : IsStartSide links new_start
   pub met : (v : ℕ) → node ≡ Some v → HasMetAt (links_of links.table.value) links.flags.items (map open_flag links.rooms.items)

@@ -6,26 +6,26 @@ use Rattle.dmf_path.specs.declared.ball.Ball.{Ball}
 use Rattle.dmf_path.specs.declared.look.Look.{Look}
 use Rattle.dmf_path.specs.declared.look.LinkRange.{LinkRange}
 use Rattle.dmf_path.specs.declared.look.Wanted.{Wanted}
-use Rattle.dmf_path.specs.declared.push.Links.{Links as Roomy}
+use Rattle.dmf_path.specs.declared.residual.Residual.{Residual}
 use Rattle.dmf_path.specs.Astray.{IsAstray}
 use Rattle.dmf_path.specs.Ball.{AreInside, AreNodes}
 
 -- Each node has a place for its label, and the nodes near the goal are nodes of these links.
-pub record AreSeen (links : Roomy) (labels : List ℕ) (ball : Ball) : Type 0 where
+pub record AreSeen (links : Residual) (labels : List ℕ) (ball : Ball) : Type 0 where
   pub one_label_each : length labels ≡ links.table.value.nodes + 1
   pub one_each : 0 < ball.radius → length ball.around.labels ≡ links.table.value.nodes + 1
   pub nodes : 0 < ball.radius → AreNodes links.table.value.nodes ball.around.queue ball.around.done
   pub inside : AreInside ball.around.labels ball.around.queue ball.around.done ball.radius
 
 -- At the places from `from` up to `end` there are links of the node.
-pub record AreLinksOf (links : Roomy) (node from end : ℕ) : Type 0 where
+pub record AreLinksOf (links : Residual) (node from end : ℕ) : Type 0 where
   pub node_is : IsNode links.table.value.nodes node
   pub from_first : slice_index links.table.value.first.items node ≤ from
   pub range : from ≤ end
   pub to_last : end ≤ slice_index links.table.value.first.items (node + 1)
 
 -- The look has found the link at its place, or come to the end. No link before `skipped` is admissible, and none before its place leads on.
-pub record IsLook (links : Roomy) (labels : List ℕ) (ball : Ball) (wanted : Wanted) (from end : ℕ) (look : Look) : Type 0 where
+pub record IsLook (links : Residual) (labels : List ℕ) (ball : Ball) (wanted : Wanted) (from end : ℕ) (look : Look) : Type 0 where
   pub from_first : from ≤ look.skipped
   pub order : look.skipped ≤ look.place
   pub to : look.place ≤ end
@@ -38,7 +38,7 @@ pub record IsLook (links : Roomy) (labels : List ℕ) (ball : Ball) (wanted : Wa
       → IsAstray ball wanted.goal wanted.left (slice_index links.table.value.heads.items p)
 
 -- The same for a look from a node, which finds links only where the node is above the goal.
-pub record IsLookFrom (links : Roomy) (labels : List ℕ) (ball : Ball) (goal : ℕ) (range : LinkRange) (look : Look) : Type 0 where
+pub record IsLookFrom (links : Residual) (labels : List ℕ) (ball : Ball) (goal : ℕ) (range : LinkRange) (look : Look) : Type 0 where
   pub from_first : range.from ≤ look.skipped
   pub order : look.skipped ≤ look.place
   pub to : look.place ≤ range.end
@@ -52,7 +52,7 @@ pub record IsLookFrom (links : Roomy) (labels : List ℕ) (ball : Ball) (goal : 
       → IsAstray ball goal (slice_index labels range.node - slice_index labels goal - 1) (slice_index links.table.value.heads.items p)
 
 -- No link before this place leads on, and that there does, if it is before the end.
-pub record IsNext (links : Roomy) (labels : List ℕ) (ball : Ball) (wanted : Wanted) (from end place : ℕ) : Type 0 where
+pub record IsNext (links : Residual) (labels : List ℕ) (ball : Ball) (wanted : Wanted) (from end place : ℕ) : Type 0 where
   pub from_first : from ≤ place
   pub to : place ≤ end
   pub room : place < end → 0 < slice_index links.rooms.items place

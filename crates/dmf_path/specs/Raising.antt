@@ -5,7 +5,7 @@ use Rattle.std.specs.Prelude.{ℕ, ◌≡◌, ◌≢◌, ◌<◌, ◌≤◌, Lis
 use Rattle.dmf_links.specs.Links.{Links, LiesAt}
 use Rattle.dmf_path.specs.Labels.{no_label}
 use Rattle.dmf_path.specs.BothEnds.{AreWhole}
-use Rattle.dmf_path.specs.Residual.{Residual}
+use Rattle.dmf_path.specs.Residual.{ResidualLinks}
 use Rattle.dmf_path.specs.Searching.{Labelling, AreNoted}
 use Rattle.dmf_path.specs.Walk.{AreCurrent, ArePassed}
 
@@ -15,13 +15,13 @@ pub record IsLeast (l : Links) (labels rooms : List ℕ) (v label : ℕ) : Type 
   pub one : label ≢ no_label → (p : ℕ) × LiesAt l v p × (0 < slice_index rooms p) × (slice_index labels (slice_index l.heads p) ≡ label)
 
 -- Labels that may be raised: no link with room falls by more than one, and the current links fit this goal.
-pub record MayBeRaised (r : Residual) (goal : ℕ) (v : Labelling) : Type 0 where
+pub record MayBeRaised (r : ResidualLinks) (goal : ℕ) (v : Labelling) : Type 0 where
   pub whole : AreWhole r.links v.labels r.rooms
   pub current_is : AreCurrent r.links v.current
   pub passed : ArePassed r.links v.labels r.rooms goal v.current
 
 -- Labels have risen, or stayed, and may be raised further; that of the goal stayed. What was noted still is.
-pub record AreRaised (r : Residual) (goal : ℕ) (old new : Labelling) : Type 0 where
+pub record AreRaised (r : ResidualLinks) (goal : ℕ) (old new : Labelling) : Type 0 where
   pub further : MayBeRaised r goal new
   pub noted : (noted : List ℕ) → AreNoted r.links old.labels r.rooms old.current noted → AreNoted r.links new.labels r.rooms new.current noted
   pub more : (v : ℕ) → slice_index old.labels v ≤ slice_index new.labels v

@@ -5,7 +5,7 @@ use Rattle.std.specs.List.{All}
 use Rattle.dmf_path.specs.declared.aside.Aside.{Aside}
 use Rattle.dmf_path.specs.declared.aside.Ends.{Ends}
 use Rattle.dmf_path.specs.declared.levels.Levels.{Levels}
-use Rattle.dmf_path.specs.declared.push.Links.{Links as Roomy}
+use Rattle.dmf_path.specs.declared.residual.Residual.{Residual}
 use Rattle.dmf_path.specs.Reach.{Reach}
 use Rattle.dmf_path.specs.declared.noted.Noted.{Noted}
 use Rattle.dmf_path.specs.Labels.{no_label}
@@ -16,7 +16,7 @@ use Rattle.dmf_links.specs.LinkTable.{links_of}
 use Rattle.dmf_links.specs.Links.{Links, LiesAt, AreLinks, ArePlaces, AreRooms, pairs_at, tail_of}
 use Rattle.dmf_path.specs.Walk.{AreCurrent, ArePassed, IsAdmissible, IsTrail, IsWalking, end_of}
 use Rattle.dmf_path.specs.Held.{Way, places_of, walked_slots, rest_slots, filled_slots, HaveLeft}
-use Rattle.dmf_path.specs.Residual.{Residual, told}
+use Rattle.dmf_path.specs.Residual.{ResidualLinks, with_settled_rooms}
 use Rattle.dmf_path.specs.ClosedSide.{is_marked}
 use Rattle.dmf_path.specs.Search.{Searched}
 
@@ -48,13 +48,13 @@ labelling_of v = record { labels = v.near.labels; current = v.current.items }
 
 -- the settled residual network in which a search looks for paths, and the ends of these paths
 pub record Sought : Type 0 where
-  pub residual : Residual
+  pub residual : ResidualLinks
   pub start : ℕ
   pub goal : ℕ
 
 -- the settled residual network and the ends of a search
-abbrev pub sought : Residual → Way → Sought
-sought r w = record { residual = told r w; start = w.start; goal = w.goal }
+abbrev pub sought : ResidualLinks → Way → Sought
+sought r w = record { residual = with_settled_rooms r w; start = w.start; goal = w.goal }
 
 -- The labels are sound in the settled residual network, between its ends, which differ, and there is memory for the slots of a path.
 pub record IsAimed (s : Sought) (labels : List ℕ) (capacity : ℕ) : Type 0 where
@@ -68,10 +68,10 @@ pub record IsAimed (s : Sought) (labels : List ℕ) (capacity : ℕ) : Type 0 wh
   pub capacity_is : s.residual.links.nodes ≤ capacity
 
 -- What a search has between two paths: labels that are sound, held pushes that can be applied, and how far it has come.
-pub record IsSearching (r : Residual) (v : Labelling) (w : Way) : Type 0 where
+pub record IsSearching (r : ResidualLinks) (v : Labelling) (w : Way) : Type 0 where
   pub aimed : IsAimed (sought r w) v.labels w.capacity
   pub holding : IsHolding r.links w r.rooms
-  pub under_way : IsUnderWay r.links v.labels (told r w).rooms v.current w
+  pub under_way : IsUnderWay r.links v.labels (with_settled_rooms r w).rooms v.current w
 
 -- Among these links there is one of the node at place `p`, or before it.
 pub record IsNoted (l : Links) (noted : List ℕ) (v p : ℕ) : Type 0 where
@@ -86,42 +86,42 @@ pub record AreNoted (l : Links) (labels rooms current noted : List ℕ) : Type 0
   pub each : (v p : ℕ) → IsNode l.nodes v → LiesAt l v p → p < slice_index current v → IsAdmissible l labels rooms v p → IsNoted l noted v p
 
 -- It is known which admissible links are before current ones, unless some could not be noted.
-abbrev pub MaySkip : Noted → Residual → List ℕ → List ℕ → Type 0
+abbrev pub MaySkip : Noted → ResidualLinks → List ℕ → List ℕ → Type 0
 MaySkip noted r labels current = noted.lost ≡ false → AreNoted r.links labels r.rooms current noted.places.items
 
 -- Labels that another search may keep: they are valid whatever its ends are, and it knows which admissible links are passed.
-pub record AreLasting (v : Labelling) (noted : Noted) (r : Residual) : Type 0 where
+pub record AreLasting (v : Labelling) (noted : Noted) (r : ResidualLinks) : Type 0 where
   pub whole : AreWhole r.links v.labels r.rooms
   pub skipped : MaySkip noted r v.labels v.current
 
 -- The current links fit this goal.
-pub record AreKeptFor (v : Labelling) (noted : Noted) (r : Residual) (goal : ℕ) : Type 0 where
+pub record AreKeptFor (v : Labelling) (noted : Noted) (r : ResidualLinks) (goal : ℕ) : Type 0 where
   pub lasting : AreLasting v noted r
   pub current_is : AreCurrent r.links v.current
   pub passed : ArePassed r.links v.labels r.rooms goal v.current
 
 -- Labels that may be lowered: no link with room falls by more than one, and the current links are links.
-pub record MayBeLowered (r : Residual) (v : Labelling) : Type 0 where
+pub record MayBeLowered (r : ResidualLinks) (v : Labelling) : Type 0 where
   pub whole : AreWhole r.links v.labels r.rooms
   pub current_is : AreCurrent r.links v.current
 
 -- Labels have fallen, or stayed, and links that fall then are current again. What was noted still is.
-pub record AreLowered (r : Residual) (old new : Labelling) : Type 0 where
+pub record AreLowered (r : ResidualLinks) (old new : Labelling) : Type 0 where
   pub whole : AreWhole r.links new.labels r.rooms
   pub current_is : AreCurrent r.links new.current
   pub noted : (noted : List ℕ) → AreNoted r.links old.labels r.rooms old.current noted → AreNoted r.links new.labels r.rooms new.current noted
   pub less : (v : ℕ) → slice_index new.labels v ≤ slice_index old.labels v
 
 -- If all nodes from which paths lead to the goal have labels, they are lasting.
-abbrev pub MayLast : Levels → Residual → Type 0
+abbrev pub MayLast : Levels → ResidualLinks → Type 0
 MayLast levels r = levels.all ≡ true → AreLasting (labelling_of levels) levels.noted r
 
 -- The same, and a fresh search has no such labels.
-abbrev pub AreKept : Levels → Bool → Residual → Type 0
+abbrev pub AreKept : Levels → Bool → ResidualLinks → Type 0
 AreKept levels is_fresh r = levels.all ≡ true → (is_fresh ≡ false) × AreLasting (labelling_of levels) levels.noted r
 
 -- The walk has come to where the rest of the last path begins: the two are a path from the start to the goal.
-abbrev pub IsFound : Residual → Way → Type 0
+abbrev pub IsFound : ResidualLinks → Way → Type 0
 IsFound r w = end_of r.links w.start (places_of (walked_slots w)) ≡ w.joint
 
 -- The labels of a search that has not begun: 0 at both ends, and none elsewhere.
@@ -144,7 +144,7 @@ pub record IsReady (nodes : ℕ) (near far : Reach) : Type 0 where
   pub far_is : IsClean nodes far
 
 -- No node has a label of either search, and the ends of paths are two nodes.
-pub record MayBeLabelled (links : Roomy) (levels : Levels) (ends : Ends) : Type 0 where
+pub record MayBeLabelled (links : Residual) (levels : Levels) (ends : Ends) : Type 0 where
   pub near_is : IsClean links.table.value.nodes levels.near
   pub far_is : IsClean links.table.value.nodes levels.far
   pub start_is : IsNode links.table.value.nodes ends.start
@@ -157,14 +157,14 @@ AreReady v = (nodes : ℕ) × IsReady nodes v.near v.far
 
 -- Labels that a search may take up in this residual network: if all nodes from which paths lead to the goal
 -- have one, they lead there.
-pub record AreUsable (levels : Levels) (r : Residual) (goal : ℕ) : Type 0 where
+pub record AreUsable (levels : Levels) (r : ResidualLinks) (goal : ℕ) : Type 0 where
   pub ready : IsReady r.links.nodes levels.near levels.far
   pub goal_is : IsNode r.links.nodes goal
   pub current_is : AreCurrent r.links levels.current.items
   pub kept : levels.all ≡ true → AreKeptFor (labelling_of levels) levels.noted r goal
 
 -- Labels that may be made to lead to another goal.
-pub record MayBeRefitted (levels : Levels) (r : Residual) : Type 0 where
+pub record MayBeRefitted (levels : Levels) (r : ResidualLinks) : Type 0 where
   pub ready : IsReady r.links.nodes levels.near levels.far
   pub current_is : AreCurrent r.links levels.current.items
   pub lasting : AreLasting (labelling_of levels) levels.noted r
@@ -176,17 +176,17 @@ pub record HaveFallen (old new : Levels) (start goal : ℕ) : Type 0 where
   pub less : slice_index new.near.labels goal ≤ slice_index old.near.labels goal
 
 -- The labels lead to the goal, and the start has one that is not lower than the goal's.
-pub record AreRedirected (levels : Levels) (r : Residual) (start goal : ℕ) : Type 0 where
+pub record AreRedirected (levels : Levels) (r : ResidualLinks) (start goal : ℕ) : Type 0 where
   pub kept : AreKeptFor (labelling_of levels) levels.noted r goal
   pub labelled : slice_index levels.near.labels start ≢ no_label
   pub above : slice_index levels.near.labels goal ≤ slice_index levels.near.labels start
 
 -- Those that are set aside are so for the goal that they had, and no room rises.
-abbrev pub AreAside : List Aside → Residual → Type 0
+abbrev pub AreAside : List Aside → ResidualLinks → Type 0
 AreAside asides r = All (λ a. (r.takes_back ≡ false) × AreUsable a.levels r a.ends.goal) asides
 
 -- What a search keeps: the places of the pairs, what it has between two paths, and whether it has not begun.
-pub record IsSearch (r : Residual) (places : List ℕ) (v : Labelling) (w : Way) (is_fresh : Bool) : Type 0 where
+pub record IsSearch (r : ResidualLinks) (places : List ℕ) (v : Labelling) (w : Way) (is_fresh : Bool) : Type 0 where
   pub places_are : ArePlaces r.links places
   pub searching : IsSearching r v w
   pub marked : IsMarked r.links v.labels w.start is_fresh
@@ -221,7 +221,7 @@ pub record IsParted (l : Links) (rooms : List ℕ) (start goal : ℕ) (marks : L
 
 -- The nodes have new labels, by which a walk leads from the start to the goal; or no path is left, and
 -- the nodes on the start's side are marked.
-pub record IsRelabelled (links : Roomy) (old new : Levels) (ends : Ends) (found : Bool) (marks : List Bool) : Type 0 where
+pub record IsRelabelled (links : Residual) (old new : Levels) (ends : Ends) (found : Bool) (marks : List Bool) : Type 0 where
   pub ready : IsReady links.table.value.nodes new.near new.far
   pub labelled : found ≡ true → IsLabelled (links_of links.table.value) links.rooms.items new.near.labels ends.start ends.goal
   pub none : found ≡ false → IsParted (links_of links.table.value) links.rooms.items ends.start ends.goal marks

@@ -11,7 +11,7 @@ use Rattle.dmf_path.specs.Frontier.{IsSpread}
 use Rattle.dmf_path.specs.Labels.{no_label, is_label, AreLabels}
 use Rattle.dmf_path.specs.Reach.{Reach}
 use Rattle.dmf_path.specs.Searching.{IsParted}
-use Rattle.dmf_path.specs.declared.push.Links.{Links as Roomy}
+use Rattle.dmf_path.specs.declared.residual.Residual.{Residual}
 
 -- whether the node has this mark
 abbrev pub has_mark : Bool → List Bool → ℕ → Bool
@@ -50,7 +50,7 @@ pub record HasLooked (l : Links) (opens : List ℕ) (way_out stop : ℕ) (search
 
 -- What came of labels through a node: they lead from the start to the goal; or no path is left, and a closed side is marked; or they were
 -- given up.
-pub record HasPassed (links : Roomy) (near : Reach) (start goal : ℕ) (found : Option Bool) (before after : List Bool) : Type 0 where
+pub record HasPassed (links : Residual) (near : Reach) (start goal : ℕ) (found : Option Bool) (before after : List Bool) : Type 0 where
   pub one_label_each : length near.labels ≡ links.table.value.nodes + 1
   pub labelled : found ≡ Some true → IsLabelled (links_of links.table.value) links.rooms.items near.labels start goal
   pub parted : found ≡ Some false → IsParted (links_of links.table.value) links.rooms.items start goal after

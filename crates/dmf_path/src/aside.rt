@@ -1,9 +1,9 @@
 //! Labels that are set aside, and taken up again.
 ghost use Rattle.std.specs.Prelude.{◌≡◌};
-ghost use Rattle.dmf_path.specs.Residual.{Residual};
+ghost use Rattle.dmf_path.specs.Residual.{ResidualLinks};
 ghost use Rattle.dmf_path.specs.Searching.{AreAside, AreUsable};
 
-use crate::course::Kept;
+use crate::course::KeptEnd;
 use crate::levels::Levels;
 use std::mem::{replace, swap};
 
@@ -27,14 +27,14 @@ pub struct Aside {
 
 impl Ends {
     /// Which of these ends the next ones have too.
-    pub fn kept_by(self, next: Ends) -> Kept {
+    pub fn kept_by(self, next: Ends) -> KeptEnd {
         if self.start == next.start {
-            return Kept::Start;
+            return KeptEnd::Start;
         }
         if self.goal == next.goal {
-            return Kept::Goal;
+            return KeptEnd::Goal;
         }
-        Kept::Neither
+        KeptEnd::Neither
     }
 
     /// Whether both have the same start or the same goal.
@@ -46,7 +46,7 @@ impl Ends {
 /// Exchanges the labels in use for the first ones set aside, if they were used between ends that share none with the next ones. Answers
 /// the ends between which the labels that are in use then were used.
 pub fn take_up(asides: &mut [Aside], levels: &mut Levels, used: Ends, next: Ends) -> Ends
-    ensures { (r : Residual) → AreUsable levels.old r used.goal → AreAside asides.old r → AreUsable levels.new r result.goal × AreAside asides.new r }
+    ensures { (r : ResidualLinks) → AreUsable levels.old r used.goal → AreAside asides.old r → AreUsable levels.new r result.goal × AreAside asides.new r }
 {
     if asides.is_empty() || used.share_one(next) {
         return used;

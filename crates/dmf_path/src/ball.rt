@@ -4,12 +4,12 @@ ghost use Rattle.dmf_node.specs.Node.{IsNode};
 ghost use Rattle.dmf_links.specs.LinkTable.{links_of};
 ghost use Rattle.dmf_path.specs.Ball.{AreInside, AreNear, AreNodes, IsAround, IsFit, IsFitFor};
 ghost use Rattle.dmf_path.specs.Frontier.{IsClean};
-ghost use Rattle.dmf_path.specs.Residual.{Residual, residual_of};
+ghost use Rattle.dmf_path.specs.Residual.{ResidualLinks, residual_of};
 
 use crate::frontier::Frontier;
 use crate::label::NO_LABEL;
 use crate::open::Flagged;
-use crate::push::Links;
+use crate::residual::Residual;
 use dmf_links::LinkTable;
 use std::alloc::{AllocError, Global};
 
@@ -30,7 +30,7 @@ pub struct Ball {
 impl Ball {
     /// No node is known to be near a goal, nor will any be. Takes no memory.
     pub fn none(alloc: Global) -> Ball
-        ensures { (r : Residual) → IsFit result r }
+        ensures { (r : ResidualLinks) → IsFit result r }
     {
         Ball {
             around: Frontier::none(alloc),
@@ -41,7 +41,7 @@ impl Ball {
     /// No node is known to be near a goal until [`surround`](Ball::surround) is called. Takes memory for two numbers a node.
     pub fn new(alloc: Global, nodes: u32) -> Result<Ball, AllocError>
         requires { nodes < 2 ^ 31 }
-        ensures { IfOk result (λ ball. (r : Residual) → IsFit ball r) }
+        ensures { IfOk result (λ ball. (r : ResidualLinks) → IsFit ball r) }
     {
         Ok(Ball {
             around: Frontier::new(alloc, nodes)?,
@@ -50,7 +50,7 @@ impl Ball {
     }
 
     /// Looks for the nodes near this goal, if there is memory for them, and no push is taken back.
-    pub fn surround(&mut self, links: &Links, goal: u32)
+    pub fn surround(&mut self, links: &Residual, goal: u32)
         requires { IsNode links.now.table.value.nodes goal }
         ensures { IsFitFor self.new (residual_of links.now) goal }
     {
@@ -63,7 +63,7 @@ impl Ball {
     }
 
     /// Looks for them anew, if that is wanted.
-    pub fn renew(&mut self, links: &Links, goal: u32, is_wanted: bool)
+    pub fn renew(&mut self, links: &Residual, goal: u32, is_wanted: bool)
         requires fit { IsFitFor self.old (residual_of links.now) goal }
         requires goal { IsNode links.now.table.value.nodes goal }
         ensures { IsFitFor self.new (residual_of links.now) goal }
@@ -75,7 +75,7 @@ impl Ball {
 
     /// Forgets what is known, if it is about another goal.
     pub fn keep_for(&mut self, goal: u32)
-        ensures fit { (r : Residual) → IsFit self.old r → IsFit self.new r }
+        ensures fit { (r : ResidualLinks) → IsFit self.old r → IsFit self.new r }
         ensures around { IsAround self.new goal }
     {
         if self.around.root() != goal {
@@ -85,14 +85,14 @@ impl Ball {
 
     /// Forgets what is known.
     pub fn forget(&mut self)
-        ensures fit { (r : Residual) → IsFit self.new r }
+        ensures fit { (r : ResidualLinks) → IsFit self.new r }
     {
         self.radius = 0;
     }
 }
 
 /// Searches from the goal, backwards. Returns the level that the search has not looked through.
-fn look_around(links: &Links, around: &mut Frontier, goal: u32) -> u32
+fn look_around(links: &Residual, around: &mut Frontier, goal: u32) -> u32
     requires goal { IsNode links.now.table.value.nodes goal }
     requires clean { IsClean links.now.table.value.nodes around.old }
     ensures near { AreNear (links_of links.now.table.value) links.now.rooms.items goal result around.new.labels }

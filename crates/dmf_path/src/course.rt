@@ -2,7 +2,7 @@
 
 /// Which end of a search stayed the same when it was aimed last.
 #[derive(Clone, Copy)]
-pub enum Kept {
+pub enum KeptEnd {
     /// None did.
     Neither,
     /// The goal did, and not the start.
@@ -22,7 +22,7 @@ pub enum Course {
     /// From both ends, until that has looked at more links than there are and an end was kept: then all nodes get a label.
     FromBoth {
         /// The end that was kept.
-        kept: Kept,
+        kept: KeptEnd,
         /// So many links were looked at, to label or to raise, since all nodes got a label, or since both ends of the search changed.
         spent: u64,
     },
@@ -59,7 +59,7 @@ impl Course {
     pub fn from_both(self) -> Course {
         match self {
             Course::FromGoal { .. } => Course::FromBoth {
-                kept: Kept::Neither,
+                kept: KeptEnd::Neither,
                 spent: 0,
             },
             Course::FromBoth { kept, spent } => Course::FromBoth { kept, spent },
@@ -67,7 +67,7 @@ impl Course {
     }
 
     /// The course after the search was aimed, and kept this end.
-    pub fn keeping(self, kept: Kept) -> Course {
+    pub fn keeping(self, kept: KeptEnd) -> Course {
         match self {
             Course::FromGoal { .. } => Course::FromBoth { kept, spent: 0 },
             Course::FromBoth { spent, .. } => Course::FromBoth { kept, spent },
@@ -86,7 +86,7 @@ impl Course {
     pub fn after(self, looked: u64) -> Course {
         match self {
             Course::FromGoal { .. } => Course::FromBoth {
-                kept: Kept::Neither,
+                kept: KeptEnd::Neither,
                 spent: looked,
             },
             Course::FromBoth { kept, spent } => {
@@ -100,20 +100,20 @@ impl Course {
     }
 }
 
-impl Kept {
+impl KeptEnd {
     /// Whether an end was kept.
     fn is_one(self) -> bool {
         match self {
-            Kept::Neither => false,
-            Kept::Goal | Kept::Start => true,
+            KeptEnd::Neither => false,
+            KeptEnd::Goal | KeptEnd::Start => true,
         }
     }
 
     /// Whether the start was kept.
     fn is_start(self) -> bool {
         match self {
-            Kept::Neither | Kept::Goal => false,
-            Kept::Start => true,
+            KeptEnd::Neither | KeptEnd::Goal => false,
+            KeptEnd::Start => true,
         }
     }
 }

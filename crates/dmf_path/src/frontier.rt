@@ -7,7 +7,7 @@ ghost use Rattle.dmf_path.specs.Frontier.{HasExpanded, IsClean, IsSpread, begun_
 ghost use Rattle.dmf_path.specs.Labels.{AreLabels, AreQueued, no_label, unlabelled_count};
 ghost use Rattle.dmf_path.specs.Searching.{fresh_labels};
 
-use crate::label::{NO_LABEL, take_off};
+use crate::label::{NO_LABEL, take_labels_off};
 use crate::open::OpenLinks;
 use dmf_links::LinkTable;
 use std::alloc::{AllocError, Global};
@@ -86,7 +86,7 @@ impl Frontier {
     pub fn unlabel(&mut self)
         ensures { self.new ≡ unlabelled self.old }
     {
-        take_off(&mut self.labels, &self.queue);
+        take_labels_off(&mut self.labels, &self.queue);
         self.queue.clear();
         self.done = 0;
         self.looked = 0;

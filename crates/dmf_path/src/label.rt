@@ -6,7 +6,7 @@ ghost use Rattle.dmf_path.specs.Labels.{AreQueued, no_label};
 pub const NO_LABEL: u32 = u32::MAX;
 
 /// Removes the labels, if all nodes that have one are in the queue. If these are many, it goes over all nodes.
-pub fn take_off(labels: &mut [u32], queue: &[u32])
+pub fn take_labels_off(labels: &mut [u32], queue: &[u32])
     requires queued { AreQueued labels.old queue.now }
     ensures { labels.new ≡ replicate (length labels.old) no_label }
 {

@@ -5,7 +5,7 @@ ghost use Rattle.dmf_path.specs.Astray.{IsAstray};
 ghost use Rattle.dmf_path.specs.Look.{AreLinksOf, AreSeen, IsLook, IsLookFrom, IsNext};
 
 use crate::ball::Ball;
-use crate::push::Links;
+use crate::residual::Residual;
 
 /// The links that a walk to the goal may take from a node.
 #[derive(Clone, Copy)]
@@ -38,7 +38,7 @@ pub struct Look {
     pub place: u32,
 }
 
-impl Links {
+impl Residual {
     /// The first place in the range at which a walk to the goal may go on, or the end of the range: an admissible link of which it is not
     /// known that it leads astray.
     pub fn first_leading(&self, labels: &[u32], ball: &Ball, goal: u32, range: LinkRange) -> Look

@@ -11,11 +11,17 @@ ghost use Rattle.dmf_path.specs.Walk.{AreCurrent};
 use crate::ball::Ball;
 use crate::frontier::Frontier;
 use crate::label::NO_LABEL;
-use crate::push::Links;
+use crate::residual::Residual;
 
 /// Lowers the labels of the nodes in the ball, the farthest first, as far as the labels of the nodes before them allow, and makes links
 /// that fall then current again. No label of the start falls.
-pub fn lower_near(links: &Links, ball: &Ball, start: u32, near: &mut Frontier, current: &mut [u32])
+pub fn lower_near(
+    links: &Residual,
+    ball: &Ball,
+    start: u32,
+    near: &mut Frontier,
+    current: &mut [u32],
+)
     requires fit { IsFit ball.now (residual_of links.now) }
     requires labels { MayBeLowered (residual_of links.now) (record { labels = near.old.labels; current = current.old }) }
     ensures lowered { AreLowered (residual_of links.now) (record { labels = near.old.labels; current = current.old })
@@ -36,7 +42,7 @@ pub fn lower_near(links: &Links, ball: &Ball, start: u32, near: &mut Frontier, c
 
 /// Lowers the label of this node, if it has one, as far as the labels of the nodes before it allow, and makes the links that fall to it
 /// then current again.
-fn lower_node(links: &Links, node: u32, near: &mut Frontier, current: &mut [u32])
+fn lower_node(links: &Residual, node: u32, near: &mut Frontier, current: &mut [u32])
     requires node { IsNode links.now.table.value.nodes node }
     requires labels { MayBeLowered (residual_of links.now) (record { labels = near.old.labels; current = current.old }) }
     ensures lowered { AreLowered (residual_of links.now) (record { labels = near.old.labels; current = current.old })
@@ -54,7 +60,7 @@ fn lower_node(links: &Links, node: u32, near: &mut Frontier, current: &mut [u32]
 
 /// The greatest label of the nodes from which links with room lead to this node, or 0 if there are none. If one is greater than the
 /// node's own, the first such label: it does not fall then.
-fn top_before(links: &Links, node: u32, labels: &[u32]) -> u32
+fn top_before(links: &Residual, node: u32, labels: &[u32]) -> u32
     requires node { IsNode links.now.table.value.nodes node }
     requires one_each { length labels.now ≡ links.now.table.value.nodes + 1 }
     ensures { result ≤ slice_index labels.now node → (p : ℕ) → LiesAt (links_of links.now.table.value) node p
@@ -76,7 +82,7 @@ fn top_before(links: &Links, node: u32, labels: &[u32]) -> u32
 }
 
 /// Makes each link with room that leads to this node from one with this label current again, or leaves one before it current.
-fn make_current(links: &Links, node: u32, label: u32, labels: &[u32], current: &mut [u32])
+fn make_current(links: &Residual, node: u32, label: u32, labels: &[u32], current: &mut [u32])
     requires node { IsNode links.now.table.value.nodes node }
     requires one_each { length labels.now ≡ links.now.table.value.nodes + 1 }
     requires current { AreCurrent (links_of links.now.table.value) current.old }

@@ -9,14 +9,14 @@ ghost use Rattle.dmf_path.specs.Searching.{IsParted};
 use crate::frontier::Frontier;
 use crate::label::NO_LABEL;
 use crate::mark::{mark_labelled, mark_unlabelled};
-use crate::open::{Flagged, OpenLinks, Roomy};
-use crate::push::Links;
+use crate::open::{Flagged, OpenByRoom, OpenLinks};
+use crate::residual::Residual;
 use dmf_links::LinkTable;
 
 /// Labels the nodes from both ends until a node has a label of both searches. Returns that node, or `None` if no path leads from the
 /// start to the goal: then marks the nodes on the start's side.
 pub fn meet(
-    links: &Links,
+    links: &Residual,
     to_goal: &mut Frontier,
     from_start: &mut Frontier,
     marks: &mut [bool],
@@ -40,7 +40,7 @@ pub fn meet(
 }
 
 /// Expands the next level of the search whose waiting nodes have fewer links.
-fn expand_one(links: &Links, to_goal: &mut Frontier, from_start: &mut Frontier) -> Option<u32>
+fn expand_one(links: &Residual, to_goal: &mut Frontier, from_start: &mut Frontier) -> Option<u32>
     requires nearing { AreNearing links.now to_goal.old from_start.old }
     requires goal_ahead { to_goal.old.done < length to_goal.old.queue }
     requires start_ahead { from_start.old.done < length from_start.old.queue }
@@ -50,7 +50,7 @@ fn expand_one(links: &Links, to_goal: &mut Frontier, from_start: &mut Frontier) 
 {
     let table = &links.table;
     if waiting_links(table, from_start) < waiting_links(table, to_goal) {
-        return from_start.expand_level(table, &Roomy(&links.rooms), to_goal.labels());
+        return from_start.expand_level(table, &OpenByRoom(&links.rooms), to_goal.labels());
     }
     to_goal.expand_level(table, &Flagged(&links.flags), from_start.labels())
 }

@@ -29,9 +29,9 @@ impl OpenLinks for Flagged<'_> {
 
 /// The links with room.
 #[derive(Clone, Copy, Drop)]
-pub struct Roomy<'a>(pub &'a [u64]);
+pub struct OpenByRoom<'a>(pub &'a [u64]);
 
-impl OpenLinks for Roomy<'_> {
+impl OpenLinks for OpenByRoom<'_> {
     ghost use Rattle.std.specs.Prelude.{map};
     ghost use Rattle.dmf_links.specs.Links.{open_flag};
 

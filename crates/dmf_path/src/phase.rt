@@ -6,17 +6,17 @@ ghost use Rattle.dmf_path.specs.Going.{Goes, HasGoneOn, IsAimedAnew, IsBetweenLo
 ghost use Rattle.dmf_path.specs.Ball.{IsFitFor};
 ghost use Rattle.dmf_path.specs.Walk.{IsWalk};
 ghost use Rattle.dmf_path.specs.Held.{way_of, with_slots};
-ghost use Rattle.dmf_path.specs.Residual.{residual_of, told};
+ghost use Rattle.dmf_path.specs.Residual.{residual_of, with_settled_rooms};
 ghost use Rattle.dmf_path.specs.Searching.{labelling_of, sought, AreAside, AreReady, AreRedirected, IsSearching, IsFound, IsFresh, IsReady, IsParted, fresh_labels};
 ghost use Rattle.dmf_path.specs.Through.{IsOnlyWay};
 
 use crate::aside::{Aside, Ends, take_up};
 use crate::ball::Ball;
 use crate::levels::{Levels, set_current};
-use crate::push::Links;
 use crate::raise::raise;
 use crate::redirect::{redirect, refit};
 use crate::relabel::label_anew;
+use crate::residual::Residual;
 use crate::through::{Through, label_through};
 use crate::trail::Trail;
 use crate::walk::walk;
@@ -25,7 +25,7 @@ use dmf_links::LinkTable;
 /// Finds the least path from the start to the goal: goes on with the walk, and if none is left, mends the labels or labels the nodes
 /// anew, and walks again. If there is none, marks the nodes on the start's side, if there is a mark for each node.
 pub fn find(
-    links: &mut Links,
+    links: &mut Residual,
     levels: &mut Levels,
     ball: &mut Ball,
     trail: &mut Trail,
@@ -36,7 +36,7 @@ pub fn find(
     ensures same { sought (residual_of links.new) (way_of trail.new) ≡ sought (residual_of links.old) (way_of trail.old) }
     ensures found { result ≡ true → IsFound (residual_of links.new) (way_of trail.new) }
     ensures none { result ≡ false → IsParted (links_of links.old.table.value)
-        (told (residual_of links.old) (way_of trail.old)).rooms trail.old.start trail.old.goal marks.new }
+        (with_settled_rooms (residual_of links.old) (way_of trail.old)).rooms trail.old.start trail.old.goal marks.new }
 {
     ball.keep_for(trail.goal);
     if go_on(links, levels, ball, trail) {
@@ -49,7 +49,12 @@ pub fn find(
 }
 
 /// Mends the labels, and walks again if this helps. Whether the walk comes to the goal.
-fn go_on_mended(links: &mut Links, levels: &mut Levels, ball: &mut Ball, trail: &mut Trail) -> bool
+fn go_on_mended(
+    links: &mut Residual,
+    levels: &mut Levels,
+    ball: &mut Ball,
+    trail: &mut Trail,
+) -> bool
     requires goes { Goes links.old levels.old ball.old trail.old }
     ensures on { HasGoneOn (sought (residual_of links.old) (way_of trail.old)) links.new levels.new ball.new trail.new result }
 {
@@ -59,7 +64,7 @@ fn go_on_mended(links: &mut Links, levels: &mut Levels, ball: &mut Ball, trail: 
 
 /// Labels the nodes anew, and walks again. Whether the walk comes to the goal; if not, no path is left.
 fn go_on_anew(
-    links: &mut Links,
+    links: &mut Residual,
     levels: &mut Levels,
     ball: &mut Ball,
     trail: &mut Trail,
@@ -68,18 +73,18 @@ fn go_on_anew(
     requires goes { Goes links.old levels.old ball.old trail.old }
     ensures on { HasGoneOn (sought (residual_of links.old) (way_of trail.old)) links.new levels.new ball.new trail.new result }
     ensures none { result ≡ false → IsParted (links_of links.old.table.value)
-        (told (residual_of links.old) (way_of trail.old)).rooms trail.old.start trail.old.goal marks.new }
+        (with_settled_rooms (residual_of links.old) (way_of trail.old)).rooms trail.old.start trail.old.goal marks.new }
 {
     trail.settle(links);
     relabel(links, levels, ball, trail, marks) && go_on(links, levels, ball, trail)
 }
 
 /// Goes on with the walk. Returns whether it comes to the goal.
-fn go_on(links: &mut Links, levels: &mut Levels, ball: &Ball, trail: &mut Trail) -> bool
+fn go_on(links: &mut Residual, levels: &mut Levels, ball: &Ball, trail: &mut Trail) -> bool
     requires goes { Goes links.old levels.old ball.now trail.old }
     ensures on { HasGoneOn (sought (residual_of links.old) (way_of trail.old)) links.new levels.new ball.now trail.new result }
     ensures none { result ≡ false → (ps : List ℕ) → ¬ IsWalk (residual_of links.old).links levels.old.near.labels
-        (told (residual_of links.old) (way_of trail.old)).rooms trail.old.goal trail.old.start ps }
+        (with_settled_rooms (residual_of links.old) (way_of trail.old)).rooms trail.old.goal trail.old.start ps }
 {
     walk(
         links,
@@ -92,9 +97,9 @@ fn go_on(links: &mut Links, levels: &mut Levels, ball: &Ball, trail: &mut Trail)
 }
 
 /// Mends the labels, where all nodes have some, and frees the slots; no push is held. Returns whether a walk may lead to the goal then.
-fn mend_labels(links: &Links, levels: &mut Levels, ball: &mut Ball, trail: &mut Trail) -> bool
+fn mend_labels(links: &Residual, levels: &mut Levels, ball: &mut Ball, trail: &mut Trail) -> bool
     requires goes { Goes links.now levels.old ball.old trail.old }
-    requires settled { told (residual_of links.now) (way_of trail.old) ≡ residual_of links.now }
+    requires settled { with_settled_rooms (residual_of links.now) (way_of trail.old) ≡ residual_of links.now }
     ensures goes { Goes links.now levels.new ball.new trail.new }
     ensures same { sought (residual_of links.now) (way_of trail.new) ≡ sought (residual_of links.now) (way_of trail.old) }
 {
@@ -110,7 +115,7 @@ fn mend_labels(links: &Links, levels: &mut Levels, ball: &mut Ball, trail: &mut 
 
 /// Lowers the labels near the goal, if they are those from the start, and raises labels to the goal. Returns whether a walk may lead to
 /// the goal then: whether the goal's label fell, or a trial found such a walk.
-fn mend(links: &Links, levels: &mut Levels, ball: &mut Ball, start: u32, goal: u32) -> bool
+fn mend(links: &Residual, levels: &mut Levels, ball: &mut Ball, start: u32, goal: u32) -> bool
     requires ready { IsReady links.now.table.value.nodes levels.old.near levels.old.far }
     requires redirected { AreRedirected levels.old (residual_of links.now) start goal }
     requires fit { IsFitFor ball.old (residual_of links.now) goal }
@@ -139,14 +144,14 @@ fn mend(links: &Links, levels: &mut Levels, ball: &mut Ball, start: u32, goal: u
 
 /// Labels the nodes anew, and frees the slots; no push is held. Returns whether the start has a label, so that a path is left.
 fn relabel(
-    links: &Links,
+    links: &Residual,
     levels: &mut Levels,
     ball: &mut Ball,
     trail: &mut Trail,
     marks: &mut [bool],
 ) -> bool
     requires goes { Goes links.now levels.old ball.old trail.old }
-    requires settled { told (residual_of links.now) (way_of trail.old) ≡ residual_of links.now }
+    requires settled { with_settled_rooms (residual_of links.now) (way_of trail.old) ≡ residual_of links.now }
     ensures goes { Goes links.now levels.new ball.new trail.new }
     ensures same { sought (residual_of links.now) (way_of trail.new) ≡ sought (residual_of links.now) (way_of trail.old) }
     ensures labelled { result ≡ true → (ps : List ℕ) × IsWalk (links_of links.now.table.value) levels.new.near.labels links.now.rooms.items
@@ -169,7 +174,7 @@ fn relabel(
 /// Labels the nodes anew from the way out, which each path passes, and frees the slots; no push is held. Returns whether a path is left,
 /// or `None` if that is not known; then the search is fresh.
 pub fn relabel_through(
-    links: &Links,
+    links: &Residual,
     levels: &mut Levels,
     ball: &mut Ball,
     trail: &mut Trail,
@@ -177,7 +182,7 @@ pub fn relabel_through(
     marks: &mut [bool],
 ) -> Option<bool>
     requires goes { Goes links.now levels.old ball.old trail.old }
-    requires settled { told (residual_of links.now) (way_of trail.old) ≡ residual_of links.now }
+    requires settled { with_settled_rooms (residual_of links.now) (way_of trail.old) ≡ residual_of links.now }
     requires way { IsOnlyWay (links_of links.now.table.value) links.now.rooms.items trail.old.start trail.old.goal way_out marks.old }
     ensures goes { Goes links.now levels.new ball.new trail.new }
     ensures same { sought (residual_of links.now) (way_of trail.new) ≡ sought (residual_of links.now) (way_of trail.old) }
@@ -205,7 +210,7 @@ pub fn relabel_through(
 }
 
 /// Begins the walks along new labels, by which one leads to the goal, and frees the slots.
-fn begin_phase(links: &Links, levels: &mut Levels, ball: &mut Ball, trail: &mut Trail)
+fn begin_phase(links: &Residual, levels: &mut Levels, ball: &mut Ball, trail: &mut Trail)
     requires { IsRelabelledFor links.now levels.old ball.old trail.old }
     ensures goes { Goes links.now levels.new ball.new trail.new }
     ensures same { sought (residual_of links.now) (way_of trail.new) ≡ sought (residual_of links.now) (way_of trail.old) }
@@ -222,7 +227,7 @@ fn begin_phase(links: &Links, levels: &mut Levels, ball: &mut Ball, trail: &mut 
 
 /// Restarts the search between its two nodes: applies the held pushes and removes all labels, so that the next walk ends at once. From
 /// then on labelling goes from both ends.
-pub fn begin_anew(links: &mut Links, levels: &mut Levels, trail: &mut Trail)
+pub fn begin_anew(links: &mut Residual, levels: &mut Levels, trail: &mut Trail)
     requires searching { IsSearching (residual_of links.old) (labelling_of levels.old) (way_of trail.old) }
     requires ready { AreReady levels.old }
     ensures searching { IsSearching (residual_of links.new) (labelling_of levels.new) (way_of trail.new) }
@@ -239,7 +244,7 @@ pub fn begin_anew(links: &mut Links, levels: &mut Levels, trail: &mut Trail)
 /// Restarts the search between other nodes: applies the held pushes, takes up the labels that fit these nodes, and keeps them if they can
 /// be made to lead to the goal. Else it takes them off, and is fresh. Whether it is.
 pub fn aim(
-    links: &mut Links,
+    links: &mut Residual,
     levels: &mut Levels,
     asides: &mut [Aside],
     ball: &mut Ball,
@@ -247,13 +252,13 @@ pub fn aim(
     ends: Ends,
 ) -> bool
     requires keeps { IsBetweenLooks links.old levels.old ball.old trail.old }
-    requires asides { AreAside asides.old (told (residual_of links.old) (way_of trail.old)) }
+    requires asides { AreAside asides.old (with_settled_rooms (residual_of links.old) (way_of trail.old)) }
     requires start { IsNode links.old.table.value.nodes ends.start }
     requires goal { IsNode links.old.table.value.nodes ends.goal }
     requires apart { ends.start ≢ ends.goal }
     ensures aimed { IsAimedAnew links.new levels.new asides.new ball.new trail.new result }
     ensures same { sought (residual_of links.new) (way_of trail.new)
-        ≡ record { residual = told (residual_of links.old) (way_of trail.old); start = ends.start; goal = ends.goal } }
+        ≡ record { residual = with_settled_rooms (residual_of links.old) (way_of trail.old); start = ends.start; goal = ends.goal } }
 {
     trail.settle(links);
     let before = Ends {

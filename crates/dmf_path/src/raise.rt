@@ -10,7 +10,7 @@ use crate::aside::Ends;
 use crate::course::Course;
 use crate::frontier::Frontier;
 use crate::label::NO_LABEL;
-use crate::push::Links;
+use crate::residual::Residual;
 
 /// The trials from one start have at most so many steps.
 const MOST: u32 = 16384;
@@ -19,7 +19,7 @@ const MOST: u32 = 16384;
 /// goal along admissible links, and where a node has none, it raises the node's label. Whether such a walk is found; if not, that would
 /// take too many steps, or [`Course::may_raise`] says that no label may be raised.
 pub fn raise(
-    links: &Links,
+    links: &Residual,
     ends: Ends,
     near: &mut Frontier,
     current: &mut [u32],
@@ -62,7 +62,7 @@ pub fn raise(
 /// Makes the first link of this node its current one, and raises its label, if it is lower, to one above the least label to which a link
 /// with room leads from it. Whether that can be done: not if there is no such label, or no label may be raised.
 fn raise_node(
-    links: &Links,
+    links: &Residual,
     goal: u32,
     node: u32,
     near: &mut Frontier,
@@ -92,7 +92,7 @@ fn raise_node(
 }
 
 /// The least label of the nodes to which links with room lead from this node, or [`NO_LABEL`].
-fn least_label(links: &Links, node: u32, labels: &[u32]) -> u32
+fn least_label(links: &Residual, node: u32, labels: &[u32]) -> u32
     requires node { IsNode links.now.table.value.nodes node }
     requires one_each { length labels.now ≡ links.now.table.value.nodes + 1 }
     ensures { IsLeast (links_of links.now.table.value) labels.now links.now.rooms.items node result }

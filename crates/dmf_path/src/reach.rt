@@ -5,12 +5,12 @@ ghost use Rattle.dmf_links.specs.Links.{open_flag};
 ghost use Rattle.dmf_links.specs.LinkTable.{links_of};
 ghost use Rattle.dmf_path.specs.Labels.{AreLabels, is_label};
 ghost use Rattle.dmf_path.specs.Held.{way_of, filled_slots, HaveLeft};
-ghost use Rattle.dmf_path.specs.Residual.{residual_of, told};
+ghost use Rattle.dmf_path.specs.Residual.{residual_of, with_settled_rooms};
 
 use crate::frontier::Frontier;
 use crate::label::NO_LABEL;
-use crate::open::Roomy;
-use crate::push::Links;
+use crate::open::OpenByRoom;
+use crate::residual::Residual;
 use crate::trail::Trail;
 use dmf_links::LinkTable;
 use std::alloc::{AllocError, Global};
@@ -19,13 +19,13 @@ use std::alloc::{AllocError, Global};
 /// the rooms too if a slot is filled.
 pub fn labels_from_start(
     alloc: Global,
-    links: &Links,
+    links: &Residual,
     trail: &Trail,
 ) -> Result<Vec<u32>, AllocError>
     requires start { IsNode links.now.table.value.nodes trail.now.start }
     requires have { HaveLeft trail.now.sent links.now.rooms.items (filled_slots (way_of trail.now)) }
     ensures { IfOk result (λ labels. AreLabels (links_of links.now.table.value)
-        (map open_flag (told (residual_of links.now) (way_of trail.now)).rooms) trail.now.start 0 labels.items) }
+        (map open_flag (with_settled_rooms (residual_of links.now) (way_of trail.now)).rooms) trail.now.start 0 labels.items) }
 {
     if trail.is_empty() {
         return labels_over(alloc, &links.table, &links.rooms, trail.start);
@@ -35,9 +35,9 @@ pub fn labels_from_start(
 }
 
 /// The rooms of all links with the held pushes applied. Takes memory for them.
-fn settled_rooms(alloc: Global, links: &Links, trail: &Trail) -> Result<Vec<u64>, AllocError>
+fn settled_rooms(alloc: Global, links: &Residual, trail: &Trail) -> Result<Vec<u64>, AllocError>
     requires have { HaveLeft trail.now.sent links.now.rooms.items (filled_slots (way_of trail.now)) }
-    ensures { IfOk result (λ rooms. rooms.items ≡ (told (residual_of links.now) (way_of trail.now)).rooms) }
+    ensures { IfOk result (λ rooms. rooms.items ≡ (with_settled_rooms (residual_of links.now) (way_of trail.now)).rooms) }
 {
     let mut settled = Vec::with_capacity(alloc, links.rooms.len())?;
     for place in 0..links.rooms.len() {
@@ -58,7 +58,7 @@ fn labels_over(
     ensures { IfOk result (λ labels. AreLabels (links_of table.now) (map open_flag rooms.now) root 0 labels.items) }
 {
     let mut frontier = Frontier::new(alloc, table.nodes)?;
-    frontier.label_from(table, &Roomy(rooms), root, 0);
+    frontier.label_from(table, &OpenByRoom(rooms), root, 0);
     Ok(frontier.into_labels())
 }
 

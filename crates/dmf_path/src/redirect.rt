@@ -13,14 +13,14 @@ use crate::ball::Ball;
 use crate::frontier::Frontier;
 use crate::levels::Levels;
 use crate::lower::lower_near;
-use crate::push::Links;
+use crate::residual::Residual;
 use dmf_links::LinkTable;
 
 /// Makes the labels, which lead to one goal, lead to another, and to that from this start: if all nodes from which paths lead to a goal
 /// have labels, the start has one that is not lower than the goal's, and all links are noted that have to be looked at again. Whether
 /// they lead there then.
 pub fn redirect(
-    links: &Links,
+    links: &Residual,
     levels: &mut Levels,
     ball: &mut Ball,
     from: u32,
@@ -52,7 +52,7 @@ pub fn redirect(
 
 /// Makes labels lead to this goal, once all links are noted that have to be looked at again. Labels from the start are first lowered near
 /// the goal, where they can be.
-pub fn refit(links: &Links, levels: &mut Levels, ball: &mut Ball, start: u32, goal: u32)
+pub fn refit(links: &Residual, levels: &mut Levels, ball: &mut Ball, start: u32, goal: u32)
     requires refitted { MayBeRefitted levels.old (residual_of links.now) }
     requires noted { levels.old.noted.lost ≡ false }
     requires fit { IsFit ball.old (residual_of links.now) }
@@ -68,7 +68,7 @@ pub fn refit(links: &Links, levels: &mut Levels, ball: &mut Ball, start: u32, go
 }
 
 /// Lowers labels from the start near this goal, where they can be. Leaves other labels.
-fn lower_from_start(links: &Links, levels: &mut Levels, ball: &mut Ball, start: u32, goal: u32)
+fn lower_from_start(links: &Residual, levels: &mut Levels, ball: &mut Ball, start: u32, goal: u32)
     requires refitted { MayBeRefitted levels.old (residual_of links.now) }
     requires fit { IsFit ball.old (residual_of links.now) }
     requires goal { IsNode links.now.table.value.nodes goal }
@@ -94,7 +94,7 @@ fn lower_from_start(links: &Links, levels: &mut Levels, ball: &mut Ball, start: 
 
 /// Lowers the labels of the nodes in the ball until that of the goal stays.
 fn lower_labels(
-    links: &Links,
+    links: &Residual,
     ball: &Ball,
     start: u32,
     goal: u32,

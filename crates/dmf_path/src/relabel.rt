@@ -9,15 +9,15 @@ use crate::course::Course;
 use crate::levels::Levels;
 use crate::mark::{has_label_or_mark, mark_labelled};
 use crate::meet::meet;
-use crate::open::{Flagged, Roomy};
-use crate::push::Links;
+use crate::open::{Flagged, OpenByRoom};
+use crate::residual::Residual;
 
 /// Labels the nodes, none of which has a label. Returns whether the start has one then; if not, no path is left, and the nodes on the
 /// start's side are marked.
 ///
 /// If a search looks for paths from several starts in turn, all nodes get a label once labelling from both ends has looked at more
 /// links than there are.
-pub fn label_anew(links: &Links, levels: &mut Levels, ends: Ends, marks: &mut [bool]) -> bool
+pub fn label_anew(links: &Residual, levels: &mut Levels, ends: Ends, marks: &mut [bool]) -> bool
     requires { MayBeLabelled links.now levels.old ends }
     ensures relabelled { IsRelabelled links.now levels.old levels.new ends result marks.new }
     ensures whole { result ≡ true → levels.new.all ≡ true → AreWhole (links_of links.now.table.value) levels.new.near.labels links.now.rooms.items }
@@ -42,7 +42,7 @@ pub fn label_anew(links: &Links, levels: &mut Levels, ends: Ends, marks: &mut [b
 }
 
 /// Labels the nodes from the goal, until the start has a label.
-fn label_from_goal(links: &Links, levels: &mut Levels, ends: Ends, marks: &mut [bool]) -> bool
+fn label_from_goal(links: &Residual, levels: &mut Levels, ends: Ends, marks: &mut [bool]) -> bool
     requires { MayBeLabelled links.now levels.old ends }
     ensures relabelled { IsRelabelled links.now levels.old levels.new ends result marks.new }
     ensures all { levels.new.all ≡ levels.old.all }
@@ -56,7 +56,7 @@ fn label_from_goal(links: &Links, levels: &mut Levels, ends: Ends, marks: &mut [
 }
 
 /// Labels all nodes from which paths lead to the goal.
-fn label_all(links: &Links, levels: &mut Levels, ends: Ends, marks: &mut [bool]) -> bool
+fn label_all(links: &Residual, levels: &mut Levels, ends: Ends, marks: &mut [bool]) -> bool
     requires { MayBeLabelled links.now levels.old ends }
     ensures relabelled { IsRelabelled links.now levels.old levels.new ends result marks.new }
     ensures whole { AreWhole (links_of links.now.table.value) levels.new.near.labels links.now.rooms.items }
@@ -68,13 +68,13 @@ fn label_all(links: &Links, levels: &mut Levels, ends: Ends, marks: &mut [bool])
 
 /// Labels all nodes by their distances from the start: each label is the number of nodes less that distance. Returns whether a path leads
 /// to the goal. These labels are right for any goal: how far a node is above it is all that a walk asks.
-fn label_all_from(links: &Links, levels: &mut Levels, ends: Ends, marks: &mut [bool]) -> bool
+fn label_all_from(links: &Residual, levels: &mut Levels, ends: Ends, marks: &mut [bool]) -> bool
     requires { MayBeLabelled links.now levels.old ends }
     ensures relabelled { IsRelabelled links.now levels.old levels.new ends result marks.new }
     ensures whole { result ≡ true → AreWhole (links_of links.now.table.value) levels.new.near.labels links.now.rooms.items }
 {
     let far = &mut levels.far;
-    far.label_from(&links.table, &Roomy(&links.rooms), ends.start, 0);
+    far.label_from(&links.table, &OpenByRoom(&links.rooms), ends.start, 0);
     if !far.has_label(ends.goal) {
         mark_labelled(far.labels(), marks);
         far.unlabel();
@@ -89,7 +89,13 @@ fn label_all_from(links: &Links, levels: &mut Levels, ends: Ends, marks: &mut [b
 /// the goal: then no path is left. If not, removes all labels again.
 ///
 /// If no path is left, labelling from the goal would often look at nearly all links.
-fn misses_goal(links: &Links, levels: &mut Levels, ends: Ends, few: u64, marks: &mut [bool]) -> bool
+fn misses_goal(
+    links: &Residual,
+    levels: &mut Levels,
+    ends: Ends,
+    few: u64,
+    marks: &mut [bool],
+) -> bool
     requires { MayBeLabelled links.now levels.old ends }
     ensures enclosed { result ≡ true → IsRelabelled links.now levels.old levels.new ends false marks.new }
     ensures clean { result ≡ false → MayBeLabelled links.now levels.new ends }
@@ -98,7 +104,7 @@ fn misses_goal(links: &Links, levels: &mut Levels, ends: Ends, few: u64, marks: 
 {
     let near = &mut levels.near;
     near.begin(ends.start);
-    let ended = near.label_within(&links.table, &Roomy(&links.rooms), ends.goal, few);
+    let ended = near.label_within(&links.table, &OpenByRoom(&links.rooms), ends.goal, few);
     if ended && !near.has_label(ends.goal) {
         mark_labelled(near.labels(), marks);
         return true;
@@ -109,7 +115,7 @@ fn misses_goal(links: &Links, levels: &mut Levels, ends: Ends, few: u64, marks: 
 
 /// Labels the nodes from the goal and from the start until the searches meet, and joins the labels to those of the goal's side. Returns
 /// whether they meet.
-fn label_from_both(links: &Links, levels: &mut Levels, ends: Ends, marks: &mut [bool]) -> bool
+fn label_from_both(links: &Residual, levels: &mut Levels, ends: Ends, marks: &mut [bool]) -> bool
     requires { MayBeLabelled links.now levels.old ends }
     ensures relabelled { IsRelabelled links.now levels.old levels.new ends result marks.new }
     ensures all { levels.new.all ≡ levels.old.all }

@@ -2,17 +2,17 @@
 ghost use Rattle.std.specs.Prelude.{◌≡◌, ◌<◌, length, slice_index};
 ghost use Rattle.dmf_path.specs.Held.{way_of, filled_slots, HaveLeft, held_for, held_in};
 
-use crate::push::Links;
+use crate::residual::Residual;
 use crate::trail::{Slot, Trail};
 
-impl Links {
-    ghost use Rattle.dmf_path.specs.Residual.{residual_of, told};
+impl Residual {
+    ghost use Rattle.dmf_path.specs.Residual.{residual_of, with_settled_rooms};
 
     /// The room of a link with the held pushes applied.
     pub fn settled_room(&self, trail: &Trail, place: u32) -> u64
         requires place { place < length self.now.table.value.heads.items }
         requires have { HaveLeft trail.now.sent self.now.rooms.items (filled_slots (way_of trail.now)) }
-        ensures { result ≡ slice_index (told (residual_of self.now) (way_of trail.now)).rooms place }
+        ensures { result ≡ slice_index (with_settled_rooms (residual_of self.now) (way_of trail.now)).rooms place }
     {
         let room = self.rooms[place as usize];
         if trail.is_empty() {
@@ -30,7 +30,7 @@ impl Links {
     pub fn opposite_room(&self, trail: &Trail, place: u32) -> u64
         requires place { place < length self.now.table.value.heads.items }
         requires have { HaveLeft trail.now.sent self.now.rooms.items (filled_slots (way_of trail.now)) }
-        ensures { result ≡ slice_index (told (residual_of self.now) (way_of trail.now)).rooms (slice_index self.now.table.value.partners.items place) }
+        ensures { result ≡ slice_index (with_settled_rooms (residual_of self.now) (way_of trail.now)).rooms (slice_index self.now.table.value.partners.items place) }
     {
         if self.flags[place as usize] == 0 && trail.is_empty() {
             return 0;

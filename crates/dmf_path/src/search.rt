@@ -14,9 +14,9 @@ use crate::ball::Ball;
 use crate::levels::Levels;
 use crate::noted::Noted;
 use crate::phase::{aim, begin_anew, find};
-use crate::push::Links;
 use crate::reach::{labelled, labels_from_start};
 use crate::release::release;
+use crate::residual::Residual;
 use crate::touched::Touched;
 use crate::trail::Trail;
 use dmf_links::{Pair, Places, number_links};
@@ -47,7 +47,7 @@ pub struct AugmentingPath {
 /// nodes if few paths are left.
 #[derive(Drop)]
 pub struct Search {
-    links: Links,
+    links: Residual,
     places: Rc<Places>,
     /// For each link the index of its pair, once the links are numbered. Searches over the same links share the numbers.
     numbers: Option<Rc<Vec<u32>>>,
@@ -65,7 +65,7 @@ impl Model for Search {
     ghost use Rattle.dmf_path.specs.Ball.{IsFit};
     ghost use Rattle.dmf_path.specs.Held.{way_of};
     ghost use Rattle.dmf_links.specs.LinkTable.{links_of};
-    ghost use Rattle.dmf_path.specs.Residual.{residual_of, told};
+    ghost use Rattle.dmf_path.specs.Residual.{residual_of, with_settled_rooms};
     ghost use Rattle.dmf_path.specs.Search.{Searched};
     ghost use Rattle.dmf_path.specs.Searching.{labelling_of, sought, searched, AreAside, AreKept, AreReady, IsSearch};
     ghost use Rattle.dmf_links.specs.Numbers.{MayBeNumbered};
@@ -75,9 +75,9 @@ impl Model for Search {
     ghost view = { λ a. searched (sought (residual_of a.links) (way_of a.trail)) a.places.value };
 
     ghost invariant = { λ a. (AreReady a.levels × MayBeNumbered (links_of a.links.table.value) a.places.value a.numbers
-        × AreKept a.levels a.is_fresh (told (residual_of a.links) (way_of a.trail))
-        × AreAside a.asides.items (told (residual_of a.links) (way_of a.trail))
-        × IsFit a.ball (told (residual_of a.links) (way_of a.trail)))
+        × AreKept a.levels a.is_fresh (with_settled_rooms (residual_of a.links) (way_of a.trail))
+        × AreAside a.asides.items (with_settled_rooms (residual_of a.links) (way_of a.trail))
+        × IsFit a.ball (with_settled_rooms (residual_of a.links) (way_of a.trail)))
         × IsSearch (residual_of a.links) a.places.value (labelling_of a.levels) (way_of a.trail) a.is_fresh };
 }
 

@@ -11,8 +11,8 @@ use crate::aside::Ends;
 use crate::frontier::Frontier;
 use crate::levels::Levels;
 use crate::mark::mark_queued;
-use crate::open::{Flagged, LedTo, Roomy};
-use crate::push::Links;
+use crate::open::{Flagged, LedTo, OpenByRoom};
+use crate::residual::Residual;
 
 /// The two ends of paths, and a node that each path passes.
 #[derive(Clone, Copy)]
@@ -31,7 +31,7 @@ const PART: u64 = 256;
 /// Labels nodes on the two sides of the way out. Returns whether a path is left; if not, changes marks, so that they are those of a
 /// closed side. `None` if one end is too far away; the labels do not lead to the goal then.
 pub fn label_through(
-    links: &Links,
+    links: &Residual,
     levels: &mut Levels,
     through: Through,
     marks: &mut [bool],
@@ -50,7 +50,7 @@ pub fn label_through(
 
 /// The same, with labels of the last search left over.
 fn label_sides(
-    links: &Links,
+    links: &Residual,
     near: &mut Frontier,
     far: &mut Frontier,
     through: Through,
@@ -81,7 +81,7 @@ fn label_sides(
 /// Searches on from the way out among the nodes without a mark. Returns whether it comes to the goal; if not, marks the nodes to which
 /// it comes.
 fn look_on(
-    links: &Links,
+    links: &Residual,
     search: &mut Frontier,
     through: Through,
     marks: &mut [bool],
@@ -98,7 +98,7 @@ fn look_on(
 {
     search.begin(through.way_out);
     let opens = LedTo {
-        opens: Roomy(&links.rooms),
+        opens: OpenByRoom(&links.rooms),
         heads: &links.table.heads,
         marks: &*marks,
         mark: false,
@@ -116,7 +116,7 @@ fn look_on(
 /// Searches back from the way out among the marked nodes. Returns whether it comes to the start; if not, takes the marks off the nodes to
 /// which it comes.
 fn look_back(
-    links: &Links,
+    links: &Residual,
     search: &mut Frontier,
     through: Through,
     marks: &mut [bool],
@@ -149,6 +149,6 @@ fn look_back(
 }
 
 /// At how many links each of the two searches looks.
-fn most(links: &Links) -> u64 {
+fn most(links: &Residual) -> u64 {
     FEW.max(links.table.heads.len() as u64 / PART)
 }

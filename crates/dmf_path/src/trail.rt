@@ -1,7 +1,7 @@
 //! The trail: a slot for each link of the augmenting path. A slot holds the pushes along its link until the link leaves.
 ghost use Rattle.std.specs.Prelude.{◌≡◌, ◌≤◌, length, vec_capacity};
 
-use crate::push::Links;
+use crate::residual::Residual;
 
 /// A link of the path. Its room stays as it was when the link entered the slot: the pushes since then are held.
 #[derive(Clone, Copy)]
@@ -44,10 +44,10 @@ impl Slot {
     }
 }
 
-impl Links {
+impl Residual {
     ghost use Rattle.dmf_path.specs.Held.{CanPut, IsSlot};
     ghost use Rattle.dmf_links.specs.LinkTable.{links_of};
-    ghost use Rattle.dmf_path.specs.Residual.{residual_of, put_on, put_each_on};
+    ghost use Rattle.dmf_path.specs.Residual.{residual_of, put_once_on, put_each_on};
 
     /// Applies the pushes that these slots hold to the rooms of their links.
     fn put_each_on(&mut self, slots: &[Slot], sent: u64)
@@ -63,7 +63,7 @@ impl Links {
     /// that steps back from a dead end reads less memory.
     fn put_on(&mut self, slot: Slot, sent: u64)
         requires slot { IsSlot (links_of self.old.table.value) sent self.old.rooms.items slot }
-        ensures { residual_of self.new ≡ put_on (residual_of self.old) sent slot }
+        ensures { residual_of self.new ≡ put_once_on (residual_of self.old) sent slot }
     {
         let held = self.rooms[slot.place as usize] - slot.room_left(sent);
         if held > 0 {
@@ -76,7 +76,7 @@ impl Trail {
     ghost use Rattle.std.specs.Prelude.{◌≢◌, ℕ, ◌<◌, true, [], ◌-◌, take, drop};
     ghost use Rattle.dmf_links.specs.LinkTable.{links_of};
     ghost use Rattle.dmf_path.specs.Held.{least_left, way_of, filled_slots, slot_at, CanPut, IsSlot, entered, stepped_back, emptied, with_slots};
-    ghost use Rattle.dmf_path.specs.Residual.{residual_of, told, put_on, CanSettle, MakesWay, IsSplit};
+    ghost use Rattle.dmf_path.specs.Residual.{residual_of, with_settled_rooms, put_once_on, CanSettle, MakesWay, SplitsAtFull};
 
     /// Whether all slots are free.
     pub fn is_empty(&self) -> bool
@@ -97,7 +97,7 @@ impl Trail {
     }
 
     /// Frees the next slot: if the rest begins there, its first link leaves.
-    pub fn make_way(&mut self, links: &mut Links)
+    pub fn make_way(&mut self, links: &mut Residual)
         requires within { self.old.walked < length self.old.slots.items }
         requires slot { self.old.walked ≡ self.old.rest →
             IsSlot (links_of links.old.table.value) self.old.sent links.old.rooms.items (slot_at self.old.slots.items self.old.rest) }
@@ -124,13 +124,13 @@ impl Trail {
     }
 
     /// Takes the walk one step back: its last link leaves. Returns the place of that link.
-    pub fn step_back(&mut self, links: &mut Links) -> u32
+    pub fn step_back(&mut self, links: &mut Residual) -> u32
         requires some { 0 < self.old.walked }
         requires slot { IsSlot (links_of links.old.table.value) self.old.sent links.old.rooms.items
             (slot_at self.old.slots.items (self.old.walked - 1)) }
         ensures place { result ≡ (slot_at self.old.slots.items (self.old.walked - 1)).place }
         ensures way { way_of self.new ≡ stepped_back (way_of self.old) }
-        ensures links { residual_of links.new ≡ put_on (residual_of links.old) self.old.sent
+        ensures links { residual_of links.new ≡ put_once_on (residual_of links.old) self.old.sent
             (slot_at self.old.slots.items (self.old.walked - 1)) }
     {
         self.walked -= 1;
@@ -140,10 +140,10 @@ impl Trail {
     }
 
     /// Applies all held pushes to the rooms, and frees all slots.
-    pub fn settle(&mut self, links: &mut Links)
+    pub fn settle(&mut self, links: &mut Residual)
         requires can { CanSettle (residual_of links.old) (way_of self.old) }
         ensures way { way_of self.new ≡ emptied (way_of self.old) }
-        ensures links { residual_of links.new ≡ told (residual_of links.old) (way_of self.old) }
+        ensures links { residual_of links.new ≡ with_settled_rooms (residual_of links.old) (way_of self.old) }
     {
         links.put_each_on(&self.slots[..self.walked], self.sent);
         links.put_each_on(&self.slots[self.rest..], self.sent);
@@ -154,13 +154,13 @@ impl Trail {
 
     /// Splits the path at its saturated links: the links from the first to the last of them leave. The links before them stay as the
     /// walk, and the links after them as the rest.
-    pub fn split(&mut self, links: &mut Links)
+    pub fn split(&mut self, links: &mut Residual)
         requires can { (first behind : ℕ) → first < behind → behind ≤ length self.old.slots.items →
             CanPut (links_of links.old.table.value) links.old.takes_back self.old.sent
             (take (behind - first) (drop first self.old.slots.items)) links.old.rooms.items }
         requires places { (i : ℕ) → i < length self.old.slots.items →
             (slot_at self.old.slots.items i).place < length links.old.table.value.heads.items }
-        ensures { IsSplit (residual_of links.old) (way_of self.old) (residual_of links.new) (way_of self.new) }
+        ensures { SplitsAtFull (residual_of links.old) (way_of self.old) (residual_of links.new) (way_of self.new) }
     {
         let first = self.first_full();
         let behind = self.behind_last_full();

@@ -3,13 +3,13 @@ ghost use Rattle.std.specs.Prelude.{◌≡◌, ℕ, true, false, List, ◌+◌, 
 ghost use Rattle.dmf_path.specs.Ball.{IsAround, IsFit};
 ghost use Rattle.dmf_path.specs.Walk.{IsWalk};
 ghost use Rattle.dmf_path.specs.Held.{way_of, slot_at};
-ghost use Rattle.dmf_path.specs.Residual.{residual_of, told};
+ghost use Rattle.dmf_path.specs.Residual.{residual_of, with_settled_rooms};
 ghost use Rattle.dmf_path.specs.Searching.{sought, IsSearching, IsFound, MaySkip};
 
 use crate::ball::Ball;
 use crate::look::LinkRange;
 use crate::noted::Noted;
-use crate::push::Links;
+use crate::residual::Residual;
 use crate::trail::Trail;
 use dmf_links::LinkTable;
 
@@ -17,7 +17,7 @@ use dmf_links::LinkTable;
 /// goal. At each node the walk takes the first admissible link from the current one on; but near the goal only one that may lead there:
 /// it passes those of which it is known that they do not. If there is none, it steps back. Notes the admissible links that it passes.
 pub fn walk(
-    links: &mut Links,
+    links: &mut Residual,
     labels: &[u32],
     current: &mut [u32],
     ball: &Ball,
@@ -25,15 +25,15 @@ pub fn walk(
     noted: &mut Noted,
 ) -> bool
     requires searching { IsSearching (residual_of links.old) (record { labels = labels.now; current = current.old }) (way_of trail.old) }
-    requires fit { IsFit ball.now (told (residual_of links.old) (way_of trail.old)) }
+    requires fit { IsFit ball.now (with_settled_rooms (residual_of links.old) (way_of trail.old)) }
     requires around { IsAround ball.now trail.old.goal }
     ensures searching { IsSearching (residual_of links.new) (record { labels = labels.now; current = current.new }) (way_of trail.new) }
     ensures same { sought (residual_of links.new) (way_of trail.new) ≡ sought (residual_of links.old) (way_of trail.old) }
-    ensures skipped { MaySkip noted.old (told (residual_of links.old) (way_of trail.old)) labels.now current.old
-        → MaySkip noted.new (told (residual_of links.old) (way_of trail.old)) labels.now current.new }
+    ensures skipped { MaySkip noted.old (with_settled_rooms (residual_of links.old) (way_of trail.old)) labels.now current.old
+        → MaySkip noted.new (with_settled_rooms (residual_of links.old) (way_of trail.old)) labels.now current.new }
     ensures found { result ≡ true → IsFound (residual_of links.new) (way_of trail.new) }
     ensures none { result ≡ false → (ps : List ℕ) → ¬ IsWalk (residual_of links.old).links labels.now
-        (told (residual_of links.old) (way_of trail.old)).rooms trail.old.goal trail.old.start ps }
+        (with_settled_rooms (residual_of links.old) (way_of trail.old)).rooms trail.old.goal trail.old.start ps }
 {
     let low = labels[trail.goal as usize];
     let mut node = end_node(&links.table, trail);
@@ -79,7 +79,7 @@ fn end_node(table: &LinkTable, trail: &Trail) -> u32
     table.heads[trail.slots[trail.walked - 1].place as usize]
 }
 
-impl Links {
+impl Residual {
     /// Whether the link at this place leads to a node above the goal, which has the label `low`, whose links are all passed.
     fn is_spent(&self, labels: &[u32], current: &[u32], low: u32, place: u32) -> bool
         requires place { place < length self.now.table.value.heads.items }

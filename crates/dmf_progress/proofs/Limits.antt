@@ -11,8 +11,8 @@ use Rattle.dmf_state.specs.Arc.{no_arc, capacity_sum}
 use Rattle.dmf_state.specs.Network.{Network, IsNetwork}
 use Rattle.dmf_state.specs.Cut.{cut_capacity}
 use Rattle.dmf_state.proofs.Summing.{part-le}
-use Rattle.dmf_solver.proofs.Crossing.{value-across}
-use Rattle.dmf_solver.proofs.MaxFlowMinCut.{leaving-le_capacity}
+use Rattle.dmf_solver.proofs.cuts.Crossing.{value-across}
+use Rattle.dmf_solver.proofs.cuts.MaxFlowMinCut.{leaving-le_capacity}
 use Rattle.dmf_progress.specs.Limit.{leaving, entering, IsLimit}
 
 -- the most that an arc carries out of a set of nodes

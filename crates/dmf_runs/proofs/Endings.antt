@@ -18,7 +18,7 @@ use Rattle.dmf_text.specs.Streams.{Writer}
 use Rattle.dmf_streams.specs.Pending.{Pending}
 use Rattle.dmf_streams.specs.KeptLine.{Kept}
 use Rattle.dmf_runs.specs.Line.{IsSplit, Means, with_line_feeds, line_meaning}
-use Rattle.dmf_streams.specs.Input.{HasNoLineFeed, InputState, Takes, TakesLine, HasEnded, HasFailed, GivesLine, GivesEnd, left}
+use Rattle.dmf_streams.specs.Input.{HasNoLineFeed, InputState, TakesBytes, TakesLine, HasEnded, HasFailed, GivesLine, GivesEnd, left}
 use Rattle.dmf_runs.specs.Run.{HasReply, LineRuns}
 use Rattle.dmf_runs.specs.Outcome.{Gave, LastHasReply, RestRuns, RunsAll, RunsCommandsWith, status_if}
 use Rattle.dmf_runs.specs.WrittenLine.{WritesLine}
@@ -69,11 +69,11 @@ module _ {wanted : SolveReply} {t : Timeline} {before now : InputState} {held ho
 
   module _ (then : InputState) where
     -- The bytes of the lines so far and these were taken.
-    taken : (rest : List ℕ) → Takes now then rest → Takes before then (bytes ++ rest)
+    taken : (rest : List ℕ) → TakesBytes now then rest → TakesBytes before then (bytes ++ rest)
     taken rest takes = Takes-trans before now then bytes rest p.takes takes
 
     -- a run whose reader gave the bytes that were taken and those that are pending, with this result
-    ends : (all given written : List ℕ) (next : Writer) (result : Result Status EngineFault) → Takes before then all → given ≡ all ++ then.pending.bytes
+    ends : (all given written : List ℕ) (next : Writer) (result : Result Status EngineFault) → TakesBytes before then all → given ≡ all ++ then.pending.bytes
         → Appends held.contents next.contents written → Gave wanted t (streams before held) (streams then next) given written result
         → RunsCommandsWith wanted t (streams before held) (streams then next) result
     ends all given written next result takes is appends gave = record {
@@ -85,7 +85,7 @@ module _ {wanted : SolveReply} {t : Timeline} {before now : InputState} {held ho
     }
 
     -- the end of the input
-    pub RunsCommands-end : (status : Status) → number ≤ 1000000 + 1 → status ≡ status_if is_refused → Takes now then [] → HasEnded now then
+    pub RunsCommands-end : (status : Status) → number ≤ 1000000 + 1 → status ≡ status_if is_refused → TakesBytes now then [] → HasEnded now then
         → RunsCommandsWith wanted t (streams before held) (streams then holds) (Ok status)
     RunsCommands-end status few told takes ended =
         let all = rw append-nil at (taken [] takes) in
@@ -98,7 +98,7 @@ module _ {wanted : SolveReply} {t : Timeline} {before now : InputState} {held ho
         })
 
     -- a failed read
-    RunsCommands-read : (rest : List ℕ) → HasNoLineFeed rest → Takes now then rest → HasFailed then
+    RunsCommands-read : (rest : List ℕ) → HasNoLineFeed rest → TakesBytes now then rest → HasFailed then
         → RunsCommandsWith wanted t (streams before held) (streams then holds) (Err fault.Read)
     RunsCommands-read rest no_line_feed takes failed =
         let split : IsSplit (bytes ++ rest) p.lines rest = record { whole = refl; each = p.each; last = no_line_feed } in
@@ -109,7 +109,7 @@ module _ {wanted : SolveReply} {t : Timeline} {before now : InputState} {held ho
         })
 
     -- The input exceeds a limit: 1,000,000 lines and one byte more, or 2^30 bytes before the next line ends.
-    RunsCommands-past_limit : (rest : List ℕ) → number ≤ 1000000 + 1 → Takes now then rest → then.pending.count ≤ 2 ^ 30
+    RunsCommands-past_limit : (rest : List ℕ) → number ≤ 1000000 + 1 → TakesBytes now then rest → then.pending.count ≤ 2 ^ 30
         → then.reader.has_failed ≡ now.reader.has_failed
         → ((length p.lines ≡ 1000000) × (0 < length (rest ++ then.pending.bytes)))
         ⊎ ((2 ^ 30 < length ((bytes ++ rest) ++ then.pending.bytes)) × HasNoLineFeed (take (2 ^ 30 - length bytes) (rest ++ then.pending.bytes)))
@@ -187,7 +187,7 @@ module _ {wanted : SolveReply} {t : Timeline} {before now : InputState} {held ho
       -- a line with a reply, of which a prefix was written before a put or the flush failed
       module _ (failed : WriteFault) (replies : HasReply meaning) (told : WritesLine wanted holds next number u meaning v (Err failed)) where
         -- The bytes were taken, and a prefix of what their lines write was written.
-        front-written : (all : List ℕ) → Takes before then all → then.reader.has_failed ≡ now.reader.has_failed
+        front-written : (all : List ℕ) → TakesBytes before then all → then.reader.has_failed ≡ now.reader.has_failed
             → (runs : RunsAll wanted.brief (Answers wanted.cut) t all (p.written ++ told.0) (is_refused || told.1)) → LastHasReply runs.lines runs.rest
             → (runs.rest ≡ []) ⊎ ((then.pending.bytes ≡ []) × IsAtEnd then.reader.known)
             → RunsCommandsWith wanted t (streams before held) (streams then next) (Err fault.Write)

@@ -15,7 +15,7 @@ use Rattle.dmf_text.specs.Streams.{Writer}
 use Rattle.dmf_runs.specs.Streams.{Streams}
 use Rattle.dmf_streams.specs.KeptLine.{Kept}
 use Rattle.dmf_runs.specs.Line.{Means, with_line_feeds}
-use Rattle.dmf_streams.specs.Input.{HasNoLineFeed, InputState, Takes, TakesLine, left}
+use Rattle.dmf_streams.specs.Input.{HasNoLineFeed, InputState, TakesBytes, TakesLine, left}
 use Rattle.dmf_runs.specs.Run.{LineRuns, Runs}
 use Rattle.dmf_streams.proofs.TakingLemmas.{Takes-trans}
 use Rattle.dmf_runs.proofs.LineLemmas.{Runs-push}
@@ -36,7 +36,7 @@ pub record Progress (wanted : SolveReply) (t : Timeline) (before now : InputStat
   pub lines : List (List ℕ)
   pub each : All HasNoLineFeed lines
   pub counted : length lines + 1 ≡ number
-  pub takes : Takes before now (with_line_feeds lines)
+  pub takes : TakesBytes before now (with_line_feeds lines)
   pub reader : now.reader.has_failed ≡ before.reader.has_failed
   pub written : List ℕ
   pub appends : Appends held.contents holds.contents written

@@ -34,11 +34,11 @@ pub fn meaning_of(line: &KeptLine, ended: bool) -> Meaning
     if line.is_long() {
         return Err(Refusal::LineTooLong);
     }
-    read_command(text_of(line, ended))
+    read_command(line_text(line, ended))
 }
 
 /// The bytes of a line without its end.
-pub fn text_of(line: &KeptLine, ended: bool) -> &[u8]
+pub fn line_text(line: &KeptLine, ended: bool) -> &[u8]
     ensures { result.now ≡ cond ended (strip_carriage_return line.now.bytes) line.now.bytes }
 {
     let text = line.bytes();

@@ -92,14 +92,18 @@ fn write_solve<W: Sink>(
     ensures { Writes (W.written out.old) (W.written out.new) result (run.solve_text brief state.now side.now) }
 {
     if brief {
-        write_brief(state, side, out)
+        write_brief_reply(state, side, out)
     } else {
         write_solved(state, side, out)
     }
 }
 
 /// Writes the value of a solve, then this cut, if there is one.
-fn write_brief<W: Sink>(state: &State, side: &Option<Side>, out: &mut W) -> Result<(), WriteFault>
+fn write_brief_reply<W: Sink>(
+    state: &State,
+    side: &Option<Side>,
+    out: &mut W,
+) -> Result<(), WriteFault>
     ensures { Writes (W.written out.old) (W.written out.new) result (run.solve_text true state.now side.now) }
 {
     write_line(&value_line(Command::Solve, state.value()), out)?;

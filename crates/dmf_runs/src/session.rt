@@ -5,7 +5,7 @@ ghost use Rattle.dmf_runs.specs.Outcome.{RunsCommands, RunsCommandsWith, solutio
 ghost use Rattle.dmf_runs.specs.Session.{RunsSession, RunsSessionWith};
 ghost use Rattle.dmf_runs.specs.WrittenLine.{WritesLine};
 
-use crate::command_text::{CommandLine, meaning_of, text_of};
+use crate::command_text::{CommandLine, line_text, meaning_of};
 use crate::reply::{Answer, SolveReply, refuse, write_reply};
 use crate::watch::SessionWatch;
 use dmf_history::{DeltaHistory, History, MAX_BOUND};
@@ -98,7 +98,7 @@ impl SessionRun {
             let meaning = meaning_of(&kept, ended);
             let line = CommandLine {
                 number,
-                text: text_of(&kept, ended),
+                text: line_text(&kept, ended),
                 meaning,
             };
             let answer = self.answer(session, line, out, watch)?;

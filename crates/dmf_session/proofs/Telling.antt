@@ -8,7 +8,7 @@ use Rattle.dmf_state.specs.NetworkState.{NetworkState}
 use Rattle.dmf_solver.specs.Change.{Change}
 use Rattle.dmf_solver.specs.Told.{Told, TellsSolve, MayTellSolve}
 use Rattle.dmf_solver.specs.Turns.{Taken, TellsDrains, MayTellDrains, turns_of}
-use Rattle.dmf_solver.proofs.Solving.{AreTold-none}
+use Rattle.dmf_solver.proofs.solving.Solving.{AreTold-none}
 use Rattle.dmf_history.specs.Timeline.{Timeline, IsPresent, Appends}
 use Rattle.dmf_history.proofs.Appending.{one-present, appends-applied}
 use Rattle.dmf_session.specs.declared.command.Command.TheVariants.{Solve}

@@ -1,6 +1,6 @@
 ghost use Rattle.dmf_history.specs.Timeline.{back, forward};
 ghost use Rattle.dmf_session.specs.Kept.{KeepsPresent};
-ghost use Rattle.dmf_solver.specs.KeptNetwork.{Keeps};
+ghost use Rattle.dmf_solver.specs.KeptNetwork.{KeepsNetwork};
 ghost use Rattle.dmf_state.specs.Edit.{applied, Fits};
 
 use dmf_history::History;
@@ -49,9 +49,9 @@ pub(crate) fn kept_with(
     present: &State,
     edit: &Edit,
 ) -> Option<ResidualNetwork>
-    requires kept { Keeps present.now kept }
+    requires kept { KeepsNetwork present.now kept }
     requires fits { Fits edit.now present.now }
-    ensures { Keeps (applied edit.now present.now) result }
+    ensures { KeepsNetwork (applied edit.now present.now) result }
 {
     kept?.follow(alloc, present, edit, Direction::Forward)
 }

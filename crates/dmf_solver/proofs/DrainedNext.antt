@@ -20,12 +20,12 @@ use Rattle.dmf_solver.specs.CarryingNetwork.{carrying_pair, carrying_from, retur
 use Rattle.dmf_solver.specs.Pairs.{Along, Carries, IsCarryingSearch, flows_read}
 use Rattle.dmf_state.proofs.ChangedArc.{has_arc-within}
 use Rattle.dmf_state.proofs.Changing.{flow_at-set}
-use Rattle.dmf_solver.proofs.CarryingFollowed.{carries-made}
-use Rattle.dmf_solver.proofs.DrainedLoop.{tells-loop}
-use Rattle.dmf_solver.proofs.Draining.{drains-state}
-use Rattle.dmf_solver.proofs.DrainingSearch.{carries-read, IsCarryingSearch-from}
-use Rattle.dmf_solver.proofs.DrainingWalk.{tells-none}
-use Rattle.dmf_solver.proofs.Untouched.{drained-stay}
+use Rattle.dmf_solver.proofs.kept.CarryingFollowed.{carries-made}
+use Rattle.dmf_solver.proofs.draining.DrainedLoop.{tells-loop}
+use Rattle.dmf_solver.proofs.draining.Draining.{drains-state}
+use Rattle.dmf_solver.proofs.draining.DrainingSearch.{carries-read, IsCarryingSearch-from}
+use Rattle.dmf_solver.proofs.draining.DrainingWalk.{tells-none}
+use Rattle.dmf_solver.proofs.pairs.Untouched.{drained-stay}
 
 -- The pairs of the arcs stay.
 pairs-lowered : (arcs : List Arc) (flows : List ℕ) (k flow : ℕ) → (get_or arcs k no_arc).tail ≡ (get_or arcs k no_arc).head

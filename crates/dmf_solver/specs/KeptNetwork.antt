@@ -17,5 +17,5 @@ pub record IsNetworkOf (s : NetworkState) (kept : KeptNetwork) : Type 0 where
   pub carrying : IfSome kept.carrying (MayCarry s)
 
 -- If a network is kept, it is the network of this state.
-abbrev pub Keeps : NetworkState → Option KeptNetwork → Type 0
-Keeps s kept = IfSome kept (IsNetworkOf s)
+abbrev pub KeepsNetwork : NetworkState → Option KeptNetwork → Type 0
+KeepsNetwork s kept = IfSome kept (IsNetworkOf s)

@@ -14,7 +14,7 @@ use Rattle.dmf_links.specs.Pair.{pair_number}
 use Rattle.dmf_state.specs.declared.arc.Arc.{Arc}
 use Rattle.dmf_state.specs.declared.edit.Shutting.{Shutting}
 use Rattle.dmf_state.specs.Arc.{no_arc}
-use Rattle.dmf_solver.specs.declared.solve.Solved.{Solved}
+use Rattle.dmf_solver.specs.declared.solve.SolvedSearch.{SolvedSearch}
 use Rattle.dmf_state.specs.Network.{Network}
 use Rattle.dmf_state.specs.Flow.{flow_value}
 use Rattle.dmf_state.specs.NetworkState.{NetworkState, IsState, with_flows}
@@ -89,7 +89,7 @@ pub record IsArcAt (s : NetworkState) (k : ℕ) (at : Arc × ℕ) : Type 0 where
 
 -- The search for augmenting paths has reached the outcome of solving, whose value is this. Each pair that is not touched is as it was,
 -- and the list of the touched ones, if there is one, is ascending.
-pub record IsSolved (s : NetworkState) (solved : Solved) : Type 0 where
+pub record HasSolved (s : NetworkState) (solved : SolvedSearch) : Type 0 where
   pub solves : Solves s.network s.flows (reached_flows s solved.search)
   pub state : IsState (with_flows s (reached_flows s solved.search))
   pub search_is : solved.search ≡ residual_search s.network (reached_flows s solved.search)
@@ -100,7 +100,7 @@ pub record IsSolved (s : NetworkState) (solved : Solved) : Type 0 where
 
 -- The search has reached the outcome of solving, whose value is this, whatever pairs were touched.
 abbrev pub IsAtEnd : NetworkState → Searched → ℕ → Type 0
-IsAtEnd s search value = (touched : Option (List ℕ)) × IsSolved s (record { search = search; value = value; touched = touched })
+IsAtEnd s search value = (touched : Option (List ℕ)) × HasSolved s (record { search = search; value = value; touched = touched })
 
 -- The side has the nodes to which paths of the search lead, and no others, in ascending order, and this capacity.
 pub record IsReachedSide (search : Searched) (capacity : ℕ) (side : CutSide) : Type 0 where

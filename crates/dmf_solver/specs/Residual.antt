@@ -7,20 +7,20 @@ use Rattle.dmf_path.specs.Step.{Step}
 use Rattle.dmf_path.specs.Path.{has_rank, bottleneck}
 
 -- the step along arc number `j`, if the arc can carry more flow
-abbrev pub forward : ℕ → Arc → ℕ → List Step
-forward j arc flow =
+abbrev pub forward_step : ℕ → Arc → ℕ → List Step
+forward_step j arc flow =
     if nat_lt flow arc.cap then record { from = arc.tail; to = arc.head; rank = 2 * j; room = arc.cap - flow } ∷ [] else []
 
 -- the step against arc number `j`, if the arc carries flow
-abbrev pub backward : ℕ → Arc → ℕ → List Step
-backward j arc flow =
+abbrev pub backward_step : ℕ → Arc → ℕ → List Step
+backward_step j arc flow =
     if nat_lt 0 flow then record { from = arc.head; to = arc.tail; rank = 2 * j + 1; room = flow } ∷ [] else []
 
 -- the residual steps of the arcs from number `j` on, in the order of their ranks
 abbrev pub residual_from : ℕ → List Arc → List ℕ → List Step
 residual_from j [] flows = []
 residual_from j (arc ∷ arcs) [] = []
-residual_from j (arc ∷ arcs) (flow ∷ flows) = forward j arc flow ++ backward j arc flow ++ residual_from (j + 1) arcs flows
+residual_from j (arc ∷ arcs) (flow ∷ flows) = forward_step j arc flow ++ backward_step j arc flow ++ residual_from (j + 1) arcs flows
 
 -- the residual steps of a flow
 abbrev pub residual_steps : List Arc → List ℕ → List Step

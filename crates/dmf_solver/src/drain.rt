@@ -5,7 +5,7 @@ ghost use Rattle.dmf_state.specs.NetworkState.{IsState};
 ghost use Rattle.dmf_state.specs.Edit.{differences, AreOpenWith};
 ghost use Rattle.dmf_path.specs.Touched.{AreBelow, Touches};
 ghost use Rattle.dmf_solver.specs.CarryingNetwork.{IsCarryingOf};
-ghost use Rattle.dmf_solver.specs.KeptNetwork.{Keeps};
+ghost use Rattle.dmf_solver.specs.KeptNetwork.{KeepsNetwork};
 ghost use Rattle.dmf_solver.specs.Moves.{AreDrainingMoves, CarriesMoved, TellsMoves, UntouchedStay};
 ghost use Rattle.dmf_solver.specs.Pairs.{Along, IsCarryingSearch, drained_flows, emptied, flows_read};
 ghost use Rattle.dmf_solver.specs.Told.{AreTold};
@@ -39,11 +39,11 @@ pub fn drain<W: Watch>(
     watch: &mut W,
 ) -> Result<Drained, AllocError>
     requires is_there { has_arc state.now.network turn.arc ≡ true }
-    requires kept { Keeps state.now kept.old }
+    requires kept { KeepsNetwork state.now kept.old }
     ensures at_once { flow_on state.now.flows turn.arc ≤ turn.limit → IsOk result }
     ensures moves { IfOk result (λ drained. AreDrainingMoves state.now turn.arc turn.limit drained.moves.items) }
     ensures carrying { IfOk result (CarriesMoved state.now) }
-    ensures kept { Keeps state.now kept.new }
+    ensures kept { KeepsNetwork state.now kept.new }
     ensures told { AreTold (W.told watch.old) (W.told watch.new) [] }
     ensures drained { TellsMoves state.now (turn ∷ []) result (W.drained watch.old) (W.drained watch.new) }
 {
@@ -75,8 +75,8 @@ pub fn take_carrying(
     kept: &mut Option<ResidualNetwork>,
 ) -> Result<Search, AllocError>
     requires state { IsState state.now }
-    requires kept { Keeps state.now kept.old }
-    ensures kept { Keeps state.now kept.new }
+    requires kept { KeepsNetwork state.now kept.old }
+    ensures kept { KeepsNetwork state.now kept.new }
     ensures carrying { IfOk result (IsCarryingOf state.now) }
 {
     let mut network = kept_or_new(alloc, state, kept.take())?;

@@ -6,7 +6,7 @@ ghost use Rattle.dmf_state.specs.Edit.{applied, moved, moves_of, shut_arcs, Adds
 ghost use Rattle.dmf_state.specs.Flow.{flow_on, flow_on_all, flow_value};
 ghost use Rattle.dmf_state.specs.NetworkState.{with_flows};
 ghost use Rattle.dmf_solver.specs.CarryingNetwork.{MayCarry};
-ghost use Rattle.dmf_solver.specs.KeptNetwork.{Keeps};
+ghost use Rattle.dmf_solver.specs.KeptNetwork.{KeepsNetwork};
 ghost use Rattle.dmf_solver.specs.Planning.{EditTakesOff, IsRefusedFor, IsSideWanted, Plans, PlansSolve};
 ghost use Rattle.dmf_solver.specs.Told.{AreTold, TellsSolve, MayTellSolve};
 ghost use Rattle.dmf_solver.specs.Turns.{TellsPlan};
@@ -61,13 +61,13 @@ pub fn plan_cap_watched<W: Watch>(
     kept: &mut Option<ResidualNetwork>,
     watch: &mut W,
 ) -> Result<Edit, PlanFault>
-    requires { Keeps state.now kept.old }
+    requires { KeepsNetwork state.now kept.old }
     ensures refused { IsRefusedFor state.now (Cap wanted.arc wanted.cap) result }
     ensures at_once { flow_on state.now.flows wanted.arc ≤ wanted.cap → result ≢ Err PlanFault.NoMemory }
     ensures plan { IfOk result (Plans state.now (Cap wanted.arc wanted.cap)) }
     ensures takes_off { IfOk result (EditTakesOff state.now (flow_on state.now.flows wanted.arc - wanted.cap)) }
-    ensures kept { IfOk result (λ edit. Keeps (applied edit state.now) kept.new) }
-    ensures kept_if_refused { OnErr result (Keeps state.now kept.new) }
+    ensures kept { IfOk result (λ edit. KeepsNetwork (applied edit state.now) kept.new) }
+    ensures kept_if_refused { OnErr result (KeepsNetwork state.now kept.new) }
     ensures same_if_refused { IfErr result (λ fault. fault ≢ PlanFault.NoMemory → kept.new ≡ kept.old) }
     ensures told { AreTold (W.told watch.old) (W.told watch.new) [] }
     ensures drained { TellsPlan state.now (Cap wanted.arc wanted.cap) result (W.drained watch.old) (W.drained watch.new) }
@@ -110,13 +110,13 @@ pub fn plan_close_watched<W: Watch>(
     kept: &mut Option<ResidualNetwork>,
     watch: &mut W,
 ) -> Result<Edit, PlanFault>
-    requires { Keeps state.now kept.old }
+    requires { KeepsNetwork state.now kept.old }
     ensures refused { IsRefusedFor state.now (Close j) result }
     ensures at_once { flow_on state.now.flows j ≡ 0 → result ≢ Err PlanFault.NoMemory }
     ensures plan { IfOk result (Plans state.now (Close j)) }
     ensures takes_off { IfOk result (EditTakesOff state.now (flow_on state.now.flows j)) }
-    ensures kept { IfOk result (λ edit. Keeps (applied edit state.now) kept.new) }
-    ensures kept_if_refused { OnErr result (Keeps state.now kept.new) }
+    ensures kept { IfOk result (λ edit. KeepsNetwork (applied edit state.now) kept.new) }
+    ensures kept_if_refused { OnErr result (KeepsNetwork state.now kept.new) }
     ensures same_if_refused { IfErr result (λ fault. fault ≢ PlanFault.NoMemory → kept.new ≡ kept.old) }
     ensures told { AreTold (W.told watch.old) (W.told watch.new) [] }
     ensures drained { TellsPlan state.now (Close j) result (W.drained watch.old) (W.drained watch.new) }
@@ -156,13 +156,13 @@ pub fn plan_shut_watched<W: Watch>(
     kept: &mut Option<ResidualNetwork>,
     watch: &mut W,
 ) -> Result<Edit, PlanFault>
-    requires { Keeps state.now kept.old }
+    requires { KeepsNetwork state.now kept.old }
     ensures refused { IsRefusedFor state.now (Shut v) result }
     ensures plan { IfOk result (Plans state.now (Shut v)) }
     ensures arcs { IfOk result (λ edit. shut_arcs edit ≡ open_arcs_at v 1 state.now.network.arcs) }
     ensures takes_off { IfOk result (EditTakesOff state.now (flow_on_all state.now.flows (open_arcs_at v 1 state.now.network.arcs))) }
-    ensures kept { IfOk result (λ edit. Keeps (applied edit state.now) kept.new) }
-    ensures kept_if_refused { OnErr result (Keeps state.now kept.new) }
+    ensures kept { IfOk result (λ edit. KeepsNetwork (applied edit state.now) kept.new) }
+    ensures kept_if_refused { OnErr result (KeepsNetwork state.now kept.new) }
     ensures same_if_refused { IfErr result (λ fault. fault ≢ PlanFault.NoMemory → kept.new ≡ kept.old) }
     ensures told { AreTold (W.told watch.old) (W.told watch.new) [] }
     ensures drained { TellsPlan state.now (Shut v) result (W.drained watch.old) (W.drained watch.new) }
@@ -190,8 +190,8 @@ fn follow_drained(
     requires fits { Fits edit.now state.now }
     requires adds_none { ¬ AddsArc edit.now }
     requires carrying { IfSome carrying (MayCarry (with_flows state.now (moved (moves_of edit.now) state.now.flows))) }
-    requires kept { Keeps state.now kept.old }
-    ensures { Keeps (applied edit.now state.now) kept.new }
+    requires kept { KeepsNetwork state.now kept.old }
+    ensures { KeepsNetwork (applied edit.now state.now) kept.new }
 {
     if let Some(network) = kept.take() {
         let network = network.follow_along(state, edit, Direction::Forward);

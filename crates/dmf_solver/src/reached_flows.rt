@@ -2,18 +2,22 @@
 ghost use Rattle.std.specs.Prelude.{◌≡◌, IfOk};
 ghost use Rattle.dmf_state.specs.Edit.{differences};
 ghost use Rattle.dmf_state.specs.NetworkState.{IsState};
-ghost use Rattle.dmf_solver.specs.Pairs.{reached_flows, IsSolved};
+ghost use Rattle.dmf_solver.specs.Pairs.{reached_flows, HasSolved};
 
 use crate::moves::{Flows, list_all_moves};
-use crate::solve::Solved;
+use crate::solve::SolvedSearch;
 use dmf_state::{Move, State};
 use std::alloc::{AllocError, Global};
 use std::marker::Model;
 
 /// The moves of a solve. If they take more memory than the flows do, reads the flows and drops the search first.
-pub fn into_moves(alloc: Global, state: &State, solved: Solved) -> Result<Vec<Move>, AllocError>
+pub fn into_moves(
+    alloc: Global,
+    state: &State,
+    solved: SolvedSearch,
+) -> Result<Vec<Move>, AllocError>
     requires state { IsState state.now }
-    requires solved { IsSolved state.now solved }
+    requires solved { HasSolved state.now solved }
     ensures { IfOk result (λ moves. moves.items ≡ differences 1 state.now.flows (reached_flows state.now solved.search)) }
 {
     if are_few_moved(state, &solved) {
@@ -28,8 +32,8 @@ pub fn into_moves(alloc: Global, state: &State, solved: Solved) -> Result<Vec<Mo
 }
 
 /// Whether the solve changed the flow on at most a third of the arcs. A move takes as much memory as three flows.
-fn are_few_moved(state: &State, solved: &Solved) -> bool
-    requires { IsSolved state.now solved.now }
+fn are_few_moved(state: &State, solved: &SolvedSearch) -> bool
+    requires { HasSolved state.now solved.now }
 {
     let before = state.flows();
     let reached = ReachedFlows { state, solved };
@@ -46,8 +50,8 @@ fn are_few_moved(state: &State, solved: &Solved) -> bool
 }
 
 /// The flows of a state after a solve. Drops the search, which takes more memory than they do.
-fn into_flows(alloc: Global, state: &State, solved: Solved) -> Result<Vec<u64>, AllocError>
-    requires { IsSolved state.now solved }
+fn into_flows(alloc: Global, state: &State, solved: SolvedSearch) -> Result<Vec<u64>, AllocError>
+    requires { HasSolved state.now solved }
     ensures { IfOk result (λ flows. flows.items ≡ reached_flows state.now solved.search) }
 {
     let reached = ReachedFlows {
@@ -66,18 +70,18 @@ fn into_flows(alloc: Global, state: &State, solved: Solved) -> Result<Vec<u64>, 
 #[derive(Drop)]
 pub struct ReachedFlows<'a> {
     pub state: &'a State,
-    pub solved: &'a Solved,
+    pub solved: &'a SolvedSearch,
 }
 
 impl<'a> Model for ReachedFlows<'a> {
     ghost use Rattle.std.specs.Prelude.{ℕ, List};
-    ghost use Rattle.dmf_solver.specs.Pairs.{reached_flows, IsSolved};
+    ghost use Rattle.dmf_solver.specs.Pairs.{reached_flows, HasSolved};
 
     ghost Value = { List ℕ };
 
     ghost view = { λ a. reached_flows a.state.now a.solved.now.search };
 
-    ghost invariant = { λ a. IsSolved a.state.now a.solved.now };
+    ghost invariant = { λ a. HasSolved a.state.now a.solved.now };
 }
 
 impl Flows for ReachedFlows<'_> {

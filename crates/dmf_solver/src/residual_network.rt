@@ -3,10 +3,10 @@ ghost use Rattle.dmf_state.specs.Direction.{edited_along, FitsAlong, HasIdleLast
 ghost use Rattle.dmf_state.specs.Edit.{applied, differences, AddsArc};
 ghost use Rattle.dmf_state.specs.Flow.{flow_value};
 ghost use Rattle.dmf_state.specs.NetworkState.{IsState, NetworkState, with_idle_arc};
-ghost use Rattle.dmf_solver.specs.Pairs.{reached_flows, IsSolved};
+ghost use Rattle.dmf_solver.specs.Pairs.{reached_flows, HasSolved};
 ghost use Rattle.dmf_solver.specs.Planning.{PlansSolve, IsSideWanted};
 ghost use Rattle.dmf_solver.specs.CarryingNetwork.{IsCarryingOf, MayCarry};
-ghost use Rattle.dmf_solver.specs.KeptNetwork.{IsNetworkOf, Keeps};
+ghost use Rattle.dmf_solver.specs.KeptNetwork.{IsNetworkOf, KeepsNetwork};
 ghost use Rattle.dmf_solver.specs.ResidualNetwork.{IsResidualOf};
 ghost use Rattle.dmf_state.specs.Revert.{without_last};
 ghost use Rattle.dmf_solver.specs.SmallestSide.{TellsSide};
@@ -22,7 +22,7 @@ use crate::moves::list_moves;
 use crate::reached_flows::ReachedFlows;
 use crate::residual::{residual_pair, residual_search};
 use crate::side::{side_along, wanted_side};
-use crate::solve::{Solved, solve};
+use crate::solve::{SolvedSearch, solve};
 use crate::watch::Watch;
 use dmf_links::Pair;
 use dmf_path::Search;
@@ -323,7 +323,7 @@ pub fn kept_or_new(
     state: &State,
     kept: Option<ResidualNetwork>,
 ) -> Result<ResidualNetwork, AllocError>
-    requires { Keeps state.now kept }
+    requires { KeepsNetwork state.now kept }
     ensures { IfOk result (IsNetworkOf state.now) }
 {
     if let Some(network) = kept {
@@ -349,8 +349,12 @@ fn look_or_number(alloc: Global, search: &mut SidedSearch, looks: u32) -> Result
 }
 
 /// The moves of a solve. Looks at no arc whose pair is not touched.
-fn touched_moves(alloc: Global, state: &State, solved: &Solved) -> Result<Vec<Move>, AllocError>
-    requires { IsSolved state.now solved.now }
+fn touched_moves(
+    alloc: Global,
+    state: &State,
+    solved: &SolvedSearch,
+) -> Result<Vec<Move>, AllocError>
+    requires { HasSolved state.now solved.now }
     ensures { IfOk result (λ moves. moves.items ≡ differences 1 state.now.flows (reached_flows state.now solved.now.search)) }
 {
     let indices = solved.touched.indices(state.arcs().len() + 1);

@@ -2,7 +2,7 @@
 ghost use Rattle.std.specs.Prelude.{◌≡◌, ℕ, true, List, [], IfOk};
 ghost use Rattle.dmf_state.specs.Arc.{open_arcs_at};
 ghost use Rattle.dmf_solver.specs.CarryingNetwork.{IsCarryingOf};
-ghost use Rattle.dmf_solver.specs.KeptNetwork.{Keeps};
+ghost use Rattle.dmf_solver.specs.KeptNetwork.{KeepsNetwork};
 ghost use Rattle.dmf_state.specs.Edit.{AreOpenWith, numbers};
 ghost use Rattle.dmf_state.specs.Flow.{flow_on, flow_on_all};
 ghost use Rattle.dmf_path.specs.Touched.{Touches};
@@ -51,10 +51,10 @@ pub fn drain_all<W: Watch>(
 ) -> Result<Drained, AllocError>
     requires state { IsState state.now }
     requires arcs { AreOpenWith 0 arcs.now state.now.network }
-    requires kept { Keeps state.now kept.old }
+    requires kept { KeepsNetwork state.now kept.old }
     ensures moves { IfOk result (λ drained. AreShuttingMoves state.now (numbers arcs.now) drained.moves.items) }
     ensures carrying { IfOk result (CarriesMoved state.now) }
-    ensures kept { Keeps state.now kept.new }
+    ensures kept { KeepsNetwork state.now kept.new }
     ensures told { AreTold (W.told watch.old) (W.told watch.new) [] }
     ensures drained { TellsMoves state.now (turns_to_zero (numbers arcs.now)) result (W.drained watch.old) (W.drained watch.new) }
 {

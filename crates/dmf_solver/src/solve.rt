@@ -6,7 +6,7 @@ ghost use Rattle.dmf_path.specs.Search.{Augments};
 ghost use Rattle.dmf_path.specs.Touched.{AreBelow, Touches};
 ghost use Rattle.dmf_state.specs.NetworkState.{IsState};
 ghost use Rattle.dmf_solver.specs.Greatest.{IsGreatest, IsSurpassed};
-ghost use Rattle.dmf_solver.specs.Pairs.{reached_flows, IsSolved};
+ghost use Rattle.dmf_solver.specs.Pairs.{reached_flows, HasSolved};
 ghost use Rattle.dmf_solver.specs.ResidualNetwork.{IsResidualOf};
 ghost use Rattle.dmf_solver.specs.Told.{AreTold, TellsSolve};
 ghost use Rattle.dmf_solver.specs.WayOut.{IsWayOut};
@@ -21,7 +21,7 @@ use std::alloc::Global;
 
 /// A search for augmenting paths that finds no more, the value of the flow that it has reached, and the pairs that its paths used.
 #[derive(Drop)]
-pub struct Solved {
+pub struct SolvedSearch {
     pub search: Search,
     pub value: u64,
     pub touched: Touched,
@@ -38,11 +38,11 @@ pub fn solve<W: Watch>(
     marks: &mut [bool],
     mut way_out: Option<WayOut>,
     watch: &mut W,
-) -> Solved
+) -> SolvedSearch
     requires residual { IsResidualOf state.now search }
     requires way { IfSome way_out (IsWayOut search marks.old) }
     requires below { AreBelow (length state.now.network.arcs + 1) touched }
-    ensures solved { IsSolved state.now result }
+    ensures solved { HasSolved state.now result }
     ensures told { TellsSolve state.now (reached_flows state.now result.search) (W.told watch.old) (W.told watch.new) }
     ensures drained { AreTold (W.drained watch.old) (W.drained watch.new) [] }
     ensures side { length marks.old ≡ result.search.nodes
@@ -55,7 +55,7 @@ pub fn solve<W: Watch>(
         watch.augmented(value, found.links);
     }
     touched.sort();
-    Solved {
+    SolvedSearch {
         search,
         value,
         touched,

@@ -7,8 +7,8 @@ use Rattle.dmf_state.specs.NetworkState.{NetworkState, IsState}
 use Rattle.dmf_state.specs.Side.{CutSide}
 use Rattle.dmf_solver.specs.Change.{Becomes, Solve}
 use Rattle.dmf_solver.specs.Greatest.{IsGreatest}
-use Rattle.dmf_solver.proofs.SomeOutcome.{some-outcome}
-use Rattle.dmf_solver.proofs.SomeSide.{solved-greatest}
+use Rattle.dmf_solver.proofs.changes.SomeOutcome.{some-outcome}
+use Rattle.dmf_solver.proofs.cuts.SomeSide.{solved-greatest}
 use Rattle.dmf_solving.specs.Solved.{brief_text, side_text, solve_value_line}
 
 -- What solving makes of the state `s` has the network and the value of the state `t`.

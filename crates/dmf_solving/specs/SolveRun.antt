@@ -52,24 +52,24 @@ pub record WritesAny (want_cut : Bool) (from to : Reader) (old new : Writer) (te
 
 -- The result of a run that read this much of a problem's text, and wrote what `Wrote` says if it ended well or the writer failed; no other
 -- results are possible. With every other error it wrote nothing.
-abbrev pub Answered : (Result Status EngineFault → Type 0) → Reader → Reader → Writer → Writer → List ℕ → Result Status EngineFault → Type 0
-Answered Wrote from to old new text (Ok Well) = Wrote (Ok Well)
-Answered Wrote from to old new text (Ok status) = ⊥
-Answered Wrote from to old new text (Err fault.Write) = Wrote (Err fault.Write)
-Answered Wrote from to old new text (Err fault.NoMemory) = (to.has_failed ≡ from.has_failed) × (new ≡ old)
-Answered Wrote from to old new text (Err told) = ReadsProblem from to text (Err told) × (new ≡ old)
+abbrev pub SolveAnswered : (Result Status EngineFault → Type 0) → Reader → Reader → Writer → Writer → List ℕ → Result Status EngineFault → Type 0
+SolveAnswered Wrote from to old new text (Ok Well) = Wrote (Ok Well)
+SolveAnswered Wrote from to old new text (Ok status) = ⊥
+SolveAnswered Wrote from to old new text (Err fault.Write) = Wrote (Err fault.Write)
+SolveAnswered Wrote from to old new text (Err fault.NoMemory) = (to.has_failed ≡ from.has_failed) × (new ≡ old)
+SolveAnswered Wrote from to old new text (Err told) = ReadsProblem from to text (Err told) × (new ≡ old)
 
 -- A run that solves a problem, from the bytes that its reader gave to those that its writer took.
 abbrev pub RunsSolve : Bool → Reader → Reader → Writer → Writer → Result Status EngineFault → Type 0
 RunsSolve want_cut from to old new result =
-    HasGiven from to (λ text. Answered (WritesSolved want_cut from to old new text) from to old new text result)
+    HasGiven from to (λ text. SolveAnswered (WritesSolved want_cut from to old new text) from to old new text result)
 
 -- A run that solves a problem for its value.
 abbrev pub RunsBrief : Bool → Reader → Reader → Writer → Writer → Result Status EngineFault → Type 0
 RunsBrief want_cut from to old new result =
-    HasGiven from to (λ text. Answered (WritesValue want_cut from to old new text) from to old new text result)
+    HasGiven from to (λ text. SolveAnswered (WritesValue want_cut from to old new text) from to old new text result)
 
 -- A run that solves a problem by any greatest flow.
 abbrev pub RunsAny : Bool → Reader → Reader → Writer → Writer → Result Status EngineFault → Type 0
 RunsAny want_cut from to old new result =
-    HasGiven from to (λ text. Answered (WritesAny want_cut from to old new text) from to old new text result)
+    HasGiven from to (λ text. SolveAnswered (WritesAny want_cut from to old new text) from to old new text result)

@@ -28,12 +28,12 @@ pub fn write_brief<W: Sink>(
 ) -> Result<(), WriteFault>
     ensures { Writes (W.written out.old) (W.written out.new) result (brief_text state.now side.now) }
 {
-    write_line(&value_line(state.value()), out)?;
+    write_line(&solved_value_line(state.value()), out)?;
     write_side(side, out)
 }
 
 /// `c solve value V`
-fn value_line(value: u64) -> LineBuffer
+fn solved_value_line(value: u64) -> LineBuffer
     ensures { result ≡ solve_value_line value }
 {
     line_of(&[Text(b"c"), Text(b"solve"), Text(b"value"), Number(value)])

@@ -6,10 +6,10 @@ use Rattle.std.proofs.KnownBytes.{Consumes-trans}
 use Rattle.std.proofs.lemmas.List.{drop_more, length-append, append-nil}
 use Rattle.dmf_text.specs.Streams.{Reader}
 use Rattle.dmf_streams.specs.Pending.{Pending}
-use Rattle.dmf_streams.specs.Input.{InputState, input_over, Takes, left}
+use Rattle.dmf_streams.specs.Input.{InputState, input_over, TakesBytes, left}
 
 -- Taking bytes, and then others, takes both.
-pub Takes-trans : (a b c : InputState) (x y : List ℕ) → Takes a b x → Takes b c y → Takes a c (x ++ y)
+pub Takes-trans : (a b c : InputState) (x y : List ℕ) → TakesBytes a b x → TakesBytes b c y → TakesBytes a c (x ++ y)
 Takes-trans a b c x y t u = record {
   consumes = Consumes-trans (left a.pending a.reader.known) (left b.pending b.reader.known) (left c.pending c.reader.known) x y t.consumes u.consumes;
   counts = omega (arith, t.counts, u.counts, length-append x y);
@@ -34,8 +34,8 @@ some-length [] not_empty = absurd (not_empty refl)
 some-length (x ∷ xs) not_empty = omega arith
 
 -- Taking no more bytes changes nothing of what was taken.
-pub Takes-nil : (a b c : InputState) (x : List ℕ) → Takes a b x → Takes b c [] → Takes a c x
-Takes-nil a b c x t u = subst (λ l. Takes a c l) (append-nil x) (Takes-trans a b c x [] t u)
+pub Takes-nil : (a b c : InputState) (x : List ℕ) → TakesBytes a b x → TakesBytes b c [] → TakesBytes a c x
+Takes-nil a b c x t u = subst (λ l. TakesBytes a c l) (append-nil x) (Takes-trans a b c x [] t u)
 
 -- Of a piece that has come to its end nothing is pending.
 pub nothing-pending : (piece : List ℕ) (start end : ℕ) → end ≤ start → slice_range piece start end ≡ []
@@ -51,7 +51,7 @@ Consumes-read (Some xs) (Some ys) bytes read = read
 
 -- if no byte was pending, the bytes that the reader gave are pending
 pub Takes-read : (old new : Pending) (from to : Reader) → old.bytes ≡ [] → new.count ≡ old.count → Consumes from.known to.known new.bytes
-    → Takes (input_over old from) (input_over new to) []
+    → TakesBytes (input_over old from) (input_over new to) []
 Takes-read old new from to none count read = record {
   consumes = rw none (Consumes-read from.known to.known new.bytes read);
   counts = omega (arith, count);

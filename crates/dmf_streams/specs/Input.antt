@@ -29,7 +29,7 @@ abbrev pub input_over : Pending → Reader → InputState
 input_over pending reader = record { pending = pending; reader = reader }
 
 -- These bytes were taken.
-pub record Takes (old new : InputState) (bytes : List ℕ) : Type 0 where
+pub record TakesBytes (old new : InputState) (bytes : List ℕ) : Type 0 where
   pub consumes : Consumes (left old.pending old.reader.known) (left new.pending new.reader.known) bytes
   pub counts : new.pending.count ≡ old.pending.count + length bytes
 
@@ -52,26 +52,26 @@ pub record IsPastLimit (old new : InputState) : Type 0 where
   pub mark : new.reader.has_failed ≡ old.reader.has_failed
 
 -- what a read of the next piece does, if no byte is pending; no other results are possible
-abbrev pub Fills : InputState → InputState → Result (Unit {0}) EngineFault → Type 0
-Fills old new (Ok done) =
-    Takes old new [] × (new.reader.has_failed ≡ old.reader.has_failed) × (new.pending.bytes ≡ [] → IsAtEnd new.reader.known)
-Fills old new (Err fault.Read) = Takes old new [] × HasFailed new
-Fills old new (Err fault) = ⊥
+abbrev pub ReadsPiece : InputState → InputState → Result (Unit {0}) EngineFault → Type 0
+ReadsPiece old new (Ok done) =
+    TakesBytes old new [] × (new.reader.has_failed ≡ old.reader.has_failed) × (new.pending.bytes ≡ [] → IsAtEnd new.reader.known)
+ReadsPiece old new (Err fault.Read) = TakesBytes old new [] × HasFailed new
+ReadsPiece old new (Err fault) = ⊥
 
 -- what a request for the next byte does; no other results are possible
 abbrev pub GivesByte : InputState → InputState → Result (Option ℕ) EngineFault → Type 0
 GivesByte old new (Ok (Some byte)) =
-    Takes old new (byte ∷ []) × (new.reader.has_failed ≡ old.reader.has_failed) × (new.pending.count ≤ 2 ^ 30)
-GivesByte old new (Ok None) = Takes old new [] × HasEnded old new
-GivesByte old new (Err fault.Read) = Takes old new [] × HasFailed new
-GivesByte old new (Err fault.TooMuchInput) = Takes old new [] × IsPastLimit old new
+    TakesBytes old new (byte ∷ []) × (new.reader.has_failed ≡ old.reader.has_failed) × (new.pending.count ≤ 2 ^ 30)
+GivesByte old new (Ok None) = TakesBytes old new [] × HasEnded old new
+GivesByte old new (Err fault.Read) = TakesBytes old new [] × HasFailed new
+GivesByte old new (Err fault.TooMuchInput) = TakesBytes old new [] × IsPastLimit old new
 GivesByte old new (Err fault) = ⊥
 
 -- A line was taken, of which the buffer keeps this. A line feed ended it, or the end of the input ended a last line.
 pub record TakesLine (old new : InputState) (kept : Kept) (ended : Bool) : Type 0 where
   pub line : List ℕ
   pub no_line_feed : HasNoLineFeed line
-  pub takes : Takes old new (if ended then line ++ 10 ∷ [] else line)
+  pub takes : TakesBytes old new (if ended then line ++ 10 ∷ [] else line)
   pub keeps : IsKept kept line
   pub mark : new.reader.has_failed ≡ old.reader.has_failed
   pub last : ended ≡ false → (0 < length line) × HasEnded old new
@@ -79,18 +79,18 @@ pub record TakesLine (old new : InputState) (kept : Kept) (ended : Bool) : Type 
 -- what a request for the next line does, of which the buffer keeps this: a line, or the end
 abbrev pub GivesLine : InputState → InputState → Kept → Result Next EngineFault → Type 0
 GivesLine old new kept (Ok (Line ended)) = TakesLine old new kept ended
-GivesLine old new kept (Ok End) = Takes old new [] × HasEnded old new
+GivesLine old new kept (Ok End) = TakesBytes old new [] × HasEnded old new
 GivesLine old new kept (Err fault.Read) =
-    (rest : List ℕ) × HasNoLineFeed rest × Takes old new rest × HasFailed new
+    (rest : List ℕ) × HasNoLineFeed rest × TakesBytes old new rest × HasFailed new
 GivesLine old new kept (Err fault.TooMuchInput) =
-    (rest : List ℕ) × HasNoLineFeed rest × Takes old new rest × IsPastLimit old new
+    (rest : List ℕ) × HasNoLineFeed rest × TakesBytes old new rest × IsPastLimit old new
 GivesLine old new kept (Err fault) = ⊥
 
 -- what a request for the end does: nothing is left, or there is one more byte
 abbrev pub GivesEnd : InputState → InputState → Result (Unit {0}) EngineFault → Type 0
-GivesEnd old new (Ok done) = Takes old new [] × HasEnded old new
-GivesEnd old new (Err fault.Read) = Takes old new [] × HasFailed new
+GivesEnd old new (Ok done) = TakesBytes old new [] × HasEnded old new
+GivesEnd old new (Err fault.Read) = TakesBytes old new [] × HasFailed new
 GivesEnd old new (Err fault.TooMuchInput) =
-    (bytes : List ℕ) × (0 < length (bytes ++ new.pending.bytes)) × Takes old new bytes
+    (bytes : List ℕ) × (0 < length (bytes ++ new.pending.bytes)) × TakesBytes old new bytes
     × (new.pending.count ≤ 2 ^ 30) × (new.reader.has_failed ≡ old.reader.has_failed)
 GivesEnd old new (Err fault) = ⊥

@@ -1,6 +1,6 @@
 //! Lines from a reader that gives its bytes in pieces of any length.
 ghost use Rattle.std.specs.Prelude.{◌≡◌, []};
-ghost use Rattle.dmf_streams.specs.Input.{input_over, Fills, GivesByte, GivesLine, GivesEnd};
+ghost use Rattle.dmf_streams.specs.Input.{input_over, ReadsPiece, GivesByte, GivesLine, GivesEnd};
 
 use crate::fault::EngineFault;
 use crate::kept_line::KeptLine;
@@ -59,7 +59,7 @@ impl Input {
 
     /// Reads the next piece if no byte is pending. If the input has ended, no byte is pending afterwards.
     fn fill<C: Source>(&mut self, source: &mut C) -> Result<(), EngineFault>
-        ensures { Fills
+        ensures { ReadsPiece
             (input_over self.old (C.left source.old))
             (input_over self.new (C.left source.new))
             result }

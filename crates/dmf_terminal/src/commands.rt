@@ -3,22 +3,22 @@ use dmf_explain::Thing;
 
 // `tests/commands.py` has the commands: /usr/bin/python3 -m pytest --write tests/test_commands.py makes this file.
 /// A command: its word, what each of its numbers stands for that may have a name, and the fields that it takes.
-pub struct Command {
+pub struct CommandForm {
     pub word: &'static [u8],
     pub numbers: &'static [Option<Thing>],
     pub takes: &'static str,
 }
 
 #[rattlefmt::skip]
-pub const COMMANDS: &[Command] = &[
-    Command { word: b"cap", numbers: &[Some(Thing::Arc), None], takes: "cap takes an arc and its new capacity (cap I U, 3 fields)" },
-    Command { word: b"add", numbers: &[Some(Thing::Node), Some(Thing::Node), None], takes: "add takes two nodes and a capacity (add V W U, 4 fields)" },
-    Command { word: b"close", numbers: &[Some(Thing::Arc)], takes: "close takes an arc (close I, 2 fields)" },
-    Command { word: b"shut", numbers: &[Some(Thing::Node)], takes: "shut takes a node (shut V, 2 fields)" },
-    Command { word: b"solve", numbers: &[], takes: "solve takes nothing (1 field)" },
-    Command { word: b"undo", numbers: &[None], takes: "undo takes a count or nothing (undo [K], 1 or 2 fields)" },
-    Command { word: b"redo", numbers: &[None], takes: "redo takes a count or nothing (redo [K], 1 or 2 fields)" },
-    Command { word: b"print", numbers: &[], takes: "print takes problem, flow or cut (2 fields)" },
+pub const COMMANDS: &[CommandForm] = &[
+    CommandForm { word: b"cap", numbers: &[Some(Thing::Arc), None], takes: "cap takes an arc and its new capacity (cap I U, 3 fields)" },
+    CommandForm { word: b"add", numbers: &[Some(Thing::Node), Some(Thing::Node), None], takes: "add takes two nodes and a capacity (add V W U, 4 fields)" },
+    CommandForm { word: b"close", numbers: &[Some(Thing::Arc)], takes: "close takes an arc (close I, 2 fields)" },
+    CommandForm { word: b"shut", numbers: &[Some(Thing::Node)], takes: "shut takes a node (shut V, 2 fields)" },
+    CommandForm { word: b"solve", numbers: &[], takes: "solve takes nothing (1 field)" },
+    CommandForm { word: b"undo", numbers: &[None], takes: "undo takes a count or nothing (undo [K], 1 or 2 fields)" },
+    CommandForm { word: b"redo", numbers: &[None], takes: "redo takes a count or nothing (redo [K], 1 or 2 fields)" },
+    CommandForm { word: b"print", numbers: &[], takes: "print takes problem, flow or cut (2 fields)" },
 ];
 
 /// The forms of all of them.

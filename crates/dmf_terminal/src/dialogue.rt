@@ -46,7 +46,7 @@ impl<'a, V: Watch> Dialogue<'a, V> {
             text: text.as_ref().map(|text| text.as_slice()),
             has_added: self.has_added,
         };
-        tell(self.rt, refusal, line, known);
+        tell_refusal(self.rt, refusal, line, known);
     }
 
     /// The problem's text, if it helps and the file has not changed.
@@ -100,7 +100,7 @@ fn stamp_of(rt: &HostRuntime, path: &str) -> Option<(u64, SystemTime)> {
 }
 
 /// Writes why the session refused this command line.
-fn tell(rt: &HostRuntime, reason: Refusal, line: &[u8], known: Known<'_>) {
+fn tell_refusal(rt: &HostRuntime, reason: Refusal, line: &[u8], known: Known<'_>) {
     let said = Said(refusal_advice(reason, line, known));
     let _ = eprintln!(rt; "dmf: {said}");
 }

@@ -1,7 +1,7 @@
 //! The refusals of a session, explained.
-use crate::commands::{COMMANDS, Command, LISTED, NOT_PRINTED};
+use crate::commands::{COMMANDS, CommandForm, LISTED, NOT_PRINTED};
 use dmf_explain::{
-    Front, Named, Part, Parts, Places, Thing, about, about_with, behind, count, field_at,
+    FieldRange, Front, Named, Part, Parts, Thing, about, about_with, behind, count, field_at,
     find_ends, find_named, first_fault, found, no_number, numbered, way_on, without_last_field,
     words,
 };
@@ -33,8 +33,8 @@ pub fn refusal_advice<'a>(reason: Refusal, line: &'a [u8], known: Known<'_>) -> 
             about(field_at(line, 2).unwrap_or(b""), NOT_PRINTED)
         }
         Refusal::UnknownCommand => unknown_command(word),
-        Refusal::FieldCount => field_count(command_of(word), line, known),
-        Refusal::NotANumber => not_a_number(command_of(word), line, known),
+        Refusal::FieldCount => field_count_advice(form_of(word), line, known),
+        Refusal::NotANumber => not_a_number_advice(form_of(word), line, known),
         Refusal::TooLarge => words("the largest number is 18446744073709551615"),
         Refusal::NoSuchArc => arcs(known),
         Refusal::NoSuchNode => nodes(known),
@@ -74,12 +74,12 @@ fn is_asking(word: &[u8]) -> bool {
 }
 
 /// The command of this word.
-fn command_of(word: &[u8]) -> Option<&'static Command> {
+fn form_of(word: &[u8]) -> Option<&'static CommandForm> {
     COMMANDS.iter().find(|command| command.word == word)
 }
 
-fn field_count<'a>(
-    command: Option<&'static Command>,
+fn field_count_advice<'a>(
+    command: Option<&'static CommandForm>,
     line: &'a [u8],
     known: Known<'_>,
 ) -> Parts<'a> {
@@ -91,7 +91,7 @@ fn field_count<'a>(
 }
 
 /// The fields that a command takes.
-fn fields_of<'a>(command: Option<&'static Command>) -> &'a str {
+fn fields_of<'a>(command: Option<&'static CommandForm>) -> &'a str {
     match command {
         Some(command) => command.takes,
         None => LISTED,
@@ -139,12 +139,12 @@ fn two_names<'a>(text: &[u8], names: &[u8], otherwise: Parts<'a>) -> Parts<'a> {
     }
 }
 
-fn not_a_number<'a>(
-    command: Option<&'static Command>,
+fn not_a_number_advice<'a>(
+    command: Option<&'static CommandForm>,
     line: &'a [u8],
     known: Known<'_>,
 ) -> Parts<'a> {
-    let places = Places { first: 2, last: 4 };
+    let places = FieldRange { first: 2, last: 4 };
     let Some(placed) = first_fault(line, places, NumberFault::NotANumber) else {
         return words("a number has digits alone");
     };
@@ -161,7 +161,7 @@ fn not_a_number<'a>(
 }
 
 /// What the number in this field of a command stands for, if that may have a name.
-fn thing_at(command: Option<&'static Command>, place: usize) -> Option<Thing> {
+fn thing_at(command: Option<&'static CommandForm>, place: usize) -> Option<Thing> {
     *command?.numbers.get(place.checked_sub(2)?)?
 }
 

@@ -21,7 +21,7 @@ use Rattle.dmf_text.specs.declared.solution_reading.SolutionReading.{SolutionRea
 use Rattle.dmf_text.specs.Numbers.{AreSpelled}
 use Rattle.dmf_text.specs.Judging.{Line}
 use Rattle.dmf_text.specs.Solution.{Facts, facts_of, value_in, flow_in, flow_fits, judged_flow, put_on, ended}
-use Rattle.dmf_text.specs.SolutionReading.{flow_kind, known_of, AddsFlow, CannotAdd, Keeps, with_line, TakesLine}
+use Rattle.dmf_text.specs.SolutionReading.{flow_kind, known_of, AddsFlow, CannotAdd, Keeps, with_line, TakesSolutionLine}
 use Rattle.dmf_text.proofs.JudgingLemmas.{or-none, first_fact-push, filter_map-push}
 use Rattle.dmf_text.proofs.PairLemmas.{keeps-added, fits-good, fits-bad, none-large, put-within}
 
@@ -47,7 +47,7 @@ module _ (arcs : List Arc) (facts : Facts) (reading : SolutionReading) (behind :
   -- The flow was added, or the line has the fault.
   pub line-taken : (now : SolutionReading) → now.value ≡ reading.value → (result : Result (Unit {0}) SolutionFaultKind)
       → MatchResult result (λ _. AddsFlow reading.pairs (tail, head) flow now.pairs) (CannotAdd (known_of reading.pairs (tail, head)) flow)
-      → TakesLine arcs facts (codes "f" ∷ behind) (judged_flow arcs facts behind) now result
+      → TakesSolutionLine arcs facts (codes "f" ∷ behind) (judged_flow arcs facts behind) now result
   line-taken now value (Ok done) added = (
     line-judged ∙ fits-good arcs facts reading.pairs now.pairs (tail, head) flow kept.pairs added,
     rw line-says

@@ -25,7 +25,7 @@ IsLine (Arc arc) line = IsArcLine line arc.tail arc.head arc.cap
 IsLine (Bytes bytes) line = bytes.now ≡ line
 
 -- The first of some numbered lines has this number, and it is this line; these lines are behind it.
-pub record GivesLine (before : List (ℕ × List ℕ)) (number : ℕ) (given : ProblemLine) (after : List (ℕ × List ℕ)) : Type 0 where
+pub record BeginsWithLine (before : List (ℕ × List ℕ)) (number : ℕ) (given : ProblemLine) (after : List (ℕ × List ℕ)) : Type 0 where
   pub line : List ℕ
   pub steps : before ≡ (number, line) ∷ after
   pub is : IsLine given line

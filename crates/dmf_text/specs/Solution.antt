@@ -24,22 +24,22 @@ use Rattle.dmf_text.specs.Judging.{Line, field, number_at, first_fact, ◌>>=◌
 -- ---- pairs of nodes
 
 -- A pair is two numbers: a tail and a head. Arcs of the same pair are parallel.
-abbrev pub Pair : Type 0
-Pair = ℕ × ℕ
+abbrev pub NodePair : Type 0
+NodePair = ℕ × ℕ
 
-abbrev pub same_pair : Pair → Pair → Bool
+abbrev pub same_pair : NodePair → NodePair → Bool
 same_pair p q = nat_eq p.0 q.0 && nat_eq p.1 q.1
 
 -- the pair of an arc
-abbrev pub ends : Arc → Pair
+abbrev pub ends : Arc → NodePair
 ends arc = (arc.tail, arc.head)
 
 -- whether one of the arcs has the pair
-abbrev pub has_pair : List Arc → Pair → Bool
+abbrev pub has_pair : List Arc → NodePair → Bool
 has_pair arcs pair = list_any (λ arc. same_pair (ends arc) pair) arcs
 
 -- The sum of the capacities of the arcs of a pair. The capacity of a closed arc is 0.
-abbrev pub pair_capacity : List Arc → Pair → ℕ
+abbrev pub pair_capacity : List Arc → NodePair → ℕ
 pair_capacity arcs pair = sum_by (λ arc. if same_pair (ends arc) pair then arc.cap else 0) arcs
 
 -- ---- what good lines say
@@ -50,7 +50,7 @@ value_in [] = None
 value_in (kind ∷ behind) = if bytes_eq kind (codes "s") then Some (number_at 0 behind) else None
 
 -- `f SRC DST FLOW`: the arcs of the pair carry this flow together
-abbrev pub flow_in : Line → Option (Pair × ℕ)
+abbrev pub flow_in : Line → Option (NodePair × ℕ)
 flow_in [] = None
 flow_in (kind ∷ behind) =
     if bytes_eq kind (codes "f") then Some ((number_at 0 behind, number_at 1 behind), number_at 2 behind) else None
@@ -58,13 +58,13 @@ flow_in (kind ∷ behind) =
 -- what lines say together
 pub record Facts : Type 0 where
   pub value : Option ℕ
-  pub flows : List (Pair × ℕ)
+  pub flows : List (NodePair × ℕ)
 
 abbrev pub facts_of : List Line → Facts
 facts_of lines = record { value = first_fact value_in lines; flows = filter_map flow_in lines }
 
 -- the sum of the flows that the lines give to a pair
-abbrev pub pair_flow : List (Pair × ℕ) → Pair → ℕ
+abbrev pub pair_flow : List (NodePair × ℕ) → NodePair → ℕ
 pair_flow flows pair = sum_by (λ flow. if same_pair flow.0 pair then flow.1 else 0) flows
 
 -- ---- the judgement of a line, given the arcs of the network and what the lines before it say
@@ -87,7 +87,7 @@ judged_value facts behind = do
   Ok tt
 
 -- the arcs of the pair carry this much more flow
-abbrev pub flow_fits : List Arc → Facts → Pair → ℕ → Result (Unit {0}) SolutionFaultKind
+abbrev pub flow_fits : List Arc → Facts → NodePair → ℕ → Result (Unit {0}) SolutionFaultKind
 flow_fits arcs facts pair flow = do
   expect (has_pair arcs pair) NoSuchPair
   expect (nat_le (pair_flow facts.flows pair + flow) (pair_capacity arcs pair)) OverCapacity
@@ -115,13 +115,13 @@ judged arcs facts (kind ∷ behind) =
 -- The flows on arcs that come after others in the network. An arc takes of the flow of its pair as much as its capacity allows of what
 -- the arcs of the pair before it have left. If their capacities together exceed that flow, nothing is left: a difference of natural
 -- numbers is then 0.
-abbrev pub put_behind : List (Pair × ℕ) → List Arc → List Arc → List ℕ
+abbrev pub put_behind : List (NodePair × ℕ) → List Arc → List Arc → List ℕ
 put_behind flows before [] = []
 put_behind flows before (arc ∷ more) =
     min arc.cap (pair_flow flows (ends arc) - pair_capacity before (ends arc)) ∷ put_behind flows (before ++ arc ∷ []) more
 
 -- the flows on the arcs of a network
-abbrev pub put_on : List (Pair × ℕ) → List Arc → List ℕ
+abbrev pub put_on : List (NodePair × ℕ) → List Arc → List ℕ
 put_on flows arcs = put_behind flows [] arcs
 
 -- the flow is conserved: no node is unbalanced

@@ -40,11 +40,11 @@ impl<'a> Lines<'a> {
 
 impl<'a> Lines<'a> {
     ghost use Rattle.std.specs.Prelude.{[], MatchOption};
-    ghost use Rattle.dmf_text.specs.ProblemLine.{GivesLine};
+    ghost use Rattle.dmf_text.specs.ProblemLine.{BeginsWithLine};
 
     /// Takes the next line, if there is one, as a line of a problem text.
     pub(crate) fn next_of_problem(&mut self) -> Option<(u64, ProblemLine<'a>)>
-        ensures { MatchOption result (self.old ≡ []) (λ given. GivesLine self.old given.0 given.1 self.new) }
+        ensures { MatchOption result (self.old ≡ []) (λ given. BeginsWithLine self.old given.0 given.1 self.new) }
     {
         if let Some((arc, behind)) = arc_in_front(self.left.as_bytes()) {
             self.given += 1;

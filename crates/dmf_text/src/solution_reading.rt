@@ -4,21 +4,21 @@ ghost use Rattle.dmf_state.specs.declared.arc.Arc.{Arc};
 ghost use Rattle.dmf_text.specs.declared.fault.SolutionFaultKind.TheVariants.{NoMemory};
 ghost use Rattle.dmf_text.specs.Fields.{fields};
 ghost use Rattle.dmf_text.specs.Solution.{Facts, judged, judged_value, judged_flow, ended};
-ghost use Rattle.dmf_text.specs.SolutionReading.{Keeps, TakesLine};
+ghost use Rattle.dmf_text.specs.SolutionReading.{Keeps, TakesSolutionLine};
 
 use crate::digits::number;
 use crate::exact_fields::one_field;
 use crate::fault::SolutionFaultKind;
 use crate::field::Fields;
 use crate::numbers::three_numbers;
-use crate::pairs::{Pairs, pair_of};
+use crate::pairs::{PairTable, pair_of};
 use dmf_state::State;
 use std::alloc::{AllocError, Global};
 
 /// What the lines of a solution text say so far.
 #[derive(Drop)]
 pub(crate) struct SolutionReading<'a> {
-    pairs: Pairs<'a>,
+    pairs: PairTable<'a>,
     value: Option<u64>,
     /// The number of flow lines so far, which guesses the arc of the next line, since lines mostly come in arc order.
     flow_count: usize,
@@ -31,7 +31,7 @@ impl<'a> SolutionReading<'a> {
     pub(crate) fn new(alloc: Global, state: &'a State) -> Result<SolutionReading<'a>, AllocError>
         ensures { IfOk result (Keeps state.now.network.arcs (record { value = None; flows = [] })) }
     {
-        let pairs = Pairs::of_arcs(alloc, state.arcs())?;
+        let pairs = PairTable::of_arcs(alloc, state.arcs())?;
         Ok(SolutionReading {
             pairs,
             value: None,
@@ -42,7 +42,7 @@ impl<'a> SolutionReading<'a> {
     /// Takes the next line. Fails with its fault.
     pub(crate) fn take_line(&mut self, line: &[u8]) -> Result<(), SolutionFaultKind>
         ensures { (arcs : List Arc) (facts : Facts) → Keeps arcs facts self.old
-            → TakesLine arcs facts (fields line.now) (judged arcs facts (fields line.now)) self.new result }
+            → TakesSolutionLine arcs facts (fields line.now) (judged arcs facts (fields line.now)) self.new result }
     {
         let mut behind = Fields::new(line);
         let Some(kind) = behind.next() else {
@@ -63,7 +63,7 @@ impl<'a> SolutionReading<'a> {
     #[tactic(auto, unfolding(crate::specs::Solution::judged_value))]
     fn take_value_line(&mut self, behind: Fields<'_>) -> Result<(), SolutionFaultKind>
         ensures { (arcs : List Arc) (facts : Facts) → Keeps arcs facts self.old
-            → TakesLine arcs facts (codes "s" ∷ behind.entry) (judged_value facts behind.entry) self.new result }
+            → TakesSolutionLine arcs facts (codes "s" ∷ behind.entry) (judged_value facts behind.entry) self.new result }
     {
         if self.value.is_some() {
             return Err(SolutionFaultKind::SecondValue);
@@ -76,7 +76,7 @@ impl<'a> SolutionReading<'a> {
     #[tactic(auto, unfolding(crate::specs::Solution::judged_flow))]
     fn take_flow_line(&mut self, behind: Fields<'_>) -> Result<(), SolutionFaultKind>
         ensures { (arcs : List Arc) (facts : Facts) → Keeps arcs facts self.old
-            → TakesLine arcs facts (codes "f" ∷ behind.entry) (judged_flow arcs facts behind.entry) self.new result }
+            → TakesSolutionLine arcs facts (codes "f" ∷ behind.entry) (judged_flow arcs facts behind.entry) self.new result }
     {
         let (tail, head, flow) = three_numbers(behind)?;
         let Some(pair) = pair_of(tail, head) else {

@@ -29,7 +29,7 @@ pub fn write_solution<W: Sink>(state: &State, out: &mut W) -> Result<(), WriteFa
     ensures written { Writes (W.written out.old) (W.written out.new) result (solution_text state.now) }
 {
     put_line(&[Text(b"s"), Number(state.value())], out)?;
-    put_flows(state, out)
+    put_flow_lines(state, out)
 }
 
 /// Writes a cut: its capacity, and then the nodes of its side, ascending. Puts each line at once. Takes no memory, and does not flush.
@@ -72,7 +72,7 @@ fn put_arcs<W: Sink>(arcs: &[Arc], out: &mut W) -> Result<(), WriteFault>
 }
 
 // Writes the line of each open arc with its flow.
-fn put_flows<W: Sink>(state: &State, out: &mut W) -> Result<(), WriteFault>
+fn put_flow_lines<W: Sink>(state: &State, out: &mut W) -> Result<(), WriteFault>
     ensures { Writes (W.written out.old) (W.written out.new) result (flows_text (zip state.now.network.arcs state.now.flows)) }
 {
     let arcs = state.arcs();

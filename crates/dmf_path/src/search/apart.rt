@@ -8,7 +8,7 @@ use crate::aside::Aside;
 use crate::ball::Ball;
 use crate::levels::Levels;
 use crate::phase::begin_anew;
-use crate::push::Links;
+use crate::residual::Residual;
 use crate::search::Search;
 use crate::trail::Trail;
 use dmf_links::{LinkTable, Places, share_known};
@@ -108,7 +108,7 @@ impl Own {
     {
         self.asides.clear();
         self.ball.forget();
-        let links = Links {
+        let links = Residual {
             table: shared.table,
             takes_back: self.takes_back,
             rooms: self.rooms,

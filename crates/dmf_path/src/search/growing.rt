@@ -3,7 +3,7 @@ ghost use Rattle.std.specs.Prelude.{◌≡◌, ◌≢◌, ◌+◌, ◌-◌, ◌^
 ghost use Rattle.dmf_path.specs.Apart.{AreShared, IsIdled, TakesIn};
 ghost use Rattle.dmf_links.specs.Grown.{HasEndsOf};
 ghost use Rattle.dmf_links.specs.LinkTable.{links_of};
-ghost use Rattle.dmf_links.specs.Pair.{IsPair, emptied};
+ghost use Rattle.dmf_links.specs.Pair.{IsPair, without_room};
 ghost use Rattle.dmf_links.specs.Stack.{IsPutOn, IsTakenOff};
 ghost use Rattle.dmf_path.specs.Search.{Searched, with_pairs, with_rooms};
 
@@ -140,7 +140,7 @@ impl Shared {
         requires pair { IfSome pair (IsPair self.table.value.nodes) }
         requires few { length self.places.value ≤ 2 ^ 27 }
         ensures shared { IfSome result AreShared }
-        ensures on { IfSome result (λ after. IsPutOn (links_of self.table.value) self.places.value (emptied pair)
+        ensures on { IfSome result (λ after. IsPutOn (links_of self.table.value) self.places.value (without_room pair)
             (links_of after.table.value) after.places.value) }
     {
         let Shared {

@@ -1,7 +1,7 @@
 //! Making a search from pairs, or over the links of another search.
 ghost use Rattle.std.specs.Prelude.{◌≡◌, ◌≢◌, ℕ, ◌^◌, ◌≤◌, ◌<◌, slice_index, length, map, replicate, [], IfOk};
 ghost use Rattle.dmf_node.specs.Node.{IsNode};
-ghost use Rattle.dmf_links.specs.Pair.{ArePairs, emptied};
+ghost use Rattle.dmf_links.specs.Pair.{ArePairs, without_room};
 ghost use Rattle.dmf_links.specs.Links.{AreBuilt, ArePlaces, AreRooms, IsSpare, pairs_at};
 ghost use Rattle.dmf_links.specs.LinkTable.{links_of};
 
@@ -9,7 +9,7 @@ use crate::aside::Ends;
 use crate::ball::Ball;
 use crate::levels::Levels;
 use crate::phase::make_fresh;
-use crate::push::Links;
+use crate::residual::Residual;
 use crate::search::Search;
 use crate::trail::Trail;
 use dmf_links::{LinkTable, Pairs, Places, build, opposite_flags, put_pair};
@@ -60,7 +60,7 @@ impl Search {
         takes_back: bool,
     ) -> Result<Search, AllocError>
         requires pairs { ArePairs self.now.nodes (P.pairs pairs.now) }
-        requires same_ends { map emptied (P.pairs pairs.now) ≡ map emptied self.now.pairs }
+        requires same_ends { map without_room (P.pairs pairs.now) ≡ map without_room self.now.pairs }
         ensures { IfOk result (λ search. search ≡ record {
           nodes = self.now.nodes;
           pairs = P.pairs pairs.now;
@@ -114,7 +114,7 @@ impl Linked {
             goal,
         };
         make_fresh(&self.table, &mut levels, &mut trail);
-        let links = Links {
+        let links = Residual {
             table: self.table,
             takes_back,
             rooms: self.rooms,
@@ -156,7 +156,7 @@ fn rooms_of<P: Pairs>(
 ) -> Result<Vec<u64>, AllocError>
     requires places { ArePlaces (links_of table.now) places.now }
     requires pairs { ArePairs table.now.nodes (P.pairs pairs.now) }
-    requires same_ends { map emptied (P.pairs pairs.now) ≡ pairs_at (links_of table.now) places.now [] }
+    requires same_ends { map without_room (P.pairs pairs.now) ≡ pairs_at (links_of table.now) places.now [] }
     ensures rooms { IfOk result (λ rooms. AreRooms (links_of table.now) rooms.items) }
     ensures pairs { IfOk result (λ rooms. pairs_at (links_of table.now) places.now rooms.items ≡ P.pairs pairs.now) }
 {
@@ -168,7 +168,7 @@ fn rooms_of<P: Pairs>(
 /// Gives the links at these places, which have no room, the rooms of pairs with the same ends.
 fn put_pairs<P: Pairs>(table: &LinkTable, places: &Places, pairs: &P, rooms: &mut [u64])
     requires places { ArePlaces (links_of table.now) places.now }
-    requires same_ends { map emptied (P.pairs pairs.now) ≡ pairs_at (links_of table.now) places.now [] }
+    requires same_ends { map without_room (P.pairs pairs.now) ≡ pairs_at (links_of table.now) places.now [] }
     requires one_room_each { length rooms.old ≡ length table.now.heads.items }
     requires zeros { rooms.old ≡ replicate (length rooms.old) 0 }
     ensures pairs { pairs_at (links_of table.now) places.now rooms.new ≡ P.pairs pairs.now }

@@ -2,7 +2,7 @@
 ghost use Rattle.std.specs.Prelude.{◌≡◌, ℕ, ◌+◌, ◌-◌, ◌^◌, ◌<◌, ◌≤◌, length, remove, take, Some, IfSome};
 ghost use Rattle.dmf_path.specs.Apart.{AreShared, LeavesOut};
 ghost use Rattle.dmf_links.specs.LinkTable.{links_of};
-ghost use Rattle.dmf_links.specs.Pair.{emptied, pair_number};
+ghost use Rattle.dmf_links.specs.Pair.{without_room, pair_number};
 ghost use Rattle.dmf_path.specs.Search.{Searched, with_pairs, with_rooms};
 
 use crate::search::Search;
@@ -47,7 +47,7 @@ impl Search {
     /// is refused, or where another search has the same links.
     pub fn without_last(self, count: usize) -> Option<Search>
         requires many { count ≤ length self.pairs }
-        requires idle { (k : ℕ) → length self.pairs - count ≤ k → emptied (pair_number self.pairs k) ≡ pair_number self.pairs k }
+        requires idle { (k : ℕ) → length self.pairs - count ≤ k → without_room (pair_number self.pairs k) ≡ pair_number self.pairs k }
         ensures { IfSome result (λ search. search ≡ with_pairs self (take (length self.pairs - count) self.pairs)) }
     {
         let (shared, own) = self.begun();

@@ -1,4 +1,4 @@
-use Rattle.std.proofs.Common.{ap, ap₂, sym, subst, map, ◌≡◌, ◌∙◌, ◌⊎◌, [], List}
+use Rattle.std.proofs.Common.{ap, ap₂, sym, subst, map, ◌≡◌, ◌∙◌, ◌⊎◌, [], List, Option}
 use Rattle.clap.specs.Words.{IsAmong, Kinds, Text, app_of, fault_of, is_simple, is_simple_and_free, kind_of, subcommand_of, subcommand_rows_of}
 use Rattle.clap.specs.declared.error.kind.ErrorKind.TheVariants.{OutOfMemory}
 use Rattle.dmf_arguments.specs.CommandLine.{Asked, asked_in, asked_of, arguments, faults_in}
@@ -20,7 +20,7 @@ returns-in-Ok-clause-words c =
     ap asked_of (found ∙ ap₂ subcommand_of line words_are) in
     let tells = c.arguments_of.ensures in
     record {
-      taken = λ clean. subst (λ (a : Asked). Asks a c.arguments_of.result) asked (tells.nothing, tells.solve, tells.session, tells.check);
+      taken = λ clean. subst (λ (a : Option Asked). Asks a c.arguments_of.result) asked (tells.nothing, tells.solve, tells.session, tells.check);
       refused = λ kind kinds faulty. absurd (no_kinds (sym none ∙ faulty));
     }
 

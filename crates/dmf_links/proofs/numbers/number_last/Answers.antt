@@ -3,7 +3,7 @@ use Rattle.std.proofs.Common.{◌≡◌, ◌≢◌, ◌-◌, ◌<◌, ◌∙◌,
 use Rattle.dmf_links.specs.Links.{IsPlaceOf, no_place}
 use Rattle.dmf_links.specs.LinkTable.{links_of}
 use Rattle.dmf_links.specs.Numbers.{AreOthersNumbered}
-use Rattle.dmf_links.proofs.Numbering.{numbered-last, numbered-but_none}
+use Rattle.dmf_links.proofs.building.Numbering.{numbered-last, numbered-but_none}
 use Rattle.dmf_links.proofs.numbers.number_last.Goals.{in-Some+in_ok-get_mut, in_default}
 use Rattle.dmf_links.proofs.numbers.number_last.Goals as goal
 

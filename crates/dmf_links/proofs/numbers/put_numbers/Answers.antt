@@ -1,7 +1,7 @@
 use Rattle.std.proofs.Common.{ℕ, ◌≢◌, ◌<◌, ◌∙◌, length, get_or, arith}
 use Rattle.dmf_links.specs.LinkTable.{links_of}
 use Rattle.dmf_links.specs.Links.{IsPlaceOf, no_place}
-use Rattle.dmf_links.proofs.Numbering.{numbered-pair, numbered-none, numbered-all}
+use Rattle.dmf_links.proofs.building.Numbering.{numbered-pair, numbered-none, numbered-all}
 use Rattle.dmf_links.proofs.numbers.put_numbers.Goals as goal
 use Rattle.dmf_links.proofs.numbers.put_numbers.Goals.{in-Some, in_default}
 

@@ -1,7 +1,7 @@
 -- The first spare links of both ends become those of the pair.
 use Rattle.std.proofs.Common.{arith}
 use Rattle.dmf_links.specs.Pair.{IsPair}
-use Rattle.dmf_links.proofs.PutOn.{none-put, put-links, put-pair, spare-at, spares-apart}
+use Rattle.dmf_links.proofs.spares.PutOn.{none-put, put-links, put-pair, spare-at, spares-apart}
 use Rattle.dmf_links.proofs.stack.put_on.Goals.{After-couple, In-Some-spare-2}
 use Rattle.dmf_links.proofs.stack.put_on.Goals as goal
 

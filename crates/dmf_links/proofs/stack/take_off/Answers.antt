@@ -2,7 +2,7 @@
 use Rattle.std.proofs.Common.{◌≡◌, ◌≢◌, ◌-◌, get_or, length, ◌∙◌}
 use Rattle.dmf_links.specs.Links.{IsPlaceOf, no_place}
 use Rattle.dmf_links.specs.LinkTable.{links_of}
-use Rattle.dmf_links.proofs.TakenOff.{AreLinks-left, is-off, none-off}
+use Rattle.dmf_links.proofs.spares.TakenOff.{AreLinks-left, is-off, none-off}
 use Rattle.dmf_links.proofs.stack.take_off.Goals.{in-Some+else-not-set_ends, in_default}
 use Rattle.dmf_links.proofs.stack.take_off.Goals as goal
 

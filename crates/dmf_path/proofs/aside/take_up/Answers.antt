@@ -2,7 +2,7 @@
 use Rattle.std.proofs.Common.{◌<◌, length, sym, ◌∙◌, arith}
 use Rattle.std.proofs.lemmas.Bool.{eqb-false}
 use Rattle.dmf_path.specs.declared.aside.Aside.{Aside}
-use Rattle.dmf_path.proofs.Asides.{aside-exchanged}
+use Rattle.dmf_path.proofs.labels.Asides.{aside-exchanged}
 use Rattle.dmf_path.proofs.aside.take_up.Goals as goal
 
 pub returns : goal.returns

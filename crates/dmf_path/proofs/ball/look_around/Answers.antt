@@ -1,7 +1,7 @@
 -- The search from the goal, and the level that it has not looked through.
 use Rattle.std.proofs.Common.{refl, ap, arith}
-use Rattle.dmf_path.proofs.InsideBall.{next, last, inside-spread, near-spread}
-use Rattle.dmf_path.proofs.Labelling.{label-below, starts-spread}
+use Rattle.dmf_path.proofs.labels.InsideBall.{next, last, inside-spread, near-spread}
+use Rattle.dmf_path.proofs.labels.Labelling.{label-below, starts-spread}
 use Rattle.dmf_path.proofs.ball.look_around.Goals as goal
 
 pub loop-around-init : goal.loop-around-init

@@ -1,6 +1,6 @@
 use Rattle.std.proofs.Common.{◌∙◌, ap, arith, replicate}
 use Rattle.dmf_path.specs.Labels.{no_label}
-use Rattle.dmf_path.proofs.Labelling.{left-first, left-next, left-last}
+use Rattle.dmf_path.proofs.labels.Labelling.{left-first, left-next, left-last}
 use Rattle.dmf_path.proofs.label.clear_queued.Goals as goal
 
 pub loop-node-init : goal.loop-node-init

@@ -1,6 +1,6 @@
 -- A turn lowers the label of a node that is not the start, or none.
 use Rattle.std.proofs.Common.{refl, ◌∙◌, arith}
-use Rattle.dmf_path.proofs.LoweredLabels.{lowered-from, lowered-again}
+use Rattle.dmf_path.proofs.labels.LoweredLabels.{lowered-from, lowered-again}
 use Rattle.dmf_path.proofs.lower.lower_near.Goals as goal
 use Rattle.dmf_path.proofs.lower.lower_near.Goals.{then-node-start, else-node-start}
 

@@ -1,7 +1,7 @@
 -- The label falls.
 use Rattle.std.proofs.Common.{◌≤◌, slice_index, arith, ◌∙◌}
 use Rattle.dmf_links.specs.LinkTable.{links_of}
-use Rattle.dmf_path.proofs.LoweredLabels.{MayFall, lowered-from, whole-fallen, less-fallen, noted-fallen}
+use Rattle.dmf_path.proofs.labels.LoweredLabels.{MayFall, lowered-from, whole-fallen, less-fallen, noted-fallen}
 use Rattle.dmf_path.proofs.lower.lower_node.Goals as goal
 use Rattle.dmf_path.proofs.lower.lower_node.Goals.{After-set_label}
 

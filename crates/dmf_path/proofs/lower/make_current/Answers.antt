@@ -1,7 +1,7 @@
 -- A turn: a link that leads to the node from one with this label, or any other.
 use Rattle.std.proofs.Common.{◌<◌, length, get_or, min, ap, sym, ◌∙◌, arith}
 use Rattle.std.proofs.lemmas.List.{get_or_default}
-use Rattle.dmf_path.proofs.LoweredLabels.{again-kept, again-set}
+use Rattle.dmf_path.proofs.labels.LoweredLabels.{again-kept, again-set}
 use Rattle.dmf_path.proofs.lower.make_current.Goals as goal
 use Rattle.dmf_path.proofs.lower.make_current.Goals.{then-index-eq1+then-labels-before, else-index-eq1, else-index-eq1-via-then-index-eq1+else-labels-before, else-index-eq1-via-else-index-eq1}
 

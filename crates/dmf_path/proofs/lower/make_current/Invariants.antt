@@ -1,6 +1,6 @@
 use Rattle.std.proofs.Common.{get_or}
 use Rattle.dmf_links.specs.LinkTable.{links_of}
-use Rattle.dmf_path.proofs.LoweredLabels.{AreAgain}
+use Rattle.dmf_path.proofs.labels.LoweredLabels.{AreAgain}
 use Rattle.dmf_path.proofs.lower.make_current.Given as goal
 
 abbrev pub invariant-loop-place : goal.invariant-loop-place

@@ -1,4 +1,4 @@
-use Rattle.dmf_path.proofs.Marking.{AreMarking}
+use Rattle.dmf_path.proofs.labels.Marking.{AreMarking}
 use Rattle.dmf_path.proofs.mark.mark_queued.Given as goal
 
 abbrev pub invariant-loop-node : goal.invariant-loop-node

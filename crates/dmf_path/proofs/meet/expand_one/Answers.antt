@@ -1,6 +1,6 @@
 -- The side that goes on meets the other one.
 use Rattle.std.proofs.Common.{refl, arith, inl, inr}
-use Rattle.dmf_path.proofs.Meeting.{has-met_goal, has-met_start}
+use Rattle.dmf_path.proofs.labels.Meeting.{has-met_goal, has-met_start}
 use Rattle.dmf_path.proofs.meet.expand_one.Goals as goal
 
 pub returns-then-waiting_links : goal.returns-then-waiting_links

@@ -1,6 +1,6 @@
 -- One side has no node left to expand: no path is left.
 use Rattle.std.proofs.Common.{rules, ◌≡◌, None}
-use Rattle.dmf_path.proofs.Meeting.{on-again, on-from, goal-used_up, start-used_up}
+use Rattle.dmf_path.proofs.labels.Meeting.{on-again, on-from, goal-used_up, start-used_up}
 use Rattle.dmf_path.proofs.meet.meet.Goals as goal
 
 pub loop-from_start-init : goal.loop-from_start-init

@@ -6,12 +6,12 @@ use Rattle.dmf_path.specs.Labels.{no_label}
 use Rattle.dmf_path.specs.Ball.{IsFit}
 use Rattle.dmf_path.specs.Walk.{AreCurrent, ArePassed}
 use Rattle.dmf_path.specs.Held.{way_of}
-use Rattle.dmf_path.specs.Residual.{Residual, residual_of}
+use Rattle.dmf_path.specs.Residual.{ResidualLinks, residual_of}
 use Rattle.dmf_path.specs.Searching.{Sought, labelling_of, begun, fresh, AreAside, AreLasting, AreKeptFor, AreUsable, IsAimed, IsReady, IsSearching}
-use Rattle.dmf_path.proofs.Beginning.{ready-at}
-use Rattle.dmf_path.proofs.Labelled.{sound-below, sound-whole}
-use Rattle.dmf_path.proofs.Settling.{can-settle}
-use Rattle.dmf_path.proofs.SearchTurns.{plainly, searching-settled, searching-free, searching-anew, sought-free, told-settled}
+use Rattle.dmf_path.proofs.searches.Beginning.{ready-at}
+use Rattle.dmf_path.proofs.labels.Labelled.{sound-below, sound-whole}
+use Rattle.dmf_path.proofs.slots.Settling.{can-settle}
+use Rattle.dmf_path.proofs.searches.SearchTurns.{plainly, searching-settled, searching-free, searching-anew, sought-free, told-settled}
 use Rattle.dmf_path.proofs.phase.aim.Goals as goal
 use Rattle.dmf_path.proofs.phase.aim.Goals.{After-settle, After-take_up-used, After-redirect, After-label-goal_label}
 
@@ -24,7 +24,7 @@ settled c = searching-settled c.requires.keeps.searching c.settle.ensures.links 
 
 -- The links are the same as before.
 node : (c : After-settle) (v : ℕ) → IsNode c.args.links.now.table.value.nodes v → IsNode c.settle.new.links.table.value.nodes v
-node c v = subst (λ (x : Residual). IsNode x.links.nodes v) (sym c.settle.ensures.links)
+node c v = subst (λ (x : ResidualLinks). IsNode x.links.nodes v) (sym c.settle.ensures.links)
 
 -- The labels that were in use can be taken up,
 in_use : (c : After-settle) → AreUsable c.args.levels.now (residual_of c.settle.new.links) c.settle.new.self.goal
@@ -36,14 +36,14 @@ in_use c =
     let levels = c.args.levels.now in
     let v = labelling_of levels in
     record {
-      ready = subst (λ (x : Residual). IsReady x.links.nodes levels.near levels.far) (sym e.links)
+      ready = subst (λ (x : ResidualLinks). IsReady x.links.nodes levels.near levels.far) (sym e.links)
           (ready-at c.args.links.now.table.value.nodes levels c.requires.keeps.ready c.requires.keeps.searching.aimed.one_label_each);
       goal_is = is.aimed.goal_is;
       current_is = is.under_way.walking.current_is;
       kept = λ all. record {
         lasting = subst (AreLasting v levels.noted) (sym e.links) (c.requires.keeps.lasting all);
         current_is = is.under_way.walking.current_is;
-        passed = subst (λ (x : Residual). ArePassed next.links v.labels x.rooms mid.goal v.current)
+        passed = subst (λ (x : ResidualLinks). ArePassed next.links v.labels x.rooms mid.goal v.current)
             (told-settled (way_of c.args.trail.now) next e.way) is.under_way.walking.passed;
       };
     }
@@ -136,7 +136,7 @@ returns-then-redirect c =
         fit = subst (IsFit c.redirect.new.ball) (sym (ap (λ (x : Sought). x.residual) same)) c.redirect.ensures.fit;
         marked = begun refl;
       };
-      same = same ∙ ap (λ (x : Residual). record { residual = x; start = c.args.ends.start; goal = c.args.ends.goal }) e.links;
+      same = same ∙ ap (λ (x : ResidualLinks). record { residual = x; start = c.args.ends.start; goal = c.args.ends.goal }) e.links;
     }
 
 pub make_fresh-requires : goal.make_fresh-requires
@@ -169,5 +169,5 @@ returns c =
         marked = fresh anew.1;
       };
       same = same
-          ∙ ap (λ (x : Residual). record { residual = x; start = c.args.ends.start; goal = c.args.ends.goal }) c.settle.ensures.links;
+          ∙ ap (λ (x : ResidualLinks). record { residual = x; start = c.args.ends.start; goal = c.args.ends.goal }) c.settle.ensures.links;
     }

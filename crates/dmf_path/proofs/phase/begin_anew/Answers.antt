@@ -4,9 +4,9 @@ use Rattle.dmf_path.specs.Held.{way_of}
 use Rattle.dmf_path.specs.Residual.{residual_of}
 use Rattle.dmf_path.specs.Walk.{AreCurrent}
 use Rattle.dmf_path.specs.Searching.{labelling_of, IsSearching}
-use Rattle.dmf_path.proofs.Beginning.{ready-at}
-use Rattle.dmf_path.proofs.Settling.{can-settle}
-use Rattle.dmf_path.proofs.SearchTurns.{searching-settled, searching-anew, plainly-settled, sought-free}
+use Rattle.dmf_path.proofs.searches.Beginning.{ready-at}
+use Rattle.dmf_path.proofs.slots.Settling.{can-settle}
+use Rattle.dmf_path.proofs.searches.SearchTurns.{searching-settled, searching-anew, plainly-settled, sought-free}
 use Rattle.dmf_path.proofs.phase.begin_anew.Goals as goal
 use Rattle.dmf_path.proofs.phase.begin_anew.Goals.{After-settle}
 

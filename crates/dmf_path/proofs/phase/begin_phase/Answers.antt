@@ -6,23 +6,23 @@ use Rattle.dmf_path.specs.declared.trail.Slot.{Slot}
 use Rattle.dmf_path.specs.Ball.{IsFit}
 use Rattle.dmf_path.specs.Walk.{AreCurrent, AreSkipped}
 use Rattle.dmf_path.specs.Held.{Way, way_of, with_slots}
-use Rattle.dmf_path.specs.Residual.{residual_of, told}
+use Rattle.dmf_path.specs.Residual.{residual_of, with_settled_rooms}
 use Rattle.dmf_path.specs.Searching.{Labelling, sought, AreLasting}
-use Rattle.dmf_path.proofs.LeastTrail.{walk-path}
-use Rattle.dmf_path.proofs.Beginning.{first-queued, skipped-first}
-use Rattle.dmf_path.proofs.SearchTurns.{aimed-with, plainly, searching-free, sought-free}
-use Rattle.dmf_path.proofs.Settling.{told-free}
+use Rattle.dmf_path.proofs.paths.LeastTrail.{walk-path}
+use Rattle.dmf_path.proofs.searches.Beginning.{first-queued, skipped-first}
+use Rattle.dmf_path.proofs.searches.SearchTurns.{aimed-with, plainly, searching-free, sought-free}
+use Rattle.dmf_path.proofs.slots.Settling.{told-free}
 use Rattle.dmf_path.proofs.phase.begin_phase.Goals as goal
 use Rattle.dmf_path.proofs.phase.begin_phase.Goals.{Start, After-label-goal_label}
 
 -- With other free slots the network and the ends are the same.
 same : (c : Start) {new : Way} (slots : List Slot) → new ≡ with_slots (way_of c.args.trail.now) slots
-    → (told (residual_of c.args.links.now) new ≡ residual_of c.args.links.now)
+    → (with_settled_rooms (residual_of c.args.links.now) new ≡ residual_of c.args.links.now)
     × (sought (residual_of c.args.links.now) new ≡ sought (residual_of c.args.links.now) (way_of c.args.trail.now))
 same c slots way =
     let r = residual_of c.args.links.now in
     let w = way_of c.args.trail.now in
-    (ap (told r) way ∙ told-free r w slots, sought-free r w slots way ∙ (λ i. plainly (sym c.requires.settled i) w))
+    (ap (with_settled_rooms r) way ∙ told-free r w slots, sought-free r w slots way ∙ (λ i. plainly (sym c.requires.settled i) w))
 
 pub set_current-requires : goal.set_current-requires
 set_current-requires c =

@@ -4,7 +4,7 @@ use Rattle.std.proofs.lemmas.List.{with_items_is}
 use Rattle.dmf_path.specs.Ball.{IsFit}
 use Rattle.dmf_path.specs.Searching.{Sought}
 use Rattle.std.proofs.Common.{ap, sym, subst}
-use Rattle.dmf_path.proofs.Lasting.{lasting}
+use Rattle.dmf_path.proofs.labels.Lasting.{lasting}
 use Rattle.dmf_path.proofs.phase.go_on.Goals as goal
 
 pub walk-requires : goal.walk-requires

@@ -5,9 +5,9 @@ use Rattle.dmf_path.specs.Held.{way_of}
 use Rattle.dmf_path.specs.Residual.{residual_of}
 use Rattle.dmf_path.specs.Searching.{Sought, sought, IsParted}
 use Rattle.dmf_path.specs.Walk.{IsWalk}
-use Rattle.dmf_path.proofs.Going.{goes-settled}
-use Rattle.dmf_path.proofs.Settling.{can-settle}
-use Rattle.dmf_path.proofs.SearchTurns.{plainly, sought-settled, told-settled}
+use Rattle.dmf_path.proofs.searches.Going.{goes-settled}
+use Rattle.dmf_path.proofs.slots.Settling.{can-settle}
+use Rattle.dmf_path.proofs.searches.SearchTurns.{plainly, sought-settled, told-settled}
 use Rattle.dmf_path.proofs.phase.go_on_anew.Goals as goal
 use Rattle.dmf_path.proofs.phase.go_on_anew.Goals.{After-settle, After-relabel}
 

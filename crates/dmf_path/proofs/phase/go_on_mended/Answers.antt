@@ -3,9 +3,9 @@ use Rattle.std.proofs.Common.{◌≡◌, ◌∙◌}
 use Rattle.dmf_path.specs.Searching.{sought}
 use Rattle.dmf_path.specs.Held.{way_of}
 use Rattle.dmf_path.specs.Residual.{residual_of}
-use Rattle.dmf_path.proofs.Going.{goes-settled}
-use Rattle.dmf_path.proofs.Settling.{can-settle}
-use Rattle.dmf_path.proofs.SearchTurns.{sought-settled, told-settled}
+use Rattle.dmf_path.proofs.searches.Going.{goes-settled}
+use Rattle.dmf_path.proofs.slots.Settling.{can-settle}
+use Rattle.dmf_path.proofs.searches.SearchTurns.{sought-settled, told-settled}
 use Rattle.dmf_path.proofs.phase.go_on_mended.Goals as goal
 use Rattle.dmf_path.proofs.phase.go_on_mended.Goals.{After-mend_labels}
 

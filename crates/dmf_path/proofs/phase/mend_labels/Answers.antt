@@ -3,13 +3,13 @@ use Rattle.std.proofs.Common.{◌≡◌, ◌≤◌, inl, inr, get_or, ap, sym, s
 use Rattle.dmf_path.specs.Ball.{IsFit}
 use Rattle.dmf_path.specs.Held.{Way, way_of}
 use Rattle.dmf_path.specs.Labels.{no_label}
-use Rattle.dmf_path.specs.Residual.{Residual, residual_of, told}
+use Rattle.dmf_path.specs.Residual.{ResidualLinks, residual_of, with_settled_rooms}
 use Rattle.dmf_path.specs.Searching.{labelling_of, AreLasting}
 use Rattle.dmf_path.specs.Walk.{ArePassed}
-use Rattle.dmf_path.proofs.Beginning.{ready-at}
-use Rattle.dmf_path.proofs.Labelled.{sound-below, sound-whole}
-use Rattle.dmf_path.proofs.SearchTurns.{aimed-with, plainly, searching-free, sought-free}
-use Rattle.dmf_path.proofs.Settling.{told-free}
+use Rattle.dmf_path.proofs.searches.Beginning.{ready-at}
+use Rattle.dmf_path.proofs.labels.Labelled.{sound-below, sound-whole}
+use Rattle.dmf_path.proofs.searches.SearchTurns.{aimed-with, plainly, searching-free, sought-free}
+use Rattle.dmf_path.proofs.slots.Settling.{told-free}
 use Rattle.dmf_path.proofs.phase.mend_labels.Goals as goal
 use Rattle.dmf_path.proofs.phase.mend_labels.Goals.{After-label-goal_label}
 
@@ -27,7 +27,7 @@ mend-is_mended-requires c =
         kept = record {
           lasting = subst (AreLasting (labelling_of levels) levels.noted) c.requires.settled (is.lasting c.if-not-levels.false);
           current_is = walking.current_is;
-          passed = subst (λ (x : Residual). ArePassed r.links levels.near.labels x.rooms w.goal levels.current.items) c.requires.settled walking.passed;
+          passed = subst (λ (x : ResidualLinks). ArePassed r.links levels.near.labels x.rooms w.goal levels.current.items) c.requires.settled walking.passed;
         };
         labelled = λ none. absurd (omega (arith, none, aimed.start_label, aimed.links.at_most_nodes));
         above = omega (arith, is.searching.under_way.one_slot_each);
@@ -76,7 +76,7 @@ returns-clause-goes c =
     let kept = c.mend-is_mended.ensures.redirected.kept in
     let sound = sound-below r.links labels r.rooms (get_or labels w.start 0) no_label (omega (arith, small at, is.aimed.links.at_most_nodes))
     (sound-whole r.links labels r.rooms is.aimed.links kept.lasting.whole) in
-    let free : told r (way_of c.free.new.self) ≡ r = ap (told r) c.free.ensures.way ∙ told-free r w slots in
+    let free : with_settled_rooms r (way_of c.free.new.self) ≡ r = ap (with_settled_rooms r) c.free.ensures.way ∙ told-free r w slots in
     record {
       keeps = record {
         searching = rw c.free.ensures.way (searching-free r (labelling_of levels) w slots (aimed-with r w is.aimed (small at) sound) links.rooms_are

@@ -7,22 +7,22 @@ use Rattle.dmf_path.specs.Labels.{no_label}
 use Rattle.dmf_path.specs.Reach.{Reach}
 use Rattle.dmf_path.specs.Walk.{AreCurrent, IsWalk}
 use Rattle.dmf_path.specs.Held.{Way, way_of, with_slots}
-use Rattle.dmf_path.specs.Residual.{residual_of, told}
+use Rattle.dmf_path.specs.Residual.{residual_of, with_settled_rooms}
 use Rattle.dmf_path.specs.Searching.{labelling_of, sought, IsReady}
-use Rattle.dmf_path.proofs.Beginning.{ready-at}
-use Rattle.dmf_path.proofs.SearchTurns.{plainly, searching-anew, sought-free}
-use Rattle.dmf_path.proofs.Settling.{told-free}
+use Rattle.dmf_path.proofs.searches.Beginning.{ready-at}
+use Rattle.dmf_path.proofs.searches.SearchTurns.{plainly, searching-anew, sought-free}
+use Rattle.dmf_path.proofs.slots.Settling.{told-free}
 use Rattle.dmf_path.proofs.phase.relabel_through.Goals as goal
 use Rattle.dmf_path.proofs.phase.relabel_through.Goals.{Start, After-label_through}
 
 -- With other free slots the network and the ends are the same.
 same : (c : Start) {new : Way} (slots : List Slot) → new ≡ with_slots (way_of c.args.trail.now) slots
-    → (told (residual_of c.args.links.now) new ≡ residual_of c.args.links.now)
+    → (with_settled_rooms (residual_of c.args.links.now) new ≡ residual_of c.args.links.now)
     × (sought (residual_of c.args.links.now) new ≡ sought (residual_of c.args.links.now) (way_of c.args.trail.now))
 same c slots way =
     let r = residual_of c.args.links.now in
     let w = way_of c.args.trail.now in
-    (ap (told r) way ∙ told-free r w slots, sought-free r w slots way ∙ (λ i. plainly (sym c.requires.settled i) w))
+    (ap (with_settled_rooms r) way ∙ told-free r w slots, sought-free r w slots way ∙ (λ i. plainly (sym c.requires.settled i) w))
 
 pub label_through-requires : goal.label_through-requires
 label_through-requires c =

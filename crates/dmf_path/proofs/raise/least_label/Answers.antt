@@ -1,7 +1,7 @@
 -- A turn: a link with room, or one without.
 use Rattle.std.proofs.Common.{◌<◌, length, get_or, min, ap, sym, ◌∙◌, arith}
 use Rattle.std.proofs.lemmas.List.{get_or_default}
-use Rattle.dmf_path.proofs.RaisedLabels.{least-kept, least-next}
+use Rattle.dmf_path.proofs.labels.RaisedLabels.{least-kept, least-next}
 use Rattle.dmf_path.proofs.raise.least_label.Goals as goal
 use Rattle.dmf_path.proofs.raise.least_label.Goals.{then-index-gt0, else-index-gt0}
 

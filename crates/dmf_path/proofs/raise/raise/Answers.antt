@@ -8,8 +8,8 @@ use Rattle.dmf_links.specs.LinkTable.{links_of}
 use Rattle.dmf_path.specs.Raising.{AreRaised}
 use Rattle.dmf_path.specs.Residual.{residual_of}
 use Rattle.dmf_path.specs.Walk.{IsWalk}
-use Rattle.dmf_links.proofs.LinkPlaces.{end-within}
-use Rattle.dmf_path.proofs.RaisedLabels.{moved, raised-again}
+use Rattle.dmf_links.proofs.tables.LinkPlaces.{end-within}
+use Rattle.dmf_path.proofs.labels.RaisedLabels.{moved, raised-again}
 use Rattle.dmf_path.proofs.raise.raise.Goals as goal
 use Rattle.dmf_path.proofs.raise.raise.Goals.{After-label, After-first_admissible-place, After-deref-then-place-end}
 

@@ -4,7 +4,7 @@ use Rattle.std.proofs.lemmas.List.{get_or_default, get_or-set_same}
 use Rattle.dmf_links.specs.LinkTable.{links_of}
 use Rattle.dmf_path.specs.Raising.{AreRaised}
 use Rattle.dmf_path.specs.Residual.{residual_of}
-use Rattle.dmf_path.proofs.RaisedLabels.{MayRise, moved, risen, raised-again}
+use Rattle.dmf_path.proofs.labels.RaisedLabels.{MayRise, moved, risen, raised-again}
 use Rattle.dmf_path.proofs.raise.raise_node.Goals as goal
 use Rattle.dmf_path.proofs.raise.raise_node.Goals.{After-label, After-set_label}
 

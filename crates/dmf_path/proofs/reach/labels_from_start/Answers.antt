@@ -1,8 +1,8 @@
 use Rattle.std.proofs.Common.{length, ap, ◌∙◌}
 use Rattle.dmf_path.specs.Held.{way_of, filled_slots}
 use Rattle.dmf_path.specs.Residual.{residual_of}
-use Rattle.dmf_path.proofs.Settled.{length-settled}
-use Rattle.dmf_path.proofs.SettledRoom.{rooms_with-empty}
+use Rattle.dmf_path.proofs.slots.Settled.{length-settled}
+use Rattle.dmf_path.proofs.slots.SettledRoom.{rooms_with-empty}
 use Rattle.dmf_path.proofs.reach.labels_from_start.Goals as goal
 
 pub returns-then-is_empty : goal.returns-then-is_empty

@@ -2,7 +2,7 @@
 use Rattle.std.proofs.Common.{◌<◌, get_or, length, ap, arith}
 use Rattle.std.proofs.lemmas.List.Elements.{All-get_or}
 use Rattle.dmf_links.specs.LinkTable.{links_of}
-use Rattle.dmf_path.proofs.Redirected.{back-kept, back-set}
+use Rattle.dmf_path.proofs.labels.Redirected.{back-kept, back-set}
 use Rattle.dmf_path.proofs.redirect.bring_back.Goals as goal
 use Rattle.dmf_path.proofs.redirect.bring_back.Goals.{then-current-tail, else-current-tail}
 

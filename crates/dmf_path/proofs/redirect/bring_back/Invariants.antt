@@ -1,5 +1,5 @@
 use Rattle.dmf_links.specs.LinkTable.{links_of}
-use Rattle.dmf_path.proofs.Redirected.{AreBack}
+use Rattle.dmf_path.proofs.labels.Redirected.{AreBack}
 use Rattle.dmf_path.proofs.redirect.bring_back.Given as goal
 
 abbrev pub invariant-loop-place : goal.invariant-loop-place

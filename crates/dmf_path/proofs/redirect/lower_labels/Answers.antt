@@ -1,6 +1,6 @@
 -- Each pass keeps what the one before kept.
 use Rattle.std.proofs.Common.{◌∙◌, refl}
-use Rattle.dmf_path.proofs.LoweredLabels.{lowered-from, lowered-again}
+use Rattle.dmf_path.proofs.labels.LoweredLabels.{lowered-from, lowered-again}
 use Rattle.dmf_path.proofs.redirect.lower_labels.Goals as goal
 
 pub lower_near-requires-clause-labels : goal.lower_near-requires-clause-labels

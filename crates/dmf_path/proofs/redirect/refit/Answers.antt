@@ -2,7 +2,7 @@
 use Rattle.std.proofs.Common.{◌≡◌, false, ap, ◌∙◌}
 use Rattle.std.proofs.lemmas.List.{with_items_is}
 use Rattle.dmf_path.specs.declared.noted.Noted.{Noted}
-use Rattle.dmf_path.proofs.Redirected.{none-noted, none-passed}
+use Rattle.dmf_path.proofs.labels.Redirected.{none-noted, none-passed}
 use Rattle.dmf_path.proofs.redirect.refit.Goals as goal
 
 pub returns-clause-kept : goal.returns-clause-kept

@@ -2,8 +2,8 @@
 use Rattle.std.proofs.Common.{refl, arith}
 use Rattle.dmf_links.specs.LinkTable.{links_of}
 use Rattle.dmf_path.specs.Labels.{AreLabels}
-use Rattle.dmf_path.proofs.Labelled.{labelled-one, whole-labelled}
-use Rattle.dmf_path.proofs.Reaching.{parted-unlabelled}
+use Rattle.dmf_path.proofs.labels.Labelled.{labelled-one, whole-labelled}
+use Rattle.dmf_path.proofs.paths.Reaching.{parted-unlabelled}
 use Rattle.dmf_path.proofs.relabel.label_all.Goals as goal
 use Rattle.dmf_path.proofs.relabel.label_all.Goals.{After-label_from}
 

@@ -6,8 +6,8 @@ use Rattle.dmf_links.specs.LinkTable.{links_of}
 use Rattle.dmf_path.specs.BothEnds.{AreTurned}
 use Rattle.dmf_path.specs.Labels.{AreLabels, no_label}
 use Rattle.dmf_path.specs.Reach.{Reach}
-use Rattle.dmf_path.proofs.FromStart.{whole-turned, labelled-turned}
-use Rattle.dmf_path.proofs.Reaching.{AreOpen, AreOpen-map, parted-labelled}
+use Rattle.dmf_path.proofs.labels.FromStart.{whole-turned, labelled-turned}
+use Rattle.dmf_path.proofs.paths.Reaching.{AreOpen, AreOpen-map, parted-labelled}
 use Rattle.dmf_path.proofs.relabel.label_all_from.Goals as goal
 use Rattle.dmf_path.proofs.relabel.label_all_from.Goals.{After-label_from, After-turn}
 

@@ -6,10 +6,10 @@ use Rattle.dmf_links.specs.LinkTable.{links_of}
 use Rattle.dmf_path.specs.BothEnds.{HasMetAt}
 use Rattle.dmf_path.specs.Labels.{no_label}
 use Rattle.dmf_path.specs.Reach.{Reach}
-use Rattle.dmf_path.proofs.BothEnds.{labelled-met, met-sum}
-use Rattle.dmf_path.proofs.Labelling.{label-below, starts-spread}
-use Rattle.dmf_path.proofs.Meeting.{begun-rest, begun-apart}
-use Rattle.dmf_path.proofs.Reaching.{AreOpen-map}
+use Rattle.dmf_path.proofs.labels.BothEnds.{labelled-met, met-sum}
+use Rattle.dmf_path.proofs.labels.Labelling.{label-below, starts-spread}
+use Rattle.dmf_path.proofs.labels.Meeting.{begun-rest, begun-apart}
+use Rattle.dmf_path.proofs.paths.Reaching.{AreOpen-map}
 use Rattle.dmf_path.proofs.relabel.label_from_both.Goals as goal
 use Rattle.dmf_path.proofs.relabel.label_from_both.Goals.{In-Some, After-label-2}
 

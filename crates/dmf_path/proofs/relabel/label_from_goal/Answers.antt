@@ -1,7 +1,7 @@
 -- The start has a label then, or none.
 use Rattle.std.proofs.Common.{refl, arith}
-use Rattle.dmf_path.proofs.Labelled.{labelled-one}
-use Rattle.dmf_path.proofs.Reaching.{parted-unlabelled}
+use Rattle.dmf_path.proofs.labels.Labelled.{labelled-one}
+use Rattle.dmf_path.proofs.paths.Reaching.{parted-unlabelled}
 use Rattle.dmf_path.proofs.relabel.label_from_goal.Goals as goal
 
 pub returns-clause-relabelled : goal.returns-clause-relabelled

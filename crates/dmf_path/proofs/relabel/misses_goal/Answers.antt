@@ -3,8 +3,8 @@ use Rattle.std.proofs.Common.{map, refl, ◌∙◌}
 use Rattle.std.proofs.lemmas.List.{length-map}
 use Rattle.dmf_links.specs.Links.{open_flag}
 use Rattle.dmf_links.specs.LinkTable.{links_of}
-use Rattle.dmf_path.proofs.Labelling.{starts-spread}
-use Rattle.dmf_path.proofs.Reaching.{AreOpen-map, parted-labelled}
+use Rattle.dmf_path.proofs.labels.Labelling.{starts-spread}
+use Rattle.dmf_path.proofs.paths.Reaching.{AreOpen-map, parted-labelled}
 use Rattle.dmf_path.proofs.relabel.misses_goal.Goals as goal
 
 pub label_within-ended-requires-clause-so_far : goal.label_within-ended-requires-clause-so_far

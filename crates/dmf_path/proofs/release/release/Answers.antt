@@ -2,10 +2,10 @@
 use Rattle.std.proofs.Common.{◌≡◌, get_or, ap, sym}
 use Rattle.std.proofs.lemmas.Bool.{eqb-false}
 use Rattle.dmf_path.specs.Held.{way_of}
-use Rattle.dmf_path.specs.Residual.{Residual, residual_of, told}
-use Rattle.dmf_path.proofs.Settling.{can-settle}
-use Rattle.dmf_path.proofs.SearchTurns.{searching-settled, sought-settled, told-settled, off-settled}
-use Rattle.dmf_path.proofs.Released.{off-slots, room-alone}
+use Rattle.dmf_path.specs.Residual.{ResidualLinks, residual_of, with_settled_rooms}
+use Rattle.dmf_path.proofs.slots.Settling.{can-settle}
+use Rattle.dmf_path.proofs.searches.SearchTurns.{searching-settled, sought-settled, told-settled, off-settled}
+use Rattle.dmf_path.proofs.slots.Released.{off-slots, room-alone}
 use Rattle.dmf_path.proofs.release.release.Goals as goal
 
 pub settle-requires : goal.settle-requires
@@ -18,12 +18,12 @@ returns-then-links c =
     let w = way_of c.args.trail.now in
     let next = residual_of c.settle.new.links in
     let new = way_of c.settle.new.self in
-    let free : told next new ≡ next = told-settled w next e.way in
+    let free : with_settled_rooms next new ≡ next = told-settled w next e.way in
     record {
       searching = searching-settled c.requires.searching e.links e.way;
       same = sought-settled r w e.links e.way;
       off = off-settled w c.args.place e.way;
-      room = ap (λ (x : Residual). get_or x.rooms c.args.place 0) free;
+      room = ap (λ (x : ResidualLinks). get_or x.rooms c.args.place 0) free;
     }
 
 pub returns-else-falls-clause-off : goal.returns-else-falls-clause-off

@@ -2,8 +2,8 @@ use Rattle.std.proofs.Common.{ℕ, List, [], ap, sym, ◌∙◌, unwrap_or}
 use Rattle.dmf_path.specs.declared.trail.Slot.{Slot}
 use Rattle.std.proofs.lemmas.List.{append-nil, take_rest}
 use Rattle.dmf_path.specs.Held.{way_of, held_for, walked_slots, rest_slots}
-use Rattle.dmf_path.proofs.Leaving.{HaveLeft-split}
-use Rattle.dmf_path.proofs.SettledRoom.{held-split}
+use Rattle.dmf_path.proofs.slots.Leaving.{HaveLeft-split}
+use Rattle.dmf_path.proofs.slots.SettledRoom.{held-split}
 use Rattle.dmf_path.proofs.room.held_for.Goals as goal
 
 pub held_in-requires-clause-have : goal.held_in-requires-clause-have

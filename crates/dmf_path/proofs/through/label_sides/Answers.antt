@@ -9,9 +9,9 @@ use Rattle.dmf_path.specs.Frontier.{IsSpread}
 use Rattle.dmf_path.specs.Labels.{no_label, AreLabels}
 use Rattle.dmf_path.specs.Reach.{Reach}
 use Rattle.dmf_path.specs.Through.{flags_to, HasLooked}
-use Rattle.dmf_path.proofs.Labelling.{starts-spread}
-use Rattle.dmf_path.proofs.OneWayOut.{few-through, labelled-through, third-f, third-g, third-long, third-none}
-use Rattle.dmf_path.proofs.Reaching.{AreOpen-map}
+use Rattle.dmf_path.proofs.labels.Labelling.{starts-spread}
+use Rattle.dmf_path.proofs.labels.OneWayOut.{few-through, labelled-through, third-f, third-g, third-long, third-none}
+use Rattle.dmf_path.proofs.paths.Reaching.{AreOpen-map}
 use Rattle.dmf_path.proofs.through.label_sides.Goals as goal
 use Rattle.dmf_path.proofs.through.label_sides.Goals.{After-begin, Else-not-branch-2}
 

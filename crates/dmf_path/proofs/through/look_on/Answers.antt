@@ -3,9 +3,9 @@ use Rattle.std.proofs.Common.{false, map, refl, ◌∙◌}
 use Rattle.std.proofs.lemmas.List.{length-map}
 use Rattle.dmf_links.specs.Links.{open_flag}
 use Rattle.dmf_links.specs.LinkTable.{links_of}
-use Rattle.dmf_path.proofs.Labelling.{starts-spread}
-use Rattle.dmf_path.proofs.OneWayOut.{length-flags_to, parted-beyond}
-use Rattle.dmf_path.proofs.Reaching.{AreOpen-map}
+use Rattle.dmf_path.proofs.labels.Labelling.{starts-spread}
+use Rattle.dmf_path.proofs.labels.OneWayOut.{length-flags_to, parted-beyond}
+use Rattle.dmf_path.proofs.paths.Reaching.{AreOpen-map}
 use Rattle.dmf_path.proofs.through.look_on.Goals as goal
 
 pub label_within-requires-clause-so_far : goal.label_within-requires-clause-so_far

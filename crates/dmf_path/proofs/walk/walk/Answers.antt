@@ -6,14 +6,14 @@ use Rattle.dmf_links.specs.Links.{tail_of}
 use Rattle.dmf_links.specs.LinkTable.{links_of}
 use Rattle.dmf_path.specs.Ball.{AreNodes}
 use Rattle.dmf_path.specs.Held.{Way, way_of}
-use Rattle.dmf_path.specs.Residual.{Residual, residual_of, told}
+use Rattle.dmf_path.specs.Residual.{ResidualLinks, residual_of, with_settled_rooms}
 use Rattle.dmf_path.specs.Walk.{IsWalk}
 use Rattle.dmf_path.specs.Searching.{AreNoted, MaySkip}
-use Rattle.dmf_path.proofs.WayStart.{last-link_within, on-start, searching-on}
-use Rattle.dmf_path.proofs.WayTurn.{last-leaves, made-aim}
-use Rattle.dmf_path.proofs.WalkingTurn.{Turn, last, moved, work_left, on-turned, noted-from, noted-same, noted-back, no-walk, back-within, back-tail, back-last, back-tail_within}
-use Rattle.dmf_path.proofs.WalkingTurn.{less-back, on-stepped, IsSpent, within-spent, on-spent, less-spent, noted-spent}
-use Rattle.dmf_path.proofs.WayWalk.{IsFound, slot-found, slot-first, found-within, less-found, is-made, on-found}
+use Rattle.dmf_path.proofs.walks.LastNode.{last-link_within, on-start, searching-on}
+use Rattle.dmf_path.proofs.slots.TurnSlots.{last-leaves, made-aim}
+use Rattle.dmf_path.proofs.walks.OneTurn.{Turn, last, moved, work_left, on-turned, noted-from, noted-same, noted-back, no-walk, back-within, back-tail, back-last, back-tail_within}
+use Rattle.dmf_path.proofs.walks.OneTurn.{less-back, on-stepped, IsSpent, within-spent, on-spent, less-spent, noted-spent}
+use Rattle.dmf_path.proofs.slots.FoundLink.{IsFound, slot-found, slot-first, found-within, less-found, is-made, on-found}
 use Rattle.dmf_path.proofs.walk.walk.Goals as goal
 use Rattle.dmf_path.proofs.walk.walk.Goals.{After-first_leading-look, After-pass, After-is_spent, After-end_node-node-else-place-end}
 
@@ -22,7 +22,7 @@ end_node-node-requires c =
     let is = c.requires.searching in
     let way = is.under_way in
     record {
-      last = rw c.deref.ensures (last-link_within c.args.labels.now (told (residual_of c.args.links.now) (way_of c.args.trail.now)).rooms c.args.current.now
+      last = rw c.deref.ensures (last-link_within c.args.labels.now (with_settled_rooms (residual_of c.args.links.now) (way_of c.args.trail.now)).rooms c.args.current.now
           (way_of c.args.trail.now) is.aimed.links is.aimed.start_is (omega (arith, way.order, way.within)) way.walking.trail_is);
     }
 
@@ -37,7 +37,7 @@ loop-node-init c = record {
 
 pub first_leading-look-requires-clause-seen : goal.first_leading-look-requires-clause-seen
 first_leading-look-requires-clause-seen c =
-    let nodes = ap (λ (x : Residual). x.links.nodes) c.loop-node.invariant.on.same in
+    let nodes = ap (λ (x : ResidualLinks). x.links.nodes) c.loop-node.invariant.on.same in
     let fit = c.requires.fit in
     record {
       one_label_each = omega (arith, nodes, c.requires.searching.aimed.one_label_each);
@@ -55,7 +55,7 @@ turn c =
       r = residual_of c.loop-node.links;
       labels = c.args.labels.now;
       current = c.loop-node.current;
-      aim = told (residual_of c.args.links.now) (way_of c.args.trail.now);
+      aim = with_settled_rooms (residual_of c.args.links.now) (way_of c.args.trail.now);
       w = way_of c.loop-node.trail;
       node = c.loop-node.node;
       skip = c.first_leading-look.result.skipped;
@@ -64,7 +64,7 @@ turn c =
       ball = c.args.ball.now;
       links = c.loop-node.links.table.value.are;
       start_is = subst (IsNode c.loop-node.links.table.value.nodes) (sym c.loop-node.invariant.start)
-          (subst (λ (x : Residual). IsNode x.links.nodes c.args.trail.now.start) (sym on.same) c.requires.searching.aimed.start_is);
+          (subst (λ (x : ResidualLinks). IsNode x.links.nodes c.args.trail.now.start) (sym on.same) c.requires.searching.aimed.start_is);
       on = on;
       other = c.loop-node-test.true;
       end_read = rw c.deref-in-loop-node.ensures at c.index-end.ensures;
@@ -87,9 +87,9 @@ found c below =
     record { found = below; room = e.room below; falls = e.falls below; above = e.above below }
 
 -- what is noted once it has looked on
-passed : (c : After-pass) → MaySkip c.args.noted.now (told (residual_of c.args.links.now) (way_of c.args.trail.now)) c.args.labels.now c.args.current.now
+passed : (c : After-pass) → MaySkip c.args.noted.now (with_settled_rooms (residual_of c.args.links.now) (way_of c.args.trail.now)) c.args.labels.now c.args.current.now
     → c.pass.new.self.lost ≡ false → AreNoted (links_of c.args.links.now.table.value) c.args.labels.now
-    (told (residual_of c.args.links.now) (way_of c.args.trail.now)).rooms (moved (turn (goal.at.After-pass c).After-first_leading-look)) c.pass.new.self.places.items
+    (with_settled_rooms (residual_of c.args.links.now) (way_of c.args.trail.now)).rooms (moved (turn (goal.at.After-pass c).After-first_leading-look)) c.pass.new.self.places.items
 passed c was known =
     let t = turn (goal.at.After-pass c).After-first_leading-look in
     let e = c.pass.ensures known in
@@ -196,7 +196,7 @@ returns-then-trail-eq0-clause-none c =
     let t = turn (goal.at.returns-then-trail-eq0-clause-none c).After-first_leading-look in
     let is = c.loop-node.invariant in
     λ is_false ps.
-    let none = subst (λ (x : Residual). ¬ IsWalk x.links t.labels t.aim.rooms t.w.goal t.w.start ps) is.on.same
+    let none = subst (λ (x : ResidualLinks). ¬ IsWalk x.links t.labels t.aim.rooms t.w.goal t.w.start ps) is.on.same
     (no-walk t c.if-place-end.false c.if-trail-eq0.true ps) in
     subst (λ s. ¬ IsWalk t.aim.links t.labels t.aim.rooms c.args.trail.now.goal s ps) is.start
     (subst (λ g. ¬ IsWalk t.aim.links t.labels t.aim.rooms g t.w.start ps) is.goal none)
@@ -214,7 +214,7 @@ end_node-node-requires-else-place-end c =
     let t = turn (goal.at.end_node-node-requires-else-place-end c).After-first_leading-look in
     let back = c.step_back-back.ensures in
     record {
-      last = rw (c.deref-else-place-end.ensures, ap (λ (x : Residual). x.links.heads) back.links) (back-last t (omega (arith, c.if-trail-eq0.false)) back.way);
+      last = rw (c.deref-else-place-end.ensures, ap (λ (x : ResidualLinks). x.links.heads) back.links) (back-last t (omega (arith, c.if-trail-eq0.false)) back.way);
     }
 
 pub overflow_add-current-else-place-end : goal.overflow_add-current-else-place-end
@@ -229,7 +229,7 @@ back_to : (c : After-end_node-node-else-place-end)
     ≡ tail_of (residual_of c.loop-node.links).links (last (turn (goal.at.After-end_node-node-else-place-end c).After-first_leading-look))
 back_to c =
     let t = turn (goal.at.After-end_node-node-else-place-end c).After-first_leading-look in
-    let led = rw (c.deref-else-place-end.ensures, ap (λ (x : Residual). x.links.heads) c.step_back-back.ensures.links)
+    let led = rw (c.deref-else-place-end.ensures, ap (λ (x : ResidualLinks). x.links.heads) c.step_back-back.ensures.links)
     at c.end_node-node-else-place-end.ensures in
     back-tail t (omega (arith, c.if-trail-eq0.false)) c.end_node-node-else-place-end.result c.step_back-back.ensures.way led.first led.last
 

@@ -1,6 +1,6 @@
 use Rattle.std.proofs.Common.{length, subst, ◌≡◌}
 use Rattle.std.specs.Prelude.{IfSome}
-use Rattle.dmf_solver.proofs.Gates.{gated-some}
+use Rattle.dmf_solver.proofs.cuts.Gates.{gated-some}
 use Rattle.dmf_solver.proofs.closed_side.with_gate.Goals as goal
 
 pub with_gate-requires : goal.with_gate-requires

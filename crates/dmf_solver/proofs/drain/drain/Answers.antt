@@ -2,8 +2,8 @@ use Rattle.std.proofs.Common.{List, ℕ, ap, arith, length, refl, inl}
 use Rattle.std.proofs.lemmas.Slice.Zip.{AllZip-long}
 use Rattle.dmf_state.specs.Flow.{flow_on}
 use Rattle.dmf_state.proofs.ChangedArc.{has_arc-within}
-use Rattle.dmf_solver.proofs.DrainingWalk.{draining-none, draining-loop, telling-loop, tells-none}
-use Rattle.dmf_solver.proofs.Solving.{AreTold-none, told-refused}
+use Rattle.dmf_solver.proofs.draining.DrainingWalk.{draining-none, draining-loop, telling-loop, tells-none}
+use Rattle.dmf_solver.proofs.solving.Solving.{AreTold-none, told-refused}
 use Rattle.dmf_solver.proofs.drain.drain.Goals as goal
 
 pub bounds-flows-j : goal.bounds-flows-j

@@ -4,11 +4,11 @@ use Rattle.dmf_path.specs.Search.{Searched}
 use Rattle.dmf_state.specs.Flow.{flow_on}
 use Rattle.dmf_solver.specs.Pairs.{Along, IsCarryingSearch, flows_read}
 use Rattle.dmf_state.proofs.ChangedArc.{has_arc-within}
-use Rattle.dmf_solver.proofs.DrainingSearch.{DrainsOnce, draining-begun, draining-has_path, draining-once, draining-done}
-use Rattle.dmf_solver.proofs.DrainingSearch.{carries-along, length-carries, length-draining}
-use Rattle.dmf_solver.proofs.DrainingWalk.{tells-none}
-use Rattle.dmf_solver.proofs.Untouched.{keeps-same, touches-lowered}
-use Rattle.dmf_solver.proofs.Solving.{AreTold-none, AreTold-trans}
+use Rattle.dmf_solver.proofs.draining.DrainingSearch.{DrainsOnce, draining-begun, draining-has_path, draining-once, draining-done}
+use Rattle.dmf_solver.proofs.draining.DrainingSearch.{carries-along, length-carries, length-draining}
+use Rattle.dmf_solver.proofs.draining.DrainingWalk.{tells-none}
+use Rattle.dmf_solver.proofs.pairs.Untouched.{keeps-same, touches-lowered}
+use Rattle.dmf_solver.proofs.solving.Solving.{AreTold-none, AreTold-trans}
 use Rattle.dmf_solver.proofs.drain.drain_along.Goals.{After-saturating_sub-left}
 use Rattle.dmf_solver.proofs.drain.drain_along.Goals as goal
 

@@ -2,7 +2,7 @@ use Rattle.std.proofs.Common.{ℕ, List, [], ◌-◌}
 use Rattle.dmf_path.specs.Touched.{IsTouched, Touches}
 use Rattle.dmf_solver.specs.Pairs.{Along, IsCarryingSearch, flows_read}
 use Rattle.dmf_solver.specs.Told.{AreTold}
-use Rattle.dmf_solver.proofs.DrainingSearch.{IsDraining}
+use Rattle.dmf_solver.proofs.draining.DrainingSearch.{IsDraining}
 use Rattle.dmf_solver.proofs.drain.drain_along.Given as goal
 
 -- Draining has come so far, its paths were reported, and the pairs that it has changed count as touched, with the pair of the drained

@@ -5,10 +5,10 @@ use Rattle.dmf_path.specs.Touched.{AreBelow}
 use Rattle.dmf_solver.specs.Moves.{UntouchedStay}
 use Rattle.dmf_solver.specs.Pairs.{Along, IsCarryingSearch, flows_read}
 use Rattle.dmf_solver.specs.Turns.{TellsDrains}
-use Rattle.dmf_solver.proofs.DrainingSearch.{carrying-first, length-carries, one_each}
-use Rattle.dmf_solver.proofs.DrainingWalk.{draining-moves, tells-listed}
-use Rattle.dmf_solver.proofs.Solving.{AreTold-none, told-refused}
-use Rattle.dmf_solver.proofs.Untouched.{drained-stay}
+use Rattle.dmf_solver.proofs.draining.DrainingSearch.{carrying-first, length-carries, one_each}
+use Rattle.dmf_solver.proofs.draining.DrainingWalk.{draining-moves, tells-listed}
+use Rattle.dmf_solver.proofs.solving.Solving.{AreTold-none, told-refused}
+use Rattle.dmf_solver.proofs.pairs.Untouched.{drained-stay}
 use Rattle.dmf_solver.proofs.drain.drain_by.Goals as goal
 use Rattle.dmf_solver.proofs.drain.drain_by.Goals.{In_ok-touched, After-drain_along}
 

@@ -2,8 +2,8 @@ use Rattle.std.proofs.Common.{◌+◌, ◌∙◌, length, sym, arith}
 use Rattle.std.proofs.lemmas.Slice.Zip.{AllZip-long}
 use Rattle.dmf_path.specs.Search.{indices_of}
 use Rattle.dmf_solver.specs.Pairs.{drained_flows, emptied}
-use Rattle.dmf_solver.proofs.DrainingSearch.{carries-moved, one_each}
-use Rattle.dmf_solver.proofs.Untouched.{changed-cover}
+use Rattle.dmf_solver.proofs.draining.DrainingSearch.{carries-moved, one_each}
+use Rattle.dmf_solver.proofs.pairs.Untouched.{changed-cover}
 use Rattle.dmf_solver.proofs.drain.list_drained.Goals as goal
 
 pub indices-indices-requires-clause-below : goal.indices-indices-requires-clause-below

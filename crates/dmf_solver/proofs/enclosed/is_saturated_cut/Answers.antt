@@ -1,4 +1,4 @@
-use Rattle.dmf_solver.proofs.GreatestFlow.{greatest-from_no_path}
+use Rattle.dmf_solver.proofs.cuts.GreatestFlow.{greatest-from_no_path}
 use Rattle.dmf_solver.proofs.enclosed.is_saturated_cut.Goals as goal
 
 pub returns : goal.returns

@@ -1,6 +1,6 @@
 use Rattle.std.proofs.Common.{length, sym, ap, ◌∙◌, arith}
 use Rattle.dmf_solver.specs.Enclosed.{has_mark}
-use Rattle.dmf_solver.proofs.Enclosing.{none-out}
+use Rattle.dmf_solver.proofs.cuts.Enclosing.{none-out}
 use Rattle.dmf_solver.proofs.enclosed.parts_source_and_sink.Goals as goal
 
 pub returns : goal.returns

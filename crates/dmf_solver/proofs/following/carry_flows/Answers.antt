@@ -2,8 +2,8 @@ use Rattle.std.proofs.Common.{IfSome, subst}
 use Rattle.dmf_state.specs.Direction.{along}
 use Rattle.dmf_state.proofs.TakenBack.{long-along, move-along}
 use Rattle.dmf_solver.specs.CarryingNetwork.{MayCarry}
-use Rattle.dmf_solver.proofs.CarryingFollowed.{pair-within, carrying-next}
-use Rattle.dmf_solver.proofs.Followed.{followed-none, move-within, followed-next, followed-all}
+use Rattle.dmf_solver.proofs.kept.CarryingFollowed.{pair-within, carrying-next}
+use Rattle.dmf_solver.proofs.kept.Followed.{followed-none, move-within, followed-next, followed-all}
 use Rattle.dmf_solver.proofs.following.carry_flows.Goals as goal
 
 pub loop-m-init : goal.loop-m-init

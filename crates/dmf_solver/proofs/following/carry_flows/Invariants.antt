@@ -1,7 +1,7 @@
 use Rattle.dmf_state.specs.Direction.{along}
 use Rattle.dmf_state.specs.Edit.{moved}
 use Rattle.dmf_solver.specs.CarryingNetwork.{MayCarry}
-use Rattle.dmf_solver.proofs.Followed.{AreFollowed}
+use Rattle.dmf_solver.proofs.kept.Followed.{AreFollowed}
 use Rattle.dmf_solver.proofs.following.carry_flows.Given as goal
 
 abbrev pub invariant-loop-m : goal.invariant-loop-m

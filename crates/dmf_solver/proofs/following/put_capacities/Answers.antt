@@ -3,7 +3,7 @@ use Rattle.dmf_state.specs.Direction.{edited_along}
 use Rattle.dmf_solver.specs.ResidualNetwork.{residual_search}
 use Rattle.dmf_state.proofs.ChangedArc.{has_arc-within}
 use Rattle.dmf_state.proofs.ClosedArcs.{no_shutting, left-next, HasArcs}
-use Rattle.dmf_solver.proofs.Followed.{cap-along, close-along, has-along, recapped_arcs, shut-next}
+use Rattle.dmf_solver.proofs.kept.Followed.{cap-along, close-along, has-along, recapped_arcs, shut-next}
 use Rattle.dmf_solver.proofs.following.put_capacities.Goals as goal
 
 pub returns-in-Cap : goal.returns-in-Cap

@@ -1,5 +1,5 @@
 use Rattle.std.proofs.Common.{drop}
-use Rattle.dmf_solver.proofs.Followed.{AreShutUpTo, shut_along}
+use Rattle.dmf_solver.proofs.kept.Followed.{AreShutUpTo, shut_along}
 use Rattle.dmf_solver.proofs.following.put_capacities.Given as goal
 
 abbrev pub invariant-loop-shutting : goal.invariant-loop-shutting

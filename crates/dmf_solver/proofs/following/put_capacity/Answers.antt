@@ -1,6 +1,6 @@
 use Rattle.std.proofs.Common.{◌-◌, ap, ◌∙◌, sym}
 use Rattle.dmf_path.specs.Search.{with_pairs}
-use Rattle.dmf_solver.proofs.Followed.{rooms-told}
+use Rattle.dmf_solver.proofs.kept.Followed.{rooms-told}
 use Rattle.dmf_solver.proofs.following.put_capacity.Goals as goal
 
 pub returns-in-Some : goal.returns-in-Some

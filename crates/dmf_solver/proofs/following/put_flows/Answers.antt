@@ -1,5 +1,5 @@
 use Rattle.dmf_state.specs.Direction.{along}
-use Rattle.dmf_solver.proofs.Followed.{residual-next, followed-none, long-followed, move-within, followed-next, followed-all}
+use Rattle.dmf_solver.proofs.kept.Followed.{residual-next, followed-none, long-followed, move-within, followed-next, followed-all}
 use Rattle.dmf_solver.specs.ResidualNetwork.{IsResidualOf}
 use Rattle.std.proofs.Common.{arith}
 use Rattle.dmf_state.proofs.TakenBack.{long-along, move-along}

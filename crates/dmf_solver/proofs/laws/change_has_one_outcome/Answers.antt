@@ -1,4 +1,4 @@
-use Rattle.dmf_solver.proofs.OneOutcome.{one-outcome}
+use Rattle.dmf_solver.proofs.changes.OneOutcome.{one-outcome}
 use Rattle.dmf_solver.proofs.laws.change_has_one_outcome.Goals as goal
 
 pub returns : goal.returns

@@ -1,4 +1,4 @@
-use Rattle.dmf_solver.proofs.SomeOutcome.{some-outcome}
+use Rattle.dmf_solver.proofs.changes.SomeOutcome.{some-outcome}
 use Rattle.dmf_solver.proofs.laws.change_has_outcome.Goals as goal
 
 pub returns : goal.returns

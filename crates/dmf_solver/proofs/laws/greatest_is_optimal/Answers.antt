@@ -1,4 +1,4 @@
-use Rattle.dmf_solver.proofs.Optimal.{greatest-optimal}
+use Rattle.dmf_solver.proofs.cuts.Optimal.{greatest-optimal}
 use Rattle.dmf_solver.proofs.laws.greatest_is_optimal.Goals as goal
 
 pub returns : goal.returns

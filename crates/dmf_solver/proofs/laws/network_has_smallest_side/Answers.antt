@@ -1,4 +1,4 @@
-use Rattle.dmf_solver.proofs.SomeSide.{some-smallest_side}
+use Rattle.dmf_solver.proofs.cuts.SomeSide.{some-smallest_side}
 use Rattle.dmf_solver.proofs.laws.network_has_smallest_side.Goals as goal
 
 pub returns : goal.returns

@@ -1,4 +1,4 @@
-use Rattle.dmf_solver.proofs.SomeSide.{solved-greatest}
+use Rattle.dmf_solver.proofs.cuts.SomeSide.{solved-greatest}
 use Rattle.dmf_solver.proofs.laws.solved_is_greatest.Goals as goal
 
 pub returns : goal.returns

@@ -1,5 +1,5 @@
 use Rattle.std.proofs.Common.{arith, length}
-use Rattle.dmf_path.proofs.Covering.{covers-below}
+use Rattle.dmf_path.proofs.pairs.Covering.{covers-below}
 use Rattle.dmf_solver.proofs.moves.list_all_moves.Goals as goal
 
 pub list_moves-requires-clause-others_stay : goal.list_moves-requires-clause-others_stay

@@ -2,9 +2,9 @@ use Rattle.std.proofs.Common.{◌≡◌, ◌+◌, ◌<◌, List, [], ◌∷◌, 
 use Rattle.std.proofs.lemmas.List.{append-nil, get_or_default, length_push}
 use Rattle.std.proofs.lemmas.Iterator.Consumers.{YieldsList-turn, YieldsList-end, YieldsList-from_first}
 use Rattle.dmf_path.specs.Search.{indices_of}
-use Rattle.dmf_path.proofs.Covering.{index_behind}
+use Rattle.dmf_path.proofs.pairs.Covering.{index_behind}
 use Rattle.dmf_state.specs.declared.edit.Move.{Move}
-use Rattle.dmf_solver.proofs.ListedMoves.{moves_before, moves-listed, moves-whole}
+use Rattle.dmf_solver.proofs.pairs.ListedMoves.{moves_before, moves-listed, moves-whole}
 use Rattle.dmf_state.proofs.Moving.{move_of, move_of-differ, move_of-same}
 use Rattle.dmf_solver.proofs.moves.list_moves.Goals as goal
 use Rattle.dmf_solver.proofs.moves.list_moves.Goals.{In-Some}

@@ -1,7 +1,7 @@
 use Rattle.std.proofs.Common.{◌≡◌, length}
 use Rattle.dmf_path.specs.Search.{indices_of}
-use Rattle.dmf_path.proofs.Covering.{index_behind}
-use Rattle.dmf_solver.proofs.ListedMoves.{moves_before}
+use Rattle.dmf_path.proofs.pairs.Covering.{index_behind}
+use Rattle.dmf_solver.proofs.pairs.ListedMoves.{moves_before}
 use Rattle.dmf_solver.proofs.moves.list_moves.Given as goal
 
 abbrev pub invariant-loop-k : goal.invariant-loop-k

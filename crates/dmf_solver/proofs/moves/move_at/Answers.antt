@@ -1,6 +1,6 @@
 use Rattle.std.proofs.Common.{◌+◌, ◌∙◌, List, ℕ, ap, arith, get_or, length, sym}
 use Rattle.std.proofs.lemmas.Slice.Zip.{AllZip-long}
-use Rattle.dmf_solver.proofs.ListedMoves.{stays-past}
+use Rattle.dmf_solver.proofs.pairs.ListedMoves.{stays-past}
 use Rattle.dmf_solver.proofs.moves.move_at.Goals as goal
 
 pub returns-then-k-before : goal.returns-then-k-before

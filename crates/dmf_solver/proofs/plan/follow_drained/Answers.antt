@@ -1,6 +1,6 @@
 use Rattle.dmf_state.specs.declared.moves.Direction.TheVariants.{Forward}
 use Rattle.dmf_state.specs.Edit.{applied}
-use Rattle.dmf_solver.proofs.CarryingFollowed.{some_carry-along}
+use Rattle.dmf_solver.proofs.kept.CarryingFollowed.{some_carry-along}
 use Rattle.dmf_solver.proofs.plan.follow_drained.Goals as goal
 
 pub returns-in-Some : goal.returns-in-Some

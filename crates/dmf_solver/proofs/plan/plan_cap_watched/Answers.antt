@@ -1,4 +1,4 @@
-use Rattle.dmf_solver.proofs.DrainedEdits.{cap-plans, takes-off}
+use Rattle.dmf_solver.proofs.draining.DrainedEdits.{cap-plans, takes-off}
 use Rattle.dmf_solver.proofs.plan.plan_cap_watched.Goals as goal
 
 pub follow_drained-requires-clause-fits : goal.follow_drained-requires-clause-fits

@@ -1,4 +1,4 @@
-use Rattle.dmf_solver.proofs.DrainedEdits.{close-plans, takes-all_off}
+use Rattle.dmf_solver.proofs.draining.DrainedEdits.{close-plans, takes-all_off}
 use Rattle.dmf_solver.proofs.plan.plan_close_watched.Goals as goal
 
 pub follow_drained-requires-clause-fits : goal.follow_drained-requires-clause-fits

@@ -2,7 +2,7 @@ use Rattle.std.proofs.Common.{subst}
 use Rattle.dmf_state.specs.Edit.{moved}
 use Rattle.dmf_state.specs.Flow.{flow_on_all}
 use Rattle.dmf_solver.specs.Drain.{TakesOff}
-use Rattle.dmf_solver.proofs.DrainedEdits.{shut-plans}
+use Rattle.dmf_solver.proofs.draining.DrainedEdits.{shut-plans}
 use Rattle.dmf_solver.proofs.plan.plan_shut_watched.Goals as goal
 
 pub follow_drained-requires-clause-fits : goal.follow_drained-requires-clause-fits

@@ -1,4 +1,4 @@
-use Rattle.dmf_solver.proofs.SolvedEdit.{PlansSolve-listed, value-listed, told-listed}
+use Rattle.dmf_solver.proofs.solving.SolvedEdit.{PlansSolve-listed, value-listed, told-listed}
 use Rattle.dmf_solver.proofs.plan.plan_solve_watched.Goals as goal
 
 pub returns-clause-edit : goal.returns-clause-edit

@@ -1,6 +1,6 @@
 use Rattle.std.proofs.Common.{arith}
-use Rattle.dmf_solver.proofs.ArcPairs.{ArePairs-by_arc}
-use Rattle.dmf_solver.proofs.ResidualPairs.{by_residual_pair}
+use Rattle.dmf_solver.proofs.pairs.ArcPairs.{ArePairs-by_arc}
+use Rattle.dmf_solver.proofs.pairs.ResidualPairs.{by_residual_pair}
 use Rattle.dmf_solver.proofs.residual.residual_search.Goals as goal
 
 pub new-requires-clause-pairs : goal.new-requires-clause-pairs

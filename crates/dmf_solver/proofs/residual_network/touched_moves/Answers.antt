@@ -1,7 +1,7 @@
 use Rattle.dmf_path.specs.Search.{indices_of}
 use Rattle.dmf_state.proofs.Moving.{flows-long}
 use Rattle.dmf_solver.specs.Pairs.{reached_flows}
-use Rattle.dmf_solver.proofs.Untouched.{touched-cover}
+use Rattle.dmf_solver.proofs.pairs.Untouched.{touched-cover}
 use Rattle.dmf_solver.proofs.residual_network.touched_moves.Goals as goal
 
 pub list_moves-requires-clause-one_each : goal.list_moves-requires-clause-one_each

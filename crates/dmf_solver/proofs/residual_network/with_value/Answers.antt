@@ -2,10 +2,10 @@ use Rattle.std.proofs.Common.{◌≡◌, ap, arith, length}
 use Rattle.std.proofs.lemmas.Int.{ints}
 use Rattle.std.proofs.lemmas.Slice.Zip.{AllZip-long}
 use Rattle.dmf_solver.specs.Drain.{value_or_zero}
-use Rattle.dmf_solver.proofs.CarryingFollowed.{return-followed}
+use Rattle.dmf_solver.proofs.kept.CarryingFollowed.{return-followed}
 use Rattle.dmf_solver.specs.CarryingNetwork.{return_of}
-use Rattle.dmf_solver.proofs.ArcPairs.{length-with_last}
-use Rattle.dmf_solver.proofs.CarryingPairs.{by_carrying_pair}
+use Rattle.dmf_solver.proofs.pairs.ArcPairs.{length-with_last}
+use Rattle.dmf_solver.proofs.pairs.CarryingPairs.{by_carrying_pair}
 use Rattle.dmf_solver.proofs.residual_network.with_value.Goals as goal
 
 pub set_rooms-requires-clause-number : goal.set_rooms-requires-clause-number

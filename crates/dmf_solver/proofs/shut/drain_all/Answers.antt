@@ -1,9 +1,9 @@
 use Rattle.std.proofs.Common.{◌∙◌, length, sym, inl}
 use Rattle.dmf_state.specs.Edit.{numbers}
 use Rattle.dmf_state.proofs.ClosedArcs.{HasArcs-open}
-use Rattle.dmf_solver.proofs.DrainedInTurn.{drains-told, tells-none_in_turn, shutting-moves}
-use Rattle.dmf_solver.proofs.DrainingWalk.{differences-none}
-use Rattle.dmf_solver.proofs.Solving.{AreTold-none, told-refused}
+use Rattle.dmf_solver.proofs.draining.DrainedInTurn.{drains-told, tells-none_in_turn, shutting-moves}
+use Rattle.dmf_solver.proofs.draining.DrainingWalk.{differences-none}
+use Rattle.dmf_solver.proofs.solving.Solving.{AreTold-none, told-refused}
 use Rattle.dmf_solver.proofs.shut.drain_all.Goals as goal
 
 pub returns-then-are_without_flow-clause-moves : goal.returns-then-are_without_flow-clause-moves

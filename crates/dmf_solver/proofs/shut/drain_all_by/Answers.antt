@@ -10,11 +10,11 @@ use Rattle.dmf_solver.specs.Moves.{UntouchedStay}
 use Rattle.dmf_solver.specs.Pairs.{Along, IsCarryingSearch, drained_flows, emptied, flows_read}
 use Rattle.dmf_solver.specs.Turns.{TellsDrains, turns_from, turns_to_zero}
 use Rattle.dmf_state.proofs.ClosedArcs.{no_shutting, open-at, numbers-next, numbers-end, HasArcs-open}
-use Rattle.dmf_solver.proofs.DrainedInTurn.{AreDrainedUpTo, drained-next_arc, drained-every_arc, drains-told, shutting-moves}
-use Rattle.dmf_solver.proofs.DrainingWalk.{tells-listed}
+use Rattle.dmf_solver.proofs.draining.DrainedInTurn.{AreDrainedUpTo, drained-next_arc, drained-every_arc, drains-told, shutting-moves}
+use Rattle.dmf_solver.proofs.draining.DrainingWalk.{tells-listed}
 use Rattle.dmf_solver.proofs.Emptied.{emptied-before, emptied-next}
-use Rattle.dmf_solver.proofs.Solving.{AreTold-none, AreTold-trans, told-refused}
-use Rattle.dmf_solver.proofs.DrainingSearch.{carrying-first, length-carries, one_each}
+use Rattle.dmf_solver.proofs.solving.Solving.{AreTold-none, AreTold-trans, told-refused}
+use Rattle.dmf_solver.proofs.draining.DrainingSearch.{carrying-first, length-carries, one_each}
 use Rattle.dmf_solver.proofs.shut.drain_all_by.Goals as goal
 use Rattle.dmf_solver.proofs.shut.drain_all_by.Goals.{After-loop-i}
 

@@ -5,7 +5,7 @@ use Rattle.dmf_solver.specs.Moves.{UntouchedStay}
 use Rattle.dmf_solver.specs.Pairs.{drained_flows, emptied}
 use Rattle.dmf_solver.specs.Told.{AreTold}
 use Rattle.dmf_solver.specs.Turns.{turns_from, turns_to_zero}
-use Rattle.dmf_solver.proofs.DrainedInTurn.{AreDrainedUpTo}
+use Rattle.dmf_solver.proofs.draining.DrainedInTurn.{AreDrainedUpTo}
 use Rattle.dmf_solver.proofs.shut.drain_all_by.Given as goal
 
 -- The arcs before this one are drained, and the drains were reported. All flows that differ count as touched.

@@ -3,7 +3,7 @@ use Rattle.std.proofs.lemmas.Option.{get_or_from_slice_get}
 use Rattle.dmf_solver.specs.Told.{AreTold}
 use Rattle.dmf_state.specs.Flow.{flow_on}
 use Rattle.dmf_state.proofs.ChangedArc.{has_arc-within}
-use Rattle.dmf_solver.proofs.DrainingSearch.{length-carries}
+use Rattle.dmf_solver.proofs.draining.DrainingSearch.{length-carries}
 use Rattle.dmf_solver.proofs.DrainedNext.{drained-by_list, drained-by_search, drained-in_list}
 use Rattle.dmf_solver.proofs.shut.drain_in_turn.Goals as goal
 use Rattle.dmf_solver.proofs.shut.drain_in_turn.Goals.{After-flow-flow}

@@ -1,8 +1,8 @@
 use Rattle.std.proofs.Common.{ap, pos, sym, ◌∙◌}
 use Rattle.dmf_state.specs.Side.{has_node}
-use Rattle.dmf_solver.proofs.LargerFlow.{surpassed-from_path}
-use Rattle.dmf_solver.proofs.GreatestFlow.{greatest-from_no_path}
-use Rattle.dmf_solver.proofs.SmallestSide.{reached-by_search, no_path-by_search, IsSmallestSide-by_search}
+use Rattle.dmf_solver.proofs.cuts.LargerFlow.{surpassed-from_path}
+use Rattle.dmf_solver.proofs.cuts.GreatestFlow.{greatest-from_no_path}
+use Rattle.dmf_solver.proofs.cuts.SmallestSide.{reached-by_search, no_path-by_search, IsSmallestSide-by_search}
 use Rattle.dmf_solver.proofs.side.side_along.Goals as goal
 
 pub returns-then-contains : goal.returns-then-contains

@@ -1,6 +1,6 @@
 use Rattle.std.proofs.Common.{ap, pos, ◌∙◌}
 use Rattle.dmf_solver.specs.Pairs.{reached_flows}
-use Rattle.dmf_solver.proofs.SmallestSide.{IsSmallestSide-by_search}
+use Rattle.dmf_solver.proofs.cuts.SmallestSide.{IsSmallestSide-by_search}
 use Rattle.dmf_solver.proofs.side.wanted_side.Goals as goal
 
 pub returns-then-want_side-clause-side : goal.returns-then-want_side-clause-side

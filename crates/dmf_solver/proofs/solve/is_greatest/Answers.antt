@@ -2,7 +2,7 @@ use Rattle.std.proofs.Common.{ℕ, ◌≡◌, ◌∙◌}
 use Rattle.dmf_path.specs.Search.{Searched, aimed}
 use Rattle.dmf_state.specs.NetworkState.{NetworkState}
 use Rattle.dmf_solver.specs.ResidualNetwork.{residual_search}
-use Rattle.dmf_solver.proofs.GreatestSearch.{IsAnswer, found-answers, enclosed-answers}
+use Rattle.dmf_solver.proofs.solving.GreatestSearch.{IsAnswer, found-answers, enclosed-answers}
 use Rattle.dmf_solver.proofs.solve.is_greatest.Goals as goal
 use Rattle.dmf_solver.proofs.solve.is_greatest.Goals.{After-is_none}
 

@@ -3,8 +3,8 @@ use Rattle.std.proofs.Common.{Some, ap, sym, subst, ◌∙◌}
 use Rattle.std.specs.Prelude.{IfSome}
 use Rattle.std.proofs.lemmas.Option.{IfSome_then}
 use Rattle.dmf_solver.specs.WayOut.{IsWayOut, IsWayThrough}
-use Rattle.dmf_solver.proofs.Gates.{no_path-closed}
-use Rattle.dmf_solver.proofs.WayOut.{way-after}
+use Rattle.dmf_solver.proofs.cuts.Gates.{no_path-closed}
+use Rattle.dmf_solver.proofs.cuts.WayOut.{way-after}
 use Rattle.dmf_solver.proofs.solve.next_path.Goals as goal
 
 pub returns-then-not-is_left-clause-found : goal.returns-then-not-is_left-clause-found

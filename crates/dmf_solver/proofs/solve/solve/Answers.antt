@@ -2,9 +2,9 @@ use Rattle.std.proofs.Common.{[], ◌∙◌, refl, ap, subst, sym}
 use Rattle.dmf_path.specs.ClosedSide.{IsClosedSide}
 use Rattle.dmf_path.specs.Pair.{steps_of}
 use Rattle.dmf_path.specs.Search.{Searched}
-use Rattle.dmf_solver.proofs.Solving.{AreTold-none, AreTold-trans}
-use Rattle.dmf_solver.proofs.SolvingSearch.{solving-more, solving-done, solving-told}
-use Rattle.dmf_solver.proofs.Untouched.{keeps-same, keeps-next, keeps-sorted, below-next}
+use Rattle.dmf_solver.proofs.solving.Solving.{AreTold-none, AreTold-trans}
+use Rattle.dmf_solver.proofs.solving.SolvingSearch.{solving-more, solving-done, solving-told}
+use Rattle.dmf_solver.proofs.pairs.Untouched.{keeps-same, keeps-next, keeps-sorted, below-next}
 use Rattle.dmf_solver.proofs.solve.solve.Goals as goal
 
 pub overflow_add-value : goal.overflow_add-value

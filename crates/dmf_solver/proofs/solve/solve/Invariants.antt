@@ -4,8 +4,8 @@ use Rattle.dmf_path.specs.Touched.{AreBelow, KeepsUntouched}
 use Rattle.dmf_solver.specs.ResidualNetwork.{network_pairs}
 use Rattle.dmf_solver.specs.WayOut.{IsWayOut}
 use Rattle.dmf_solver.specs.Told.{told_of, AreTold}
-use Rattle.dmf_solver.proofs.SolvingSearch.{IsSolving}
-use Rattle.dmf_solver.proofs.RoomLeaving.{room_leaving}
+use Rattle.dmf_solver.proofs.solving.SolvingSearch.{IsSolving}
+use Rattle.dmf_solver.proofs.solving.RoomLeaving.{room_leaving}
 use Rattle.dmf_solver.proofs.solve.solve.Given as goal
 
 abbrev pub invariant-loop-found : goal.invariant-loop-found

@@ -8,8 +8,8 @@ use Rattle.dmf_solving.proofs.solved.write_brief.Goals.{After-write_line}
 
 -- the line has the value of the state's flow
 line-is : (g : Over) (c : After-write_line g)
-    → c.value_line.result ≡ solve_value_line (nat_abs (flow_value c.args.state.now.network c.args.state.now.flows))
-line-is g c = c.value_line.ensures ∙ ap solve_value_line (ap nat_abs c.value.ensures.value)
+    → c.solved_value_line.result ≡ solve_value_line (nat_abs (flow_value c.args.state.now.network c.args.state.now.flows))
+line-is g c = c.solved_value_line.ensures ∙ ap solve_value_line (ap nat_abs c.value.ensures.value)
 
 pub returns-in_err-write_line : goal.returns-in_err-write_line
 returns-in_err-write_line g c =

@@ -12,4 +12,4 @@ returns-in_err-put_line g c =
 pub returns : goal.returns
 returns g c =
     let lines = solution_text-lines c.args.state.now c.value.result c.value.ensures.value in
-    record { written = first-put _ (g.W.Sink.written c.put_line.new.out) _ _ _ _ _ lines c.in_ok-put_line.ensures c.put_flows.ensures }
+    record { written = first-put _ (g.W.Sink.written c.put_line.new.out) _ _ _ _ _ lines c.in_ok-put_line.ensures c.put_flow_lines.ensures }

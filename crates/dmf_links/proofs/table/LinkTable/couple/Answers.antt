@@ -4,7 +4,7 @@ use Rattle.std.proofs.lemmas.List.{get_or_default}
 use Rattle.dmf_links.specs.LinkTable.{links_of}
 use Rattle.dmf_links.specs.Links.{Links}
 use Rattle.dmf_links.specs.Stack.{AreCoupled}
-use Rattle.dmf_links.proofs.Coupled.{coupled, are-coupled, AreLinks-coupled}
+use Rattle.dmf_links.proofs.spares.Coupled.{coupled, are-coupled, AreLinks-coupled}
 use Rattle.dmf_links.proofs.table.LinkTable.couple.Goals.{After-put_two-4}
 use Rattle.dmf_links.proofs.table.LinkTable.couple.Goals as goal
 

@@ -1,7 +1,7 @@
 use Rattle.std.proofs.Common.{rules, ◌≡◌, ◌==◌, ◌&&◌, eqb}
 use Rattle.std.specs.Cmp.Lexicographic.{pointwise}
 use Rattle.dmf_links.specs.LinkTable.{links_of}
-use Rattle.dmf_links.proofs.SameLinks.{same_links-Decides}
+use Rattle.dmf_links.proofs.tables.SameLinks.{same_links-Decides}
 use Rattle.dmf_links.proofs.table.LinkTable.is.Goals as goal
 
 pub returns-then-eq-2 : goal.returns-then-eq-2

@@ -1,5 +1,5 @@
 use Rattle.dmf_links.specs.LinkTable.{links_of}
-use Rattle.dmf_links.proofs.LinkPlaces.{end-within}
+use Rattle.dmf_links.proofs.tables.LinkPlaces.{end-within}
 use Rattle.dmf_links.proofs.table.LinkTable.places_at.Goals as goal
 
 pub returns-clause-within : goal.returns-clause-within

@@ -6,9 +6,9 @@ use Rattle.dmf_node.specs.Node.{IsNode}
 use Rattle.dmf_links.specs.LinkTable.{links_of}
 use Rattle.dmf_path.specs.Labels.{no_label}
 use Rattle.dmf_path.specs.Frontier.{AreSpread, Expands}
-use Rattle.dmf_path.proofs.Labelling.{spread-queued}
-use Rattle.dmf_path.proofs.LabellingTurn.{node-read, spread-turn}
-use Rattle.dmf_path.proofs.Spreading.{spreads-skip, spreads-next}
+use Rattle.dmf_path.proofs.labels.Labelling.{spread-queued}
+use Rattle.dmf_path.proofs.labels.LabellingTurn.{node-read, spread-turn}
+use Rattle.dmf_path.proofs.labels.Spreading.{spreads-skip, spreads-next}
 use Rattle.dmf_path.proofs.frontier.Frontier.expand.Goals as goal
 use Rattle.dmf_path.proofs.frontier.Frontier.expand.Goals.{After-index, After-loop-place}
 use Rattle.dmf_path.proofs.frontier.Frontier.expand.Goals.{then-is_open+then-labels-head, else-is_open}

@@ -7,8 +7,8 @@ use Rattle.dmf_path.specs.BothEnds.{AreLevels, HasExpandedLevel}
 use Rattle.dmf_path.specs.Frontier.{AreApart, next_label}
 use Rattle.dmf_path.specs.Reach.{Reach}
 use Rattle.dmf_links.specs.LinkTable.{links_of}
-use Rattle.dmf_path.proofs.Labelling.{label-below}
-use Rattle.dmf_path.proofs.Expanding.{IsLevel, level-next, level-labels, beyond-next, apart-next, apart-beyond, behind-is}
+use Rattle.dmf_path.proofs.labels.Labelling.{label-below}
+use Rattle.dmf_path.proofs.labels.Expanding.{IsLevel, level-next, level-labels, beyond-next, apart-next, apart-beyond, behind-is}
 use Rattle.dmf_path.proofs.frontier.Frontier.expand_level.Goals as goal
 use Rattle.dmf_path.proofs.frontier.Frontier.expand_level.Goals.{After-expand, After-next_label-level}
 

@@ -1,7 +1,7 @@
 use Rattle.std.proofs.Common.{◌≡◌, ◌+◌, ◌-◌, ◌<◌, ◌≤◌, length}
 use Rattle.dmf_links.specs.LinkTable.{links_of}
 use Rattle.dmf_path.specs.Frontier.{AreApart, next_label}
-use Rattle.dmf_path.proofs.Expanding.{IsLevel}
+use Rattle.dmf_path.proofs.labels.Expanding.{IsLevel}
 use Rattle.dmf_path.proofs.frontier.Frontier.expand_level.Given as goal
 
 abbrev pub invariant-loop-self : goal.invariant-loop-self

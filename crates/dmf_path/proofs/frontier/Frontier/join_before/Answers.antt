@@ -2,8 +2,8 @@
 use Rattle.std.proofs.Common.{◌≡◌, ◌≢◌, ◌+◌, ◌<◌, ◌++◌, ◌∷◌, [], length, get_or, inl, refl, ap, sym, ◌∙◌, arith, vec_capacity}
 use Rattle.std.proofs.lemmas.List.{length_push, with_items_is}
 use Rattle.dmf_path.specs.Labels.{no_label, AreQueued}
-use Rattle.dmf_path.proofs.Spreading.{unlabelled_count-set}
-use Rattle.dmf_path.proofs.Joining.{joining-skip, joining-next, joining-last}
+use Rattle.dmf_path.proofs.labels.Spreading.{unlabelled_count-set}
+use Rattle.dmf_path.proofs.labels.Joining.{joining-skip, joining-next, joining-last}
 use Rattle.dmf_path.proofs.frontier.Frontier.join_before.Goals as goal
 use Rattle.dmf_path.proofs.frontier.Frontier.join_before.Goals.{After-deref_mut, then-labels-node, else-labels-node}
 

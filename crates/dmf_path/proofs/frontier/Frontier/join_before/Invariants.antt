@@ -1,5 +1,5 @@
 use Rattle.std.proofs.Common.{◌≡◌, ◌+◌, ◌≤◌, length, vec_capacity}
-use Rattle.dmf_path.proofs.Joining.{AreJoining}
+use Rattle.dmf_path.proofs.labels.Joining.{AreJoining}
 use Rattle.dmf_path.proofs.frontier.Frontier.join_before.Given as goal
 
 abbrev pub invariant-loop-node : goal.invariant-loop-node

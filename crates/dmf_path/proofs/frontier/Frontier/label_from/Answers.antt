@@ -1,4 +1,4 @@
-use Rattle.dmf_path.proofs.Labelling.{starts-spread}
+use Rattle.dmf_path.proofs.labels.Labelling.{starts-spread}
 use Rattle.dmf_path.proofs.frontier.Frontier.label_from.Goals as goal
 
 pub label_within-ended-requires-clause-so_far : goal.label_within-ended-requires-clause-so_far

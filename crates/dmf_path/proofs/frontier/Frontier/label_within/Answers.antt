@@ -1,6 +1,6 @@
 -- The labels where the loop ends.
 use Rattle.std.proofs.Common.{inl, inr, arith}
-use Rattle.dmf_path.proofs.Labelling.{labels-spread}
+use Rattle.dmf_path.proofs.labels.Labelling.{labels-spread}
 use Rattle.dmf_path.proofs.frontier.Frontier.label_within.Goals as goal
 
 pub returns-else-not-has_label-clause-labels : goal.returns-else-not-has_label-clause-labels

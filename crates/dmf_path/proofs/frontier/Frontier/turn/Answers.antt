@@ -1,7 +1,7 @@
 -- Each node gets its label, and is queued.
 use Rattle.std.proofs.Common.{◌∙◌, arith}
 use Rattle.std.proofs.lemmas.List.{with_items_is}
-use Rattle.dmf_path.proofs.FromStart.{turning-next, turning-last}
+use Rattle.dmf_path.proofs.labels.FromStart.{turning-next, turning-last}
 use Rattle.dmf_path.proofs.frontier.Frontier.turn.Goals as goal
 
 pub loop-node-preserved : goal.loop-node-preserved

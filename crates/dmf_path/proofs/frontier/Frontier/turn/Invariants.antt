@@ -1,5 +1,5 @@
 use Rattle.std.proofs.Common.{◌≡◌, vec_capacity}
-use Rattle.dmf_path.proofs.FromStart.{AreTurning}
+use Rattle.dmf_path.proofs.labels.FromStart.{AreTurning}
 use Rattle.dmf_path.proofs.frontier.Frontier.turn.Given as goal
 
 abbrev pub invariant-loop-node : goal.invariant-loop-node

@@ -3,7 +3,7 @@ use Rattle.std.proofs.Common.{ap, sym, ◌∙◌, subst}
 use Rattle.std.proofs.lemmas.List.{with_items_is}
 use Rattle.dmf_path.specs.Searching.{Sought, searched}
 use Rattle.dmf_links.specs.Numbers.{MayBeNumbered}
-use Rattle.dmf_path.proofs.SearchTurns.{search-next}
+use Rattle.dmf_path.proofs.searches.SearchTurns.{search-next}
 use Rattle.dmf_path.proofs.search.Search.aim.Goals as goal
 
 pub aim-self-inside-requires : goal.aim-self-inside-requires

@@ -6,26 +6,26 @@ use Rattle.dmf_path.specs.declared.search.AugmentingPath.{AugmentingPath}
 use Rattle.dmf_links.specs.declared.pair.Pair.{Pair}
 use Rattle.dmf_links.specs.Links.{ArePlaces, pair_at, pairs_at}
 use Rattle.dmf_path.specs.Ball.{IsFit}
-use Rattle.dmf_path.proofs.InsideBall.{fit-falls}
+use Rattle.dmf_path.proofs.labels.InsideBall.{fit-falls}
 use Rattle.dmf_path.specs.Held.{way_of, filled_slots, settled}
-use Rattle.dmf_path.specs.Residual.{residual_of, told}
+use Rattle.dmf_path.specs.Residual.{residual_of, with_settled_rooms}
 use Rattle.dmf_path.specs.Search.{Searched, Augments}
 use Rattle.dmf_links.specs.Pair.{pair_number}
 use Rattle.dmf_path.specs.Touched.{AreBelow, KeepsUntouched}
 use Rattle.dmf_links.specs.Numbers.{MayBeNumbered}
 use Rattle.dmf_path.specs.Touching.{Lists}
 use Rattle.dmf_path.specs.Searching.{Sought, sought, searched, labelling_of, AreAside, AreLasting, begun}
-use Rattle.dmf_path.proofs.UnderWayWhole.{slot-within}
-use Rattle.dmf_path.proofs.Splitting.{IsOn, middle-leaves, split-on}
-use Rattle.dmf_path.proofs.Asides.{aside-falls}
-use Rattle.dmf_path.proofs.Lasting.{lasting-opens}
-use Rattle.dmf_path.proofs.Searching.{sent_on, sent_along, CanAugment, can-augment}
-use Rattle.dmf_path.proofs.Parted.{closed-parted}
-use Rattle.dmf_path.proofs.Reaching.{no_path-separated}
-use Rattle.dmf_path.proofs.SearchTurns.{search-next}
-use Rattle.dmf_path.proofs.PushedPairs.{trail-used}
-use Rattle.dmf_path.proofs.Settled.{AreRooms-settled}
-use Rattle.dmf_path.proofs.Untouched.{AreWithin, HaveUsed, kept-untouched, touched-more, touched-below, used-each}
+use Rattle.dmf_path.proofs.slots.WholePath.{slot-within}
+use Rattle.dmf_path.proofs.slots.Splitting.{IsOn, middle-leaves, split-on}
+use Rattle.dmf_path.proofs.labels.Asides.{aside-falls}
+use Rattle.dmf_path.proofs.labels.Lasting.{lasting-opens}
+use Rattle.dmf_path.proofs.searches.Searching.{sent_on, sent_along, CanAugment, can-augment}
+use Rattle.dmf_path.proofs.labels.Parted.{closed-parted}
+use Rattle.dmf_path.proofs.paths.Reaching.{no_path-separated}
+use Rattle.dmf_path.proofs.searches.SearchTurns.{search-next}
+use Rattle.dmf_path.proofs.rooms.PushedPairs.{trail-used}
+use Rattle.dmf_path.proofs.slots.Settled.{AreRooms-settled}
+use Rattle.dmf_path.proofs.pairs.Untouched.{AreWithin, HaveUsed, kept-untouched, touched-more, touched-below, used-each}
 use Rattle.dmf_path.proofs.search.Search.augment_or_mark.Goals as goal
 use Rattle.dmf_path.proofs.search.Search.augment_or_mark.Goals.{After-bottleneck-amount, After-split}
 
@@ -141,7 +141,7 @@ invariant_of-self-2 c =
     let e = c.find.ensures in
     let links = ap (λ (s : Sought). s.residual.links) on.same ∙ ap (λ (s : Sought). s.residual.links) e.same in
     let levels = c.find.new.levels in
-    let before = told (residual_of c.find.new.links) (way_of c.find.new.trail) in
+    let before = with_settled_rooms (residual_of c.find.new.links) (way_of c.find.new.trail) in
     let sent = (sent_along (residual_of c.find.new.links) (sent_on (way_of c.find.new.trail) c.bottleneck-amount.result)).rooms in
     let of = c.self.inside in
     let aside = aside-falls of.asides.items before sent e.keeps.searching.aimed.links can.none
@@ -190,7 +190,7 @@ returns-clause-touched c =
     let before = ap (λ ss. pairs_at r.links places (settled r.links r.takes_back w.sent ss r.rooms)) (sym (can at).whole.filled)
     ∙ ap pairs_of c.find.ensures.same in
     let from = subst (λ ps. KeepsUntouched touched ps (pairs_at r.links places (sent_along r (sent_on w c.bottleneck-amount.result)).rooms)) before kept in
-    let long = length-map places (pair_at (residual_of of.links).links (told (residual_of of.links) (way_of of.trail)).rooms) in
+    let long = length-map places (pair_at (residual_of of.links).links (with_settled_rooms (residual_of of.links) (way_of of.trail)).rooms) in
     rw (← c.self.view_is) (record {
       more = touched-more lists;
       below = subst (λ n. AreBelow n old → AreBelow n touched) (sym long) (touched-below r.links places (numbered at) (within at) (used at) lists);

@@ -2,9 +2,9 @@
 use Rattle.std.proofs.Common.{refl, ap, sym, ◌∙◌, subst}
 use Rattle.dmf_path.specs.Held.{way_of}
 use Rattle.dmf_links.specs.Links.{ArePlaces}
-use Rattle.dmf_path.specs.Residual.{Residual, residual_of}
+use Rattle.dmf_path.specs.Residual.{ResidualLinks, residual_of}
 use Rattle.dmf_path.specs.Searching.{Sought, searched}
-use Rattle.dmf_path.proofs.SearchTurns.{told-fresh}
+use Rattle.dmf_path.proofs.searches.SearchTurns.{told-fresh}
 use Rattle.dmf_path.proofs.search.Search.begun.Goals as goal
 
 pub returns-clause-apart : goal.returns-clause-apart
@@ -22,6 +22,6 @@ returns-clause-apart c =
       begun = record { residual = r; searching = e.searching; fresh = e.fresh; nodes_are = refl; ready = e.ready; none_last = e.all };
       current_is = e.searching.under_way.walking.current_is;
       tidy = c.self.invariant.0.4.tidy;
-      same = rw (← c.self.view_is) (ap (λ (x : Residual). searched (record { residual = x; start = w.start; goal = w.goal }) places)
+      same = rw (← c.self.view_is) (ap (λ (x : ResidualLinks). searched (record { residual = x; start = w.start; goal = w.goal }) places)
           (sym (told-fresh r e.searching e.fresh)) ∙ ap (λ (s : Sought). searched s places) e.same);
     }

@@ -4,9 +4,9 @@ use Rattle.std.proofs.lemmas.Option.{same_Some}
 use Rattle.dmf_links.specs.LinkTable.{links_of}
 use Rattle.dmf_path.specs.Apart.{IsApart, IsIdled}
 use Rattle.dmf_path.specs.Search.{Searched, with_pairs}
-use Rattle.dmf_path.proofs.Inserted.{has-inserted, idled-long, takes-in, two-long}
-use Rattle.dmf_path.proofs.PairLists.{with_two}
-use Rattle.dmf_path.proofs.PutApart.{pairs-long}
+use Rattle.dmf_path.proofs.pairs.Inserted.{has-inserted, idled-long, takes-in, two-long}
+use Rattle.dmf_path.proofs.pairs.PairLists.{with_two}
+use Rattle.dmf_path.proofs.pairs.PutApart.{pairs-long}
 use Rattle.dmf_path.proofs.search.Search.insert.Goals.{After-begun-shared, In_ok-shared, In_ok-shared-2, In_ok-share}
 use Rattle.dmf_path.proofs.search.Search.insert.Goals as goal
 

@@ -6,15 +6,15 @@ use Rattle.std.proofs.lemmas.List.{nil_from_length}
 use Rattle.dmf_path.specs.declared.aside.Aside.{Aside}
 use Rattle.dmf_path.specs.declared.levels.Levels.{Levels}
 use Rattle.dmf_path.specs.Held.{way_of}
-use Rattle.dmf_path.specs.Residual.{residual_of, told}
+use Rattle.dmf_path.specs.Residual.{residual_of, with_settled_rooms}
 use Rattle.dmf_path.specs.Searching.{AreAside, AreKept, AreUsable}
-use Rattle.dmf_path.proofs.Asides.{aside-one}
+use Rattle.dmf_path.proofs.labels.Asides.{aside-one}
 use Rattle.dmf_path.proofs.search.Search.keep_two.Goals as goal
 
 pub invariant_of-self-2 : goal.invariant_of-self-2
 invariant_of-self-2 c =
     let of = c.self.inside in
-    let r = told (residual_of of.links) (way_of of.trail) in
+    let r = with_settled_rooms (residual_of of.links) (way_of of.trail) in
     let levels : Levels = record c.in_ok-levels.levels { noted = c.in_ok-levels-2.field-0 } in
     let new = rw c.deref-2.ensures at c.in_ok-levels.ensures in
     let aside : Aside = record { levels = levels; ends = record { start = of.trail.start; goal = of.trail.goal } } in

@@ -7,14 +7,14 @@ use Rattle.dmf_path.specs.Searching.{Sought, sought, searched, AreAside, IsParte
 use Rattle.dmf_path.specs.Through.{IsOnlyWay}
 use Rattle.dmf_path.specs.Walk.{IsWalk}
 use Rattle.dmf_links.specs.Numbers.{MayBeNumbered}
-use Rattle.dmf_path.proofs.Going.{goes-settled}
-use Rattle.dmf_path.proofs.LeastTrail.{walk-path}
-use Rattle.dmf_path.proofs.OpenPaths.{path-of_links}
-use Rattle.dmf_path.proofs.Parted.{closed-parted, only-way}
-use Rattle.dmf_path.proofs.Settled.{AreRooms-settled}
-use Rattle.dmf_path.proofs.Settling.{can-settle}
-use Rattle.dmf_path.proofs.SearchTurns.{plainly, plainly-settled, search-next, sought-settled, told-settled}
-use Rattle.dmf_path.proofs.Steps.{path_on}
+use Rattle.dmf_path.proofs.searches.Going.{goes-settled}
+use Rattle.dmf_path.proofs.paths.LeastTrail.{walk-path}
+use Rattle.dmf_path.proofs.paths.OpenPaths.{path-of_links}
+use Rattle.dmf_path.proofs.labels.Parted.{closed-parted, only-way}
+use Rattle.dmf_path.proofs.slots.Settled.{AreRooms-settled}
+use Rattle.dmf_path.proofs.slots.Settling.{can-settle}
+use Rattle.dmf_path.proofs.searches.SearchTurns.{plainly, plainly-settled, search-next, sought-settled, told-settled}
+use Rattle.dmf_path.proofs.paths.Steps.{path_on}
 use Rattle.dmf_path.proofs.search.Search.label_through.Goals as goal
 use Rattle.dmf_path.proofs.search.Search.label_through.Goals.{After-settle, After-relabel_through}
 

@@ -1,28 +1,28 @@
 -- The link is released, and its room lowered.
 use Rattle.std.proofs.Common.{◌≡◌, get_or, ap, sym, ◌∙◌, subst, arith}
 use Rattle.dmf_path.specs.Ball.{IsFit}
-use Rattle.dmf_path.proofs.InsideBall.{fit-falls}
+use Rattle.dmf_path.proofs.labels.InsideBall.{fit-falls}
 use Rattle.dmf_path.specs.Held.{way_of}
-use Rattle.dmf_path.specs.Residual.{Residual, residual_of, told}
+use Rattle.dmf_path.specs.Residual.{ResidualLinks, residual_of, with_settled_rooms}
 use Rattle.dmf_links.specs.Links.{Links, pairs_at, ArePlaces}
 use Rattle.dmf_path.specs.Search.{with_pairs, lowered_along}
 use Rattle.dmf_path.specs.Searching.{Sought, sought, searched, labelling_of, AreAside, AreKept, AreLasting, IsMarked}
-use Rattle.dmf_path.proofs.Asides.{aside-falls}
-use Rattle.dmf_path.proofs.Pushed.{opens-none}
-use Rattle.dmf_path.proofs.Lasting.{lasting-opens}
-use Rattle.dmf_path.proofs.Lowered.{HasPlace, HasPlace-along}
-use Rattle.dmf_links.proofs.PairRead.{has-place}
-use Rattle.dmf_path.proofs.Released.{IsLowered, is-lowered}
+use Rattle.dmf_path.proofs.labels.Asides.{aside-falls}
+use Rattle.dmf_path.proofs.rooms.Pushed.{opens-none}
+use Rattle.dmf_path.proofs.labels.Lasting.{lasting-opens}
+use Rattle.dmf_path.proofs.rooms.Lowered.{HasPlace, HasPlace-along}
+use Rattle.dmf_links.proofs.rooms.PairRead.{has-place}
+use Rattle.dmf_path.proofs.slots.Released.{IsLowered, is-lowered}
 use Rattle.dmf_links.specs.Numbers.{MayBeNumbered}
-use Rattle.dmf_path.proofs.SearchTurns.{search-next}
+use Rattle.dmf_path.proofs.searches.SearchTurns.{search-next}
 use Rattle.dmf_path.proofs.search.Search.lower.Goals as goal
 use Rattle.dmf_path.proofs.search.Search.lower.Goals.{After-deref, After-unwrap-place, After-release, After-lower}
 
 -- The pair's link along has a place, and room for the amount.
 has : (c : After-deref) → HasPlace (residual_of c.self.inside.links).links c.self.inside.places.value
-    (told (residual_of c.self.inside.links) (way_of c.self.inside.trail)).rooms c.args.k c.args.amount
+    (with_settled_rooms (residual_of c.self.inside.links) (way_of c.self.inside.trail)).rooms c.args.k c.args.amount
 has c =
-    HasPlace-along (told (residual_of c.self.inside.links) (way_of c.self.inside.trail)).rooms c.self.invariant.1.places_are
+    HasPlace-along (with_settled_rooms (residual_of c.self.inside.links) (way_of c.self.inside.trail)).rooms c.self.invariant.1.places_are
     (rw (← c.self.view_is) at c.requires)
 
 pub place_of-requires : goal.place_of-requires
@@ -77,10 +77,10 @@ invariant_of-self c =
     let e = c.release.ensures in
     let low = lowered (goal.at.invariant_of-self c).After-lower in
     let v = labelling_of of.levels in
-    let before = told (residual_of c.release.new.links) (way_of c.release.new.trail) in
-    let same : (residual_of c.lower.new.self).links ≡ before.links = ap (λ (x : Residual). x.links) c.lower.ensures in
+    let before = with_settled_rooms (residual_of c.release.new.links) (way_of c.release.new.trail) in
+    let same : (residual_of c.lower.new.self).links ≡ before.links = ap (λ (x : ResidualLinks). x.links) c.lower.ensures in
     let links = same ∙ ap (λ (s : Sought). s.residual.links) e.same in
-    let kept : AreKept of.levels of.is_fresh (told (residual_of c.lower.new.self) (way_of c.release.new.trail)) = λ all.
+    let kept : AreKept of.levels of.is_fresh (with_settled_rooms (residual_of c.lower.new.self) (way_of c.release.new.trail)) = λ all.
     let was = i.0.2 all in (
       was.0,
       subst (AreLasting v of.levels.noted) (sym low.told_is)

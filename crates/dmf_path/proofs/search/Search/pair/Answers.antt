@@ -2,10 +2,10 @@
 use Rattle.std.proofs.Common.{◌<◌, length, inl, ap, sym, ◌∙◌, arith}
 use Rattle.std.proofs.lemmas.List.{get_or_read}
 use Rattle.dmf_links.specs.Links.{IsPlaceOf}
-use Rattle.dmf_links.proofs.PairRead.{place-within}
+use Rattle.dmf_links.proofs.rooms.PairRead.{place-within}
 use Rattle.dmf_path.specs.Held.{way_of, filled_slots}
 use Rattle.dmf_path.specs.Residual.{residual_of}
-use Rattle.dmf_path.proofs.Settled.{AreRooms-settled}
+use Rattle.dmf_path.proofs.slots.Settled.{AreRooms-settled}
 use Rattle.dmf_path.proofs.search.Search.pair.Goals as goal
 
 pub returns-clause-valid : goal.returns-clause-valid

@@ -3,8 +3,8 @@ use Rattle.std.proofs.lemmas.Result.{IfOk-weaker}
 use Rattle.dmf_path.specs.Labels.{is_label}
 use Rattle.dmf_path.specs.Held.{way_of, filled_slots}
 use Rattle.dmf_path.specs.Residual.{residual_of}
-use Rattle.dmf_path.proofs.Marks.{marks-reached}
-use Rattle.dmf_path.proofs.Settled.{AreRooms-settled}
+use Rattle.dmf_path.proofs.labels.Marks.{marks-reached}
+use Rattle.dmf_path.proofs.slots.Settled.{AreRooms-settled}
 use Rattle.dmf_path.proofs.search.Search.reached.Goals as goal
 
 pub returns-clause-marks : goal.returns-clause-marks

@@ -4,9 +4,9 @@ use Rattle.std.proofs.lemmas.Option.{same_Some}
 use Rattle.dmf_links.specs.LinkTable.{links_of}
 use Rattle.dmf_path.specs.Apart.{IsApart, IsIdled}
 use Rattle.dmf_path.specs.Search.{Searched, with_pairs}
-use Rattle.dmf_path.proofs.Inserted.{bare-long, has-removed, leaves-out, one-long}
-use Rattle.dmf_path.proofs.PairLists.{without_one}
-use Rattle.dmf_path.proofs.PutApart.{pairs-long}
+use Rattle.dmf_path.proofs.pairs.Inserted.{bare-long, has-removed, leaves-out, one-long}
+use Rattle.dmf_path.proofs.pairs.PairLists.{without_one}
+use Rattle.dmf_path.proofs.pairs.PutApart.{pairs-long}
 use Rattle.dmf_path.proofs.search.Search.remove.Goals.{After-begun-shared, In_ok-shared, In_ok-shared-2, In_ok-share}
 use Rattle.dmf_path.proofs.search.Search.remove.Goals as goal
 

@@ -5,15 +5,15 @@ use Rattle.dmf_path.specs.declared.search.Search.TheInside.{Inside}
 use Rattle.dmf_links.specs.Links.{Links, IsPlaceOf, pair_at}
 use Rattle.dmf_path.specs.Ball.{IsFit}
 use Rattle.dmf_path.specs.Held.{way_of}
-use Rattle.dmf_path.specs.Residual.{Residual, residual_of, told}
+use Rattle.dmf_path.specs.Residual.{ResidualLinks, residual_of, with_settled_rooms}
 use Rattle.dmf_path.specs.Search.{Searched, with_pairs, with_rooms}
 use Rattle.dmf_path.specs.Searching.{AreReady, AreKept, IsSearch, Sought, searched, labelling_of, fresh}
 use Rattle.dmf_links.specs.Numbers.{MayBeNumbered}
 use Rattle.dmf_path.specs.Walk.{AreCurrent}
-use Rattle.dmf_path.proofs.Asides.{aside-none}
-use Rattle.dmf_path.proofs.SearchTurns.{plainly, search-next, fresh-mark, told-fresh, searching-over}
-use Rattle.dmf_links.proofs.PairRead.{place-within}
-use Rattle.dmf_path.proofs.RoomsSet.{pairs-set, pairs-unset}
+use Rattle.dmf_path.proofs.labels.Asides.{aside-none}
+use Rattle.dmf_path.proofs.searches.SearchTurns.{plainly, search-next, fresh-mark, told-fresh, searching-over}
+use Rattle.dmf_links.proofs.rooms.PairRead.{place-within}
+use Rattle.dmf_path.proofs.rooms.RoomsSet.{pairs-set, pairs-unset}
 use Rattle.dmf_path.proofs.search.Search.set_rooms.Goals.{Joined-not-self, then-not-self, else-not-self}
 use Rattle.dmf_path.proofs.search.Search.set_rooms.Goals as goal
 
@@ -25,9 +25,9 @@ record IsAnew (x : Inside) (before : Searched) : Type 0 where
   ready : AreReady x.levels
   numbered : MayBeNumbered (residual_of x.links).links x.places.value x.numbers
   is : IsSearch (residual_of x.links) x.places.value (labelling_of x.levels) (way_of x.trail) true
-  kept : AreKept x.levels x.is_fresh (told (residual_of x.links) (way_of x.trail))
+  kept : AreKept x.levels x.is_fresh (with_settled_rooms (residual_of x.links) (way_of x.trail))
   none : x.asides.items ≡ []
-  fit : (r : Residual) → IsFit x.ball r
+  fit : (r : ResidualLinks) → IsFit x.ball r
   marked : x.is_fresh ≡ true
   same : searched (plainly (residual_of x.links) (way_of x.trail)) x.places.value ≡ before
 
@@ -48,7 +48,7 @@ anew c =
             none = c.clear.ensures.items;
             fit = c.forget.ensures.fit;
             marked = refl;
-            same = rw (← c.self.view_is) (ap (λ (x : Residual). searched (plainly x (way_of v.begin_anew.new.trail)) of.places.value) (sym none)
+            same = rw (← c.self.view_is) (ap (λ (x : ResidualLinks). searched (plainly x (way_of v.begin_anew.new.trail)) of.places.value) (sym none)
                 ∙ ap (λ (s : Sought). searched s of.places.value) e.same);
           })
       | else-not-self v ↦
@@ -63,7 +63,7 @@ anew c =
             none = c.clear.ensures.items;
             fit = c.forget.ensures.fit;
             marked = is_fresh;
-            same = rw (← c.self.view_is) (ap (λ (x : Residual). searched (plainly x (way_of of.trail)) of.places.value) (sym none));
+            same = rw (← c.self.view_is) (ap (λ (x : ResidualLinks). searched (plainly x (way_of of.trail)) of.places.value) (sym none));
           })
     ]
 
@@ -87,7 +87,7 @@ returns-in_default c =
     let r = residual_of x.links in
     let none = told-fresh r a.is.searching (fresh-mark a.is.marked) in
     let unset = pairs-unset r.links x.places.value r.rooms c.args.k c.args.along c.args.against (index at) (rw c.deref.ensures at c.in_default.ensures) in
-    ap (λ (y : Residual). searched (plainly y (way_of x.trail)) x.places.value) none
+    ap (λ (y : ResidualLinks). searched (plainly y (way_of x.trail)) x.places.value) none
     ∙ ap (with_pairs (searched (plainly r (way_of x.trail)) x.places.value)) (sym unset)
     ∙ ap (λ (s : Searched). with_pairs s (with_rooms s.pairs c.args.k c.args.along c.args.against)) a.same
 
@@ -110,7 +110,7 @@ set_pair-requires-clause-used c =
 pub invariant_of-self-2 : goal.invariant_of-self-2
 invariant_of-self-2 c =
     let a = anew (goal.at.invariant_of-self-2 c).Joined-not-self in
-    let links = ap (λ (x : Residual). x.links) c.set_pair.ensures in
+    let links = ap (λ (x : ResidualLinks). x.links) c.set_pair.ensures in
     let x = c.if-not-self.self-inside in
     let next = residual_of c.set_pair.new.self in
     let over = searching-over next a.is.searching (fresh-mark a.is.marked) (ap (λ (l : Links). l.nodes) links) c.set_pair.new.self.table.value.are
@@ -120,8 +120,8 @@ invariant_of-self-2 c =
         a.ready,
         subst (λ l. MayBeNumbered l x.places.value x.numbers) (sym links) a.numbered,
         λ all. let was = (a.kept all).0 in let is = a.marked in absurd (cc),
-        aside-none x.asides.items (told next (way_of x.trail)) a.none,
-        a.fit (told next (way_of x.trail)),
+        aside-none x.asides.items (with_settled_rooms next (way_of x.trail)) a.none,
+        a.fit (with_settled_rooms next (way_of x.trail)),
       ),
       search-next a.is links over.0 (fresh over.1),
     )
@@ -136,6 +136,6 @@ returns c =
     let none = told-fresh (residual_of c.set_pair.new.self) a.is.searching (fresh-mark a.is.marked) in
     let set = pairs-set r.rooms c.args.k c.args.along c.args.against x.links.table.value.are a.is.places_are x.links.rooms_are.0
     (index at) (λ none. of.there (of.is ∙ none)) in
-    ap (λ (y : Residual). searched (plainly y (way_of x.trail)) x.places.value) (none ∙ (rw of.is at c.set_pair.ensures))
+    ap (λ (y : ResidualLinks). searched (plainly y (way_of x.trail)) x.places.value) (none ∙ (rw of.is at c.set_pair.ensures))
     ∙ ap (with_pairs (searched (plainly r (way_of x.trail)) x.places.value)) set
     ∙ ap (λ (s : Searched). with_pairs s (with_rooms s.pairs c.args.k c.args.along c.args.against)) a.same

@@ -2,11 +2,11 @@
 use Rattle.std.proofs.Common.{ap, sym, subst}
 use Rattle.dmf_path.specs.Ball.{IsFit}
 use Rattle.dmf_path.specs.Held.{way_of}
-use Rattle.dmf_path.specs.Residual.{Residual, residual_of}
+use Rattle.dmf_path.specs.Residual.{ResidualLinks, residual_of}
 use Rattle.dmf_path.specs.Searching.{Sought, searched, labelling_of, AreAside, AreKept, IsMarked}
-use Rattle.dmf_path.proofs.Settling.{can-settle}
+use Rattle.dmf_path.proofs.slots.Settling.{can-settle}
 use Rattle.dmf_links.specs.Numbers.{MayBeNumbered}
-use Rattle.dmf_path.proofs.SearchTurns.{search-next, searching-settled, sought-settled}
+use Rattle.dmf_path.proofs.searches.SearchTurns.{search-next, searching-settled, sought-settled}
 use Rattle.dmf_path.proofs.search.Search.settle.Goals as goal
 
 pub settle-requires : goal.settle-requires
@@ -25,7 +25,7 @@ invariant_of-self c =
         subst (λ (s : Sought). AreAside of.asides.items s.residual) same i.0.3,
         subst (λ (s : Sought). IsFit of.ball s.residual) same i.0.4,
       ),
-      search-next i.1 (ap (λ (x : Residual). x.links) e.links) (searching-settled i.1.searching e.links e.way)
+      search-next i.1 (ap (λ (x : ResidualLinks). x.links) e.links) (searching-settled i.1.searching e.links e.way)
           (subst (λ (s : Sought). IsMarked s.residual.links (labelling_of of.levels).labels s.start of.is_fresh) same i.1.marked),
     )
 

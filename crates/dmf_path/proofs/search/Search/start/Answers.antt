@@ -1,8 +1,8 @@
 -- The start of a search is a node, and its pairs are valid.
 use Rattle.dmf_path.specs.Held.{way_of, filled_slots}
 use Rattle.dmf_path.specs.Residual.{residual_of}
-use Rattle.dmf_path.proofs.Settled.{AreRooms-settled}
-use Rattle.dmf_path.proofs.SparePairs.{pairs-valid}
+use Rattle.dmf_path.proofs.slots.Settled.{AreRooms-settled}
+use Rattle.dmf_path.proofs.pairs.SparePairs.{pairs-valid}
 use Rattle.dmf_path.proofs.search.Search.start.Goals as goal
 
 pub returns-clause-node : goal.returns-clause-node

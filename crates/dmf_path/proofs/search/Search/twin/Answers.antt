@@ -3,7 +3,7 @@ use Rattle.std.proofs.Common.{◌∙◌}
 use Rattle.dmf_path.specs.Held.{way_of}
 use Rattle.dmf_path.specs.Residual.{residual_of}
 use Rattle.dmf_path.specs.Searching.{sought}
-use Rattle.dmf_links.proofs.Twins.{emptied-pairs}
+use Rattle.dmf_links.proofs.tables.Twins.{emptied-pairs}
 use Rattle.dmf_path.proofs.search.Search.twin.Goals as goal
 
 pub rooms_of-requires-clause-same_ends : goal.rooms_of-requires-clause-same_ends

@@ -6,13 +6,13 @@ use Rattle.std.proofs.lemmas.Option.{IfSome_then, same_Some}
 use Rattle.dmf_links.specs.declared.pair.Pair.{Pair}
 use Rattle.dmf_links.specs.declared.table.LinkTable.{LinkTable}
 use Rattle.dmf_links.specs.Links.{pair_at}
-use Rattle.dmf_links.specs.Pair.{ArePairs, emptied, pair_number}
+use Rattle.dmf_links.specs.Pair.{ArePairs, without_room, pair_number}
 use Rattle.dmf_path.specs.Held.{way_of, filled_slots}
-use Rattle.dmf_path.specs.Residual.{residual_of, told}
+use Rattle.dmf_path.specs.Residual.{residual_of, with_settled_rooms}
 use Rattle.dmf_path.specs.Search.{Searched, with_pairs}
 use Rattle.dmf_path.specs.Spares.{spare_pairs}
-use Rattle.dmf_path.proofs.Settled.{AreRooms-settled}
-use Rattle.dmf_path.proofs.SparePairs.{both-long, both-valid, idle-behind, pairs-valid, take-before}
+use Rattle.dmf_path.proofs.slots.Settled.{AreRooms-settled}
+use Rattle.dmf_path.proofs.pairs.SparePairs.{both-long, both-valid, idle-behind, pairs-valid, take-before}
 use Rattle.dmf_path.proofs.search.Search.with_spares.Goals as goal
 use Rattle.dmf_path.proofs.search.Search.with_spares.Goals.{Joined-is_some, then-is_some+in_ok-ok, else-is_some}
 
@@ -25,9 +25,9 @@ new-requires-clause-pairs c =
     let a = i.searching.aimed in
     let s = c.args.self in
     let nodes : c.deref.result.now.nodes ≡ s.nodes = ap (λ (t : LinkTable). t.nodes) c.deref.ensures ∙ ap (λ (x : Searched). x.nodes) c.self.view_is in
-    let long = ap (λ (x : Searched). length x.pairs) (sym c.self.view_is) ∙ length-map of.places.value (pair_at r.links (told r w).rooms) in
+    let long = ap (λ (x : Searched). length x.pairs) (sym c.self.view_is) ∙ length-map of.places.value (pair_at r.links (with_settled_rooms r w).rooms) in
     let fit = AreRooms-settled r.links r.takes_back w.sent (filled_slots w) r.rooms a.links of.links.rooms_are in
-    let valid = subst (λ (x : Searched). ArePairs x.nodes x.pairs) c.self.view_is (pairs-valid (told r w).rooms a.links i.places_are fit) in
+    let valid = subst (λ (x : Searched). ArePairs x.nodes x.pairs) c.self.view_is (pairs-valid (with_settled_rooms r w).rooms a.links i.places_are fit) in
     let two : 2 ≤ s.nodes =
     omega (arith, a.start_is.from_one, a.start_is.to_last, a.goal_is.from_one, a.goal_is.to_last, a.apart, ap (λ (x : Searched). x.nodes) c.self.view_is) in
     let few : c.min-more.result < s.nodes = omega (arith, c.min-more.ensures, nodes, two) in
@@ -83,7 +83,7 @@ without_last-requires-clause-many c =
 pub without_last-requires-clause-idle : goal.without_last-requires-clause-idle
 without_last-requires-clause-idle c = λ k past.
     let at = (goal.at.without_last-requires-clause-idle c).Joined-is_some in
-    subst (λ (x : Searched). emptied (pair_number x.pairs k) ≡ pair_number x.pairs k) (sym (made at))
+    subst (λ (x : Searched). without_room (pair_number x.pairs k) ≡ pair_number x.pairs k) (sym (made at))
     (idle-behind c.args.self.nodes c.args.hub c.min-more.result c.args.self.pairs k (omega (arith, past, long at, nodes at)))
 
 pub returns : goal.returns

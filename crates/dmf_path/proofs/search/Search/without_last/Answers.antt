@@ -4,7 +4,7 @@ use Rattle.std.proofs.lemmas.List.{length-take-le}
 use Rattle.dmf_links.specs.LinkTable.{links_of}
 use Rattle.dmf_path.specs.Apart.{IsApart}
 use Rattle.dmf_path.specs.Search.{with_pairs}
-use Rattle.dmf_path.proofs.PutApart.{off-again, pairs-long}
+use Rattle.dmf_path.proofs.pairs.PutApart.{off-again, pairs-long}
 use Rattle.dmf_path.proofs.search.Search.without_last.Goals as goal
 
 pub without_last-requires-clause-some : goal.without_last-requires-clause-some

@@ -4,9 +4,9 @@ use Rattle.std.proofs.lemmas.Option.{get_or_from_slice_get}
 use Rattle.dmf_links.specs.declared.pair.Pair.{Pair}
 use Rattle.dmf_links.specs.LinkTable.{links_of}
 use Rattle.dmf_links.specs.Links.{IsPlaceOf}
-use Rattle.dmf_links.proofs.Filling.{ArePut-none, ArePut-some, AreClear-zeros, AreClear-some, AreClear-none, clear-along, get_or-zeros}
-use Rattle.dmf_links.proofs.PairRead.{has-place}
-use Rattle.dmf_links.proofs.Twins.{opposites_of, IsAt, is-read, apart-ends, pairs-put}
+use Rattle.dmf_links.proofs.building.Filling.{ArePut-none, ArePut-some, AreClear-zeros, AreClear-some, AreClear-none, clear-along, get_or-zeros}
+use Rattle.dmf_links.proofs.rooms.PairRead.{has-place}
+use Rattle.dmf_links.proofs.tables.Twins.{opposites_of, IsAt, is-read, apart-ends, pairs-put}
 use Rattle.dmf_path.proofs.search.making.put_pairs.Goals as goal
 use Rattle.dmf_path.proofs.search.making.put_pairs.Goals.{After-unwrap-place, in-Some, in_default}
 

@@ -2,8 +2,8 @@ use Rattle.std.proofs.Common.{ℕ, ◌≡◌, ◌<◌, length, slice_index}
 use Rattle.dmf_links.specs.Building.{ArePut}
 use Rattle.dmf_links.specs.Links.{IsSpare}
 use Rattle.dmf_links.specs.LinkTable.{links_of}
-use Rattle.dmf_links.proofs.Filling.{AreClear}
-use Rattle.dmf_links.proofs.Twins.{opposites_of}
+use Rattle.dmf_links.proofs.building.Filling.{AreClear}
+use Rattle.dmf_links.proofs.tables.Twins.{opposites_of}
 use Rattle.dmf_path.proofs.search.making.put_pairs.Given as goal
 
 abbrev pub invariant-loop-k : goal.invariant-loop-k

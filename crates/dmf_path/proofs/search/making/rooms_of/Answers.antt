@@ -2,7 +2,7 @@
 use Rattle.std.proofs.Common.{arith}
 use Rattle.std.proofs.lemmas.List.{with_items_is}
 use Rattle.dmf_links.specs.LinkTable.{links_of}
-use Rattle.dmf_links.proofs.Twins.{rooms-pairs}
+use Rattle.dmf_links.proofs.tables.Twins.{rooms-pairs}
 use Rattle.dmf_path.proofs.search.making.rooms_of.Goals as goal
 
 pub returns-clause-rooms : goal.returns-clause-rooms

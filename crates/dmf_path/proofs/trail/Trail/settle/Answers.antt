@@ -2,7 +2,7 @@
 use Rattle.std.proofs.Common.{◌≡◌, length, drop, ap, sym, ◌∙◌, subst, arith}
 use Rattle.std.proofs.lemmas.List.{take_rest}
 use Rattle.dmf_path.specs.Held.{CanPut, way_of, emptied}
-use Rattle.dmf_path.specs.Residual.{Residual, residual_of, roomed, put_each_on}
+use Rattle.dmf_path.specs.Residual.{ResidualLinks, residual_of, roomed, put_each_on}
 use Rattle.dmf_path.proofs.trail.Trail.settle.Goals as goal
 
 pub put_each_on-requires : goal.put_each_on-requires
@@ -13,7 +13,7 @@ put_each_on-requires-2 c =
     let t = c.args.self.now in
     let put = rw c.deref.ensures.value at c.put_each_on.ensures in
     record {
-      can = rw (c.deref-2.ensures.value, take_rest) (subst (λ (x : Residual). CanPut x.links x.takes_back t.sent (drop t.rest t.slots.items) x.rooms)
+      can = rw (c.deref-2.ensures.value, take_rest) (subst (λ (x : ResidualLinks). CanPut x.links x.takes_back t.sent (drop t.rest t.slots.items) x.rooms)
           (sym put) c.requires.can.rest);
     }
 
@@ -27,5 +27,5 @@ returns c =
     let later = rw (c.deref-2.ensures.value, take_rest) at c.put_each_on-2.ensures in
     record {
       way = λ i. record (emptied (way_of t)) { rest = len i };
-      links = later ∙ ap (λ (x : Residual). put_each_on x t.sent rest) put ∙ ap (roomed r) (sym c.requires.can.same);
+      links = later ∙ ap (λ (x : ResidualLinks). put_each_on x t.sent rest) put ∙ ap (roomed r) (sym c.requires.can.same);
     }

@@ -2,7 +2,7 @@ use Rattle.std.proofs.Common.{◌≡◌, ◌-◌, take, drop, get_or, refl, ap, 
 use Rattle.std.proofs.lemmas.List.{get_or_default}
 use Rattle.dmf_path.specs.declared.trail.Slot.{Slot}
 use Rattle.dmf_path.specs.Held.{Way, way_of, slot_at}
-use Rattle.dmf_path.specs.Residual.{Residual, residual_of, put_each_on, stays, split_at}
+use Rattle.dmf_path.specs.Residual.{ResidualLinks, residual_of, put_each_on, stays, split_at}
 use Rattle.dmf_path.proofs.trail.Trail.split.Goals as goal
 
 pub put_each_on-requires : goal.put_each_on-requires
@@ -15,7 +15,7 @@ put_each_on-requires c =
 pub returns-then-first-behind : goal.returns-then-first-behind
 returns-then-first-behind c =
     let w : Way = way_of c.args.self.now in
-    let r : Residual = residual_of c.args.links.now in
+    let r : ResidualLinks = residual_of c.args.links.now in
     let first = c.first_full-first.result in
     let behind = c.behind_last_full-behind.result in
     let within = c.behind_last_full-behind.ensures.within in
@@ -25,7 +25,7 @@ returns-then-first-behind c =
     let slot : c.index.result.now ≡ slot_at w.slots (behind - 1) = c.index.ensures ∙ get_or_default w.slots (behind - 1) _ _
     (omega (arith, within, c.if-first-behind.true)) in
     let joint : last ≡ get_or r.links.heads (slot_at w.slots (behind - 1)).place 0 =
-    (rw c.deref-then-first-behind.ensures at c.index-then-first-behind.ensures) ∙ ap (λ (x : Residual). get_or x.links.heads c.index.result.now.place last) put
+    (rw c.deref-then-first-behind.ensures at c.index-then-first-behind.ensures) ∙ ap (λ (x : ResidualLinks). get_or x.links.heads c.index.result.now.place last) put
     ∙ ap (λ (s : Slot). get_or r.links.heads s.place last) slot
     ∙ get_or_default r.links.heads (slot_at w.slots (behind - 1)).place last 0
     (c.requires.places (behind - 1) (omega (arith, within, c.if-first-behind.true))) in

@@ -1,8 +1,8 @@
 use Rattle.std.proofs.Common.{arith, ap, length}
 use Rattle.std.proofs.lemmas.Slice.Zip.{AllZip-long}
 use Rattle.dmf_solver.specs.CarryingNetwork.{return_pair}
-use Rattle.dmf_solver.proofs.ArcPairs.{length-with_last}
-use Rattle.dmf_solver.proofs.CarryingPairs.{by_carrying_pair}
+use Rattle.dmf_solver.proofs.pairs.ArcPairs.{length-with_last}
+use Rattle.dmf_solver.proofs.pairs.CarryingPairs.{by_carrying_pair}
 use Rattle.dmf_solver.proofs.carrying_pairs.CarryingPairsPairs.len.Goals as goal
 
 pub returns : goal.returns

@@ -1,5 +1,5 @@
-use Rattle.dmf_solver.proofs.ArcPairs.{pair-at, pair-past}
-use Rattle.dmf_solver.proofs.CarryingPairs.{by_carrying_pair}
+use Rattle.dmf_solver.proofs.pairs.ArcPairs.{pair-at, pair-past}
+use Rattle.dmf_solver.proofs.pairs.CarryingPairs.{by_carrying_pair}
 use Rattle.dmf_solver.proofs.carrying_pairs.CarryingPairsPairs.pair.Goals as goal
 
 pub returns-in-Some : goal.returns-in-Some

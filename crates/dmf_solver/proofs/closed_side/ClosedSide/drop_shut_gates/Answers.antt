@@ -1,6 +1,6 @@
 use Rattle.std.proofs.Common.{rules, refl}
 use Rattle.std.proofs.lemmas.Fn.{filter_same}
-use Rattle.dmf_solver.proofs.Gates.{kept-filtered}
+use Rattle.dmf_solver.proofs.cuts.Gates.{kept-filtered}
 use Rattle.dmf_solver.proofs.closed_side.ClosedSide.drop_shut_gates.Goals as goal
 
 pub returns : goal.returns

@@ -1,6 +1,6 @@
 -- All gates lead to the way out, or from it.
 use Rattle.std.proofs.Common.{◌≡◌, ◌-◌, false, set, ap}
-use Rattle.dmf_solver.proofs.WayOut.{way-heads, way-tails}
+use Rattle.dmf_solver.proofs.cuts.WayOut.{way-heads, way-tails}
 use Rattle.dmf_solver.proofs.closed_side.ClosedSide.into_marked.Goals as goal
 
 pub returns-in-Some : goal.returns-in-Some

@@ -1,6 +1,6 @@
 use Rattle.std.proofs.Common.{◌≡◌, ◌++◌, ◌∷◌, [], sym, subst, rules}
 use Rattle.dmf_solver.specs.Gates.{KeepsGates}
-use Rattle.dmf_solver.proofs.Gates.{kept-all, kept-pushed}
+use Rattle.dmf_solver.proofs.cuts.Gates.{kept-all, kept-pushed}
 use Rattle.dmf_solver.proofs.closed_side.ClosedSide.with_gate.Goals.{then-len-ge-MOST_GATES+else-len, else-len-ge-MOST_GATES}
 use Rattle.dmf_solver.proofs.closed_side.ClosedSide.with_gate.Goals as goal
 

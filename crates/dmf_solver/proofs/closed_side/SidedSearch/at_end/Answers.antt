@@ -1,5 +1,5 @@
 use Rattle.std.proofs.Common.{◌≡◌, ◌∙◌, length, arith}
-use Rattle.dmf_solver.proofs.Gates.{closed-anew}
+use Rattle.dmf_solver.proofs.cuts.Gates.{closed-anew}
 use Rattle.dmf_solver.proofs.closed_side.SidedSearch.at_end.Goals as goal
 
 pub invariant_of-result : goal.invariant_of-result

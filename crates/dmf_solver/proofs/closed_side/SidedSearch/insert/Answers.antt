@@ -1,6 +1,6 @@
 use Rattle.std.proofs.Common.{Some, ap, ◌+◌}
 use Rattle.dmf_path.specs.Search.{Searched}
-use Rattle.dmf_solver.proofs.Gates.{closed-gated_twice, gated-long, between-long, changes-insert}
+use Rattle.dmf_solver.proofs.cuts.Gates.{closed-gated_twice, gated-long, between-long, changes-insert}
 use Rattle.dmf_solver.proofs.closed_side.SidedSearch.insert.Goals as goal
 
 pub with_gate-requires : goal.with_gate-requires

@@ -1,7 +1,7 @@
 use Rattle.std.proofs.Common.{◌≡◌, [], ◌∙◌, subst, sym, rules}
 use Rattle.std.specs.Prelude.{IfSome}
 use Rattle.dmf_solver.specs.Gates.{IsClosedBut}
-use Rattle.dmf_solver.proofs.Gates.{closed-kept, no_path-without_gates, nothing}
+use Rattle.dmf_solver.proofs.cuts.Gates.{closed-kept, no_path-without_gates, nothing}
 use Rattle.dmf_solver.proofs.closed_side.SidedSearch.is_closed.Goals as goal
 
 pub returns-clause-none : goal.returns-clause-none

@@ -1,6 +1,6 @@
 use Rattle.std.proofs.Common.{ap}
 use Rattle.dmf_path.specs.Search.{Searched}
-use Rattle.dmf_solver.proofs.Gates.{closed-gated, gated-long, changes-remove}
+use Rattle.dmf_solver.proofs.cuts.Gates.{closed-gated, gated-long, changes-remove}
 use Rattle.dmf_solver.proofs.closed_side.SidedSearch.remove.Goals as goal
 
 pub with_gate-side-requires : goal.with_gate-side-requires

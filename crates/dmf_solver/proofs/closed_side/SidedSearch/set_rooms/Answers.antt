@@ -1,4 +1,4 @@
-use Rattle.dmf_solver.proofs.Gates.{closed-gated, changes-set}
+use Rattle.dmf_solver.proofs.cuts.Gates.{closed-gated, changes-set}
 use Rattle.dmf_solver.proofs.closed_side.SidedSearch.set_rooms.Goals as goal
 
 pub invariant_of-self : goal.invariant_of-self

@@ -1,6 +1,6 @@
 -- All gates so far have the same end.
 use Rattle.std.proofs.Common.{◌∙◌, arith}
-use Rattle.dmf_solver.proofs.WayOut.{end-node, end-outside, only-first, only-last, only-same, only-skip}
+use Rattle.dmf_solver.proofs.cuts.WayOut.{end-node, end-outside, only-first, only-last, only-same, only-skip}
 use Rattle.dmf_solver.proofs.closed_side.way_out.only_end.Goals as goal
 
 pub loop-k-preserved-in_default : goal.loop-k-preserved-in_default

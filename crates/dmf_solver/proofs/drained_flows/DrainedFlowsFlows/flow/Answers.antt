@@ -3,8 +3,8 @@ use Rattle.std.specs.Option.{unwrap_or}
 use Rattle.dmf_path.specs.Search.{Searched}
 use Rattle.dmf_state.specs.NetworkState.{NetworkState}
 use Rattle.dmf_solver.specs.Pairs.{Along, IsCarryingSearch, drained_flows, emptied}
-use Rattle.dmf_solver.proofs.DrainingSearch.{length-carries}
-use Rattle.dmf_solver.proofs.FlowsRead.{length-flows_read, get_or-flows_read}
+use Rattle.dmf_solver.proofs.draining.DrainingSearch.{length-carries}
+use Rattle.dmf_solver.proofs.pairs.FlowsRead.{length-flows_read, get_or-flows_read}
 use Rattle.dmf_solver.proofs.Emptied.{length-emptied}
 use Rattle.dmf_solver.proofs.drained_flows.DrainedFlowsFlows.flow.Goals as goal
 use Rattle.dmf_solver.proofs.drained_flows.DrainedFlowsFlows.flow.Goals.{After-along, After-self}

@@ -2,14 +2,14 @@ use Rattle.std.proofs.Common.{◌≡◌, ◌∙◌, ◌<◌, ◌≤◌, ℕ, Lis
 use Rattle.std.specs.Option.{unwrap_or}
 use Rattle.std.proofs.lemmas.Slice.Zip.{AllZip-long}
 use Rattle.dmf_state.specs.NetworkState.{NetworkState, IsState}
-use Rattle.dmf_solver.specs.declared.solve.Solved.{Solved}
-use Rattle.dmf_solver.specs.Pairs.{Against, IsSolved, reached_flows}
-use Rattle.dmf_solver.proofs.FlowsRead.{get_or-flows_read}
-use Rattle.dmf_solver.proofs.SolvingSearch.{pairs-long, reached-long}
+use Rattle.dmf_solver.specs.declared.solve.SolvedSearch.{SolvedSearch}
+use Rattle.dmf_solver.specs.Pairs.{Against, HasSolved, reached_flows}
+use Rattle.dmf_solver.proofs.pairs.FlowsRead.{get_or-flows_read}
+use Rattle.dmf_solver.proofs.solving.SolvingSearch.{pairs-long, reached-long}
 use Rattle.dmf_solver.proofs.reached_flows.ReachedFlowsFlows.flow.Goals as goal
 
 -- The index is that of a flow, and of an arc.
-index : (s : NetworkState) (solved : Solved) (flows : List ℕ) (k : ℕ) → IsState s → IsSolved s solved → reached_flows s solved.search ≡ flows
+index : (s : NetworkState) (solved : SolvedSearch) (flows : List ℕ) (k : ℕ) → IsState s → HasSolved s solved → reached_flows s solved.search ≡ flows
     → k < length flows → (k < length s.flows) × (k < length s.network.arcs)
 index s solved flows k state is same h =
     let reached = reached-long s solved.search state is.search_is is.state.flow.within in

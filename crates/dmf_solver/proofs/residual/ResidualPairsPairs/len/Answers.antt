@@ -1,6 +1,6 @@
 use Rattle.std.proofs.Common.{arith, ap, length}
 use Rattle.std.proofs.lemmas.Slice.Zip.{AllZip-long}
-use Rattle.dmf_solver.proofs.NetworkPairs.{length-network_pairs}
+use Rattle.dmf_solver.proofs.pairs.NetworkPairs.{length-network_pairs}
 use Rattle.dmf_solver.proofs.residual.ResidualPairsPairs.len.Goals as goal
 
 pub returns : goal.returns

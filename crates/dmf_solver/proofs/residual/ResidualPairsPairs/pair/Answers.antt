@@ -1,6 +1,6 @@
 use Rattle.dmf_state.proofs.Changing.{within-at}
-use Rattle.dmf_solver.proofs.ArcPairs.{pair-at, pair-past}
-use Rattle.dmf_solver.proofs.ResidualPairs.{by_residual_pair}
+use Rattle.dmf_solver.proofs.pairs.ArcPairs.{pair-at, pair-past}
+use Rattle.dmf_solver.proofs.pairs.ResidualPairs.{by_residual_pair}
 use Rattle.dmf_solver.proofs.residual.ResidualPairsPairs.pair.Goals as goal
 
 pub residual_pair-requires : goal.residual_pair-requires

@@ -3,8 +3,8 @@ use Rattle.dmf_state.specs.Direction.{along, edited_along}
 use Rattle.dmf_state.specs.Edit.{moved, moves_of}
 use Rattle.dmf_solver.specs.KeptNetwork.{IsNetworkOf}
 use Rattle.dmf_solver.specs.ResidualNetwork.{residual_search}
-use Rattle.dmf_solver.proofs.CarryingFollowed.{some_carry-along}
-use Rattle.dmf_solver.proofs.Followed.{flows-along, moves-along}
+use Rattle.dmf_solver.proofs.kept.CarryingFollowed.{some_carry-along}
+use Rattle.dmf_solver.proofs.kept.Followed.{flows-along, moves-along}
 use Rattle.dmf_solver.proofs.residual_network.ResidualNetwork.follow_along.Goals as goal
 
 pub put_flows-requires-clause-residual : goal.put_flows-requires-clause-residual

@@ -4,10 +4,10 @@ use Rattle.dmf_path.specs.Pair.{steps_of}
 use Rattle.dmf_path.specs.Path.{HasNoPath}
 use Rattle.dmf_state.specs.Edit.{differences}
 use Rattle.dmf_solver.specs.KeptNetwork.{KeptNetwork, IsNetworkOf}
-use Rattle.dmf_solver.specs.Pairs.{reached_flows, IsAtEnd, IsSolved}
+use Rattle.dmf_solver.specs.Pairs.{reached_flows, IsAtEnd, HasSolved}
 use Rattle.dmf_solver.specs.ResidualNetwork.{IsResidualOf}
-use Rattle.dmf_solver.proofs.AtOnce.{at_once, solved-at_once, end-at_once, told-at_once, listed-at_once}
-use Rattle.dmf_solver.proofs.SolvedEdit.{PlansSolve-listed, value-listed, told-listed}
+use Rattle.dmf_solver.proofs.solving.AtOnce.{at_once, solved-at_once, end-at_once, told-at_once, listed-at_once}
+use Rattle.dmf_solver.proofs.solving.SolvedEdit.{PlansSolve-listed, value-listed, told-listed}
 use Rattle.dmf_solver.proofs.residual_network.ResidualNetwork.plan_nothing.Goals.{After-value, After-new-moves}
 use Rattle.dmf_solver.proofs.residual_network.ResidualNetwork.plan_nothing.Goals as goal
 
@@ -25,7 +25,7 @@ wanted_side-requires c =
     (end-at_once s c.self.inside.search c.value.result c.value.ensures.state (is c) c.value.ensures.value (none c))
 
 -- Solving reaches its outcome at once,
-solved : (c : After-value) → IsSolved c.args.state.now (at_once c.args.state.now c.self.inside.search c.value.result c.value.ensures.state (is c)
+solved : (c : After-value) → HasSolved c.args.state.now (at_once c.args.state.now c.self.inside.search c.value.result c.value.ensures.state (is c)
     c.value.ensures.value (none c))
 solved c = solved-at_once c.args.state.now c.self.inside.search c.value.result c.value.ensures.state (is c) c.value.ensures.value (none c)
 

@@ -3,8 +3,8 @@ use Rattle.std.proofs.lemmas.List.{with_items_is}
 use Rattle.dmf_path.specs.ClosedSide.{IsClosedSide}
 use Rattle.dmf_path.specs.Pair.{steps_of}
 use Rattle.dmf_path.specs.Search.{Searched}
-use Rattle.dmf_solver.proofs.SolvedEdit.{PlansSolve-listed, value-listed, told-listed, residual-listed}
-use Rattle.dmf_solver.proofs.Solving.{AreTold-none, fault-only, told-refused}
+use Rattle.dmf_solver.proofs.solving.SolvedEdit.{PlansSolve-listed, value-listed, told-listed, residual-listed}
+use Rattle.dmf_solver.proofs.solving.Solving.{AreTold-none, fault-only, told-refused}
 use Rattle.dmf_solver.proofs.residual_network.ResidualNetwork.plan_paths.Goals as goal
 
 pub returns-in_err-looks-clause-told : goal.returns-in_err-looks-clause-told

@@ -1,5 +1,5 @@
 use Rattle.std.proofs.Common.{inl}
-use Rattle.dmf_solver.proofs.Solving.{AreTold-none, told-either}
+use Rattle.dmf_solver.proofs.solving.Solving.{AreTold-none, told-either}
 use Rattle.dmf_solver.proofs.residual_network.ResidualNetwork.plan_solve.Goals as goal
 
 pub returns-then-is_closed-clause-told : goal.returns-then-is_closed-clause-told

@@ -3,8 +3,8 @@ use Rattle.std.proofs.Common.{◌^◌, ◌≤◌, length, ap, sym, ◌∙◌, su
 use Rattle.dmf_links.specs.Pair.{IsPair}
 use Rattle.dmf_path.specs.Search.{Searched}
 use Rattle.dmf_solver.specs.KeptNetwork.{IsNetworkOf}
-use Rattle.dmf_solver.proofs.Added.{pairs-before, few-before, pair-added, search-added}
-use Rattle.dmf_solver.proofs.CarryingAdded.{some-added}
+use Rattle.dmf_solver.proofs.kept.Added.{pairs-before, few-before, pair-added, search-added}
+use Rattle.dmf_solver.proofs.kept.CarryingAdded.{some-added}
 use Rattle.dmf_solver.proofs.residual_network.ResidualNetwork.with_arc.Goals.{In_ok-pair}
 use Rattle.dmf_solver.proofs.residual_network.ResidualNetwork.with_arc.Goals as goal
 

@@ -1,8 +1,8 @@
 -- The pair of the arc is the one before that of the return link.
 use Rattle.std.proofs.Common.{length, ap, subst, sym, arith}
 use Rattle.dmf_solver.specs.KeptNetwork.{IsNetworkOf}
-use Rattle.dmf_solver.proofs.CarryingAdded.{some-before}
-use Rattle.dmf_solver.proofs.Removed.{some-pairs, long-network, search-before}
+use Rattle.dmf_solver.proofs.kept.CarryingAdded.{some-before}
+use Rattle.dmf_solver.proofs.kept.Removed.{some-pairs, long-network, search-before}
 use Rattle.dmf_solver.proofs.residual_network.ResidualNetwork.without_last_arc.Goals as goal
 
 pub remove-requires : goal.remove-requires

@@ -1,7 +1,7 @@
 use Rattle.std.proofs.Common.{◌≡◌, ◌<◌, ◌∷◌, [], ◌++◌, length, subst, sym, ◌∙◌, ℕ}
 use Rattle.std.proofs.lemmas.Bool.{false≢true}
 use Rattle.std.proofs.lemmas.List.Elements.{All-push}
-use Rattle.dmf_streams.specs.Input.{input_over, Takes}
+use Rattle.dmf_streams.specs.Input.{input_over, TakesBytes}
 use Rattle.dmf_streams.proofs.TakingLemmas.{Takes-trans, Takes-nil, some-length}
 use Rattle.dmf_streams.proofs.input.Input.next_line.Goals as goal
 
@@ -14,7 +14,7 @@ returns-then-byte-eq10 g c =
     record {
       line = so_far.0;
       no_line_feed = so_far.1;
-      takes = subst (λ b. Takes (input_over c.args.self.now (reader c.args.source.now)) (input_over c.next_byte.new.self (reader c.next_byte.new.source))
+      takes = subst (λ b. TakesBytes (input_over c.args.self.now (reader c.args.source.now)) (input_over c.next_byte.new.self (reader c.next_byte.new.source))
           (so_far.0 ++ b ∷ [])) c.if-byte-eq10.true all;
       keeps = so_far.2;
       mark = gave.1 ∙ so_far.4;

@@ -2,7 +2,7 @@
 use Rattle.std.proofs.Common.{arith}
 use Rattle.std.proofs.lemmas.Option.{IfSome_then}
 use Rattle.dmf_links.specs.LinkTable.{links_of}
-use Rattle.dmf_path.proofs.PutApart.{off-long}
+use Rattle.dmf_path.proofs.pairs.PutApart.{off-long}
 use Rattle.dmf_path.proofs.search.apart.Shared.taking_in.Goals as goal
 
 pub with_last-requires-clause-few : goal.with_last-requires-clause-few

@@ -1,5 +1,5 @@
 -- The links of the other pairs keep their numbers.
-use Rattle.dmf_path.proofs.PutApart.{others-numbered}
+use Rattle.dmf_path.proofs.pairs.PutApart.{others-numbered}
 use Rattle.dmf_path.proofs.search.apart.Shared.with_last.Goals as goal
 
 pub number_last-numbers-requires-clause-others : goal.number_last-numbers-requires-clause-others

@@ -1,5 +1,5 @@
 -- The links of the other pairs keep their numbers.
-use Rattle.dmf_path.proofs.PutApart.{numbered-off}
+use Rattle.dmf_path.proofs.pairs.PutApart.{numbered-off}
 use Rattle.dmf_path.proofs.search.apart.Shared.without_last.Goals as goal
 
 pub returns-clause-shared : goal.returns-clause-shared

@@ -4,15 +4,15 @@ use Rattle.std.specs.Vec.{vec_capacity}
 use Rattle.dmf_links.specs.LinkTable.{links_of}
 use Rattle.dmf_path.specs.Walk.{AreCurrent}
 use Rattle.dmf_path.specs.Held.{Way}
-use Rattle.dmf_path.specs.Residual.{Residual}
+use Rattle.dmf_path.specs.Residual.{ResidualLinks}
 use Rattle.dmf_path.specs.Searching.{labelling_of, Sought, searched, fresh}
-use Rattle.dmf_path.proofs.Asides.{aside-none}
-use Rattle.dmf_path.proofs.SearchTurns.{searching-new, sought-free}
+use Rattle.dmf_path.proofs.labels.Asides.{aside-none}
+use Rattle.dmf_path.proofs.searches.SearchTurns.{searching-new, sought-free}
 use Rattle.dmf_path.proofs.search.making.Linked.search.Goals as goal
 use Rattle.dmf_path.proofs.search.making.Linked.search.Goals.{In_ok-slots}
 
 -- the links, with their rooms
-abbrev residual : In_ok-slots → Residual
+abbrev residual : In_ok-slots → ResidualLinks
 residual c = record { links = links_of c.args.self.table.value; takes_back = c.args.takes_back; rooms = c.args.self.rooms.items }
 
 -- a path without links

@@ -4,9 +4,9 @@ use Rattle.std.proofs.lemmas.List.{length-map}
 use Rattle.dmf_links.specs.declared.table.LinkTable.{LinkTable}
 use Rattle.dmf_links.specs.Links.{pair_at}
 use Rattle.dmf_path.specs.Held.{way_of}
-use Rattle.dmf_path.specs.Residual.{residual_of, told}
+use Rattle.dmf_path.specs.Residual.{residual_of, with_settled_rooms}
 use Rattle.dmf_path.specs.Search.{Searched}
-use Rattle.dmf_path.proofs.SparePairs.{both-long}
+use Rattle.dmf_path.proofs.pairs.SparePairs.{both-long}
 use Rattle.dmf_path.proofs.search.spares.RoomyPairsPairs.len.Goals as goal
 
 pub returns : goal.returns
@@ -15,7 +15,7 @@ returns c =
     let r = residual_of of.links in
     let roomy = c.args.self.now in
     let long = ap (λ (s : Searched). length s.pairs) (sym c.search.view_is)
-    ∙ length-map of.places.value (pair_at r.links (told r (way_of of.trail)).rooms) in
+    ∙ length-map of.places.value (pair_at r.links (with_settled_rooms r (way_of of.trail)).rooms) in
     omega (
       arith,
       both-long roomy.search.now.nodes roomy.hub roomy.more roomy.search.now.pairs,

@@ -6,10 +6,10 @@ use Rattle.dmf_links.specs.declared.pair.Pair.{Pair}
 use Rattle.dmf_links.specs.declared.table.LinkTable.{LinkTable}
 use Rattle.dmf_links.specs.Links.{pair_at}
 use Rattle.dmf_path.specs.Held.{way_of}
-use Rattle.dmf_path.specs.Residual.{residual_of, told}
+use Rattle.dmf_path.specs.Residual.{residual_of, with_settled_rooms}
 use Rattle.dmf_path.specs.Search.{Searched}
 use Rattle.dmf_path.specs.Spares.{spare_pair, spare_pairs}
-use Rattle.dmf_path.proofs.SparePairs.{both-long, number-behind}
+use Rattle.dmf_path.proofs.pairs.SparePairs.{both-long, number-behind}
 use Rattle.dmf_path.proofs.search.spares.RoomyPairsPairs.pair.Goals as goal
 use Rattle.dmf_path.proofs.search.spares.RoomyPairsPairs.pair.Goals.{After-deref-2}
 
@@ -18,7 +18,7 @@ count c =
     let of = c.search.inside in
     let r = residual_of of.links in
     let long = ap (λ (s : Searched). length s.pairs) (sym c.search.view_is)
-    ∙ length-map of.places.value (pair_at r.links (told r (way_of of.trail)).rooms) in
+    ∙ length-map of.places.value (pair_at r.links (with_settled_rooms r (way_of of.trail)).rooms) in
     omega (arith, long, c.len-count.ensures, ap length c.deref.ensures)
 
 nodes : (c : After-deref-2) → c.deref-2.result.now.nodes ≡ c.args.self.now.search.now.nodes

@@ -1,0 +1,23 @@
+-- Labels: how they are found, joined, lowered and kept.
+pub mod Asides
+pub mod BothEnds
+pub mod Descending
+pub mod Expanding
+pub mod FromStart
+pub mod Gated
+pub mod InBall
+pub mod InsideBall
+pub mod Joining
+pub mod Labelled
+pub mod Labelling
+pub mod LabellingTurn
+pub mod Lasting
+pub mod LoweredLabels
+pub mod Marking
+pub mod Marks
+pub mod Meeting
+pub mod OneWayOut
+pub mod Parted
+pub mod RaisedLabels
+pub mod Redirected
+pub mod Spreading

@@ -1,0 +1,8 @@
+-- The pairs of a search: touched ones, spare ones, and lists of them.
+pub mod Covering
+pub mod Inserted
+pub mod PairLists
+pub mod PutApart
+pub mod SparePairs
+pub mod TouchedIndices
+pub mod Untouched

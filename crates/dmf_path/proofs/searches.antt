@@ -1,0 +1,5 @@
+-- What a search keeps.
+pub mod Beginning
+pub mod Going
+pub mod SearchTurns
+pub mod Searching

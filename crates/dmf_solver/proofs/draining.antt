@@ -1,0 +1,12 @@
+-- Draining arcs.
+pub mod Carrying
+pub mod CarryingSteps
+pub mod ClosedInTurn
+pub mod DrainedEdits
+pub mod DrainedInTurn
+pub mod DrainedLoop
+pub mod Draining
+pub mod DrainingSearch
+pub mod DrainingWalk
+pub mod LoweredPairs
+pub mod Lowering

@@ -1,0 +1,124 @@
+-- Draining arcs to 0 in turn leaves a flow that is 0 on each of them. Its value is lower by at most the flow that was on them.
+use Rattle.std.proofs.Common.{ℕ, ◌≡◌, ◌+◌, ◌-◌, ◌≤◌, List, [], ◌∷◌, Option, get_or, zero, suc, refl, ◌∙◌, subst, arith}
+use Rattle.std.proofs.lemmas.Int.{ints}
+use Rattle.std.proofs.lemmas.List.Sums.{sum_by-cons}
+use Rattle.std.proofs.lemmas.Slice.Zip.{AllZip-long}
+use Rattle.dmf_path.specs.Search.{Searched}
+use Rattle.dmf_state.specs.declared.edit.Move.{Move}
+use Rattle.dmf_solver.specs.Pairs.{Along, IsCarryingSearch, flows_read}
+use Rattle.dmf_solver.specs.declared.watch.Turn.{Turn}
+use Rattle.dmf_solver.specs.Drain.{TakesOff}
+use Rattle.dmf_solver.specs.Turns.{Taken, TellsDrain, TellsDrains, turns_from}
+use Rattle.dmf_state.specs.Edit.{differences}
+use Rattle.dmf_state.specs.Flow.{flow_on, flow_on_all}
+use Rattle.dmf_solver.specs.Moves.{DrainsInTurn, AreShuttingMoves}
+use Rattle.dmf_state.specs.Network.{Network}
+use Rattle.dmf_state.specs.NetworkState.{NetworkState, IsState, with_flows}
+use Rattle.dmf_solver.proofs.draining.Draining.{IsNoMore, no_more-in_turn, TakesOff-none, drains-state}
+use Rattle.dmf_state.proofs.ClosedArcs.{HasArcs, AreWithoutFlow}
+use Rattle.dmf_state.proofs.Moving.{moves-between}
+use Rattle.dmf_solver.proofs.draining.DrainingWalk.{tells-none}
+use Rattle.dmf_solver.proofs.solving.Solving.{AreTold-none}
+
+-- No flow is more than before, at each place,
+pub no_more-at : (xs ys : List ℕ) (k : ℕ) → IsNoMore xs ys → get_or ys k 0 ≤ get_or xs k 0
+no_more-at [] [] k less = omega arith
+no_more-at [] (y ∷ ys) k less = absurd less
+no_more-at (x ∷ xs) [] k less = absurd less
+no_more-at (x ∷ xs) (y ∷ ys) zero less = less.0
+no_more-at (x ∷ xs) (y ∷ ys) (suc k) less = no_more-at xs ys k less.1
+
+-- so the flow on some of the arcs together is not more either.
+no_more-on_all : (xs ys js : List ℕ) → IsNoMore xs ys → flow_on_all ys js ≤ flow_on_all xs js
+no_more-on_all xs ys [] less = omega arith
+no_more-on_all xs ys (j ∷ js) less =
+    omega (arith, no_more-at xs ys (j - 1) less, no_more-on_all xs ys js less, sum_by-cons (flow_on xs) j js, sum_by-cons (flow_on ys) j js)
+
+-- What holds for the flows that draining leaves.
+pub record AreLeft (s : NetworkState) (js flows last : List ℕ) : Type 0 where
+  pub takes_off : TakesOff s.network (flow_on_all flows js) flows last
+  pub state : IsState (with_flows s last)
+  pub without_flow : AreWithoutFlow last js
+
+-- After arcs are drained in turn it holds.
+pub left-in_turn : (s : NetworkState) (js flows last : List ℕ) → IsState (with_flows s flows) → HasArcs s.network js
+    → DrainsInTurn s.network js flows last → AreLeft s js flows last
+left-in_turn s [] flows last state has is = record {
+  takes_off = subst (TakesOff s.network 0 flows) is (TakesOff-none s.network 0 flows state.flow);
+  state = subst (λ xs. IsState (with_flows s xs)) is state;
+  without_flow = tt;
+}
+left-in_turn s (j ∷ js) flows last state has drains =
+    let next : List ℕ = drains.0 in
+    let first = drains-state s j 0 flows next state has.0 drains.1 in
+    let rest = left-in_turn s js next last first.1 has.1 drains.2 in
+    let sum = sum_by-cons (flow_on flows) j js in
+    let fewer = no_more-on_all flows next js first.0.no_more in
+    record {
+      takes_off = record {
+        no_more = no_more-in_turn flows next last first.0.no_more rest.takes_off.no_more;
+        flow = rest.takes_off.flow;
+        value = omega (arith, ints, first.0.value, rest.takes_off.value, sum, fewer);
+        untouched = λ none.
+            let here : next ≡ flows = first.0.untouched (omega (arith, none, sum)) in
+            rest.takes_off.untouched (omega (arith, none, sum, fewer)) ∙ here;
+      };
+      state = rest.state;
+      without_flow = (omega (arith, no_more-at next last (j - 1) rest.takes_off.no_more, drains.1.within), rest.without_flow);
+    }
+
+-- It holds for the moves between the flows before and after.
+pub shutting-moves : (s : NetworkState) (js last : List ℕ) (moves : List Move) → IsState s → HasArcs s.network js → DrainsInTurn s.network js s.flows last
+    → moves ≡ differences 1 s.flows last → AreShuttingMoves s js moves
+shutting-moves s js last moves state has drains is =
+    let left = left-in_turn s js s.flows last state has drains in
+    let between = moves-between moves s.flows last (AllZip-long _ s.flows last left.takes_off.no_more) is in
+    let made = between.makes in
+    record {
+      fit = between.fit;
+      differ = between.differ;
+      drains = rw made drains;
+      state = rw made left.state;
+      takes_off = rw made left.takes_off;
+    }
+
+-- Reported drains are drains.
+pub drains-told : (n : Network) (place count : ℕ) (js flows last : List ℕ) (before after : Option (List Taken))
+    → TellsDrains n (turns_from place count js) flows last before after → DrainsInTurn n js flows last
+drains-told n place count [] flows last before after tells = tells.0
+drains-told n place count (j ∷ js) flows last before after tells =
+    (tells.0, tells.2.drains, drains-told n (place + 1) count js tells.0 last tells.1 after tells.3)
+
+-- Arcs that carry no flow are drained without a report.
+pub tells-none_in_turn : (n : Network) (place count : ℕ) (js flows : List ℕ) (told : Option (List Taken)) → flow_on_all flows js ≡ 0
+    → TellsDrains n (turns_from place count js) flows flows told told
+tells-none_in_turn n place count [] flows told none = (refl, AreTold-none told)
+tells-none_in_turn n place count (j ∷ js) flows told none =
+    let sum = sum_by-cons (flow_on flows) j js in
+    let turn : Turn = record { arc = j; limit = 0; place = place; count = count } in
+    (flows, told, tells-none n turn flows told (omega (arith, none, sum)), tells-none_in_turn n (place + 1) count js flows told (omega (arith, none, sum)))
+
+-- The flows of the search and the reports so far: draining the remaining arcs from them gives what draining all arcs gives from the
+-- state's flow.
+pub record AreDrainedUpTo (s : NetworkState) (all left : List Turn) (unpaired : List ℕ) (search : Searched) (before now : Option (List Taken))
+    : Type 0 where
+  pub carrying : IsCarryingSearch s unpaired search
+  pub onward : (last : List ℕ) (after : Option (List Taken))
+      → TellsDrains s.network left (flows_read Along unpaired search.pairs) last now after → TellsDrains s.network all s.flows last before after
+
+-- After the drain of the next arc, one arc less is left.
+pub drained-next_arc : (s : NetworkState) (all left : List Turn) (unpaired next_unpaired : List ℕ) (turn : Turn) (rest : List Turn)
+    (search next : Searched) (before now after : Option (List Taken)) → left ≡ turn ∷ rest → IsCarryingSearch s next_unpaired next
+    → TellsDrain s.network turn (flows_read Along unpaired search.pairs) (flows_read Along next_unpaired next.pairs) now after
+    → AreDrainedUpTo s all left unpaired search before now → AreDrainedUpTo s all rest next_unpaired next before after
+drained-next_arc s all left unpaired next_unpaired turn rest search next before now after is carrying drains up_to = record {
+  carrying = carrying;
+  onward = λ last end more. up_to.onward last end (rw is (flows_read Along next_unpaired next.pairs, after, drains, more));
+}
+
+-- Once none is left, all were drained in turn.
+pub drained-every_arc : (s : NetworkState) (all left : List Turn) (unpaired : List ℕ) (search : Searched) (before now : Option (List Taken))
+    → left ≡ [] → AreDrainedUpTo s all left unpaired search before now
+    → TellsDrains s.network all s.flows (flows_read Along unpaired search.pairs) before now
+drained-every_arc s all left unpaired search before now none up_to =
+    up_to.onward (flows_read Along unpaired search.pairs) now (rw none (refl, AreTold-none now))
