@@ -3,6 +3,7 @@
 from __future__ import annotations
 
 from collections import Counter
+from collections.abc import Callable
 from pathlib import Path
 from random import Random
 from typing import NamedTuple
@@ -21,6 +22,8 @@ CODES = {
     "nothing to undo": 7, "nothing to redo": 8, "flow is not greatest": 9,
 }  # fmt: skip
 STEPS, BATCHES = 20_000, 20
+# Sessions whose solves begin near a cut, in the gate and by --long, and the steps of each.
+NEAR, MANY_NEAR, NEAR_STEPS, NEAR_BATCHES = 400, 200_000, 30, 4
 
 
 class Step(NamedTuple):
@@ -44,6 +47,23 @@ def random_step(session: Session, random: Random) -> Step:
         Step("redo", (count,)),
     ]  # fmt: skip
     return random.choice(steps)
+
+
+def step_near_a_cut(session: Session, random: Random) -> Step:
+    """Mostly a change of an arc that is full, or of one that carries nothing: some of these in a row, and then a solve. So many links lead out of
+    the side that the solve before closed, from several nodes and to several, and some paths come back into it."""
+    state = session.present()
+    arcs = [number for number, (arc, flow) in enumerate(zip(state.arcs, state.flows), 1) if not arc.is_closed and flow in (0, arc.cap)]
+    arc = random.choice(arcs or [1])
+    flow, capacity = (state.flows[arc - 1], state.arcs[arc - 1].cap) if state.arcs else (0, 0)
+    higher = min(capacity + random.randint(1, 9), 2**64 - 1 - state.capacity_sum() + capacity)
+    steps = [
+        (8, Step("solve")), (8, Step("cap", (arc, higher))), (3, Step("cap", (arc, flow // 2))), (4, Step("close", (arc,))),
+        (3, Step("add", (random.randint(1, state.nodes), random.randint(1, state.nodes), random.randint(0, 9)))),
+        (1, Step("shut", (random.randint(1, state.nodes),))), (3, Step("undo", (random.randint(1, 4),))),
+        (8 if session.place + 1 < len(session.states) else 1, Step("redo", (random.randint(1, 2),))),
+    ]  # fmt: skip
+    return random.choices([step for _, step in steps], [weight for weight, _ in steps])[0]
 
 
 def status_of(session: CSession, step: Step) -> int:
@@ -85,9 +105,11 @@ def compare_texts_and_side(given: CSession, state: State) -> None:
     assert of_side.value.status == of_check.value.status == 9
 
 
-def run_session(library: Library, random: Random, steps: int) -> Counter[str]:
+def run_session(
+    library: Library, random: Random, steps: int, next_step: Callable[[Session, Random], Step] = random_step, most_nodes: int = 10
+) -> Counter[str]:
     """So many steps on one network, each compared. Counts the steps that are taken and those that are refused."""
-    state = random_cases.network(random, most_nodes=10)
+    state = random_cases.network(random, most_nodes)
     if state.capacity_sum() >= 2**64 or state.source == state.sink:
         return Counter()
     bound = random.choice([0, 1, 3, 1_000_000])
@@ -95,7 +117,7 @@ def run_session(library: Library, random: Random, steps: int) -> Counter[str]:
     seen: Counter[str] = Counter()
     with library.open(state.nodes, (state.source, state.sink), [arc[:3] for arc in state.arcs], bound) as given:
         for at in range(steps):
-            step = random_step(wanted, random)
+            step = next_step(wanted, random)
             status = wanted_status(wanted, step)
             assert status_of(given, step) == status, step
             compare(given, wanted)
@@ -113,6 +135,18 @@ def test_random_sessions(library: Library, batch: int, request: pytest.FixtureRe
     while sum(seen.values()) < STEPS // BATCHES:
         seen += run_session(library, random, 50)
     for kind in ("solve 0", "cap 0", "cap 3", "close 0", "close 4", "shut 0", "shut 2", "add 0", "add 2", "undo 0", "undo 7", "redo 0", "redo 8"):
+        assert seen[kind] > 0, kind
+
+
+@pytest.mark.seconds(3)
+@pytest.mark.parametrize("batch", range(NEAR_BATCHES))
+def test_solves_near_a_cut(library: Library, batch: int, request: pytest.FixtureRequest) -> None:
+    random = Random(f"near {request.config.getoption('--seed')} {batch}")
+    sessions = (MANY_NEAR if request.config.getoption("--long") else NEAR) // NEAR_BATCHES
+    seen: Counter[str] = Counter()
+    for _ in range(sessions):
+        seen += run_session(library, random, NEAR_STEPS, step_near_a_cut, random.choice([6, 10, 14, 20]))
+    for kind in ("solve 0", "cap 0", "close 0", "shut 0", "add 0", "undo 0", "redo 0"):
         assert seen[kind] > 0, kind
 
 
