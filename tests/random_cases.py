@@ -189,7 +189,7 @@ AFTER_ADDITION: list[Lines] = [[], [], [], [line("undo"), line("redo")], [line("
 
 def mixture(random: Random) -> list[Command]:
     """The commands of a script, in any order."""
-    # The first addition makes the links of a session anew, with spare ones: some scripts have few additions.
+    # An addition makes all links anew where an end has no spare one: some scripts have few.
     rest = random.choice([1, 1, 0.1])
     weights = {word: it.weight * (rest if word in ("add", "undo") else 1) for word, it in COMMANDS.items()}
     weights["print"] += random.randrange(9)

@@ -165,3 +165,16 @@ def test_added_arcs(family: str, maker: Path, tmp_path: Path) -> None:
     others = [f"add {node} {node + 1} 1\nundo\n" for node in range(1, 41, 2)]
     before, after = (instructions(tmp_path, text, f"solve\nadd 1 2 1\n{then}") for then in ("", "".join(others)))
     assert (after - before) / len(others) < ADD_BUDGET
+
+
+@needs_valgrind
+@pytest.mark.seconds(4)
+@pytest.mark.parametrize("family", ["grid", "random"])
+def test_added_self_loops(family: str, maker: Path, tmp_path: Path) -> None:
+    """An added self loop has no link, and neither has its undo: the close and the solve behind them make none anew."""
+    text = subprocess.run([maker, family, str(ARCS), "1990"], capture_output=True, check=True, text=True).stdout
+    solution = subprocess.run([BUILT, "solve"], input=text, capture_output=True, check=True, text=True).stdout
+    carrying = next(number for number, line in enumerate(solution.splitlines()[1:], 1) if not line.endswith(" 0"))
+    loops = [f"add {node} {node} 1\nundo\nredo\n" for node in range(1, 21)]
+    before, after = (instructions(tmp_path, text, f"solve\n{then}close {carrying}\nsolve\n") for then in ("", "".join(loops)))
+    assert (after - before) / len(loops) < ADD_BUDGET

@@ -2,6 +2,5 @@ pub mod Pair
 pub mod Links
 pub mod LinkTable
 pub mod Building
-pub mod Grown
 pub mod Stack
 pub mod Numbers

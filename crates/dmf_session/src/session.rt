@@ -23,9 +23,8 @@ use std::marker::Model;
 /// A network that commands change, over the history that keeps its states.
 ///
 /// From the first solve or drain on, the session also keeps the residual network of the present state, so that the next solve or drain
-/// need not make it anew. The network follows each change, and each step back or forward if the history gives the edit. The first of
-/// these after a solve takes time for each node that has a label. An added arc takes memory and time for each link, and its undo takes
-/// time for each link. The session drops the network if memory is refused, or if an arc is added that begins and ends at one node.
+/// need not make it anew. The network follows each change, and each step back or forward if the history gives the edit, in the time that
+/// [`ResidualNetwork::follow`] tells. The session drops the network if memory is refused.
 #[derive(Drop)]
 pub struct Session<H: History> {
     history: H,

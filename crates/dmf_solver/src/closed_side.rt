@@ -1,7 +1,6 @@
 //! The closed side of a search for augmenting paths: a cut without room shows that no path is left, with no look at any other link.
 ghost use Rattle.std.specs.Prelude.{◌≡◌, ◌+◌, ◌-◌, ◌^◌, ◌<◌, ◌≤◌, ◌∷◌, ℕ, true, length, insert, remove, Some, IfOk, IfSome};
-ghost use Rattle.dmf_links.specs.Grown.{HasEndsOf};
-ghost use Rattle.dmf_links.specs.Pair.{IsPair, pair_number};
+ghost use Rattle.dmf_links.specs.Pair.{IsPair, pair_number, without_room};
 ghost use Rattle.dmf_path.specs.ClosedSide.{IsClosedSide};
 ghost use Rattle.dmf_path.specs.Pair.{steps_of};
 ghost use Rattle.dmf_path.specs.Path.{HasNoPath};
@@ -161,27 +160,24 @@ impl SidedSearch {
         self.side = with_gate(self.side.take(), &self.search, k);
     }
 
-    /// The search with this pair before the last one, at index `k`, as [`Search::insert`] makes it.
+    /// The search with this pair before the last one, at index `k` and without room, as [`Search::insert`] makes it.
     pub fn insert(
         self,
         alloc: Global,
         k: usize,
-        pair: Pair,
+        pair: Option<Pair>,
         other: Option<Search>,
-        other_pair: Pair,
     ) -> Option<(SidedSearch, Option<Search>)>
         requires index { k + 1 ≡ length self.pairs }
-        requires pair { IsPair self.nodes pair }
+        requires pair { IfSome pair (IsPair self.nodes) }
         requires few { length self.pairs ≤ 2 ^ 27 }
-        requires ends { HasEndsOf pair other_pair }
-        requires fits { other_pair.along + other_pair.against < 2 ^ 64 }
-        ensures search { IfSome result (λ both. both.0 ≡ with_pairs self (insert self.pairs (length self.pairs - 1) (Some pair))) }
+        ensures search { IfSome result (λ both. both.0 ≡ with_pairs self (insert self.pairs (length self.pairs - 1) (without_room pair))) }
         ensures other { IfSome result (λ both. IfSome both.1 (λ search. (o : Searched) × ((other ≡ Some o)
-            × (search ≡ with_pairs o (insert o.pairs (length o.pairs - 1) (Some other_pair)))))) }
+            × (search ≡ with_pairs o (insert o.pairs (length o.pairs - 1) (without_room pair)))))) }
     {
         let SidedSearch { search, side } = self;
-        let (search, other) = search.insert(alloc, pair, other, other_pair)?;
-        let side = with_gate(with_gate(side, &search, k), &search, k + 1);
+        let (search, other) = search.insert(alloc, pair, other)?;
+        let side = with_gate(side, &search, k + 1);
         Some((SidedSearch { search, side }, other))
     }
 

@@ -24,7 +24,6 @@ use crate::residual::{residual_pair, residual_search};
 use crate::side::{side_along, wanted_side};
 use crate::solve::{SolvedSearch, solve};
 use crate::watch::Watch;
-use dmf_links::Pair;
 use dmf_path::Search;
 use dmf_state::{Arc, Direction, Edit, Move, NoMemory, Side, State};
 use std::alloc::{AllocError, Global};
@@ -181,8 +180,7 @@ impl ResidualNetwork {
     ///
     /// Takes no memory, and time for the arcs that the edit names; the first call after a solve also takes time for each node that has a
     /// label. An edit that adds an arc takes constant time besides, or time for a look at each link after a drain. Forward, where an end
-    /// of the arc has no spare link, all links are made anew. `None` only for such an edit: if memory is refused, or if the arc begins and
-    /// ends at one node.
+    /// of the arc has no spare link, all links are made anew. `None` only for such an edit, if memory is refused.
     pub fn follow(
         self,
         alloc: Global,
@@ -211,19 +209,15 @@ impl ResidualNetwork {
         requires state { IsState (with_idle_arc state.now arc) }
         ensures { IfSome result (IsNetworkOf (with_idle_arc state.now arc)) }
     {
-        let pair = residual_pair(arc, 0)?;
         let ResidualNetwork {
             search,
             carrying,
             looks,
         } = self;
-        let idle = Pair {
-            tail: pair.tail,
-            head: pair.head,
-            along: 0,
-            against: 0,
-        };
-        let (search, carrying) = search.insert(alloc, state.arcs().len(), pair, carrying, idle)?;
+        let k = state.arcs().len();
+        let pair = residual_pair(arc, 0);
+        let (mut search, carrying) = search.insert(alloc, k, pair, carrying)?;
+        search.set_rooms(k, arc.cap, 0);
         Some(ResidualNetwork {
             search,
             carrying,

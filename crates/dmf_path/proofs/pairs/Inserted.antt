@@ -7,10 +7,9 @@ use Rattle.std.proofs.lemmas.List.{get_or-take, length-take-le}
 use Rattle.dmf_links.specs.declared.pair.Pair.{Pair}
 use Rattle.dmf_path.specs.declared.search.apart.Own.{Own}
 use Rattle.dmf_path.specs.Apart.{IsApart, IsIdled, LeavesOut, TakesIn}
-use Rattle.dmf_links.specs.Grown.{HasEndsOf}
 use Rattle.dmf_links.specs.Links.{Links, AreLinks}
 use Rattle.dmf_links.specs.Pair.{without_room, pair_number}
-use Rattle.dmf_links.specs.Stack.{IsIdle, IsPutOn}
+use Rattle.dmf_links.specs.Stack.{IsIdle}
 use Rattle.dmf_path.specs.Search.{Searched, pair_with, with_pairs, with_rooms}
 use Rattle.dmf_path.proofs.pairs.PairLists.{inserted, removed, with_two, without_one}
 use Rattle.dmf_path.proofs.pairs.PutApart.{taken-in, left-out}
@@ -59,38 +58,22 @@ module _ {old : Searched} {k : ℕ} {s : Searched} {a b : ℕ} (idled : IsIdled 
         idled-long,
       )
 
-  -- It takes in a pair with these ends.
-  pub takes-in : {l : Links} {places : List ℕ} {own : Own} {p q : Pair} {n : Links} {after : List ℕ} → IsApart l places own s → HasEndsOf p q
-      → TakesIn l places (Some p) n after → AreLinks n → IsApart n after own (with_pairs s (with_two s.pairs (Some q)))
-  takes-in {l} {places} {own} {p} {q} {n} {after} apart ends t links =
-      let same : ◌≡◌ {A = Option Pair} (without_room (Some p)) (without_room (Some q)) =
-      λ i. Some (record { tail = sym ends.tail i; head = sym ends.head i; along = 0; against = 0 }) in
-      let its : TakesIn l places (Some q) n after = record {
-        off = t.off;
-        left = t.left;
-        off_links = t.off_links;
-        taken_off = t.taken_off;
-        on = t.on;
-        more = t.more;
-        on_links = t.on_links;
-        put_on = subst (λ o. IsPutOn t.off t.left o t.on t.more) same t.put_on;
-        last = t.last;
-        last_is = t.last_is;
-        last_on = t.last_on;
-      } in
-      taken-in apart idle-last its links
+  -- It takes in a pair without room.
+  pub takes-in : {l : Links} {places : List ℕ} {own : Own} {o : Option Pair} {n : Links} {after : List ℕ} → IsApart l places own s
+      → TakesIn l places o n after → AreLinks n → IsApart n after own (with_pairs s (with_two s.pairs o))
+  takes-in apart t links = taken-in apart idle-last t links
 
-  -- With the rooms of both it has the pair before its last one.
-  pub has-inserted : {with_pair final : Searched} (q : Pair) → with_pair ≡ with_pairs s (with_two s.pairs (Some q))
-      → final ≡ with_pairs with_pair (with_rooms (with_rooms with_pair.pairs k q.along q.against) (k + 1) a b)
-      → final ≡ with_pairs old (insert old.pairs (length old.pairs - 1) (Some q))
-  has-inserted q with_is final_is =
+  -- With the rooms of its last pair it has the one before it.
+  pub has-inserted : {with_pair final : Searched} (o : Option Pair) → with_pair ≡ with_pairs s (with_two s.pairs o)
+      → final ≡ with_pairs with_pair (with_rooms with_pair.pairs (k + 1) a b)
+      → final ≡ with_pairs old (insert old.pairs (length old.pairs - 1) (without_room o))
+  has-inserted o with_is final_is =
       let last : k ≡ length old.pairs - 1 = omega (arith, idled.count) in
       final_is
-      ∙ ap (λ (x : Searched). with_pairs x (with_rooms (with_rooms x.pairs k q.along q.against) (k + 1) a b)) with_is
-      ∙ ap (λ (x : Searched). with_pairs x (with_rooms (with_rooms (with_two x.pairs (Some q)) k q.along q.against) (k + 1) a b)) idled.is
-      ∙ ap (with_pairs old) (inserted old.pairs k q a b idled.count idled.along_is idled.against_is)
-      ∙ ap (λ j. with_pairs old (insert old.pairs j (Some q))) last
+      ∙ ap (λ (x : Searched). with_pairs x (with_rooms x.pairs (k + 1) a b)) with_is
+      ∙ ap (λ (x : Searched). with_pairs x (with_rooms (with_two x.pairs o) (k + 1) a b)) idled.is
+      ∙ ap (with_pairs old) (inserted old.pairs k o a b idled.count idled.along_is idled.against_is)
+      ∙ ap (λ j. with_pairs old (insert old.pairs j (without_room o))) last
 
 module _ {old : Searched} (k : ℕ) {first s : Searched} {a b : ℕ} (idled : IsIdled old (k + 1) first a b)
     (next : s ≡ with_pairs first (with_rooms first.pairs k 0 0)) where

@@ -24,7 +24,7 @@ number-here : (xs : List (Option Pair)) (y : Option Pair) (ys : List (Option Pai
 number-here xs y ys k long = rw (← long) (get_or-append_seam xs y ys None)
 
 -- with other rooms,
-set-here : (xs : List (Option Pair)) (y : Option Pair) (ys : List (Option Pair)) (k a b : ℕ) → length xs ≡ k
+pub set-here : (xs : List (Option Pair)) (y : Option Pair) (ys : List (Option Pair)) (k a b : ℕ) → length xs ≡ k
     → with_rooms (xs ++ y ∷ ys) k a b ≡ xs ++ option_map (pair_with a b) y ∷ ys
 set-here xs y ys k a b long =
     ap (λ o. set (xs ++ y ∷ ys) k (option_map (pair_with a b) o)) (number-here xs y ys k long)
@@ -71,32 +71,28 @@ module _ (xs : List (Option Pair)) (y : Option Pair) (k a b : ℕ) (long : lengt
       let less : length (xs ++ bare ∷ []) - 1 ≡ k = omega (arith, long, length-append xs (bare ∷ [])) in
       ap (pair_number (xs ++ bare ∷ [])) less ∙ number-here xs bare [] k long
 
-  inserted-behind : (p : Pair) → with_rooms (with_rooms (with_two (with_rooms (xs ++ y ∷ []) k 0 0) (Some p)) k p.along p.against) (k + 1) a b
-      ≡ insert (xs ++ y ∷ []) k (Some p)
-  inserted-behind p =
+  inserted-behind : (o : Option Pair) → with_rooms (with_two (with_rooms (xs ++ y ∷ []) k 0 0) o) (k + 1) a b ≡ insert (xs ++ y ∷ []) k (without_room o)
+  inserted-behind o =
       let bare_list : with_rooms (xs ++ y ∷ []) k 0 0 ≡ xs ++ bare ∷ [] = set-here xs y [] k 0 0 long in
-      let two : with_two (with_rooms (xs ++ y ∷ []) k 0 0) (Some p) ≡ xs ++ without_room (Some p) ∷ without_room bare ∷ [] =
-      ap (λ ps. with_two ps (Some p)) bare_list
-      ∙ (λ i. (off-bare i ++ without_room (Some p) ∷ []) ++ without_room (last-bare i) ∷ [])
-      ∙ append_assoc xs (without_room (Some p) ∷ []) (without_room bare ∷ []) in
-      let here : with_rooms (xs ++ without_room (Some p) ∷ without_room bare ∷ []) k p.along p.against ≡ xs ++ Some p ∷ without_room bare ∷ [] =
-      set-here xs (without_room (Some p)) (without_room bare ∷ []) k p.along p.against long in
+      let two : with_two (with_rooms (xs ++ y ∷ []) k 0 0) o ≡ xs ++ without_room o ∷ without_room bare ∷ [] =
+      ap (λ ps. with_two ps o) bare_list
+      ∙ (λ i. (off-bare i ++ without_room o ∷ []) ++ without_room (last-bare i) ∷ [])
+      ∙ append_assoc xs (without_room o ∷ []) (without_room bare ∷ []) in
       let zero : k - length xs ≡ 0 = omega (arith, long) in
-      ap (λ ps. with_rooms (with_rooms ps k p.along p.against) (k + 1) a b) two
-      ∙ ap (λ ps. with_rooms ps (k + 1) a b) here
-      ∙ set-next xs (Some p) (without_room bare) k a b long
-      ∙ ap (λ o. xs ++ Some p ∷ o ∷ []) (restored y a b along against)
-      ∙ sym (insert-append_right xs (y ∷ []) (length xs) k (Some p) refl (omega (arith, long)) ∙ ap (λ n. xs ++ insert (y ∷ []) n (Some p)) zero)
+      ap (λ ps. with_rooms ps (k + 1) a b) two
+      ∙ set-next xs (without_room o) (without_room bare) k a b long
+      ∙ ap (λ p. xs ++ without_room o ∷ p ∷ []) (restored y a b along against)
+      ∙ sym (insert-append_right xs (y ∷ []) (length xs) k (without_room o) refl (omega (arith, long))
+      ∙ ap (λ n. xs ++ insert (y ∷ []) n (without_room o)) zero)
 
 -- A pair goes in before the last one, which gets its rooms back.
-pub inserted : (ps : List (Option Pair)) (k : ℕ) (p : Pair) (a b : ℕ) → length ps ≡ k + 1 → ((q : Pair) → pair_number ps k ≡ Some q → q.along ≡ a)
-    → ((q : Pair) → pair_number ps k ≡ Some q → q.against ≡ b)
-    → with_rooms (with_rooms (with_two (with_rooms ps k 0 0) (Some p)) k p.along p.against) (k + 1) a b ≡ insert ps k (Some p)
-inserted ps k p a b long along against =
+pub inserted : (ps : List (Option Pair)) (k : ℕ) (o : Option Pair) (a b : ℕ) → length ps ≡ k + 1
+    → ((q : Pair) → pair_number ps k ≡ Some q → q.along ≡ a) → ((q : Pair) → pair_number ps k ≡ Some q → q.against ≡ b)
+    → with_rooms (with_two (with_rooms ps k 0 0) o) (k + 1) a b ≡ insert ps k (without_room o)
+inserted ps k o a b long along against =
     let apart = last-apart ps k None long in
-    let is = inserted-behind (take k ps) (pair_number ps k) k a b (length-take-le k ps (omega (arith, long))) along against p in
-    ap (λ qs. with_rooms (with_rooms (with_two (with_rooms qs k 0 0) (Some p)) k p.along p.against) (k + 1) a b) apart
-    ∙ is ∙ ap (λ qs. insert qs k (Some p)) (sym apart)
+    let is = inserted-behind (take k ps) (pair_number ps k) k a b (length-take-le k ps (omega (arith, long))) along against o in
+    ap (λ qs. with_rooms (with_two (with_rooms qs k 0 0) o) (k + 1) a b) apart ∙ is ∙ ap (λ qs. insert qs k (without_room o)) (sym apart)
 
 module _ (xs : List (Option Pair)) (x y : Option Pair) (k a b : ℕ) (long : length xs ≡ k) (along : (q : Pair) → y ≡ Some q → q.along ≡ a)
     (against : (q : Pair) → y ≡ Some q → q.against ≡ b) where

@@ -1,7 +1,6 @@
 //! A search takes in a pair more, and with it another search over the same links.
 ghost use Rattle.std.specs.Prelude.{◌≡◌, ◌≢◌, ◌+◌, ◌-◌, ◌^◌, ◌<◌, ◌≤◌, length, insert, Some, IfSome};
 ghost use Rattle.dmf_path.specs.Apart.{AreShared, IsIdled, TakesIn};
-ghost use Rattle.dmf_links.specs.Grown.{HasEndsOf};
 ghost use Rattle.dmf_links.specs.LinkTable.{links_of};
 ghost use Rattle.dmf_links.specs.Pair.{IsPair, without_room};
 ghost use Rattle.dmf_links.specs.Stack.{IsPutOn, IsTakenOff};
@@ -24,8 +23,8 @@ pub struct Rooms {
 }
 
 impl Search {
-    /// The search with this pair before the last one, and with it another search with a pair between the same nodes before its last one,
-    /// if one is given. The two share the links. In place of the other search there is `None`, if it has other links.
+    /// The search with this pair before the last one, without room, and with it another search with the same pair there, if one is given.
+    /// `None` stands for no pair there. The two share the links. In place of the other search there is `None`, if it has other links.
     ///
     /// The pair gets spare links. Takes constant time, and time for each node that has a label, since labelling begins anew; with another
     /// search, time for a look at each link. Takes memory for a place. Where an end of the pair has no spare link, all links are made anew,
@@ -34,35 +33,32 @@ impl Search {
     pub fn insert(
         self,
         alloc: Global,
-        pair: Pair,
+        pair: Option<Pair>,
         other: Option<Search>,
-        other_pair: Pair,
     ) -> Option<(Search, Option<Search>)>
-        requires pair { IsPair self.nodes pair }
+        requires pair { IfSome pair (IsPair self.nodes) }
         requires some { 0 < length self.pairs }
         requires few { length self.pairs ≤ 2 ^ 27 }
-        requires ends { HasEndsOf pair other_pair }
-        requires fits { other_pair.along + other_pair.against < 2 ^ 64 }
-        ensures search { IfSome result (λ both. both.0 ≡ with_pairs self (insert self.pairs (length self.pairs - 1) (Some pair))) }
+        ensures search { IfSome result (λ both. both.0 ≡ with_pairs self (insert self.pairs (length self.pairs - 1) (without_room pair))) }
         ensures other { IfSome result (λ both. IfSome both.1 (λ search. (o : Searched) × ((other ≡ Some o)
-            × (search ≡ with_pairs o (insert o.pairs (length o.pairs - 1) (Some other_pair)))))) }
+            × (search ≡ with_pairs o (insert o.pairs (length o.pairs - 1) (without_room pair)))))) }
     {
         let k = self.places.len() - 1;
         let (search, other) = self.ready_for(alloc, pair, other)?;
         let (search, last) = search.idled(k)?;
         let (shared, own) = search.begun();
         let Some(other) = other else {
-            let shared = shared.taking_in(Some(pair))?;
-            return Some((own.over(shared).roomy(k, pair, last), None));
+            let shared = shared.taking_in(pair)?;
+            return Some((own.over(shared).with_last_rooms(k + 1, last), None));
         };
         let (other, other_last) = other.idled(k)?;
         let others = begun_over(Some(other), &shared)?;
-        let shared = shared.taking_in(Some(pair))?;
+        let shared = shared.taking_in(pair)?;
         let other = others.over(shared.share()?);
         let search = own.over(shared);
         Some((
-            search.roomy(k, pair, last),
-            Some(other.roomy(k, other_pair, other_last)),
+            search.with_last_rooms(k + 1, last),
+            Some(other.with_last_rooms(k + 1, other_last)),
         ))
     }
 
@@ -70,13 +66,16 @@ impl Search {
     fn ready_for(
         self,
         alloc: Global,
-        pair: Pair,
+        pair: Option<Pair>,
         other: Option<Search>,
     ) -> Option<(Search, Option<Search>)>
-        requires { IsPair self.nodes pair }
+        requires { IfSome pair (IsPair self.nodes) }
         ensures search { IfSome result (λ both. both.0 ≡ self) }
         ensures other { IfSome result (λ both. IfSome both.1 (λ search. other ≡ Some search)) }
     {
+        let Some(pair) = pair else {
+            return Some((self, other));
+        };
         if !has_spare(&self.links.table, pair.tail) {
             return Some((self.with_spares(alloc, pair.tail)?, None));
         }
@@ -104,14 +103,12 @@ impl Search {
         Some((self, Rooms { along, against }))
     }
 
-    /// The search with these rooms of the pair at index `k`, and of the last one behind it. Takes no memory.
-    fn roomy(mut self, k: usize, pair: Pair, last: Rooms) -> Search
-        requires count { length self.pairs ≡ k + 2 }
-        requires fits { pair.along + pair.against < 2 ^ 64 }
-        ensures { result ≡ with_pairs self (with_rooms (with_rooms self.pairs k pair.along pair.against) (k + 1) last.along last.against) }
+    /// The search with these rooms of its last pair, at index `k`. Takes no memory.
+    pub(super) fn with_last_rooms(mut self, k: usize, last: Rooms) -> Search
+        requires { k < length self.pairs }
+        ensures { result ≡ with_pairs self (with_rooms self.pairs k last.along last.against) }
     {
-        self.set_rooms(k, pair.along, pair.against);
-        self.set_rooms(k + 1, last.along, last.against);
+        self.set_rooms(k, last.along, last.against);
         self
     }
 }

@@ -7,7 +7,6 @@ ghost use Rattle.dmf_path.specs.Search.{Searched, with_pairs, with_rooms};
 
 use crate::search::Search;
 use crate::search::apart::{Shared, begun_over};
-use crate::search::growing::Rooms;
 use dmf_links::idle_pair;
 
 impl Search {
@@ -56,15 +55,6 @@ impl Search {
             left = left.without_last()?;
         }
         Some(own.over(left))
-    }
-
-    /// The search with these rooms of its last pair, at index `k`. Takes no memory.
-    fn with_last_rooms(mut self, k: usize, last: Rooms) -> Search
-        requires { k < length self.pairs }
-        ensures { result ≡ with_pairs self (with_rooms self.pairs k last.along last.against) }
-    {
-        self.set_rooms(k, last.along, last.against);
-        self
     }
 }
 

@@ -5,16 +5,17 @@ use Rattle.std.specs.Prelude.{◌&&◌, ◌||◌, not, nat_lt, IsTrue, IfSome, i
 use Rattle.std.specs.List.{Contains, filter}
 use Rattle.std.proofs.lemmas.Bool.{false≢true, cases_eq, cases_lt}
 use Rattle.std.proofs.lemmas.List.{get_or-set_other, get_or_past}
-use Rattle.std.proofs.lemmas.List.Edits.{length-insert, get_or-insert_below, length-remove, get_or-remove_below}
+use Rattle.std.proofs.lemmas.List.Edits.{length-insert, get_or-insert_at, get_or-insert_below, length-remove, get_or-remove_below}
 use Rattle.std.proofs.lemmas.Bool.Decides.{nat_tests}
 use Rattle.std.proofs.lemmas.List.Elements.{Contains-append_cases, Contains-append_left, Contains-append_right}
 use Rattle.dmf_links.specs.declared.pair.Pair.{Pair}
-use Rattle.dmf_links.specs.Pair.{pair_number}
+use Rattle.dmf_links.specs.Pair.{pair_number, without_room}
 use Rattle.dmf_path.specs.ClosedSide.{is_marked, IsClosedSide}
 use Rattle.dmf_path.specs.Pair.{pair_steps, steps_from, steps_of}
 use Rattle.dmf_path.specs.Path.{IsPath, HasNoPath}
 use Rattle.dmf_path.specs.Search.{Searched, with_pairs, with_rooms}
 use Rattle.dmf_path.specs.Step.{Step}
+use Rattle.dmf_path.proofs.pairs.PairLists.{emptied-twice}
 use Rattle.dmf_solver.specs.declared.closed_side.ClosedSide.{ClosedSide}
 use Rattle.dmf_solver.specs.Gates.{leads_out, leads_from, IsClosedBut, IsGuarded, KeepsGates, MayBeGated}
 use Rattle.dmf_solver.proofs.pairs.ByArc.{optional-each, optional-has}
@@ -188,12 +189,18 @@ closed-anew search side long is =
 
 -- ---- changes of pairs
 
--- The search is between the same ends, and no pairs but those at these indices differ, or are gone.
+-- Without room no link leads out.
+bare-out : (marks : List Bool) (o : Option Pair) → leads_out marks (without_room o) ≡ false
+bare-out marks None = refl
+bare-out marks (Some p) = refl
+
+-- The search is between the same ends, and no pairs but those at these indices differ, unless they have no room, or are gone.
 pub record ChangesAt (touched : List ℕ) (old new : Searched) : Type 0 where
   pub nodes_are : new.nodes ≡ old.nodes
   pub start_is : new.start ≡ old.start
   pub goal_is : new.goal ≡ old.goal
-  pub others : (k : ℕ) → Contains touched k ⊎ ((pair_number new.pairs k ≡ pair_number old.pairs k) ⊎ (pair_number new.pairs k ≡ None))
+  pub others : (k : ℕ) → Contains touched k
+      ⊎ ((pair_number new.pairs k ≡ pair_number old.pairs k) ⊎ (without_room (pair_number new.pairs k) ≡ pair_number new.pairs k))
 
 -- If they are gates, the side stays closed.
 closed-touched : (touched : List ℕ) (old new : Searched) (side after : ClosedSide) → IsClosedBut old side → ChangesAt touched old new
@@ -211,50 +218,23 @@ closed-touched touched old new side after is changes keeps =
     still : (k : ℕ) → IsGuarded new.pairs side.marks.items after.gates.items k
     still k = ⊎_elim
         (λ (one : Contains touched k). keeps.kept k (Contains-append_left touched side.gates.items k one))
-        (λ (other : (pair_number new.pairs k ≡ pair_number old.pairs k) ⊎ (pair_number new.pairs k ≡ None)). ⊎_elim
+        (λ (other : (pair_number new.pairs k ≡ pair_number old.pairs k) ⊎ (without_room (pair_number new.pairs k) ≡ pair_number new.pairs k)). ⊎_elim
         (λ (same : pair_number new.pairs k ≡ pair_number old.pairs k). ⊎_elim
         (λ (gate : Contains side.gates.items k). keeps.kept k (Contains-append_right touched side.gates.items k gate))
         (λ (out : leads_out side.marks.items (pair_number old.pairs k) ≡ false).
         inr (ap (leads_out side.marks.items) same ∙ out))
         (is.guarded k))
-        (λ (gone : pair_number new.pairs k ≡ None). inr (ap (leads_out side.marks.items) gone))
+        (λ (bare : without_room (pair_number new.pairs k) ≡ pair_number new.pairs k).
+        inr (ap (leads_out side.marks.items) (sym bare) ∙ bare-out side.marks.items (pair_number new.pairs k)))
         other)
         (changes.others k)
 
--- One more gate after another
-kept-twice : (search : Searched) (marks : List Bool) (j k : ℕ) (gates : List ℕ) (between after : ClosedSide)
-    → KeepsGates search marks (j ∷ gates) between → KeepsGates search between.marks.items (k ∷ between.gates.items) after
-    → KeepsGates search marks (k ∷ j ∷ gates) after
-kept-twice search marks j k gates between after first second =
-    let same = first.marks_are in
-    let later : (i : ℕ) → Contains (k ∷ between.gates.items) i → IsGuarded search.pairs marks after.gates.items i =
-    λ i c. subst (λ (ms : List Bool). IsGuarded search.pairs ms after.gates.items i) same (second.kept i c) in
-    record {
-      marks_are = second.marks_are ∙ same;
-      kept = λ i c. ⊎_elim
-          (λ (own : Contains (k ∷ []) i). later i (Contains-append_left (k ∷ []) between.gates.items i own))
-          (λ (early : Contains (j ∷ gates) i). ⊎_elim
-          (λ (gate : Contains between.gates.items i). later i (Contains-append_right (k ∷ []) between.gates.items i gate))
-          (λ (out : leads_out marks (pair_number search.pairs i) ≡ false). inr out)
-          (first.kept i early))
-          (Contains-append_cases (k ∷ []) (j ∷ gates) i c);
-    }
-
--- The side that is left, if one is, is closed after one pair changed,
+-- The side that is left, if one is, is closed after one pair changed.
 pub closed-gated : (old new : Searched) (side result : Option ClosedSide) (k : ℕ) → IfSome side (IsClosedBut old) → ChangesAt (k ∷ []) old new
     → MayBeGated new side k result → IfSome result (IsClosedBut new)
 closed-gated old new side None k is changes gated = tt
 closed-gated old new side (Some after) k is changes gated =
     closed-touched (k ∷ []) old new gated.0 after (subst (λ s. IfSome s (IsClosedBut old)) gated.1 is) changes gated.2
-
--- and after two did.
-pub closed-gated_twice : (old new : Searched) (side between result : Option ClosedSide) (j k : ℕ) → IfSome side (IsClosedBut old)
-    → ChangesAt (k ∷ j ∷ []) old new → MayBeGated new side j between → MayBeGated new between k result → IfSome result (IsClosedBut new)
-closed-gated_twice old new side between None j k is changes first second = tt
-closed-gated_twice old new side between (Some after) j k is changes first second =
-    let before = subst (λ s. MayBeGated new side j s) second.1 first in
-    closed-touched (k ∷ j ∷ []) old new before.0 after (subst (λ s. IfSome s (IsClosedBut old)) before.1 is) changes
-    (kept-twice new before.0.marks.items j k before.0.gates.items second.0 after before.2 second.2)
 
 -- As many nodes are marked or not as there are.
 pub gated-long : (old new : Searched) (side : Option ClosedSide) → IfSome side (IsClosedBut old) → new.nodes ≡ old.nodes
@@ -262,13 +242,7 @@ pub gated-long : (old new : Searched) (side : Option ClosedSide) → IfSome side
 gated-long old new None is same = tt
 gated-long old new (Some side) is same = is.one_each ∙ sym same
 
-pub between-long : (search : Searched) (side result : Option ClosedSide) (k : ℕ) → IfSome side (λ side. length side.marks.items ≡ search.nodes)
-    → MayBeGated search side k result → IfSome result (λ side. length side.marks.items ≡ search.nodes)
-between-long search side None k long gated = tt
-between-long search side (Some after) k long gated =
-    ap length gated.2.marks_are ∙ subst (λ s. IfSome s (λ side. length side.marks.items ≡ search.nodes)) gated.1 long
-
--- ---- one pair, or two
+-- ---- one pair
 
 -- The only one of a list is this.
 only : (x k : ℕ) → Contains (x ∷ []) k → x ≡ k
@@ -290,29 +264,41 @@ changes-set old new k along against is =
           (cases_eq j k);
     }
 
+-- No pair there has no room.
+gone : (o : Option Pair) → o ≡ None → without_room o ≡ o
+gone o none = ap without_room none ∙ sym none
+
 pub changes-insert : (old new : Searched) (k : ℕ) (pair : Option Pair) → k + 1 ≡ length old.pairs
-    → new ≡ with_pairs old (insert old.pairs (length old.pairs - 1) pair) → ChangesAt ((k + 1) ∷ k ∷ []) old new
+    → new ≡ with_pairs old (insert old.pairs (length old.pairs - 1) (without_room pair)) → ChangesAt ((k + 1) ∷ []) old new
 changes-insert old new k pair last is =
     record {
       nodes_are = ap (λ (s : Searched). s.nodes) is;
       start_is = ap (λ (s : Searched). s.start) is;
       goal_is = ap (λ (s : Searched). s.goal) is;
       others = λ j. ⊎_elim
-          (λ (below : j < k). inr (inl (at j ∙ get_or-insert_below old.pairs k pair None j below (omega (arith, last)))))
+          (λ (below : j < k). inr (inl (at j ∙ get_or-insert_below old.pairs k bare None j below (omega (arith, last)))))
           (λ (not_below : k ≤ j). ⊎_elim
-          (λ (next : j < k + 2). inl (⊎_elim
-          (λ (same : k + 1 ≡ j). Contains-append_left ((k + 1) ∷ []) (k ∷ []) j (one (k + 1) j same))
-          (λ (other : k + 1 ≢ j). Contains-append_right ((k + 1) ∷ []) (k ∷ []) j (one k j (omega (arith, other, next, not_below))))
-          (cases_eq (k + 1) j)))
-          (λ (past : k + 2 ≤ j). inr (inr (at j ∙ get_or_past _ j None (omega (arith, past, last, length-insert old.pairs k pair (omega (arith, last)))))))
-          (cases_lt j (k + 2)))
+          (λ (here : k ≡ j). inr (inr (subst (λ i. without_room (pair_number new.pairs i) ≡ pair_number new.pairs i) here
+          (ap without_room new_is ∙ emptied-twice pair ∙ sym new_is))))
+          (λ (other : k ≢ j). ⊎_elim
+          (λ (next : k + 1 ≡ j). inl (one (k + 1) j next))
+          (λ (later : k + 1 ≢ j). inr (inr (gone _ (at j ∙ get_or_past _ j None
+          (omega (arith, not_below, other, later, last, length-insert old.pairs k bare (omega (arith, last))))))))
+          (cases_eq (k + 1) j))
+          (cases_eq k j))
           (cases_lt j k);
     }
   where
-    at : (j : ℕ) → pair_number new.pairs j ≡ pair_number (insert old.pairs k pair) j
+    bare : Option Pair
+    bare = without_room pair
+
+    at : (j : ℕ) → pair_number new.pairs j ≡ pair_number (insert old.pairs k bare) j
     at j =
         let index : length old.pairs - 1 ≡ k = omega (arith, last) in
-        ap (λ (s : Searched). pair_number s.pairs j) is ∙ ap (λ i. pair_number (insert old.pairs i pair) j) index
+        ap (λ (s : Searched). pair_number s.pairs j) is ∙ ap (λ i. pair_number (insert old.pairs i bare) j) index
+
+    new_is : pair_number new.pairs k ≡ bare
+    new_is = at k ∙ get_or-insert_at old.pairs k bare None (omega (arith, last))
 
 pub changes-remove : (old new : Searched) (k : ℕ) → k + 2 ≡ length old.pairs
     → new ≡ with_pairs old (remove old.pairs (length old.pairs - 2)) → ChangesAt (k ∷ []) old new
@@ -325,8 +311,8 @@ changes-remove old new k last is =
           (λ (below : j < k). inr (inl (at j ∙ get_or-remove_below old.pairs k None j below (omega (arith, last)))))
           (λ (not_below : k ≤ j). ⊎_elim
           (λ (same : k ≡ j). inl (one k j same))
-          (λ (other : k ≢ j). inr (inr (at j ∙ get_or_past _ j None
-          (omega (arith, other, not_below, last, length-remove old.pairs k (omega (arith, last)))))))
+          (λ (other : k ≢ j). inr (inr (gone _ (at j ∙ get_or_past _ j None
+          (omega (arith, other, not_below, last, length-remove old.pairs k (omega (arith, last))))))))
           (cases_eq k j))
           (cases_lt j k);
     }

@@ -1,10 +1,10 @@
 -- The carrying search of a state with one more arc, on which nothing flows, or without it.
 use Rattle.std.proofs.Common.{◌≡◌, ◌-◌, ◌==◌, Bool, true, false, [], ◌∷◌, ◌++◌, length, Option, Some, None, refl, ap, sym, ◌∙◌, subst, arith}
-use Rattle.std.specs.Option.{option_map}
 use Rattle.std.specs.Prelude.{insert, remove, IfSome}
 use Rattle.std.proofs.lemmas.List.{length_push}
 use Rattle.std.proofs.lemmas.Slice.Zip.{AllZip-long}
 use Rattle.dmf_links.specs.declared.pair.Pair.{Pair}
+use Rattle.dmf_links.specs.Pair.{without_room}
 use Rattle.dmf_path.specs.Search.{Searched, with_pairs}
 use Rattle.dmf_state.specs.declared.arc.Arc.{Arc}
 use Rattle.dmf_state.specs.Direction.{HasIdleLast}
@@ -17,23 +17,18 @@ use Rattle.dmf_solver.proofs.pairs.ArcPairs.{pairs-inserted, pairs-removed}
 use Rattle.dmf_solver.proofs.kept.CarryingFollowed.{carries-made}
 use Rattle.dmf_solver.proofs.pairs.CarryingPairs.{by_carrying_pair}
 
--- the pair of an arc on which nothing flows
-abbrev pub idle : Pair → Pair
-idle p = record { tail = p.tail; head = p.head; along = 0; against = 0 }
+bare-by : (arc : Arc) (loop : Bool) → (arc.tail == arc.head) ≡ loop → carrying_pair arc 0 ≡ without_room (residual_pair arc 0)
+bare-by arc true e = rw e refl
+bare-by arc false e = rw e refl
 
-idle-by : (arc : Arc) (p : Pair) (loop : Bool) → (arc.tail == arc.head) ≡ loop → residual_pair arc 0 ≡ Some p → carrying_pair arc 0 ≡ Some (idle p)
-idle-by arc p true e has = absurd (let none : None ≡ Some p = rw e at has in cc)
-idle-by arc p false e has =
-    let same : Some (record { tail = arc.tail; head = arc.head; along = arc.cap - 0; against = 0 }) ≡ Some p = rw e at has in
-    rw e (ap (option_map idle) same)
-
-pub idle-pair : (arc : Arc) (p : Pair) → residual_pair arc 0 ≡ Some p → carrying_pair arc 0 ≡ Some (idle p)
-idle-pair arc p has = idle-by arc p (arc.tail == arc.head) refl has
+-- The pair of an arc on which nothing flows has no room.
+bare : (arc : Arc) → carrying_pair arc 0 ≡ without_room (residual_pair arc 0)
+bare arc = bare-by arc (arc.tail == arc.head) refl
 
 -- So the search carries with the arc, where there is a search,
-pub some-added : (s : NetworkState) (arc : Arc) → IsState (with_idle_arc s arc) → (p : Pair) → residual_pair arc 0 ≡ Some p
+pub some-added : (s : NetworkState) (arc : Arc) → IsState (with_idle_arc s arc) → (p : Option Pair) → p ≡ residual_pair arc 0
     → (old : Option Searched) → IfSome old (MayCarry s) → (found : Option Searched) → IfSome found (λ new. (o : Searched) × ((old ≡ Some o)
-    × (new ≡ with_pairs o (insert o.pairs (length o.pairs - 1) (Some (idle p))))))
+    × (new ≡ with_pairs o (insert o.pairs (length o.pairs - 1) (without_room p)))))
     → IfSome found (MayCarry (with_idle_arc s arc))
 some-added s arc state p has old may None made = tt
 some-added s arc state p has old may (Some new) (o, (same, made)) =
@@ -41,8 +36,9 @@ some-added s arc state p has old may (Some new) (o, (same, made)) =
     let one_each : length s.flows ≡ length s.network.arcs =
     omega (arith, AllZip-long _ (s.network.arcs ++ arc ∷ []) (s.flows ++ 0 ∷ []) state.flow.within, length_push s.network.arcs arc, length_push s.flows 0) in (
       carries.0,
-      carries-made s (with_idle_arc s arc) carries.0 carries.0 (λ ps. insert ps (length ps - 1) (Some (idle p))) o new carries.1 made refl
-          (pairs-inserted by_carrying_pair s.network.arcs s.flows arc (Some (idle p)) (return_of s.network carries.0) one_each (idle-pair arc p has)),
+      carries-made s (with_idle_arc s arc) carries.0 carries.0 (λ ps. insert ps (length ps - 1) (without_room p)) o new carries.1 made refl
+          (pairs-inserted by_carrying_pair s.network.arcs s.flows arc (without_room p) (return_of s.network carries.0) one_each
+          (bare arc ∙ sym (ap without_room has))),
     )
 
 -- and without it.

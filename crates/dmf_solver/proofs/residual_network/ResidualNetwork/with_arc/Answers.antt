@@ -1,55 +1,47 @@
--- The pair of the arc goes in before that of the return link.
-use Rattle.std.proofs.Common.{◌^◌, ◌≤◌, length, ap, sym, ◌∙◌, subst, arith}
+-- The pair of the arc goes in before that of the return link, and then gets its room.
+use Rattle.std.proofs.Common.{◌≡◌, length, ap, sym, subst, arith}
+use Rattle.std.specs.Prelude.{IfSome}
 use Rattle.dmf_links.specs.Pair.{IsPair}
-use Rattle.dmf_path.specs.Search.{Searched}
+use Rattle.dmf_path.specs.Search.{Searched, with_pairs, with_rooms}
 use Rattle.dmf_solver.specs.KeptNetwork.{IsNetworkOf}
-use Rattle.dmf_solver.proofs.kept.Added.{pairs-before, few-before, pair-added, search-added}
+use Rattle.dmf_solver.proofs.kept.Added.{pairs-before, pairs-longer, few-before, pair-added, search-added}
 use Rattle.dmf_solver.proofs.kept.CarryingAdded.{some-added}
-use Rattle.dmf_solver.proofs.residual_network.ResidualNetwork.with_arc.Goals.{In_ok-pair}
 use Rattle.dmf_solver.proofs.residual_network.ResidualNetwork.with_arc.Goals as goal
 
--- the network of the state before
-before : (c : In_ok-pair) → IsNetworkOf c.args.state.now (record { residual = c.self.inside.search; carrying = c.self.inside.carrying })
-before c = subst (IsNetworkOf c.args.state.now) (sym c.self.view_is) c.requires.network
+pub insert-requires : goal.insert-requires
+insert-requires c =
+    let s = c.args.state.now in
+    let before = subst (IsNetworkOf s) (sym c.self.view_is) c.requires.network in
+    let count = pairs-before s c.args.arc c.requires.state c.self.inside.search before.residual in
+    record {
+      index = omega (arith, ap length c.arcs-k.ensures.value, count);
+      pair = subst (λ nodes. IfSome c.residual_pair-pair.result (IsPair nodes)) (sym (ap (λ (x : Searched). x.nodes) before.residual))
+          (pair-added s c.args.arc c.requires.state c.residual_pair-pair.result c.residual_pair-pair.ensures);
+      few = omega (arith, count, few-before s c.args.arc c.requires.state);
+    }
 
-is-pair : (c : In_ok-pair) → IsPair c.self.inside.search.nodes c.in_ok-pair.pair
-is-pair c =
-    let pair = c.in_ok-pair.pair in
-    subst (λ nodes. IsPair nodes pair) (sym (ap (λ (x : Searched). x.nodes) (before c).residual))
-    (pair-added c.args.state.now c.args.arc c.requires.state pair (sym c.residual_pair.ensures ∙ c.in_ok-pair.was))
-
-are-few : (c : In_ok-pair) → length c.self.inside.search.pairs ≤ 2 ^ 27
-are-few c =
+pub set_rooms-requires-clause-number : goal.set_rooms-requires-clause-number
+set_rooms-requires-clause-number c =
+    let s = c.args.state.now in
+    let before = subst (IsNetworkOf s) (sym c.self.view_is) c.requires.network in
     omega (
       arith,
-      pairs-before c.args.state.now c.args.arc c.requires.state c.self.inside.search (before c).residual,
-      few-before c.args.state.now c.args.arc c.requires.state,
+      ap length c.arcs-k.ensures.value,
+      pairs-longer s c.args.arc c.requires.state c.residual_pair-pair.result c.self.inside.search c.in_ok-search.search before.residual
+          c.in_ok-search.ensures.search,
     )
-
-pub insert-requires-clause-pair : goal.insert-requires-clause-pair
-insert-requires-clause-pair c = is-pair (goal.at.insert-requires-clause-pair c).In_ok-pair
-
-pub insert-requires-clause-index : goal.insert-requires-clause-index
-insert-requires-clause-index c =
-    let at = (goal.at.insert-requires-clause-index c).In_ok-pair in
-    omega (
-      arith,
-      ap length c.arcs.ensures.value,
-      pairs-before c.args.state.now c.args.arc c.requires.state c.self.inside.search (before at).residual,
-    )
-
-pub insert-requires-clause-few : goal.insert-requires-clause-few
-insert-requires-clause-few c = are-few (goal.at.insert-requires-clause-few c).In_ok-pair
 
 pub returns : goal.returns
 returns c =
-    let at = (goal.at.returns c).In_ok-pair in
     let s = c.args.state.now in
-    let has = sym c.residual_pair.ensures ∙ c.in_ok-pair.was in
+    let before = subst (IsNetworkOf s) (sym c.self.view_is) c.requires.network in
     let made = c.in_ok-search.ensures in
+    let pair = c.residual_pair-pair.result in
+    let room = subst (λ k. c.set_rooms.new.self ≡ with_pairs c.in_ok-search.search (with_rooms c.in_ok-search.search.pairs k c.args.arc.cap 0))
+    (ap length c.arcs-k.ensures.value) c.set_rooms.ensures in
     record {
-      residual = search-added s c.args.arc c.requires.state c.in_ok-pair.pair c.self.inside.search c.in_ok-search.search has (before at).residual
-          made.search;
-      carrying = some-added s c.args.arc c.requires.state c.in_ok-pair.pair has c.self.inside.carrying (before at).carrying c.in_ok-search.carrying
-          made.other;
+      residual = search-added s c.args.arc c.requires.state pair c.self.inside.search c.in_ok-search.search c.set_rooms.new.self
+          c.residual_pair-pair.ensures before.residual made.search room;
+      carrying = some-added s c.args.arc c.requires.state pair c.residual_pair-pair.ensures c.self.inside.carrying before.carrying
+          c.in_ok-search.carrying made.other;
     }
