@@ -41,6 +41,12 @@ FILTERS: list[tuple[str, Callable[[Pipe], bool], str]] = [
     ("closed", lambda pipe: False, "closed"),
     ("changed", lambda pipe: False, "changed"),
     ("no such name", lambda pipe: False, "'no such name' in the name"),
+    # In quotes, as dmf-plan takes them, and in the words of the table's titles.
+    ('name ~ "MÍLL LANE"', lambda pipe: pipe.name == "Mill Lane", "name ~ MÍLL LANE"),
+    ('"Mill Lane" and fits < 60', lambda pipe: pipe.name == "Mill Lane", "'Mill Lane' in the name and capacity < 60"),
+    ('"rise and mill"', lambda pipe: False, "'rise and mill' in the name"),
+    ("FITS >= 60 and carries <= 90", lambda pipe: 60 <= pipe.capacity <= 90, "capacity >= 60 and capacity <= 90"),
+    ("flows < 0", lambda pipe: False, "flow < 0"),
 ]
 # Filters without a meaning, and what is said.
 WRONG = [

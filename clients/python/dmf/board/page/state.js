@@ -11,11 +11,12 @@
  *   names: string[] }} State
  * @typedef {{ arc?: number, node?: number }} Choice
  */
-import { moved, upper } from "./amounts.js";
+import { moved } from "./amounts.js";
 import { heard, ONCE } from "./asking.js";
-import { at, button } from "./elements.js";
+import { at, button, dropTyped } from "./elements.js";
 import { live, sayLeft } from "./live.js";
 import { hasTrouble, news, patiently, trouble } from "./messages.js";
+import { sentence, upper } from "./words.js";
 
 /** @type {State | null} */
 let state = null;
@@ -71,7 +72,7 @@ export async function ask(path, content, isQuiet = false) {
       told.steps ? `Begin again, with the steps made so far (${told.steps})` : "Begin again", () => act({ what: "again" }, "begun again")));
     return null;
   }
-  if (!answer.ok && !isQuiet || told.told) trouble(`${upper(told.error || told.told)}.`);
+  if (!answer.ok && !isQuiet || told.told) trouble(sentence(told.error || told.told));
   if (state && told.turn !== undefined && told.turn !== state.turn && path !== "state" && !(path === "do" && answer.ok)) {
     // While this page does something itself, it looks anew at its end.
     if (told.turn > state.turn && (!acting || path === "do")) await renew();
@@ -156,7 +157,9 @@ export async function act(content, words = "") {
   /** @type {State | null | undefined} */
   const told = await patiently(ask("do", content));
   acting = false;
+  if (!told) news("");
   if (told) {
+    dropTyped();
     news(`${upper(words || told.steps[told.at].text)}: ${told.value}${units()}${before ? `, ${moved(before.value, told.value)}` : ""}`);
     await show(told);
   }
