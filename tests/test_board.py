@@ -206,6 +206,14 @@ def test_shut_places() -> None:
             assert ("<title>Mill, shut</title>" in it.told("picture?near=")["svg"]) == ("Mill pipe" in names)
 
 
+def test_any_case() -> None:
+    """A new arc leads to a place whose name is typed without regard to case, also after an amount with more decimals than the table's."""
+    with board(PIPES) as it:
+        for head, capacity in ("HARBOUR", "5"), ("harbour", "5.25"), ("hÁrbour", "1"):
+            told = it.do(what="add", tail=5, head=head, capacity=capacity, name="")
+            assert told["steps"][-1]["text"].startswith(f"add Mill -> Harbour, {capacity}"), told
+
+
 def test_session_that_ends() -> None:
     """The board says so, and begins again with the steps; and what can be taken along is of the present plan."""
     with board(PIPES) as it:

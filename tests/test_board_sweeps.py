@@ -5,6 +5,7 @@ from __future__ import annotations
 import contextlib
 import json
 import os
+import re
 import signal
 import time
 from pathlib import Path
@@ -72,13 +73,16 @@ def test_sweep_in_portions(tmp_path: Path) -> None:
             time.sleep(0.05)
 
 
-# Lets no answer to a sweep come before it is let go.
+# Lets answers to a sweep come until so many have had results. Those after them do not come before they are let go.
 HELD = """
 const ask = window.fetch;
 const isLetGo = new Promise((done) => { window.letGo = done; });
+let first = arguments[0];
 window.fetch = async (path, content) => {
   const told = await ask(path, content);
-  if (path === "sweep") await isLetGo;
+  if (path !== "sweep") return told;
+  if (first < 1) await isLetGo;
+  first -= (await told.clone().json()).trials.length ? 1 : 0;
   return told;
 };
 """
@@ -89,7 +93,7 @@ def test_stop(driver: Any) -> None:
     with board(PIPES) as it:
         page = Page(driver, it.address)
         stop = driver.find_element("id", "stop")
-        driver.execute_script(HELD)
+        driver.execute_script(HELD, 0)
         page.press("Try each pipe")
         page.wait(stop.is_displayed)
         stop.send_keys("\ue007")
@@ -105,4 +109,33 @@ def test_stop(driver: Any) -> None:
         worst = " or ".join(name for name in lost if lost[name] == max(lost.values()))
         assert page.text("#verdict").startswith(f"Worst to lose of the 3 of the limit: {worst}, {max(lost.values())} litres per second less")
         assert (stop.is_displayed(), len(driver.find_elements("css selector", "#trials tbody tr"))) == (False, 3)
+        driver.get("about:blank")
+
+
+def test_progress(driver: Any, tmp_path: Path) -> None:
+    """What a sweep has found so far is shown while it goes on, and how far it is. Each of these places has its own way in and out."""
+    count = 3_000
+    ways = [(place % 7 + 1, place % 5 + 1) for place in range(count)]
+    fits = {f"{name} {place}": way for place, it in enumerate(ways) for name, way in (("in", it), ("out", it[::-1]))}
+    table = tmp_path / "ways.csv"
+    rows = [f"S,P{place},{first},in {place}\nP{place},T,{last},out {place}\n" for place, (first, last) in enumerate(ways)]
+    table.write_text("from,to,litres,pipe\n" + "".join(rows))
+    with board(str(table)) as it:
+        page, value = Page(driver, it.address), sum(map(min, ways))
+        assert page.value() == value
+        driver.execute_script(HELD, 1)
+        page.press("Try each pipe")
+        page.wait(lambda: re.fullmatch(f"[1-9][0-9]* of {2 * count} are tried [.][.]", page.text("#verdict")))
+        tried = int(page.text("#verdict").split()[0])
+        texts = "[...document.querySelectorAll('#trials tbody tr')].map((it) => [...it.cells].map((at) => at.innerText))"
+        found = driver.execute_script(f"return {texts}")
+        assert len(found) == min(tried, 300) and tried < 2 * count
+        for name, without, _, doubled, _ in found:
+            own, other = fits[name]
+            assert (int(without), int(doubled)) == (value - min(own, other), value - min(own, other) + min(2 * own, other))
+        page.press("Stop")
+        most = max(value - int(without) for _, without, *_ in found)
+        told = page.text("#verdict")
+        assert told.startswith(f"Stopped: {tried} of {2 * count} are tried. Worst to lose of these {tried}: ") and f", {most} litres less" in told
+        driver.execute_script("letGo()")
         driver.get("about:blank")

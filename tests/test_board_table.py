@@ -41,6 +41,12 @@ FILTERS: list[tuple[str, Callable[[Pipe], bool], str]] = [
     ("closed", lambda pipe: False, "closed"),
     ("changed", lambda pipe: False, "changed"),
     ("no such name", lambda pipe: False, "'no such name' in the name"),
+    # In quotes, as dmf-plan takes them, and in the words of the table's titles.
+    ('name ~ "MÍLL LANE"', lambda pipe: pipe.name == "Mill Lane", "name ~ MÍLL LANE"),
+    ('"Mill Lane" and fits < 60', lambda pipe: pipe.name == "Mill Lane", "'Mill Lane' in the name and capacity < 60"),
+    ('"rise and mill"', lambda pipe: False, "'rise and mill' in the name"),
+    ("FITS >= 60 and carries <= 90", lambda pipe: 60 <= pipe.capacity <= 90, "capacity >= 60 and capacity <= 90"),
+    ("flows < 0", lambda pipe: False, "flow < 0"),
 ]
 # Filters without a meaning, and what is said.
 WRONG = [
@@ -218,8 +224,9 @@ def test_keys(driver: Any) -> None:
 
 
 def test_all_rows(driver: Any, tmp_path: Path) -> None:
-    """A table of 100,000 rows scrolls to any of them, and holds only those in sight and some around."""
-    count = 100_000
+    """A table of 100,001 rows scrolls to any of them, and holds only those in sight and some around. All of them are too many to be chosen,
+    but those of a filter are not."""
+    count = 100_001
     table = tmp_path / "large.csv"
     table.write_text("from,to,litres,pipe\n" + "".join(f"A,B,{row % 97 + 1},pipe {row}\n" for row in range(count)))
     with board(str(table)) as it:
@@ -234,6 +241,11 @@ def test_all_rows(driver: Any, tmp_path: Path) -> None:
             inside = "const [row] = [...document.querySelectorAll('#grid .name')].filter((one) => one.innerText === arguments[0]); "
             inside += "const [a, b] = [it, row].map((one) => one.getBoundingClientRect()); return a.top <= b.top && b.bottom <= a.bottom"
             assert driver.execute_script(box + inside, seen), seen
+        page.press("Choose all of these")
+        page.wait(lambda: page.text("#trouble") == "At most 100000 can be chosen at once. A filter shows fewer.")
+        assert (chosen(page), page.text("#many")) == ([], "")
         page.write("#filter", "capacity = 97")
         page.wait(lambda: page.text("#filter-told") == f"{count // 97} rows: capacity = 97.")
+        page.press("Choose all of these")
+        page.wait(lambda: page.text("#many-told").startswith(f"{count // 97} chosen, {count // 97} open: "))
         driver.get("about:blank")

@@ -144,3 +144,37 @@ def test_long(driver: Any) -> None:
         assert page.after(lambda: page.press("Shut it")) < 155
         assert page.text("#trouble") == ""
         driver.get("about:blank")
+
+
+def test_typed(driver: Any) -> None:
+    """What is typed and not sent stays, also while another tab makes a step, and where it is refused. What is done is typed no more."""
+
+    def typed(*fields: str) -> list[str]:
+        return [str(driver.execute_script("return document.getElementById(arguments[0]).value", field)) for field in fields]
+
+    with board(PIPES) as it:
+        page = Page(driver, it.address)
+        page.choose("node-5", "Mill")
+        page.write("#new-head", "Harbuor")
+        page.write("#new-capacity", "7")
+        it.do(what="close", arc=10)
+        page.wait(lambda: page.value() == without("Bridge pipe"))
+        page.settle()
+        assert typed("new-head", "new-capacity", "new-name") == ["Harbuor", "7", ""]
+        page.press("Add it")
+        page.wait(lambda: page.text("#trouble") == "No place is called 'Harbuor'; is it 'Harbour'?")
+        assert (page.text("#news"), typed("new-head")) == ("", ["Harbuor"])
+        page.write("#new-head", "harbour")
+        driver.execute_script("document.getElementById('new-head').focus()")
+        page.after(lambda: page.press("Add it"))
+        assert (it.state()["at"], typed("new-head", "new-capacity")) == (2, ["", ""])
+        # Of another pipe nothing is typed.
+        page.choose("arc-9", "Mill Lane")
+        page.write("#capacity", "+5")
+        page.choose("arc-12", "Market link")
+        capacity = it.told("arc?number=12")["capacity"]
+        page.wait(lambda: typed("capacity") == [capacity])
+        page.write("#capacity", "+5")
+        page.after(lambda: page.press("Set"))
+        assert typed("capacity") == [str(int(capacity) + 5)]
+        driver.get("about:blank")

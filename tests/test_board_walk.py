@@ -1,5 +1,6 @@
-"""A random walk over a board's page: clicks, keys, edits of one and of many, undo and redo, reloads, and requests of another tab. After
-each step the page, its table and its picture show what a list of whole states says, whose values networkx finds."""
+"""A random walk over a board's page in two tabs: clicks, keys, edits of one and of many, undo and redo, reloads, tabs that are closed and
+opened, and requests from elsewhere. After each step the page, its table and its picture show what a list of whole states says, whose values
+networkx finds."""
 
 from __future__ import annotations
 
@@ -174,8 +175,23 @@ class Walk:
             self.page.driver.find_elements("css selector", "#way button")[to].click()
         return f"go to {to}"
 
+    def other_tab(self) -> str:
+        """Goes on in the other tab, which shows the same by itself; at times in a new one, in place of this one or of the other."""
+        driver = self.page.driver
+        here, there = driver.current_window_handle, next(it for it in driver.window_handles if it != driver.current_window_handle)
+        gone = self.chance.choice((here, there, "", "", "", ""))
+        if gone:
+            driver.switch_to.window(gone)
+            driver.close()
+            driver.switch_to.window(here if gone == there else there)
+            driver.switch_to.new_window("tab")
+            self.page = Page(driver, self.it.address)
+        else:
+            driver.switch_to.window(there)
+        return f"the {'new' if gone else 'other'} tab{' after the end of this one' * (gone == here)}"
+
     def elsewhere(self) -> str:
-        """Another tab does something."""
+        """Something is done by a request alone."""
         place = self.chance.randrange(len(self.model.rows))
         number = self.it.told("numbers?filter=&sort=&first=0&count=500")["numbers"][place]
         is_closed = self.model.rows[place].is_closed
@@ -235,7 +251,9 @@ def test_walk(driver: Any, request: pytest.FixtureRequest) -> None:
     chance = random.Random(request.config.getoption("--seed"))
     with board(PIPES) as it:
         walk = Walk(Page(driver, it.address), it, chance)
-        kinds = [walk.one] * 4 + [walk.many] * 3 + [walk.back] * 4 + [walk.elsewhere] * 2 + [walk.reload]
+        driver.switch_to.new_window("tab")
+        Page(driver, it.address)
+        kinds = [walk.one] * 4 + [walk.many] * 3 + [walk.back] * 4 + [walk.other_tab] * 2 + [walk.elsewhere] + [walk.reload]
         done = ["the beginning"]
         for _ in range(steps):
             walk.judge("; ".join(done[-3:]))
@@ -245,5 +263,9 @@ def test_walk(driver: Any, request: pytest.FixtureRequest) -> None:
                 walk.page.driver.find_elements("css selector", "#way button")[0].click()
                 walk.judge("back to the file")
             done.append(chance.choice(kinds)())
-        walk.judge("; ".join(done[-3:]))
+        for tab in driver.window_handles:
+            driver.switch_to.window(tab)
+            walk.judge("; ".join(done[-3:]))
+        driver.close()
+        driver.switch_to.window(driver.window_handles[0])
         driver.get("about:blank")

@@ -7,6 +7,7 @@ from collections.abc import Callable
 
 from .desk import Desk
 from .desk_amounts import amount
+from .desk_names import folded
 from .desk_steps import DeskFault
 from .quantity import Quantity
 
@@ -37,8 +38,8 @@ def condition(desk: Desk, words: list[str]) -> Condition | None:
     }
     numbers: dict[str, Callable[[int], Quantity]] = {"capacity": lambda number: desk.line(number).capacity, "flow": desk.flow}
     if what in names and sign == "~":
-        sought = text.casefold()
-        return lambda number: sought in names[what](number).casefold()
+        sought = folded(text)
+        return lambda number: sought in folded(names[what](number))
     if what in numbers and sign in COMPARED:
         bound = amount(text, desk.measure)
         return lambda number: COMPARED[sign](numbers[what](number), bound)

@@ -12,21 +12,21 @@ import threading
 from collections.abc import Callable, Iterator, Mapping
 
 from ..desk import Desk
-from ..desk_amounts import amount
 from ..desk_steps import DeskFault, unforeseen
 from ..desk_text import problem, table, taken
 from ..project.desk import ProjectDesk
 from ..project.report import report
 from ..quantity import plain_text
+from .acts import FORMS, carry_out
 from .answers import Answer, Json, Made, WrongForm, answer, judge_arcs, judge_fields, judge_words, whole
 from .keeping import keep_spots, kept_spots
-from .many import change_many, many_view
+from .many import many_view
 from .nearby import Nearby
 from .overview import Overview
 from .picture import NoPicture, Picture
 from .places import Spot
 from .rows import Rows
-from .scenarios import SCENARIO_FORMS, Comparisons, change_scenario, scenarios_view
+from .scenarios import Comparisons, scenarios_view
 from .sweeps import Sweeps
 from .views import arc_view, costs_view, opened_view, place_view, state_view
 
@@ -162,7 +162,10 @@ class Board:
         self._judge_turn(content["turn"])
         self._sweeps.end()
         with self._stoppable():
-            self._do(what, content)
+            if what == "keep":
+                self._keep()
+            else:
+                carry_out(self.desk, what, content)
             news, self.desk.news = self.desk.news, []
             return {**self._state(), "told": "; ".join(news)}
 
@@ -179,31 +182,6 @@ class Board:
         finally:
             with self._busy_lock:
                 self._is_busy = False
-
-    def _do(self, what: str, content: Json) -> None:
-        desk, names = self.desk, self.desk.names
-        if what == "again":
-            desk.begin_again()
-        elif what == "keep":
-            self._keep()
-        elif what in ("close", "open", "double"):
-            calls: dict[str, Callable[[int], object]] = {"close": desk.close, "open": desk.open, "double": desk.double}
-            calls[what](content["arc"])
-        elif what in SCENARIO_FORMS:
-            change_scenario(desk, what, content)
-        elif what in MANY:
-            change_many(desk, what, content["arcs"], content.get("capacity", ""))
-        elif what == "cap":
-            present = desk.line(content["arc"]).capacity
-            desk.cap(content["arc"], amount(content["capacity"], desk.measure, present))
-        elif what in ("shut", "open-place"):
-            {"shut": desk.shut, "open-place": desk.open_place}[what](names.place_of(content["node"]))
-        elif what == "add":
-            tail, head = names.place_of(content["tail"]), names.place(content["head"])
-            desk.add(tail, head, amount(content["capacity"], desk.measure), " ".join(content["name"].split()))
-        else:
-            # The first step is the solve that the board begins with.
-            desk.go_to(content["step"] + 1)
 
     def _rows(self, **words: str) -> Json:
         return self._rows_of_all.view(words["filter"], words["sort"], whole(words["first"], "first"), whole(words["count"], "count"))
@@ -277,24 +255,3 @@ class Board:
         doubled = ("" if trial.doubled is None else plain_text(trial.doubled) for trial in trials)
         rows = [{**arc_view(self.desk, it.arc), "without": plain_text(it.closed), "doubled": second} for it, second in zip(trials, doubled)]
         return {"value": plain_text(self.desk.value), "trials": rows, "left": numbers[len(trials) :]}
-
-
-# The requests, with the fields that each needs.
-FORMS: dict[str, dict[str, type]] = {
-    "close": {"arc": int},
-    "open": {"arc": int},
-    "double": {"arc": int},
-    "cap": {"arc": int, "capacity": str},
-    "shut": {"node": int},
-    "open-place": {"node": int},
-    "add": {"tail": int, "head": str, "capacity": str, "name": str},
-    "close-all": {"arcs": list},
-    "open-all": {"arcs": list},
-    "double-all": {"arcs": list},
-    "cap-all": {"arcs": list, "capacity": str},
-    "go": {"step": int},
-    "again": {},
-    "keep": {},
-    **SCENARIO_FORMS,
-}
-MANY = ("close-all", "open-all", "double-all", "cap-all")

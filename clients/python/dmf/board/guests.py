@@ -1,4 +1,5 @@
-"""The pages that a board serves: each holds a connection, by which it is told of each newer state, and the board runs on for them."""
+"""The pages that a board serves. By a connection that one holds it is told of each newer state, and tells the other tabs of its browser.
+The board runs on for these connections."""
 
 from __future__ import annotations
 
@@ -16,7 +17,7 @@ AFTER_REQUEST, AFTER_PAGE, AFTER_BREAK = 10.0, 60.0, 300.0
 
 
 class Guests:
-    """The pages, by the names that they give themselves."""
+    """The pages that hold a connection, by the names that they give themselves."""
 
     def __init__(self, turn: int, clock: Callable[[], float] = time.monotonic) -> None:
         self._clock = clock

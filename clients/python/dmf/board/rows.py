@@ -18,8 +18,14 @@ from .views import arc_view
 MOST_ROWS, MOST_FOUND = 500, 20
 AND = "and"
 FORMS = 'name ~ TEXT, from ~ TEXT, to ~ TEXT, capacity < NUMBER, flow >= NUMBER, full, limit, closed, changed; with "and" between two'
+# What else the page calls a column.
+_CALLED = {"flows": "flow", "fits": "capacity", "carries": "capacity"}
 # The longest signs come first.
-_SIGN = re.compile(rf"(name|from|to|capacity|flow)\s*(~|{'|'.join(sorted(COMPARED, key=len, reverse=True))})(.*)", re.IGNORECASE | re.DOTALL)
+_SIGN = re.compile(
+    rf"(name|from|to|capacity|flow|{'|'.join(_CALLED)})\s*(~|{'|'.join(sorted(COMPARED, key=len, reverse=True))})(.*)", re.IGNORECASE | re.DOTALL
+)
+# A word, which may have others in quotes.
+_WORD = re.compile(r'(?:"[^"]*"|\S)+')
 _DIGITS = re.compile("([0-9]+)")
 
 
@@ -85,7 +91,8 @@ class Rows:
 
     def _parts(self, text: str) -> tuple[list[Condition], list[str]]:
         """The conditions of a filter, and what each is in words."""
-        parts = [" ".join(part) for is_and, part in groupby(text.split(), lambda word: word.casefold() == AND) if not is_and]
+        words: list[str] = _WORD.findall(text)
+        parts = [" ".join(part) for is_and, part in groupby(words, lambda word: word.casefold() == AND) if not is_and]
         read = [self._read(part) for part in parts]
         return [is_so for is_so, _ in read], [words for _, words in read]
 
@@ -97,20 +104,28 @@ class Rows:
         if word == "changed":
             return desk.changed().__contains__, word
         compared = _SIGN.fullmatch(part)
-        words = [compared[1].casefold(), compared[2], *compared[3].split()] if compared else [word]
+        column = compared[1].casefold() if compared else ""
+        words = [_CALLED.get(column, column), compared[2], *_unquoted(compared[3]).split()] if compared else [word]
         found = condition(desk, words)
         if found:
             return found, " ".join(words)
         if compared or any(sign in part.split() for sign in COMPARED):
             raise DeskFault(f"{shown(part)} is no condition; wanted is: {FORMS}")
-        sought = folded(part)
-        return lambda number: sought in self._label(number), f"{shown(part)} in the name"
+        name = _unquoted(part)
+        sought = folded(name)
+        return lambda number: sought in self._label(number), f"{shown(name)} in the name"
 
     def _label(self, number: int) -> str:
         """What an arc is found by."""
         if number not in self._labels:
             self._labels[number] = folded(self._desk.names.arc(number))
         return self._labels[number]
+
+
+def _unquoted(text: str) -> str:
+    """A text without the quotes around it."""
+    plain = text.strip()
+    return plain[1:-1] if re.fullmatch('"[^"]*"', plain) else plain
 
 
 def _best(sought: str, named: Iterable[tuple[str, Json]]) -> list[Json]:

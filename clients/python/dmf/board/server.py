@@ -1,6 +1,6 @@
 """The server of a board: a page in the browser over one desk, which this machine alone reaches.
 
-Each page holds a connection open, `life`. Once no page has held one for a while, the board ends.
+A page of each browser holds a connection open, `life`. Once none has held one for a while, the board ends.
 """
 
 from __future__ import annotations

@@ -25,6 +25,3 @@ export function moved(before, after) {
   const by = whole(after) - whole(before);
   return by === 0n ? "no change" : by > 0n ? `${amount(by)} more` : `${amount(-by)} less`;
 }
-
-/** @param {string} text */
-export const upper = (text) => text.charAt(0).toUpperCase() + text.slice(1);

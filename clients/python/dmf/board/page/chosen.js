@@ -4,11 +4,11 @@
  * @typedef {import("./state.js").Place} Place
  * @typedef {import("./elements.js").Piece} Piece
  */
-import { upper } from "./amounts.js";
 import { choose, theChoice } from "./choice.js";
 import { at, button, form, make, replace } from "./elements.js";
 import { isPart, isShown, showNear } from "./picture.js";
 import { act, ask, noun, present, units } from "./state.js";
+import { upper } from "./words.js";
 
 export async function showChosen() {
   const chosen = theChoice();
@@ -48,7 +48,8 @@ function aboutArc(arc) {
  * @param {string} id
  */
 function setting(arc, words, id) {
-  const room = make("input", [], { id, value: arc.capacity, autocomplete: "off", "aria-describedby": `${id}-forms` });
+  const looks = { "data-of": `${arc.number} ${arc.label}`, autocomplete: "off", "aria-describedby": `${id}-forms` };
+  const room = make("input", [], { id, value: arc.capacity, ...looks });
   const asked = make("label", [`${words}${units() && " in"}${units()} `, room]);
   return form([asked, make("span", "or +10 %, or -5 ", { id: `${id}-forms`, class: "soft" })],
     "Set", () => act({ what: "cap", arc: arc.number, capacity: room.value }));
@@ -84,9 +85,9 @@ function aboutPlace(place) {
  * @param {Place} place
  */
 function adding(place) {
-  const head = make("input", [], { list: "places", autocomplete: "off", id: "new-head" });
-  const room = make("input", [], { autocomplete: "off", id: "new-capacity" });
-  const name = make("input", [], { autocomplete: "off", id: "new-name" });
+  const typed = (/** @type {string} */ id) => make("input", [], { id, "data-of": `${id} ${place.node}`, autocomplete: "off" });
+  const head = typed("new-head"), room = typed("new-capacity"), name = typed("new-name");
+  head.setAttribute("list", "places");
   return form([make("p", `A new ${noun()} from here:`), make("label", ["leads to ", head]), make("label", [`carries${units()} `, room]),
     make("label", ["name (may be left out) ", name])], "Add it",
   () => act({ what: "add", tail: place.node, head: head.value, capacity: room.value, name: name.value }, `a new ${noun()}`));

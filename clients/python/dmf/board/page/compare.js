@@ -5,11 +5,11 @@
  * @typedef {{ arc: string, number: number, node: number, kind: string, first: string, second: string }} Row
  * @typedef {{ turn: number, first: Standing, second: Standing, moved: string, same_limit: boolean, total: number, rows: Row[] }} Comparison
  */
-import { upper } from "./amounts.js";
 import { choose, pick } from "./choice.js";
 import { at, cell, field, fill, make, offer, onClick, replace } from "./elements.js";
 import { patiently } from "./messages.js";
 import { ask, noun, units } from "./state.js";
+import { sentence, upper } from "./words.js";
 
 const AT_ONCE = 300;
 /** What the picture's colours mean, in words. */
@@ -124,7 +124,7 @@ async function more() {
 
 /** @param {{ svg: string, reason: string }} told */
 function draw({ svg, reason }) {
-  at("compare-reason").textContent = reason ? `${upper(reason)}.` : "";
+  at("compare-reason").textContent = reason && sentence(reason);
   const host = at("compare-picture");
   host.hidden = !svg;
   host.replaceChildren();

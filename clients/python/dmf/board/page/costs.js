@@ -5,11 +5,11 @@
  * @typedef {{ wider: (Arc & { by: string })[], cost: string, total: string, value: string }} Bought
  * @typedef {{ title: string, second: boolean, limit: (Arc & { price: string })[], limit_count: number, way: Bought[], end: string }} Costs
  */
-import { upper } from "./amounts.js";
 import { pick } from "./choice.js";
 import { at, cell, field, fill, numberCell } from "./elements.js";
 import { patiently } from "./messages.js";
 import { ask, noun, present, units } from "./state.js";
+import { upper } from "./words.js";
 
 /** @param {boolean} isHidden */
 function hide(isHidden) {

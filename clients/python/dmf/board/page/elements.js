@@ -57,6 +57,17 @@ export function button(text, act, kind = "") {
 }
 
 /**
+ * The form that is being sent.
+ * @type {HTMLFormElement | null}
+ */
+let sent = null;
+
+/** Keeps no more what was typed into the form that is being sent, since it is done. */
+export function dropTyped() {
+  for (const it of sent?.querySelectorAll("input") ?? []) delete it.dataset.of;
+}
+
+/**
  * A form that does something when its button is pressed, or Enter in a field.
  * @param {Piece[]} fields
  * @param {string} word on its button
@@ -64,9 +75,11 @@ export function button(text, act, kind = "") {
  */
 export function form(fields, word, done) {
   const made = make("form", [...fields, make("button", word, { type: "submit" })]);
-  made.addEventListener("submit", (event) => {
+  made.addEventListener("submit", async (event) => {
     event.preventDefault();
-    done();
+    sent = made;
+    await done();
+    sent = null;
   });
   return made;
 }
@@ -97,13 +110,20 @@ export function keepInSight(change) {
 }
 
 /**
- * Gives an element these children. Those that are there already stay, so that nothing has to be laid out anew. The focus stays on what is
- * like the one that had it, or else where that was.
+ * The fields of an element that say what they are of.
+ * @param {Element} host
+ */
+const fieldsIn = (host) => [...host.querySelectorAll("input")].filter((it) => it.dataset.of);
+
+/**
+ * Gives an element these children. Those that are there already stay, so that nothing has to be laid out anew. So does what was typed into
+ * fields, and the focus, on what is like the one that had it, or else where that was.
  * @param {Element} host
  * @param {Element[]} children
  */
 export function replace(host, children) {
   const held = document.activeElement, wanted = new Set(children);
+  const typed = new Map(fieldsIn(host).filter((it) => it.value !== it.defaultValue).map((it) => [it.dataset.of, it.value]));
   const place = held && host.contains(held) ? controls(host).indexOf(held) : -1;
   for (const child of [...host.children]) if (!wanted.has(child)) child.remove();
   let next = host.firstElementChild;
@@ -111,6 +131,7 @@ export function replace(host, children) {
     if (child === next) next = next.nextElementSibling;
     else host.insertBefore(child, next);
   }
+  for (const it of typed.size ? fieldsIn(host) : []) it.value = typed.get(it.dataset.of) ?? it.value;
   if (!held || place < 0 || held === document.activeElement) return;
   const now = controls(host), like = now.find((it) => it.id && it.id === held.id) ?? now.find((it) => it.textContent === held.textContent);
   const found = like ?? now[Math.min(place, now.length - 1)] ?? host;

@@ -4,8 +4,11 @@
  * @typedef {{ open: number[], closed: number[], flow: string, capacity: string }} Many
  */
 import { at, button, form, make, replace } from "./elements.js";
+import { trouble } from "./messages.js";
 import { act, ask, noun, units } from "./state.js";
 
+/** How many arcs can be chosen, as the board has it. */
+const MOST = 100_000;
 /** @type {Set<number>} */
 let picked = new Set();
 let asked = 0;
@@ -24,11 +27,16 @@ export function watchPicked(watcher) {
 }
 
 /**
- * Chooses these arcs and no others.
+ * Chooses these arcs and no others, unless they are too many.
  * @param {Iterable<number>} numbers
  */
 export function pickThese(numbers) {
-  picked = new Set(numbers);
+  const wanted = new Set(numbers);
+  if (wanted.size > MOST) {
+    trouble(`At most ${MOST} can be chosen at once. A filter shows fewer.`);
+    return undefined;
+  }
+  picked = wanted;
   return showMany();
 }
 
@@ -73,7 +81,7 @@ function about(told) {
   /** @type {HTMLElement[]} */
   const parts = [make("p", `${opened + closed} chosen, ${counts.join("; ")}.`, { id: "many-told" })];
   if (opened) {
-    const room = make("input", [], { id: "many-capacity", autocomplete: "off", "aria-describedby": "many-forms" });
+    const room = make("input", [], { id: "many-capacity", "data-of": "many", autocomplete: "off", "aria-describedby": "many-forms" });
     parts.push(
       button(`Close ${opened}`, () => act({ what: "close-all", arcs: told.open })),
       button(`Put a second one beside ${opened === 1 ? "it" : `each of ${opened}`}`, () => act({ what: "double-all", arcs: told.open })),

@@ -11,16 +11,12 @@
  *   names: string[] }} State
  * @typedef {{ arc?: number, node?: number }} Choice
  */
-import { moved, upper } from "./amounts.js";
-import { at, button } from "./elements.js";
+import { moved } from "./amounts.js";
+import { heard, ONCE } from "./asking.js";
+import { at, button, dropTyped } from "./elements.js";
+import { live, sayLeft } from "./live.js";
 import { hasTrouble, news, patiently, trouble } from "./messages.js";
-
-/** How long it is waited until a question is asked again whose connection broke, in milliseconds. Then the board is not reached. */
-const PAUSES = [200, 800, 2000];
-/** What is not sent twice, since it may have been heard. */
-const ONCE = ["do", "stop"];
-/** What this page calls itself, so that the board knows it again. */
-const PAGE = [...crypto.getRandomValues(new Uint32Array(4))].map((word) => word.toString(16)).join("-");
+import { sentence, upper } from "./words.js";
 
 /** @type {State | null} */
 let state = null;
@@ -52,28 +48,6 @@ export function watch(watcher) {
 }
 
 /**
- * What the board answers, or null if it is not reached. Where the connection breaks, it is asked again.
- * @param {string} path
- * @param {object} [content] what is sent, if there is something
- * @returns {Promise<{ answer: Response, told: any } | null>}
- */
-async function heard(path, content) {
-  const sent = content === undefined ? {} : posted(content);
-  for (const pause of [...(ONCE.includes(path) ? [] : PAUSES), null]) {
-    try {
-      const answer = await fetch(path, sent);
-      return { answer, told: await answer.json() };
-    } catch (error) {
-      if (pause !== null) await new Promise((go) => setTimeout(go, pause));
-    }
-  }
-  return null;
-}
-
-/** @param {object} content */
-const posted = (content) => ({ method: "POST", headers: { "Content-Type": "application/json" }, body: JSON.stringify(content) });
-
-/**
  * Asks the board, which answers with JSON. Gives null where it refuses, and says why; and undefined where the answer is of another state
  * than this page shows, which is then, or soon, shown anew, or where the connection broke before it came.
  * @param {string} path
@@ -98,7 +72,7 @@ export async function ask(path, content, isQuiet = false) {
       told.steps ? `Begin again, with the steps made so far (${told.steps})` : "Begin again", () => act({ what: "again" }, "begun again")));
     return null;
   }
-  if (!answer.ok && !isQuiet || told.told) trouble(`${upper(told.error || told.told)}.`);
+  if (!answer.ok && !isQuiet || told.told) trouble(sentence(told.error || told.told));
   if (state && told.turn !== undefined && told.turn !== state.turn && path !== "state" && !(path === "do" && answer.ok)) {
     // While this page does something itself, it looks anew at its end.
     if (told.turn > state.turn && (!acting || path === "do")) await renew();
@@ -110,7 +84,7 @@ export async function ask(path, content, isQuiet = false) {
 /** Says that the board is not reached, and lets nothing be done but to look again. */
 function lost() {
   if (shut.length) return;
-  life.close();
+  letGo();
   shut = [...document.querySelectorAll("button:enabled, select:enabled, input:enabled")].map((it) => /** @type {HTMLElement} */ (it));
   for (const it of shut) put(it, true);
   const kept = state?.kept_in ? `Each step is in ${state.kept_in}.` : "The steps on this page are not kept: there they can still be read.";
@@ -134,7 +108,7 @@ async function lookAgain() {
   for (const it of shut) put(it, false);
   shut = [];
   trouble("");
-  life = live();
+  letGo = follow();
   await renew(true);
 }
 
@@ -183,7 +157,9 @@ export async function act(content, words = "") {
   /** @type {State | null | undefined} */
   const told = await patiently(ask("do", content));
   acting = false;
+  if (!told) news("");
   if (told) {
+    dropTyped();
     news(`${upper(words || told.steps[told.at].text)}: ${told.value}${units()}${before ? `, ${moved(before.value, told.value)}` : ""}`);
     await show(told);
   }
@@ -195,26 +171,18 @@ export async function act(content, words = "") {
 export const undo = () => present().at > present().floor && act({ what: "go", step: present().at - 1 }, "undone");
 export const redo = () => present().at < present().steps.length - 1 && act({ what: "go", step: present().at + 1 }, "done again");
 
-/**
- * The board lives as long as a page holds this connection, by which it tells the turn of each newer state. Where it breaks, and the board
- * still answers, the browser makes it anew.
- */
-function live() {
-  const made = new EventSource(`life?page=${PAGE}`);
-  made.addEventListener("error", () => {
-    if (made.readyState === EventSource.CLOSED) lost();
-    else if (!acting) renew();
-  });
-  made.addEventListener("message", (event) => {
-    newest = Number(event.data);
+/** Follows the newer states that the board tells of. While this page does something itself, it looks anew at its end. */
+const follow = () => live({
+  heard: (turn) => {
+    newest = turn;
     if (!acting) catchUp();
-  });
-  return made;
-}
+  },
+  broke: () => acting || renew(),
+  lost,
+});
 
-let life = live();
-// A page that does not say so is waited for, since its connection has broken.
-addEventListener("pagehide", () => fetch("left", { ...posted({ page: PAGE }), keepalive: true }).catch(() => undefined));
+let letGo = follow();
+sayLeft();
 
 /** Shows the page for the first time. */
 export async function begin() {

@@ -2,10 +2,11 @@
  * What can be sent, at the top, and the limit.
  * @typedef {import("./state.js").State} State
  */
-import { moved, upper } from "./amounts.js";
+import { moved } from "./amounts.js";
 import { pick } from "./choice.js";
 import { at, fill, keepInSight, make, numberCell, onClick, replaceAlike } from "./elements.js";
 import { act, caption, noun, present, units } from "./state.js";
+import { upper } from "./words.js";
 
 /** @param {State} state */
 export function showSummary(state) {

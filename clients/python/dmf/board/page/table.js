@@ -3,11 +3,11 @@
  * @typedef {import("./state.js").Arc} Arc
  * @typedef {{ total: number, first: number, rows: Arc[], reading: string, fault: string }} Part
  */
-import { upper } from "./amounts.js";
 import { choose } from "./choice.js";
 import { at, field, make, onClick, replace } from "./elements.js";
 import { isPicked, pickMore, pickThese, toggle, watchPicked } from "./many.js";
 import { ask, caption, noun, units } from "./state.js";
+import { sentence, upper } from "./words.js";
 
 /** The height of a row in pixels, as the style has it; how many rows are asked for at once; how many a page of keys moves by. */
 const HEIGHT = 32, AT_ONCE = 120, PAGE = 10;
@@ -49,7 +49,7 @@ export async function showTable() {
 
 /** How the filter is understood, and how many it shows. */
 function reading() {
-  return part.fault ? `${upper(part.fault)}.` : `${part.total} ${part.total === 1 ? "row" : "rows"}: ${part.reading || "all"}.`;
+  return part.fault ? sentence(part.fault) : `${part.total} ${part.total === 1 ? "row" : "rows"}: ${part.reading || "all"}.`;
 }
 
 /** Asks for the rows that came into sight, one request after the other. */

@@ -5,10 +5,11 @@
  * @typedef {Arc & { doubled: string, without: string }} Row
  * @typedef {{ row: Row, lost: bigint, won: bigint }} Trial
  */
-import { amount, upper, whole } from "./amounts.js";
+import { amount, whole } from "./amounts.js";
 import { pick } from "./choice.js";
 import { at, cell, fill, make, numberCell, onClick } from "./elements.js";
 import { ask, caption, noun, present, units } from "./state.js";
+import { upper } from "./words.js";
 
 /** How many rows the table has; how many arcs are asked for at once; how many are named; how often what is found so far is shown, in ms. */
 const MOST_ROWS = 300, AT_ONCE = 5000, MOST_NAMED = 5, PAUSE = 400;
