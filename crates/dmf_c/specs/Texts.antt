@@ -11,7 +11,7 @@ abbrev pub ReadsResult : ℕ → Result NetworkState ProblemFault → ℕ → Op
 ReadsResult past (Ok s) code before after line fault = (code ≡ 0) × (after ≡ Some (start past s))
 ReadsResult past (Err found) code before after line fault = (code ≡ 12) × (line ≡ found.line) × (fault ≡ fault_number found.kind) × (after ≡ before)
 
--- The same, if the bound is at most 1,000,000.
+-- C has this if the bound is at most 1,000,000; else it is told that the bound is too large.
 abbrev pub ReadsBounded : ℕ → Result NetworkState ProblemFault → ℕ → Option Timeline → Option Timeline → ℕ → ℕ → Type 0
 ReadsBounded past read code before after line fault =
     MatchBool (nat_le past 1000000) (ReadsResult past read code before after line fault) ((code ≡ 11) × (after ≡ before))

@@ -46,7 +46,7 @@ pub record KeepsCounted (arcs counted : List Arc) (flow : NodePair → ℕ) (pai
   pub caps : (pair : NodePair) → cap_of (known_of pairs pair) ≡ pair_capacity counted pair
   pub flows : (pair : NodePair) → flow_of (known_of pairs pair) ≡ flow pair
 
--- The same, with all arcs counted.
+-- The pairs of these arcs, and no others, have entries, and all arcs are counted.
 abbrev pub KeepsPairs : List Arc → (NodePair → ℕ) → PairTable → Type 0
 KeepsPairs arcs flow pairs = KeepsCounted arcs arcs flow pairs
 
