@@ -29,10 +29,6 @@ use dmf_state::{Arc, Direction, Edit, Move, NoMemory, Side, State};
 use std::alloc::{AllocError, Global};
 use std::marker::Model;
 
-/// After so many solves and drains that looked at all arcs for their moves, the links get numbers, so that later ones need not look at
-/// all arcs. Numbering takes as long as about so many looks.
-const MOST_LOOKS: u32 = 8;
-
 /// The residual network of a state: the links along which a solve augments. A caller that solves again and again keeps it, and it
 /// follows each change of the state, so no solve has to make its links anew. From the first drain on it also has a search over the same
 /// links for drains, so no drain has to make them anew.
@@ -42,8 +38,8 @@ pub struct ResidualNetwork {
     search: SidedSearch,
     /// The search over carrying steps, if it is made.
     carrying: Option<Search>,
-    /// How many solves and drains have looked at all arcs for their moves.
-    looks: u32,
+    /// Whether it has served a solve or a drain.
+    is_used: bool,
 }
 
 impl Model for ResidualNetwork {
@@ -69,8 +65,8 @@ impl ResidualNetwork {
     /// If no edit since the last solve gave room to a link that leads out of the side to which that solve led, the flow is greatest, and
     /// the plan looks at no arc but those that were changed.
     ///
-    /// The first solves and drains look at all arcs for their moves. Then the links get numbers, and each later one looks only at the
-    /// arcs of its paths, unless these have an eighth as many links as there are nodes.
+    /// The first solve or drain looks at all arcs for its moves. The next one numbers the links. It and those after it look only at the arcs
+    /// of their paths, unless these have an eighth as many links as there are nodes.
     ///
     /// Takes memory for the moves, and for a side that is wanted, with marks and numbers while it looks for the side. A plan that
     /// numbers the links takes memory for a number a link, and each later one for an eighth of a number a node. If memory is refused,
@@ -146,9 +142,9 @@ impl ResidualNetwork {
         let ResidualNetwork {
             mut search,
             carrying,
-            looks,
+            is_used,
         } = self;
-        let looks = look_or_number(alloc, &mut search, looks)?;
+        number_once_used(alloc, &mut search, is_used)?;
         let (search, mut marks, way_out) = search.into_way_out(alloc, state.nodes(), state.sink());
         let touched = search.none_touched(alloc, state.nodes() as usize / 8)?;
         let solved = solve(search, state, touched, &mut marks, way_out, watch);
@@ -158,7 +154,7 @@ impl ResidualNetwork {
         let kept = ResidualNetwork {
             search: SidedSearch::at_end(alloc, solved.search, state.nodes(), marks),
             carrying,
-            looks,
+            is_used: true,
         };
         Ok((Edit::Solve { moves }, side, kept))
     }
@@ -212,7 +208,7 @@ impl ResidualNetwork {
         let ResidualNetwork {
             search,
             carrying,
-            looks,
+            is_used,
         } = self;
         let k = state.arcs().len();
         let pair = residual_pair(arc, 0);
@@ -221,7 +217,7 @@ impl ResidualNetwork {
         Some(ResidualNetwork {
             search,
             carrying,
-            looks,
+            is_used,
         })
     }
 
@@ -235,13 +231,13 @@ impl ResidualNetwork {
         let ResidualNetwork {
             search,
             carrying,
-            looks,
+            is_used,
         } = self;
         let (search, carrying) = search.remove(state.arcs().len() - 1, carrying)?;
         Some(ResidualNetwork {
             search,
             carrying,
-            looks,
+            is_used,
         })
     }
 
@@ -261,7 +257,7 @@ impl ResidualNetwork {
         let ResidualNetwork {
             mut search,
             carrying,
-            looks,
+            is_used,
         } = self;
         let moves = moves_of(edit);
         put_flows(&mut search, state, moves, direction);
@@ -270,7 +266,7 @@ impl ResidualNetwork {
         ResidualNetwork {
             search,
             carrying,
-            looks,
+            is_used,
         }
     }
 
@@ -287,7 +283,8 @@ impl ResidualNetwork {
         ensures network { IsNetworkOf state.now self.new }
         ensures carrying { IfOk result (IsCarryingOf state.now) }
     {
-        self.looks = look_or_number(alloc, &mut self.search, self.looks)?;
+        number_once_used(alloc, &mut self.search, self.is_used)?;
+        self.is_used = true;
         let mut carrying = match self.carrying.take() {
             Some(search) => with_value(search, state),
             None => carrying_twin(alloc, state, self.search.as_search())?,
@@ -304,7 +301,7 @@ impl ResidualNetwork {
             Some(_) => ResidualNetwork {
                 search: self.search,
                 carrying,
-                looks: self.looks,
+                is_used: self.is_used,
             },
             None => self,
         }
@@ -327,19 +324,23 @@ pub fn kept_or_new(
     Ok(ResidualNetwork {
         search: SidedSearch::new(search),
         carrying: None,
-        looks: 0,
+        is_used: false,
     })
 }
 
-/// Counts one more look at all arcs, or after enough of them numbers the links. Returns how many looks there were.
-fn look_or_number(alloc: Global, search: &mut SidedSearch, looks: u32) -> Result<u32, AllocError>
+/// Numbers the links of a network that has served a solve or a drain: that takes about as long as a look at all arcs. The first one looks at
+/// all arcs instead, since it may be the only one, and numbers take memory.
+fn number_once_used(
+    alloc: Global,
+    search: &mut SidedSearch,
+    is_used: bool,
+) -> Result<(), AllocError>
     ensures { search.new ≡ search.old }
 {
-    if looks < MOST_LOOKS {
-        return Ok(looks + 1);
+    if is_used {
+        search.number_links(alloc)?;
     }
-    search.number_links(alloc)?;
-    Ok(looks)
+    Ok(())
 }
 
 /// The moves of a solve. Looks at no arc whose pair is not touched.
