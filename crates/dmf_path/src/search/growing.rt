@@ -77,10 +77,11 @@ impl Search {
         ensures search { IfSome result (λ both. both.0 ≡ self) }
         ensures other { IfSome result (λ both. IfSome both.1 (λ search. other ≡ Some search)) }
     {
-        if !has_spare(&self.links.table, pair.tail) {
+        let phase = &self.phase;
+        if !has_spare(&phase.links.table, pair.tail) {
             return Some((self.with_spares(alloc, pair.tail)?, None));
         }
-        if !has_spare(&self.links.table, pair.head) {
+        if !has_spare(&phase.links.table, pair.head) {
             return Some((self.with_spares(alloc, pair.head)?, None));
         }
         Some((self, other))
