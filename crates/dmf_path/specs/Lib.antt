@@ -13,6 +13,7 @@ pub mod Searching
 pub mod Raising
 pub mod Ball
 pub mod Going
+pub mod Phase
 pub mod Astray
 pub mod Look
 pub mod BothEnds

@@ -13,7 +13,7 @@ use Rattle.dmf_path.specs.Frontier.{IsClean}
 use Rattle.dmf_path.specs.BothEnds.{AreSound, AreWhole, IsLabelled}
 use Rattle.dmf_node.specs.Node.{IsNode}
 use Rattle.dmf_links.specs.LinkTable.{links_of}
-use Rattle.dmf_links.specs.Links.{Links, LiesAt, AreLinks, ArePlaces, AreRooms, pairs_at, tail_of}
+use Rattle.dmf_links.specs.Links.{Links, LiesAt, AreLinks, AreRooms, pairs_at, tail_of}
 use Rattle.dmf_path.specs.Walk.{AreCurrent, ArePassed, IsAdmissible, IsTrail, IsWalking, end_of}
 use Rattle.dmf_path.specs.Held.{Way, places_of, walked_slots, rest_slots, filled_slots, HaveLeft}
 use Rattle.dmf_path.specs.Residual.{ResidualLinks, with_settled_rooms}
@@ -116,10 +116,6 @@ pub record AreLowered (r : ResidualLinks) (old new : Labelling) : Type 0 where
 abbrev pub MayLast : Levels → ResidualLinks → Type 0
 MayLast levels r = levels.all ≡ true → AreLasting (labelling_of levels) levels.noted r
 
--- The same, and a fresh search has no such labels.
-abbrev pub AreKept : Levels → Bool → ResidualLinks → Type 0
-AreKept levels is_fresh r = levels.all ≡ true → (is_fresh ≡ false) × AreLasting (labelling_of levels) levels.noted r
-
 -- The walk has come to where the rest of the last path begins: the two are a path from the start to the goal.
 abbrev pub IsFound : ResidualLinks → Way → Type 0
 IsFound r w = end_of r.links w.start (places_of (walked_slots w)) ≡ w.joint
@@ -132,11 +128,6 @@ fresh_labels nodes start goal = slice_set (slice_set (replicate (nodes + 1) no_l
 pub record IsFresh (l : Links) (labels : List ℕ) (start : ℕ) : Type 0 where
   pub label : slice_index labels start ≡ 0
   pub others : (v : ℕ) → IsNode l.nodes v → (slice_index labels v ≡ no_label) ⊎ (slice_index labels v ≡ 0)
-
--- What the mark as fresh says about a search.
-pub data IsMarked (l : Links) (labels : List ℕ) (start : ℕ) (is_fresh : Bool) : Type 0 where
-  begun : is_fresh ≡ false → IsMarked l labels start is_fresh
-  fresh : IsFresh l labels start → IsMarked l labels start is_fresh
 
 -- Each node has a place for its label, and none has a label of the search from the start.
 pub record IsReady (nodes : ℕ) (near far : Reach) : Type 0 where
@@ -184,12 +175,6 @@ pub record AreRedirected (levels : Levels) (r : ResidualLinks) (start goal : ℕ
 -- Those that are set aside are so for the goal that they had, and no room rises.
 abbrev pub AreAside : List Aside → ResidualLinks → Type 0
 AreAside asides r = All (λ a. (r.takes_back ≡ false) × AreUsable a.levels r a.ends.goal) asides
-
--- What a search keeps: the places of the pairs, what it has between two paths, and whether it has not begun.
-pub record IsSearch (r : ResidualLinks) (places : List ℕ) (v : Labelling) (w : Way) (is_fresh : Bool) : Type 0 where
-  pub places_are : ArePlaces r.links places
-  pub searching : IsSearching r v w
-  pub marked : IsMarked r.links v.labels w.start is_fresh
 
 -- the search as callers see it
 abbrev pub searched : Sought → List ℕ → Searched

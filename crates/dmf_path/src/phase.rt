@@ -1,13 +1,13 @@
-//! The search for the next path: the walk goes on, or the nodes get new labels and it begins again.
+//! A phase of the search, which finds the next path: the walk goes on, or the nodes get new labels and it begins again.
 ghost use Rattle.std.specs.Prelude.{◌≡◌, ◌≢◌, ℕ, List, Some, true, false, []};
 ghost use Rattle.dmf_node.specs.Node.{IsNode};
 ghost use Rattle.dmf_links.specs.LinkTable.{links_of};
-ghost use Rattle.dmf_path.specs.Going.{Goes, HasGoneOn, IsAimedAnew, IsBetweenLooks, IsRelabelledFor};
+ghost use Rattle.dmf_path.specs.Going.{Goes, IsRelabelledFor};
 ghost use Rattle.dmf_path.specs.Ball.{IsFitFor};
 ghost use Rattle.dmf_path.specs.Walk.{IsWalk};
 ghost use Rattle.dmf_path.specs.Held.{way_of, with_slots};
 ghost use Rattle.dmf_path.specs.Residual.{residual_of, with_settled_rooms};
-ghost use Rattle.dmf_path.specs.Searching.{labelling_of, sought, AreAside, AreReady, AreRedirected, IsSearching, IsFound, IsFresh, IsReady, IsParted, fresh_labels};
+ghost use Rattle.dmf_path.specs.Searching.{sought, AreRedirected, IsReady, IsParted, fresh_labels};
 ghost use Rattle.dmf_path.specs.Through.{IsOnlyWay};
 
 use crate::aside::{Aside, Ends, take_up};
@@ -21,96 +21,214 @@ use crate::through::{Through, label_through};
 use crate::trail::Trail;
 use crate::walk::walk;
 use dmf_links::LinkTable;
+use std::marker::Model;
 
-/// Finds the least path from the start to the goal: goes on with the walk, and if none is left, mends the labels or labels the nodes
-/// anew, and walks again. If there is none, marks the nodes on the start's side, if there is a mark for each node.
-pub fn find(
-    links: &mut Residual,
-    levels: &mut Levels,
-    ball: &mut Ball,
-    trail: &mut Trail,
-    marks: &mut [bool],
-) -> bool
-    requires keeps { IsBetweenLooks links.old levels.old ball.old trail.old }
-    ensures keeps { IsBetweenLooks links.new levels.new ball.new trail.new }
-    ensures same { sought (residual_of links.new) (way_of trail.new) ≡ sought (residual_of links.old) (way_of trail.old) }
-    ensures found { result ≡ true → IsFound (residual_of links.new) (way_of trail.new) }
-    ensures none { result ≡ false → IsParted (links_of links.old.table.value)
-        (with_settled_rooms (residual_of links.old) (way_of trail.old)).rooms trail.old.start trail.old.goal marks.new }
-{
-    ball.keep_for(trail.goal);
-    if go_on(links, levels, ball, trail) {
-        return true;
+/// A phase (Dinic): labels of the nodes, and how far the walk along them has come. Between two calls the labels are sound, and the held
+/// pushes can be applied.
+#[derive(Drop)]
+pub struct Phase {
+    /// The links with their rooms.
+    pub links: Residual,
+    /// The labels of the nodes, and their current links.
+    pub levels: Levels,
+    /// The nodes near the goal.
+    pub ball: Ball,
+    /// The walk, and the rest of the last path.
+    pub trail: Trail,
+}
+
+impl Model for Phase {
+    ghost use Rattle.dmf_path.specs.Going.{IsBetweenLooks};
+    ghost use Rattle.dmf_path.specs.Phase.{Phased};
+
+    ghost Value = { Phased };
+
+    ghost view = { λ a. record { links = a.links; levels = a.levels; ball = a.ball; trail = a.trail } };
+
+    ghost invariant = { λ a. IsBetweenLooks a.links a.levels a.ball a.trail };
+}
+
+impl Phase {
+    ghost use Rattle.std.specs.Prelude.{◌+◌, ◌^◌, ◌<◌, length, slice_index};
+    ghost use Rattle.dmf_links.specs.Links.{IsSpare};
+    ghost use Rattle.dmf_path.specs.Ball.{IsAround};
+    ghost use Rattle.dmf_path.specs.Phase.{sought_by, sought_at, with_residual, GoesOn, HasEnds, HasGoneOn, HasNotBegun, IsFoundBy, IsMarked, IsPartedBy, IsSettled, IsWalkBy, MayRise, Settles};
+    ghost use Rattle.dmf_path.specs.Residual.{pair_set};
+    ghost use Rattle.dmf_path.specs.Searching.{AreAside};
+
+    /// Finds the least path from the start to the goal: goes on with the walk, and if none is left, mends the labels or labels the nodes
+    /// anew, and walks again. If there is none, marks the nodes on the start's side, if there is a mark for each node.
+    pub fn find(&mut self, marks: &mut [bool]) -> bool
+        ensures same { sought_by self.new ≡ sought_by self.old }
+        ensures ends { HasEnds (sought_by self.new) }
+        ensures found { result ≡ true → IsFoundBy self.new }
+        ensures none { result ≡ false → IsPartedBy (sought_by self.old) marks.new }
+    {
+        self.ball.keep_for(self.trail.goal);
+        if self.go_on() {
+            return true;
+        }
+        if self.go_on_mended() {
+            return true;
+        }
+        self.go_on_anew(marks)
     }
-    if go_on_mended(links, levels, ball, trail) {
-        return true;
+
+    /// Mends the labels, and walks again if this helps. Whether the walk comes to the goal.
+    fn go_on_mended(&mut self) -> bool
+        requires { IsAround self.old.ball self.old.trail.goal }
+        ensures { HasGoneOn self.old self.new result }
+    {
+        self.settle();
+        self.mend_labels() && self.go_on()
     }
-    go_on_anew(links, levels, ball, trail, marks)
-}
 
-/// Mends the labels, and walks again if this helps. Whether the walk comes to the goal.
-fn go_on_mended(
-    links: &mut Residual,
-    levels: &mut Levels,
-    ball: &mut Ball,
-    trail: &mut Trail,
-) -> bool
-    requires goes { Goes links.old levels.old ball.old trail.old }
-    ensures on { HasGoneOn (sought (residual_of links.old) (way_of trail.old)) links.new levels.new ball.new trail.new result }
-{
-    trail.settle(links);
-    mend_labels(links, levels, ball, trail) && go_on(links, levels, ball, trail)
-}
-
-/// Labels the nodes anew, and walks again. Whether the walk comes to the goal; if not, no path is left.
-fn go_on_anew(
-    links: &mut Residual,
-    levels: &mut Levels,
-    ball: &mut Ball,
-    trail: &mut Trail,
-    marks: &mut [bool],
-) -> bool
-    requires goes { Goes links.old levels.old ball.old trail.old }
-    ensures on { HasGoneOn (sought (residual_of links.old) (way_of trail.old)) links.new levels.new ball.new trail.new result }
-    ensures none { result ≡ false → IsParted (links_of links.old.table.value)
-        (with_settled_rooms (residual_of links.old) (way_of trail.old)).rooms trail.old.start trail.old.goal marks.new }
-{
-    trail.settle(links);
-    relabel(links, levels, ball, trail, marks) && go_on(links, levels, ball, trail)
-}
-
-/// Goes on with the walk. Returns whether it comes to the goal.
-fn go_on(links: &mut Residual, levels: &mut Levels, ball: &Ball, trail: &mut Trail) -> bool
-    requires goes { Goes links.old levels.old ball.now trail.old }
-    ensures on { HasGoneOn (sought (residual_of links.old) (way_of trail.old)) links.new levels.new ball.now trail.new result }
-    ensures none { result ≡ false → (ps : List ℕ) → ¬ IsWalk (residual_of links.old).links levels.old.near.labels
-        (with_settled_rooms (residual_of links.old) (way_of trail.old)).rooms trail.old.goal trail.old.start ps }
-{
-    walk(
-        links,
-        levels.near.labels(),
-        &mut levels.current,
-        ball,
-        trail,
-        &mut levels.noted,
-    )
-}
-
-/// Mends the labels, where all nodes have some, and frees the slots; no push is held. Returns whether a walk may lead to the goal then.
-fn mend_labels(links: &Residual, levels: &mut Levels, ball: &mut Ball, trail: &mut Trail) -> bool
-    requires goes { Goes links.now levels.old ball.old trail.old }
-    requires settled { with_settled_rooms (residual_of links.now) (way_of trail.old) ≡ residual_of links.now }
-    ensures goes { Goes links.now levels.new ball.new trail.new }
-    ensures same { sought (residual_of links.now) (way_of trail.new) ≡ sought (residual_of links.now) (way_of trail.old) }
-{
-    if !levels.all {
-        return false;
+    /// Labels the nodes anew, and walks again. Whether the walk comes to the goal; if not, no path is left.
+    fn go_on_anew(&mut self, marks: &mut [bool]) -> bool
+        requires { IsAround self.old.ball self.old.trail.goal }
+        ensures on { HasGoneOn self.old self.new result }
+        ensures none { result ≡ false → IsPartedBy (sought_by self.old) marks.new }
+    {
+        self.settle();
+        self.relabel(marks) && self.go_on()
     }
-    let is_mended = mend(links, levels, ball, trail.start, trail.goal);
-    let start_label = levels.near.label(trail.start);
-    let goal_label = levels.near.label(trail.goal);
-    trail.free(start_label - goal_label);
-    is_mended
+
+    /// Goes on with the walk. Returns whether it comes to the goal.
+    fn go_on(&mut self) -> bool
+        requires { IsAround self.old.ball self.old.trail.goal }
+        ensures on { HasGoneOn self.old self.new result }
+        ensures none { result ≡ false → (ps : List ℕ) → ¬ IsWalkBy (sought_by self.old) self.old.levels.near.labels ps }
+    {
+        walk(
+            &mut self.links,
+            self.levels.near.labels(),
+            &mut self.levels.current,
+            &self.ball,
+            &mut self.trail,
+            &mut self.levels.noted,
+        )
+    }
+
+    /// Applies the held pushes to the rooms.
+    pub fn settle(&mut self)
+        ensures { Settles self.old self.new }
+    {
+        self.trail.settle(&mut self.links);
+    }
+
+    /// Mends the labels, where all nodes have some, and frees the slots; no push is held. Returns whether a walk may lead to the goal
+    /// then.
+    fn mend_labels(&mut self) -> bool
+        requires around { IsAround self.old.ball self.old.trail.goal }
+        requires settled { IsSettled self.old }
+        ensures { GoesOn self.old self.new }
+    {
+        if !self.levels.all {
+            return false;
+        }
+        let start = self.trail.start;
+        let goal = self.trail.goal;
+        let is_mended = mend(&self.links, &mut self.levels, &mut self.ball, start, goal);
+        let start_label = self.levels.near.label(start);
+        let goal_label = self.levels.near.label(goal);
+        self.trail.free(start_label - goal_label);
+        is_mended
+    }
+
+    /// Labels the nodes anew, and frees the slots; no push is held. Returns whether the start has a label, so that a path is left.
+    fn relabel(&mut self, marks: &mut [bool]) -> bool
+        requires around { IsAround self.old.ball self.old.trail.goal }
+        requires settled { IsSettled self.old }
+        ensures on { GoesOn self.old self.new }
+        ensures labelled { result ≡ true → (ps : List ℕ) × IsWalkBy (sought_by self.new) self.new.levels.near.labels ps }
+        ensures none { result ≡ false → IsPartedBy (sought_by self.old) marks.new }
+    {
+        let ends = Ends {
+            start: self.trail.start,
+            goal: self.trail.goal,
+        };
+        let links = &self.links;
+        self.levels.near.unlabel();
+        if !label_anew(links, &mut self.levels, ends, marks) {
+            make_fresh(&links.table, &mut self.levels, &mut self.trail);
+            return false;
+        }
+        begin_phase(links, &mut self.levels, &mut self.ball, &mut self.trail);
+        true
+    }
+
+    /// Restarts the search between its two nodes: applies the held pushes and removes all labels, so that the next walk ends at once.
+    /// From then on labelling goes from both ends.
+    pub fn begin_anew(&mut self)
+        ensures fresh { HasNotBegun self.new }
+        ensures same { sought_by self.new ≡ sought_by self.old }
+    {
+        self.settle();
+        let links = &self.links;
+        make_fresh(&links.table, &mut self.levels, &mut self.trail);
+        self.levels.course = self.levels.course.from_both();
+    }
+
+    /// Prepares for rooms from outside: forgets the nodes near the goal and, unless it has not begun, begins anew.
+    pub fn forget(&mut self, is_fresh: bool)
+        requires { IsMarked self.old is_fresh }
+        ensures fresh { MayRise self.new }
+        ensures same { sought_by self.new ≡ sought_by self.old }
+    {
+        if !is_fresh {
+            self.begin_anew();
+        }
+        self.ball.forget();
+    }
+
+    /// Sets the rooms of a link and of its opposite.
+    pub fn set_pair(&mut self, place: u32, along: u64, against: u64)
+        requires fresh { MayRise self.old }
+        requires within { place < length self.old.links.table.value.heads.items }
+        requires fits { along + against < 2 ^ 64 }
+        requires used { ¬ IsSpare (links_of self.old.links.table.value) place }
+        ensures fresh { HasNotBegun self.new }
+        ensures set { sought_by self.new
+            ≡ with_residual (sought_by self.old) (pair_set (sought_by self.old).residual place along against) }
+    {
+        self.links.set_pair(place, along, against);
+    }
+
+    /// Restarts the search between other nodes: applies the held pushes, takes up the labels that fit these nodes, and keeps them if they
+    /// can be made to lead to the goal. Else it takes them off, and is fresh. Whether it is.
+    pub fn aim(&mut self, asides: &mut [Aside], ends: Ends) -> bool
+        requires asides { AreAside asides.old (sought_by self.old).residual }
+        requires ends { HasEnds (sought_at (sought_by self.old) ends) }
+        ensures asides { AreAside asides.new (sought_by self.new).residual }
+        ensures marked { IsMarked self.new result }
+        ensures same { sought_by self.new ≡ sought_at (sought_by self.old) ends }
+    {
+        self.settle();
+        let before = Ends {
+            start: self.trail.start,
+            goal: self.trail.goal,
+        };
+        let used = take_up(asides, &mut self.levels, before, ends);
+        self.levels.course = self.levels.course.keeping(used.kept_by(ends));
+        self.trail.start = ends.start;
+        self.trail.goal = ends.goal;
+        let links = &self.links;
+        if redirect(
+            links,
+            &mut self.levels,
+            &mut self.ball,
+            used.goal,
+            ends.start,
+            ends.goal,
+        ) {
+            let start_label = self.levels.near.label(ends.start);
+            let goal_label = self.levels.near.label(ends.goal);
+            self.trail.free(start_label - goal_label);
+            return false;
+        }
+        make_fresh(&links.table, &mut self.levels, &mut self.trail);
+        true
+    }
 }
 
 /// Lowers the labels near the goal, if they are those from the start, and raises labels to the goal. Returns whether a walk may lead to
@@ -140,35 +258,6 @@ fn mend(links: &Residual, levels: &mut Levels, ball: &mut Ball, start: u32, goal
     let before = levels.near.label(goal);
     refit(links, levels, ball, start, goal);
     levels.near.label(goal) < before
-}
-
-/// Labels the nodes anew, and frees the slots; no push is held. Returns whether the start has a label, so that a path is left.
-fn relabel(
-    links: &Residual,
-    levels: &mut Levels,
-    ball: &mut Ball,
-    trail: &mut Trail,
-    marks: &mut [bool],
-) -> bool
-    requires goes { Goes links.now levels.old ball.old trail.old }
-    requires settled { with_settled_rooms (residual_of links.now) (way_of trail.old) ≡ residual_of links.now }
-    ensures goes { Goes links.now levels.new ball.new trail.new }
-    ensures same { sought (residual_of links.now) (way_of trail.new) ≡ sought (residual_of links.now) (way_of trail.old) }
-    ensures labelled { result ≡ true → (ps : List ℕ) × IsWalk (links_of links.now.table.value) levels.new.near.labels links.now.rooms.items
-        trail.old.goal trail.old.start ps }
-    ensures none { result ≡ false → IsParted (links_of links.now.table.value) links.now.rooms.items trail.old.start trail.old.goal marks.new }
-{
-    let ends = Ends {
-        start: trail.start,
-        goal: trail.goal,
-    };
-    levels.near.unlabel();
-    if !label_anew(links, levels, ends, marks) {
-        make_fresh(&links.table, levels, trail);
-        return false;
-    }
-    begin_phase(links, levels, ball, trail);
-    true
 }
 
 /// Labels the nodes anew from the way out, which each path passes, and frees the slots; no push is held. Returns whether a path is left,
@@ -223,60 +312,6 @@ fn begin_phase(links: &Residual, levels: &mut Levels, ball: &mut Ball, trail: &m
     let start_label = levels.near.label(trail.start);
     let goal_label = levels.near.label(trail.goal);
     trail.free(start_label - goal_label);
-}
-
-/// Restarts the search between its two nodes: applies the held pushes and removes all labels, so that the next walk ends at once. From
-/// then on labelling goes from both ends.
-pub fn begin_anew(links: &mut Residual, levels: &mut Levels, trail: &mut Trail)
-    requires searching { IsSearching (residual_of links.old) (labelling_of levels.old) (way_of trail.old) }
-    requires ready { AreReady levels.old }
-    ensures searching { IsSearching (residual_of links.new) (labelling_of levels.new) (way_of trail.new) }
-    ensures ready { AreReady levels.new }
-    ensures fresh { IsFresh (links_of links.new.table.value) levels.new.near.labels trail.new.start }
-    ensures all { levels.new.all ≡ false }
-    ensures same { sought (residual_of links.new) (way_of trail.new) ≡ sought (residual_of links.old) (way_of trail.old) }
-{
-    trail.settle(links);
-    make_fresh(&links.table, levels, trail);
-    levels.course = levels.course.from_both();
-}
-
-/// Restarts the search between other nodes: applies the held pushes, takes up the labels that fit these nodes, and keeps them if they can
-/// be made to lead to the goal. Else it takes them off, and is fresh. Whether it is.
-pub fn aim(
-    links: &mut Residual,
-    levels: &mut Levels,
-    asides: &mut [Aside],
-    ball: &mut Ball,
-    trail: &mut Trail,
-    ends: Ends,
-) -> bool
-    requires keeps { IsBetweenLooks links.old levels.old ball.old trail.old }
-    requires asides { AreAside asides.old (with_settled_rooms (residual_of links.old) (way_of trail.old)) }
-    requires start { IsNode links.old.table.value.nodes ends.start }
-    requires goal { IsNode links.old.table.value.nodes ends.goal }
-    requires apart { ends.start ≢ ends.goal }
-    ensures aimed { IsAimedAnew links.new levels.new asides.new ball.new trail.new result }
-    ensures same { sought (residual_of links.new) (way_of trail.new)
-        ≡ record { residual = with_settled_rooms (residual_of links.old) (way_of trail.old); start = ends.start; goal = ends.goal } }
-{
-    trail.settle(links);
-    let before = Ends {
-        start: trail.start,
-        goal: trail.goal,
-    };
-    let used = take_up(asides, levels, before, ends);
-    levels.course = levels.course.keeping(used.kept_by(ends));
-    trail.start = ends.start;
-    trail.goal = ends.goal;
-    if redirect(links, levels, ball, used.goal, ends.start, ends.goal) {
-        let start_label = levels.near.label(ends.start);
-        let goal_label = levels.near.label(ends.goal);
-        trail.free(start_label - goal_label);
-        return false;
-    }
-    make_fresh(&links.table, levels, trail);
-    true
 }
 
 /// Removes all labels, and gives both ends the label 0. No link falls then, so the next walk ends at once.

@@ -1,28 +1,40 @@
-//! Applying held pushes before a caller changes the room of a link.
-ghost use Rattle.std.specs.Prelude.{◌≡◌, ◌+◌, ◌<◌, ◌==◌, length, slice_index};
+//! Taking room off a link: first the held pushes are applied that may change its room.
+ghost use Rattle.std.specs.Prelude.{◌≡◌, ◌≤◌, ◌+◌, ◌<◌, ◌==◌, length, slice_index};
 ghost use Rattle.dmf_links.specs.Links.{tail_of};
 ghost use Rattle.dmf_links.specs.LinkTable.{links_of};
-ghost use Rattle.dmf_path.specs.Held.{way_of, places_of, filled_slots, IsOff};
-ghost use Rattle.dmf_path.specs.Residual.{residual_of, with_settled_rooms};
-ghost use Rattle.dmf_path.specs.Searching.{labelling_of, sought, IsSearching};
 
-use crate::levels::Levels;
-use crate::residual::Residual;
-use crate::trail::Trail;
+use crate::phase::Phase;
 use dmf_links::LinkTable;
 
-/// Applies all held pushes if one of them may change the room of the link at this place: if pushes are taken back, or if the link
-/// falls, as the links in slots do.
-pub fn release(links: &mut Residual, levels: &Levels, trail: &mut Trail, place: u32)
-    requires place { place < length links.old.table.value.heads.items }
-    requires searching { IsSearching (residual_of links.old) (labelling_of levels.now) (way_of trail.old) }
-    ensures searching { IsSearching (residual_of links.new) (labelling_of levels.now) (way_of trail.new) }
-    ensures same { sought (residual_of links.new) (way_of trail.new) ≡ sought (residual_of links.old) (way_of trail.old) }
-    ensures off { IsOff place (places_of (filled_slots (way_of trail.new))) }
-    ensures room { slice_index (with_settled_rooms (residual_of links.new) (way_of trail.new)).rooms place ≡ slice_index links.new.rooms.items place }
-{
-    if links.takes_back || falls(&links.table, levels.near.labels(), place) {
-        trail.settle(links);
+impl Phase {
+    ghost use Rattle.dmf_path.specs.Held.{way_of, places_of, filled_slots, IsOff};
+    ghost use Rattle.dmf_path.specs.Phase.{sought_by, with_residual, IsAlike};
+    ghost use Rattle.dmf_path.specs.Residual.{room_lowered};
+
+    /// Takes an amount off the room of a link.
+    pub fn lower(&mut self, place: u32, amount: u64)
+        requires within { place < length self.old.links.table.value.heads.items }
+        requires room { amount ≤ slice_index (sought_by self.old).residual.rooms place }
+        ensures lowered { sought_by self.new
+            ≡ with_residual (sought_by self.old) (room_lowered (sought_by self.old).residual place amount) }
+        ensures levels { self.new.levels ≡ self.old.levels }
+    {
+        self.release(place);
+        self.links.lower(place, amount);
+    }
+
+    /// Applies all held pushes if one of them may change the room of the link at this place: if pushes are taken back, or if the link
+    /// falls, as the links in slots do.
+    fn release(&mut self, place: u32)
+        requires { place < length self.old.links.table.value.heads.items }
+        ensures alike { IsAlike self.old self.new }
+        ensures off { IsOff place (places_of (filled_slots (way_of self.new.trail))) }
+        ensures room { slice_index (sought_by self.new).residual.rooms place ≡ slice_index self.new.links.rooms.items place }
+    {
+        let links = &self.links;
+        if links.takes_back || falls(&links.table, self.levels.near.labels(), place) {
+            self.settle();
+        }
     }
 }
 

@@ -13,12 +13,9 @@ use crate::aside::{Aside, Ends};
 use crate::ball::Ball;
 use crate::levels::Levels;
 use crate::noted::Noted;
-use crate::phase::{aim, begin_anew, find};
+use crate::phase::Phase;
 use crate::reach::{labelled, labels_from_start};
-use crate::release::release;
-use crate::residual::Residual;
 use crate::touched::Touched;
-use crate::trail::Trail;
 use dmf_links::{Pair, Places, number_links};
 use std::alloc::{AllocError, Global};
 use std::marker::Model;
@@ -47,38 +44,26 @@ pub struct AugmentingPath {
 /// nodes if few paths are left.
 #[derive(Drop)]
 pub struct Search {
-    links: Residual,
+    phase: Phase,
     places: Rc<Places>,
     /// For each link the index of its pair, once the links are numbered. Searches over the same links share the numbers.
     numbers: Option<Rc<Vec<u32>>>,
-    levels: Levels,
-    /// The nodes near the goal.
-    ball: Ball,
     /// Other labels, if the search keeps two sets. It takes nothing back then, so that they stay valid while others are in use.
     asides: Vec<Aside>,
-    trail: Trail,
     /// Whether the search has looked for no path since it began, or began anew: then no push is held, and no link is passed.
     is_fresh: bool,
 }
 
 impl Model for Search {
-    ghost use Rattle.dmf_path.specs.Ball.{IsFit};
-    ghost use Rattle.dmf_path.specs.Held.{way_of};
-    ghost use Rattle.dmf_links.specs.LinkTable.{links_of};
-    ghost use Rattle.dmf_path.specs.Residual.{residual_of, with_settled_rooms};
+    ghost use Rattle.dmf_path.specs.Phase.{sought_by, IsMarked, IsSearch};
     ghost use Rattle.dmf_path.specs.Search.{Searched};
-    ghost use Rattle.dmf_path.specs.Searching.{labelling_of, sought, searched, AreAside, AreKept, AreReady, IsSearch};
-    ghost use Rattle.dmf_links.specs.Numbers.{MayBeNumbered};
+    ghost use Rattle.dmf_path.specs.Searching.{searched};
 
     ghost Value = { Searched };
 
-    ghost view = { λ a. searched (sought (residual_of a.links) (way_of a.trail)) a.places.value };
+    ghost view = { λ a. searched (sought_by a.phase) a.places.value };
 
-    ghost invariant = { λ a. (AreReady a.levels × MayBeNumbered (links_of a.links.table.value) a.places.value a.numbers
-        × AreKept a.levels a.is_fresh (with_settled_rooms (residual_of a.links) (way_of a.trail))
-        × AreAside a.asides.items (with_settled_rooms (residual_of a.links) (way_of a.trail))
-        × IsFit a.ball (with_settled_rooms (residual_of a.links) (way_of a.trail)))
-        × IsSearch (residual_of a.links) a.places.value (labelling_of a.levels) (way_of a.trail) a.is_fresh };
+    ghost invariant = { λ a. IsSearch (sought_by a.phase) a.places.value a.numbers a.asides.items × IsMarked a.phase a.is_fresh };
 }
 
 impl Search {
@@ -110,20 +95,15 @@ impl Search {
             → IsClosedSide (steps_of self.old.pairs) self.old.start self.old.goal marks.new }
     {
         self.is_fresh = false;
-        if !find(
-            &mut self.links,
-            &mut self.levels,
-            &mut self.ball,
-            &mut self.trail,
-            marks,
-        ) {
+        let phase = &mut self.phase;
+        if !phase.find(marks) {
             return None;
         }
-        let amount = self.trail.bottleneck(limit);
-        let links = self.trail.slots.len() as u32;
-        touched.touch(&self.numbers, &self.trail.slots);
-        self.trail.sent = self.trail.sent.wrapping_add(amount);
-        self.trail.split(&mut self.links);
+        let amount = phase.trail.bottleneck(limit);
+        let links = phase.trail.slots.len() as u32;
+        touched.touch(&self.numbers, &phase.trail.slots);
+        phase.trail.sent = phase.trail.sent.wrapping_add(amount);
+        phase.trail.split(&mut phase.links);
         Some(AugmentingPath { amount, links })
     }
 
@@ -133,8 +113,8 @@ impl Search {
         ensures { self.new ≡ self.old }
     {
         if self.numbers.is_none() {
-            let links = &self.links;
-            let numbers = number_links(alloc, &links.table, &self.places)?;
+            let phase = &self.phase;
+            let numbers = number_links(alloc, &phase.links.table, &self.places)?;
             self.numbers = Some(Rc::new(alloc, numbers)?);
         }
         Ok(())
@@ -151,9 +131,9 @@ impl Search {
         let Some(numbers) = &other.numbers else {
             return Ok(());
         };
-        let links = &self.links;
-        let others = &other.links;
-        if links.table.is(&others.table) && self.places.are(&other.places) {
+        let phase = &self.phase;
+        let others = &other.phase;
+        if phase.links.table.is(&others.links.table) && self.places.are(&other.places) {
             self.numbers = Some(numbers.clone()?);
         }
         Ok(())
@@ -195,12 +175,13 @@ impl Search {
             return None;
         }
         let place = self.places.place_of(k)?;
-        let links = &self.links;
+        let phase = &self.phase;
+        let links = &phase.links;
         Some(Pair {
             tail: links.table.tail(place),
             head: links.table.heads[place as usize],
-            along: links.settled_room(&self.trail, place),
-            against: links.opposite_room(&self.trail, place),
+            along: links.settled_room(&phase.trail, place),
+            against: links.opposite_room(&phase.trail, place),
         })
     }
 
@@ -210,10 +191,11 @@ impl Search {
         ensures { result ≡ (if against then against_at self.now.pairs k else along_at self.now.pairs k) }
     {
         let place = self.places.place_of(k)?;
+        let phase = &self.phase;
         Some(if against {
-            self.links.opposite_room(&self.trail, place)
+            phase.links.opposite_room(&phase.trail, place)
         } else {
-            self.links.settled_room(&self.trail, place)
+            phase.links.settled_room(&phase.trail, place)
         })
     }
 
@@ -223,8 +205,7 @@ impl Search {
         ensures { self.new ≡ with_pairs self.old (lowered_along self.old.pairs k amount) }
     {
         let place = self.places.place_of(k).unwrap();
-        release(&mut self.links, &self.levels, &mut self.trail, place);
-        self.links.lower(place, amount);
+        self.phase.lower(place, amount);
     }
 
     /// Keeps two sets of labels until rooms are set from outside, if nothing is taken back: a search that is aimed from one node at many,
@@ -233,22 +214,24 @@ impl Search {
     pub fn keep_two(&mut self, alloc: Global) -> Result<(), AllocError>
         ensures { self.new ≡ self.old }
     {
-        if self.links.takes_back || !self.asides.is_empty() {
+        let phase = &self.phase;
+        if phase.links.takes_back || !self.asides.is_empty() {
             return Ok(());
         }
-        let links = &self.links;
+        let links = &phase.links;
         let nodes = links.table.nodes as usize;
         let mut levels = Levels::new(alloc, &links.table)?;
         levels.noted = Noted::new(alloc, nodes)?;
         let noted = Noted::new(alloc, nodes)?;
         let ball = Ball::new(alloc, links.table.nodes)?;
         let ends = Ends {
-            start: self.trail.start,
-            goal: self.trail.goal,
+            start: phase.trail.start,
+            goal: phase.trail.goal,
         };
         self.asides.push(Aside { levels, ends })?;
-        self.levels.noted = noted;
-        self.ball = ball;
+        let phase = &mut self.phase;
+        phase.levels.noted = noted;
+        phase.ball = ball;
         Ok(())
     }
 
@@ -257,7 +240,7 @@ impl Search {
     pub fn settle(&mut self)
         ensures { self.new ≡ self.old }
     {
-        self.trail.settle(&mut self.links);
+        self.phase.settle();
     }
 
     /// Sets the start and the goal of the search, over the same links with their present rooms. Takes no memory. If all nodes have
@@ -268,14 +251,7 @@ impl Search {
         requires apart { start ≢ goal }
         ensures { self.new ≡ aimed self.old start goal }
     {
-        self.is_fresh = aim(
-            &mut self.links,
-            &mut self.levels,
-            &mut self.asides,
-            &mut self.ball,
-            &mut self.trail,
-            Ends { start, goal },
-        );
+        self.is_fresh = self.phase.aim(&mut self.asides, Ends { start, goal });
     }
 
     /// Gives both links of the pair at index `k` these rooms, if there is a pair. Takes no memory. The first call after the search
@@ -287,15 +263,12 @@ impl Search {
         ensures { self.new ≡ with_pairs self.old (with_rooms self.old.pairs k along against) }
     {
         self.asides.clear();
-        self.ball.forget();
-        if !self.is_fresh {
-            begin_anew(&mut self.links, &mut self.levels, &mut self.trail);
-            self.is_fresh = true;
-        }
+        self.phase.forget(self.is_fresh);
+        self.is_fresh = true;
         let Some(place) = self.places.place_of(k) else {
             return;
         };
-        self.links.set_pair(place, along, against);
+        self.phase.set_pair(place, along, against);
     }
 
     /// For each node whether a path leads there from the start. The first mark belongs to node 1. Takes memory for a mark and two
@@ -305,7 +278,8 @@ impl Search {
         ensures marks { IfOk result (λ marks. (v : ℕ) → IsNode self.now.nodes v →
             IsTrue (slice_index_or marks.items (v - 1) false) ↔ IsReachable (steps_of self.now.pairs) self.now.start v) }
     {
-        let labels = labels_from_start(alloc, &self.links, &self.trail)?;
+        let phase = &self.phase;
+        let labels = labels_from_start(alloc, &phase.links, &phase.trail)?;
         labelled(alloc, &labels)
     }
 }

@@ -1,14 +1,14 @@
 -- What a search keeps, from one call to the next.
-use Rattle.std.proofs.Common.{ℕ, ◌≡◌, ◌≢◌, ◌+◌, ◌^◌, ◌<◌, ◌≤◌, Bool, true, List, [], length, get_or, refl, ap, sym, ◌∙◌, subst, arith}
+use Rattle.std.proofs.Common.{ℕ, ◌≡◌, ◌≢◌, ◌+◌, ◌^◌, ◌<◌, ◌≤◌, List, [], length, get_or, refl, ap, sym, ◌∙◌, subst, arith}
 use Rattle.std.proofs.lemmas.List.{length-drop, nil_from_length, drop_all}
 use Rattle.dmf_path.specs.declared.trail.Slot.{Slot}
 use Rattle.dmf_node.specs.Node.{IsNode}
-use Rattle.dmf_links.specs.Links.{Links, AreLinks, ArePlaces, AreRooms}
+use Rattle.dmf_links.specs.Links.{AreLinks, AreRooms}
 use Rattle.dmf_path.specs.Walk.{AreCurrent, ArePassed, end_of}
-use Rattle.dmf_path.specs.Held.{Way, places_of, rest_slots, filled_slots, IsOff, emptied, with_slots}
+use Rattle.dmf_path.specs.Held.{Way, places_of, rest_slots, filled_slots, emptied, with_slots}
 use Rattle.dmf_path.specs.Residual.{ResidualLinks, roomed, with_settled_rooms}
 use Rattle.dmf_path.specs.BothEnds.{AreSound}
-use Rattle.dmf_path.specs.Searching.{IsUnderWay, Labelling, Sought, sought, IsAimed, IsSearching, IsFresh, IsMarked, begun, fresh, IsSearch, fresh_labels}
+use Rattle.dmf_path.specs.Searching.{IsUnderWay, Labelling, Sought, sought, IsAimed, IsSearching, IsFresh, fresh_labels}
 use Rattle.dmf_path.proofs.searches.Beginning.{BeginsFresh, begins-fresh, passed-fresh, sound-fresh}
 use Rattle.dmf_path.proofs.slots.Settled.{AreRooms-settled}
 use Rattle.dmf_path.proofs.slots.Settling.{told-free, holding-free, way-free}
@@ -100,18 +100,13 @@ sought-free r w slots way = ap (sought r) way ∙ ap (λ (x : ResidualLinks). pl
 pub told-settled : (w : Way) (next : ResidualLinks) {new : Way} → new ≡ emptied w → with_settled_rooms next new ≡ next
 told-settled w next way = ap (with_settled_rooms next) way ∙ told-free next w w.slots
 
--- no link is in a slot,
-pub off-settled : (w : Way) {new : Way} (p : ℕ) → new ≡ emptied w → IsOff p (places_of (filled_slots new))
-off-settled w p way = rw way (subst (λ (ss : List Slot). IsOff p (places_of ss)) (sym (drop_all (length w.slots) w.slots (omega arith))) tt)
+-- No link is in a slot then.
+pub free-settled : (w : Way) {new : Way} → new ≡ emptied w → filled_slots new ≡ []
+free-settled w way = ap filled_slots way ∙ drop_all (length w.slots) w.slots (omega arith)
 
 -- What is sought stays the same when all is put on.
 pub sought-settled : (r : ResidualLinks) (w : Way) {next : ResidualLinks} {new : Way} → next ≡ with_settled_rooms r w → new ≡ emptied w → sought next new ≡ sought r w
 sought-settled r w links way = (λ i. sought (links i) (way i)) ∙ sought-free (with_settled_rooms r w) w w.slots refl
-
--- what the mark as fresh says about a search
-pub fresh-mark : {l : Links} {labels : List ℕ} {start : ℕ} → IsMarked l labels start true → IsFresh l labels start
-fresh-mark (begun e) = absurd (cc)
-fresh-mark (fresh is) = is
 
 -- A fresh search keeps no slots,
 fresh-way : {r : ResidualLinks} {v : Labelling} {w : Way} → IsSearching r v w → IsFresh r.links v.labels w.start → w ≡ with_slots w []
@@ -149,13 +144,3 @@ searching-over {v} {w} next {current} is is_fresh same links sums at_first =
           (rw same a.goal_is) a.apart (omega (arith, same, a.capacity_is)) begins at_first),
       still,
     )
-
--- What a search keeps when its links and its start stay the same.
-pub search-next : {r : ResidualLinks} {places : List ℕ} {v : Labelling} {w : Way} {next : ResidualLinks} {labelling : Labelling} {new : Way} {was is_fresh : Bool}
-    → IsSearch r places v w was → next.links ≡ r.links → IsSearching next labelling new → IsMarked next.links labelling.labels new.start is_fresh
-    → IsSearch next places labelling new is_fresh
-search-next {places} is links searching marked = record {
-  places_are = subst (λ (l : Links). ArePlaces l places) (sym links) is.places_are;
-  searching = searching;
-  marked = marked;
-}

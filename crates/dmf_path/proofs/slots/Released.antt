@@ -4,19 +4,17 @@ use Rattle.std.proofs.Common.{inl, inr, get_or-set_other, get_or-set_same, lengt
 use Rattle.std.proofs.lemmas.Bool.{cases_eq}
 use Rattle.dmf_path.specs.declared.trail.Slot.{Slot}
 use Rattle.dmf_node.specs.Node.{IsNode}
-use Rattle.dmf_links.specs.Links.{Links, AreLinks, ArePlaces, AreRooms, tail_of, pairs_at}
+use Rattle.dmf_links.specs.Links.{Links, AreLinks, AreRooms, tail_of}
 use Rattle.dmf_path.specs.Walk.{IsTrail, pushed_once}
 use Rattle.dmf_path.specs.Held.{Way, places_of, walked_slots, rest_slots, filled_slots, held_for, settled, rooms_with, IsOff}
 use Rattle.dmf_path.specs.Residual.{ResidualLinks, roomed, room_lowered, with_settled_rooms}
-use Rattle.dmf_path.specs.Search.{with_pairs, lowered_along}
-use Rattle.dmf_path.specs.Searching.{IsUnderWay, Labelling, sought, searched, IsAimed, IsSearching}
+use Rattle.dmf_path.specs.Searching.{IsUnderWay, Labelling, IsAimed, IsSearching}
 use Rattle.dmf_path.proofs.rooms.Pushed.{OpensUpwards, ArePassed-opens, NoneOpens, none-lowered, opens-none}
 use Rattle.dmf_path.proofs.labels.Gated.{sound-opens}
 use Rattle.dmf_path.proofs.labels.Descending.{off-rising}
 use Rattle.dmf_path.proofs.slots.Settled.{length-settled, room-settled, ext-settled, held-off, held-rooms, places-append}
 use Rattle.dmf_path.proofs.slots.SettledRoom.{room-along}
 use Rattle.dmf_path.proofs.slots.Leaving.{HaveLeft-set}
-use Rattle.dmf_path.proofs.rooms.Lowered.{HasPlace, pairs-lowered}
 use Rattle.dmf_path.proofs.walks.SoFar.{descends-way}
 use Rattle.dmf_path.proofs.searches.SearchTurns.{aimed-with}
 
@@ -127,32 +125,19 @@ searching-lowered {r} {v} {w} p amount is within off enough made sums =
       now,
     )
 
--- The room of the link along a pair is lowered, while the link is in no slot.
-pub record IsLowered (r : ResidualLinks) (places : List ℕ) (v : Labelling) (w : Way) (k amount : ℕ) (next : ResidualLinks) : Type 0 where
+-- The room of a link is lowered, while the link is in no slot. No link gets room.
+pub record IsLowered (r : ResidualLinks) (v : Labelling) (w : Way) (p amount : ℕ) (next : ResidualLinks) : Type 0 where
   pub searching : IsSearching next v w
-  pub gives : searched (sought next w) places
-      ≡ with_pairs (searched (sought r w) places) (lowered_along (pairs_at r.links places (with_settled_rooms r w).rooms) k amount)
-  pub rooms : List ℕ
-  pub told_is : with_settled_rooms next w ≡ roomed (with_settled_rooms r w) rooms
-  pub none : NoneOpens (with_settled_rooms r w).rooms rooms
+  pub told_is : with_settled_rooms next w ≡ room_lowered (with_settled_rooms r w) p amount
+  pub none : NoneOpens (with_settled_rooms r w).rooms (room_lowered (with_settled_rooms r w) p amount).rooms
 
--- A search whose link along a pair is in no slot stays one when the link's room is lowered.
-pub is-lowered : {r : ResidualLinks} {places : List ℕ} {v : Labelling} {w : Way} {k p amount : ℕ} {next : ResidualLinks} → IsSearching r v w → ArePlaces r.links places
-    → HasPlace r.links places (with_settled_rooms r w).rooms k amount → p ≡ get_or places k 0 → IsOff p (places_of (filled_slots w))
+-- A search stays one when the room of a link in no slot is lowered.
+pub is-lowered : {r : ResidualLinks} {v : Labelling} {w : Way} (p amount : ℕ) {next : ResidualLinks} → IsSearching r v w → p < length r.links.heads
+    → amount ≤ get_or (with_settled_rooms r w).rooms p 0 → IsOff p (places_of (filled_slots w))
     → get_or (with_settled_rooms r w).rooms p 0 ≡ get_or r.rooms p 0 → next ≡ room_lowered r p amount → AreRooms next.links next.rooms
-    → IsLowered r places v w k amount next
-is-lowered {r} {places} {w} {p} {amount} is are has at off room made sums =
+    → IsLowered r v w p amount next
+is-lowered {r} {w = w} p amount is within enough off room made sums =
     let before : List ℕ = (with_settled_rooms r w).rooms in
-    let within : p < length r.links.heads = omega (arith, at, has.within) in
-    let enough : amount ≤ get_or r.rooms p 0 = omega (arith, has.enough, room, ap (λ q. get_or before q 0) at) in
     let long : length before ≡ length r.links.heads = length-settled r.links r.takes_back w.sent (filled_slots w) r.rooms ∙ is.holding.rooms_are.0 in
-    let low = searching-lowered p amount is within off enough made sums in
-    record {
-      searching = low.0;
-      gives = ap (λ (x : ResidualLinks). searched (record { residual = x; start = w.start; goal = w.goal }) places) low.1
-          ∙ ap (with_pairs (searched (sought r w) places)) (ap (λ q. pairs_at r.links places (pushed_once r.links false amount q before)) at
-          ∙ pairs-lowered is.aimed.links are long has);
-      rooms = pushed_once r.links false amount p before;
-      told_is = low.1;
-      none = none-lowered r.links before p amount long within;
-    }
+    let low = searching-lowered p amount is within off (omega (arith, enough, room)) made sums in
+    record { searching = low.0; told_is = low.1; none = none-lowered r.links before p amount long within }

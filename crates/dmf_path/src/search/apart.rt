@@ -7,7 +7,7 @@ ghost use Rattle.dmf_path.specs.Search.{Searched};
 use crate::aside::Aside;
 use crate::ball::Ball;
 use crate::levels::Levels;
-use crate::phase::begin_anew;
+use crate::phase::Phase;
 use crate::residual::Residual;
 use crate::search::Search;
 use crate::trail::Trail;
@@ -50,8 +50,9 @@ impl Search {
         ensures shared { AreShared result.0 }
         ensures apart { IsApart (links_of result.0.table.value) result.0.places.value result.1 self }
     {
-        begin_anew(&mut self.links, &mut self.levels, &mut self.trail);
-        let links = self.links;
+        self.phase.begin_anew();
+        let phase = self.phase;
+        let links = phase.links;
         let shared = Shared {
             table: links.table,
             places: self.places,
@@ -61,10 +62,10 @@ impl Search {
             takes_back: links.takes_back,
             rooms: links.rooms,
             flags: links.flags,
-            levels: self.levels,
-            ball: self.ball,
+            levels: phase.levels,
+            ball: phase.ball,
             asides: self.asides,
-            trail: self.trail,
+            trail: phase.trail,
         };
         (shared, own)
     }
@@ -114,14 +115,17 @@ impl Own {
             rooms: self.rooms,
             flags: self.flags,
         };
-        Search {
+        let phase = Phase {
             links,
-            places: shared.places,
-            numbers: shared.numbers,
             levels: self.levels,
             ball: self.ball,
-            asides: self.asides,
             trail: self.trail,
+        };
+        Search {
+            phase,
+            places: shared.places,
+            numbers: shared.numbers,
+            asides: self.asides,
             is_fresh: true,
         }
     }

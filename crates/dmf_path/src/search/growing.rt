@@ -76,10 +76,11 @@ impl Search {
         let Some(pair) = pair else {
             return Some((self, other));
         };
-        if !has_spare(&self.links.table, pair.tail) {
+        let phase = &self.phase;
+        if !has_spare(&phase.links.table, pair.tail) {
             return Some((self.with_spares(alloc, pair.tail)?, None));
         }
-        if !has_spare(&self.links.table, pair.head) {
+        if !has_spare(&phase.links.table, pair.head) {
             return Some((self.with_spares(alloc, pair.head)?, None));
         }
         Some((self, other))

@@ -8,7 +8,7 @@ ghost use Rattle.dmf_links.specs.LinkTable.{links_of};
 use crate::aside::Ends;
 use crate::ball::Ball;
 use crate::levels::Levels;
-use crate::phase::make_fresh;
+use crate::phase::{Phase, make_fresh};
 use crate::residual::Residual;
 use crate::search::Search;
 use crate::trail::Trail;
@@ -69,13 +69,14 @@ impl Search {
           takes_back = takes_back;
         }) }
     {
-        let rooms = rooms_of(alloc, &self.links.table, &self.places, pairs)?;
+        let phase = &self.phase;
+        let rooms = rooms_of(alloc, &phase.links.table, &self.places, pairs)?;
         let linked = Linked {
-            table: self.links.table.clone()?,
+            table: phase.links.table.clone()?,
             places: self.places.clone()?,
             rooms,
         };
-        linked.search(alloc, self.trail.start, self.trail.goal, takes_back)
+        linked.search(alloc, phase.trail.start, phase.trail.goal, takes_back)
     }
 }
 
@@ -120,14 +121,17 @@ impl Linked {
             rooms: self.rooms,
             flags,
         };
-        Ok(Search {
+        let phase = Phase {
             links,
-            places: self.places,
-            numbers: None,
             levels,
             ball: Ball::none(alloc),
-            asides: Vec::new(alloc),
             trail,
+        };
+        Ok(Search {
+            phase,
+            places: self.places,
+            numbers: None,
+            asides: Vec::new(alloc),
             is_fresh: true,
         })
     }

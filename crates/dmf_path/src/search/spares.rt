@@ -21,26 +21,27 @@ impl Search {
         requires { IsNode self.nodes hub }
         ensures { IfSome result (λ search. search ≡ self) }
     {
-        let nodes = self.links.table.nodes;
+        let phase = &self.phase;
+        let nodes = phase.links.table.nodes;
         if nodes > MOST_NODES {
             return None;
         }
-        let places = self.links.table.places_at(hub);
+        let places = phase.links.table.places_at(hub);
         let more = ((places.end - places.start) as u32).min(nodes - 1);
         let spares = nodes as usize + more as usize;
         if self.places.len() + spares > MOST_PAIRS {
             return None;
         }
         let ends = Ends {
-            start: self.trail.start,
-            goal: self.trail.goal,
+            start: phase.trail.start,
+            goal: phase.trail.goal,
         };
         let pairs = RoomyPairs {
             search: &self,
             hub,
             more,
         };
-        let mut made = Search::new(alloc, nodes, &pairs, ends, self.links.takes_back).ok()?;
+        let mut made = Search::new(alloc, nodes, &pairs, ends, phase.links.takes_back).ok()?;
         if self.numbers.is_some() {
             made.number_links(alloc).ok()?;
         }
@@ -67,7 +68,8 @@ impl Pairs for RoomyPairs<'_> {
 
     fn len(&self) -> usize {
         let search = self.search;
-        search.places.len() + search.links.table.nodes as usize + self.more as usize
+        let phase = &search.phase;
+        search.places.len() + phase.links.table.nodes as usize + self.more as usize
     }
 
     fn pair(&self, k: usize) -> Option<Pair> {
@@ -76,7 +78,8 @@ impl Pairs for RoomyPairs<'_> {
         if k < count {
             return search.pair(k);
         }
-        Some(spare_pair(search.links.table.nodes, self.hub, (k - count) as u32))
+        let phase = &search.phase;
+        Some(spare_pair(phase.links.table.nodes, self.hub, (k - count) as u32))
     }
 }
 

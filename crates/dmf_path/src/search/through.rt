@@ -16,7 +16,8 @@ impl Search {
         ensures node { IsNode self.now.nodes result }
         ensures pairs { ArePairs self.now.nodes self.now.pairs }
     {
-        self.trail.start
+        let phase = &self.phase;
+        phase.trail.start
     }
 
     /// Labels the nodes for the next path from a node that each path passes: the only one without a mark to which links with room lead
@@ -32,13 +33,14 @@ impl Search {
         ensures marks { result ≢ Some false → marks.new ≡ marks.old }
     {
         self.is_fresh = false;
-        self.ball.keep_for(self.trail.goal);
-        self.trail.settle(&mut self.links);
+        let phase = &mut self.phase;
+        phase.ball.keep_for(phase.trail.goal);
+        phase.trail.settle(&mut phase.links);
         relabel_through(
-            &self.links,
-            &mut self.levels,
-            &mut self.ball,
-            &mut self.trail,
+            &phase.links,
+            &mut phase.levels,
+            &mut phase.ball,
+            &mut phase.trail,
             way_out,
             marks,
         )

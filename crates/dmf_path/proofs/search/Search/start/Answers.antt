@@ -6,13 +6,13 @@ use Rattle.dmf_path.proofs.pairs.SparePairs.{pairs-valid}
 use Rattle.dmf_path.proofs.search.Search.start.Goals as goal
 
 pub returns-clause-node : goal.returns-clause-node
-returns-clause-node c = rw (← c.self.view_is) c.self.invariant.1.searching.aimed.start_is
+returns-clause-node c = rw (← c.self.view_is, ← c.phase.view_is) c.phase.invariant.searching.aimed.start_is
 
 pub returns-clause-pairs : goal.returns-clause-pairs
 returns-clause-pairs c =
-    let i = c.self.invariant.1 in
-    let r = residual_of c.self.inside.links in
-    let w = way_of c.self.inside.trail in
-    let a = i.searching.aimed in
-    rw (← c.self.view_is) (pairs-valid _ a.links i.places_are
-    (AreRooms-settled r.links r.takes_back w.sent (filled_slots w) r.rooms a.links c.self.inside.links.rooms_are))
+    let r = residual_of c.phase.inside.links in
+    let w = way_of c.phase.inside.trail in
+    let a = c.phase.invariant.searching.aimed in
+    let places_are = rw (← c.phase.view_is) at c.self.invariant.0.places_are in
+    rw (← c.self.view_is, ← c.phase.view_is) (pairs-valid _ a.links places_are
+    (AreRooms-settled r.links r.takes_back w.sent (filled_slots w) r.rooms a.links c.phase.inside.links.rooms_are))

@@ -9,7 +9,9 @@ use Rattle.dmf_links.specs.Links.{pair_at}
 use Rattle.dmf_links.specs.Pair.{ArePairs, without_room, pair_number}
 use Rattle.dmf_path.specs.Held.{way_of, filled_slots}
 use Rattle.dmf_path.specs.Residual.{residual_of, with_settled_rooms}
+use Rattle.dmf_path.specs.Phase.{Phased, sought_by}
 use Rattle.dmf_path.specs.Search.{Searched, with_pairs}
+use Rattle.dmf_path.specs.Searching.{sought, searched}
 use Rattle.dmf_path.specs.Spares.{spare_pairs}
 use Rattle.dmf_path.proofs.slots.Settled.{AreRooms-settled}
 use Rattle.dmf_path.proofs.pairs.SparePairs.{both-long, both-valid, idle-behind, pairs-valid, take-before}
@@ -18,18 +20,20 @@ use Rattle.dmf_path.proofs.search.Search.with_spares.Goals.{Joined-is_some, then
 
 pub new-requires-clause-pairs : goal.new-requires-clause-pairs
 new-requires-clause-pairs c =
-    let of = c.self.inside in
+    let places = c.self.inside.places.value in
+    let of = c.phase.inside in
     let r = residual_of of.links in
     let w = way_of of.trail in
-    let i = c.self.invariant.1 in
-    let a = i.searching.aimed in
+    let a = c.phase.invariant.searching.aimed in
     let s = c.args.self in
-    let nodes : c.deref.result.now.nodes ≡ s.nodes = ap (λ (t : LinkTable). t.nodes) c.deref.ensures ∙ ap (λ (x : Searched). x.nodes) c.self.view_is in
-    let long = ap (λ (x : Searched). length x.pairs) (sym c.self.view_is) ∙ length-map of.places.value (pair_at r.links (with_settled_rooms r w).rooms) in
+    let view : searched (sought r w) places ≡ s = ap (λ (p : Phased). searched (sought_by p) places) c.phase.view_is ∙ c.self.view_is in
+    let same = ap (λ (x : Searched). x.nodes) view in
+    let nodes : c.deref.result.now.nodes ≡ s.nodes = ap (λ (t : LinkTable). t.nodes) c.deref.ensures ∙ same in
+    let long = ap (λ (x : Searched). length x.pairs) (sym view) ∙ length-map places (pair_at r.links (with_settled_rooms r w).rooms) in
     let fit = AreRooms-settled r.links r.takes_back w.sent (filled_slots w) r.rooms a.links of.links.rooms_are in
-    let valid = subst (λ (x : Searched). ArePairs x.nodes x.pairs) c.self.view_is (pairs-valid (with_settled_rooms r w).rooms a.links i.places_are fit) in
-    let two : 2 ≤ s.nodes =
-    omega (arith, a.start_is.from_one, a.start_is.to_last, a.goal_is.from_one, a.goal_is.to_last, a.apart, ap (λ (x : Searched). x.nodes) c.self.view_is) in
+    let places_are = rw (← c.phase.view_is) at c.self.invariant.0.places_are in
+    let valid = subst (λ (x : Searched). ArePairs x.nodes x.pairs) view (pairs-valid (with_settled_rooms r w).rooms a.links places_are fit) in
+    let two : 2 ≤ s.nodes = omega (arith, a.start_is.from_one, a.start_is.to_last, a.goal_is.from_one, a.goal_is.to_last, a.apart, same) in
     let few : c.min-more.result < s.nodes = omega (arith, c.min-more.ensures, nodes, two) in
     rw nodes (both-valid s.nodes c.args.hub c.min-more.result s.pairs valid two c.requires few
     (omega (arith, long, nodes, c.len.ensures, ap length c.deref-3.ensures, c.if-len-spares-gt-MOST_PAIRS.false)))
@@ -43,13 +47,17 @@ from-ok (Err e) x P is has = absurd (cc)
 abbrev both : Joined-is_some → List (Option Pair)
 both c = c.args.self.pairs ++ spare_pairs c.args.self.nodes c.args.hub c.min-more.result
 
+-- the search as it was opened
+view : (c : Joined-is_some) → searched (sought (residual_of c.phase.inside.links) (way_of c.phase.inside.trail)) c.self.inside.places.value ≡ c.args.self
+view c = ap (λ (p : Phased). searched (sought_by p) c.self.inside.places.value) c.phase.view_is ∙ c.self.view_is
+
 nodes : (c : Joined-is_some) → c.deref.result.now.nodes ≡ c.args.self.nodes
-nodes c = ap (λ (t : LinkTable). t.nodes) c.deref.ensures ∙ ap (λ (x : Searched). x.nodes) c.self.view_is
+nodes c = ap (λ (t : LinkTable). t.nodes) c.deref.ensures ∙ ap (λ (x : Searched). x.nodes) (view c)
 
 -- The search that was made has both.
 made : (c : Joined-is_some) → c.if-is_some.made ≡ with_pairs c.args.self (both c)
 made c =
-    let of = c.self.inside in
+    let of = c.phase.inside in
     let s = c.args.self in
     let new = from-ok c.new.result c.in_ok-made.made (λ (x : Searched). x ≡ record {
       nodes = c.deref.result.now.nodes;
@@ -63,7 +71,7 @@ made c =
       | else-is_some w ↦ w.made-is
     ] in
     let is = nodes c in
-    let view = c.self.view_is in
+    let view = view c in
     numbered ∙ new ∙ λ j. record {
       nodes = is j;
       pairs = both c;

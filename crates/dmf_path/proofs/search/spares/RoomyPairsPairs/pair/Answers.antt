@@ -5,8 +5,7 @@ use Rattle.std.proofs.lemmas.Option.{slice_get-get_or}
 use Rattle.dmf_links.specs.declared.pair.Pair.{Pair}
 use Rattle.dmf_links.specs.declared.table.LinkTable.{LinkTable}
 use Rattle.dmf_links.specs.Links.{pair_at}
-use Rattle.dmf_path.specs.Held.{way_of}
-use Rattle.dmf_path.specs.Residual.{residual_of, with_settled_rooms}
+use Rattle.dmf_path.specs.Phase.{Phased, sought_by}
 use Rattle.dmf_path.specs.Search.{Searched}
 use Rattle.dmf_path.specs.Spares.{spare_pair, spare_pairs}
 use Rattle.dmf_path.proofs.pairs.SparePairs.{both-long, number-behind}
@@ -15,14 +14,14 @@ use Rattle.dmf_path.proofs.search.spares.RoomyPairsPairs.pair.Goals.{After-deref
 
 count : (c : After-deref-2) → c.len-count.result ≡ length c.args.self.now.search.now.pairs
 count c =
-    let of = c.search.inside in
-    let r = residual_of of.links in
-    let long = ap (λ (s : Searched). length s.pairs) (sym c.search.view_is)
-    ∙ length-map of.places.value (pair_at r.links (with_settled_rooms r (way_of of.trail)).rooms) in
+    let s = sought_by c.search.inside.phase in
+    let long = ap (λ (x : Searched). length x.pairs) (sym c.search.view_is)
+    ∙ length-map c.search.inside.places.value (pair_at s.residual.links s.residual.rooms) in
     omega (arith, long, c.len-count.ensures, ap length c.deref.ensures)
 
 nodes : (c : After-deref-2) → c.deref-2.result.now.nodes ≡ c.args.self.now.search.now.nodes
-nodes c = ap (λ (t : LinkTable). t.nodes) c.deref-2.ensures ∙ ap (λ (s : Searched). s.nodes) c.search.view_is
+nodes c = ap (λ (t : LinkTable). t.nodes) c.deref-2.ensures ∙ ap (λ (p : Phased). p.links.table.value.nodes) c.phase.view_is
+    ∙ ap (λ (s : Searched). s.nodes) c.search.view_is
 
 below : (c : After-deref-2) → c.args.k < length c.args.self.now.search.now.pairs + (c.args.self.now.search.now.nodes + c.args.self.now.more)
 below c =
