@@ -274,6 +274,8 @@ def test_long_names(driver: Any, tmp_path: Path) -> None:
             page.wait(lambda: page.text("#many-told"))  # noqa: B023
             assert driver.execute_script("return document.documentElement.scrollWidth") <= width
             assert driver.execute_script("return document.querySelector('#trials td').offsetWidth") >= 72
+            amounts = "[...document.querySelectorAll('#grid td.flow, #grid td.capacity')]"
+            assert driver.execute_script(f"return {amounts}.filter((it) => it.scrollWidth > it.clientWidth).map((it) => it.innerText)") == []
             cut = "const it = document.getElementById('limit-table').parentElement; return it.scrollWidth - it.clientWidth"
             assert driver.execute_script(cut) <= 0
         as_before(driver)
