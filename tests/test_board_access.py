@@ -3,6 +3,7 @@
 from __future__ import annotations
 
 import itertools
+from pathlib import Path
 from typing import Any
 
 import pytest
@@ -253,4 +254,28 @@ def test_narrow(driver: Any) -> None:
         assert 0 <= apart < 40
         assert driver.execute_script("return document.getAnimations().length") == 0
         assert driver.execute_script("return document.documentElement.scrollWidth") <= 400
+        as_before(driver)
+
+
+def test_long_names(driver: Any, tmp_path: Path) -> None:
+    """Names that are longer than a page is wide are broken, and hide no number beside them."""
+    word = "Trinkwasserhochbeh\u00e4lterzulaufleitungsabschnitt"
+    table = tmp_path / "long.csv"
+    table.write_text(f"from,to,litres,pipe\n{word}Nord,{word}Mitte,12345678.55,{word}1\n{word}Mitte,{word}S\u00fcd,9876543.25,{word}2\n")
+    with board(str(table)) as it:
+        for width in WIDTHS:
+            show(driver, width, "light")
+            page = Page(driver, it.address)
+            page.press("Try each pipe")
+            page.wait(lambda: page.text("#verdict").startswith("Worst"))  # noqa: B023
+            page.click("#limit-table button")
+            page.wait(lambda: page.text("#what h3") == f"{word}2")  # noqa: B023
+            page.press("Choose all of these")
+            page.wait(lambda: page.text("#many-told"))  # noqa: B023
+            assert driver.execute_script("return document.documentElement.scrollWidth") <= width
+            assert driver.execute_script("return document.querySelector('#trials td').offsetWidth") >= 72
+            amounts = "[...document.querySelectorAll('#grid td.flow, #grid td.capacity')]"
+            assert driver.execute_script(f"return {amounts}.filter((it) => it.scrollWidth > it.clientWidth).map((it) => it.innerText)") == []
+            cut = "const it = document.getElementById('limit-table').parentElement; return it.scrollWidth - it.clientWidth"
+            assert driver.execute_script(cut) <= 0
         as_before(driver)

@@ -65,13 +65,19 @@ def test_many_tabs(driver: Any) -> None:
         assert it.ended() == 0
 
 
-def test_without_locks(driver: Any) -> None:
-    """Where a browser has no locks, as for a page under another name than localhost, each tab holds a connection, and shows the same."""
-    gone = "Object.defineProperty(Navigator.prototype, 'locks', { value: undefined });"
-    script = driver.execute_cdp_cmd("Page.addScriptToEvaluateOnNewDocument", {"source": gone})
+# A browser without locks, and one that refuses them.
+UNLOCKED = [
+    "Object.defineProperty(Navigator.prototype, 'locks', { value: undefined });",
+    "LockManager.prototype.request = () => Promise.reject(new DOMException('no site may store anything', 'SecurityError'));",
+]
+
+
+@pytest.mark.parametrize("source", UNLOCKED)
+def test_without_locks(driver: Any, source: str) -> None:
+    """Where a browser has no locks, as for a page under another name than localhost, each tab holds a connection."""
+    script = driver.execute_cdp_cmd("Page.addScriptToEvaluateOnNewDocument", {"source": source})
     with board(PIPES) as it:
         page = Page(driver, it.address)
-        assert driver.execute_script("return navigator.locks") is None
         assert "error" not in it.do(what="close", arc=10)
         page.wait(lambda: page.value() == without("Bridge pipe"))
         driver.get("about:blank")

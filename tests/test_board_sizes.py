@@ -119,6 +119,9 @@ def judge_sweep(page: Page, it: Board, rows: list[Any]) -> None:
         page.driver.execute_script("document.getElementById('stop').click()")
     page.wait(lambda: not page.driver.find_element("id", "stop").is_displayed())
     page.settle()
+    if len(rows) < 1_000:
+        cut = "const it = document.getElementById('trials').parentElement; return it.scrollWidth - it.clientWidth"
+        assert page.driver.execute_script(cut) <= 0
     assert page.value() == value_of(rows)
 
 

@@ -121,7 +121,7 @@ def test_progress(driver: Any, tmp_path: Path) -> None:
     rows = [f"S,P{place},{first},in {place}\nP{place},T,{last},out {place}\n" for place, (first, last) in enumerate(ways)]
     table.write_text("from,to,litres,pipe\n" + "".join(rows))
     with board(str(table)) as it:
-        page, value = Page(driver, it.address), sum(map(min, ways))
+        page, value = Page(driver, it.address), sum(min(way) for way in ways)
         assert page.value() == value
         driver.execute_script(HELD, 1)
         page.press("Try each pipe")

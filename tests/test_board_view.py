@@ -273,6 +273,8 @@ def test_show_near(driver: Any, tmp_path: Path) -> None:
         page.wait(lambda: page.text("#found button").startswith("right 30 2,"))
         page.click("#found button")
         page.wait(lambda: page.text("#what h3") == "right 30 2")
+        page.press("What is chosen")
+        assert page.text("#news") == "What is chosen is not in this picture."
         page.press("Show it in the picture")
         page.wait(lambda: "what lies nearest to a place" in page.text("#drawn-note"))
         page.settle()

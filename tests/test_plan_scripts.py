@@ -96,7 +96,7 @@ def test_many() -> None:
     mill = [pipe for pipe in water() if pipe.head != "Mill" or pipe.capacity >= 40]
     limit = {"North rise", "Mill Lane", "South main"}
     more = [pipe._replace(capacity=pipe.capacity + 5) if pipe.name in limit else pipe for pipe in water()]
-    typed = "solve\nclose where name ~ RISE\nsolve\nopen where name ~ rise\nsolve\nundo 4\n"
+    typed = "solve\nclose where name ~ R\u00cdSE\nsolve\nopen where name ~ rise\nsolve\nundo 4\n"
     typed += "cap where capacity <= 30 +100 %\nsolve\nundo 2\nclose where to ~ mill and capacity < 40\nsolve\nundo 2\ncap where limit +5\nsolve\nsteps\n"
     ran = run("dmf-plan", PIPES, typed=typed)
     told = [line for line in ran.stdout.splitlines() if not line.startswith("  ")]

@@ -20,7 +20,7 @@ Condition = Callable[[int], bool]
 
 
 def condition(desk: Desk, words: list[str]) -> Condition | None:
-    """Whether something is so of an arc: `full`, `limit`, `name ~ TEXT` (also of `from` and `to`), or `capacity < NUMBER` (also of `flow`
+    """Whether something is so of an arc: `full`, `limit`, `name ~ TEXT` (in any case; also of `from` and `to`), or `capacity < NUMBER` (also of `flow`
     and with `<=`, `=`, `>=`, `>`). None if the words are no condition. Raises a `DeskFault` where it cannot be told."""
     if words == ["full"]:
         return lambda number: 0 < desk.flow(number) == desk.line(number).capacity

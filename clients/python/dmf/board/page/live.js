@@ -30,8 +30,8 @@ export function live(listener) {
     });
   });
   tabs.onmessage = ({ data }) => (data === null ? listener.broke() : listener.heard(data));
-  // A browser has no locks for a page that comes under another name than localhost. Then each tab holds a connection.
-  if (navigator.locks) navigator.locks.request(BOARD, { signal }, hold).catch(() => undefined);
+  // A browser has no locks for a page under another name than localhost, or may refuse them. Then each tab holds a connection.
+  if (navigator.locks) navigator.locks.request(BOARD, { signal }, hold).catch(() => signal.aborted || hold());
   else hold();
   return () => letGo.abort();
 }

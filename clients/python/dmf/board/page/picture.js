@@ -10,6 +10,7 @@ import { at, onClick } from "./elements.js";
 import { chooseNear, groundBox, isGround, lookAtGround, middlePlace, nextPlace, setBefore } from "./ground.js";
 import { arrange, labelsOf } from "./labels.js";
 import { isPicked, pickedCount } from "./many.js";
+import { news } from "./messages.js";
 import { paint } from "./painting.js";
 import { ask, noun, present, units } from "./state.js";
 import { beginView, fit, move, refresh, reveal, scale, zoom } from "./view.js";
@@ -114,17 +115,23 @@ function label() {
 }
 
 /**
- * Fits the picture to all that is like this.
+ * Fits the picture to all that is like this, or says that nothing of that is drawn.
  * @param {string} like a selector
+ * @param {string} what it is
  */
-function fitTo(like) {
+function fitTo(like, what) {
   const whole = groundBox(like);
   const boxes = whole ? [whole] : parts().filter((part) => part.matches(like)).map((part) => part.getBBox());
-  if (!boxes.length) return;
+  if (!boxes.length) {
+    news(`${what} is not in this picture.`);
+    return;
+  }
   const [left, top] = [Math.min(...boxes.map((box) => box.x)), Math.min(...boxes.map((box) => box.y))];
   const right = Math.max(...boxes.map((box) => box.x + box.width)), bottom = Math.max(...boxes.map((box) => box.y + box.height));
   fit({ x: left, y: top, width: right - left, height: bottom - top });
 }
+
+const fitAll = () => fitTo(".node, .arc", "The network");
 
 /** @param {Element} part */
 function choosePart(part) {
@@ -181,7 +188,7 @@ function goByKeys(event) {
   } else if ("+=-".includes(event.key)) {
     zoom(event.key === "-" ? 1 / LARGER : LARGER);
   } else if (event.key === "0") {
-    fitTo(".node, .arc");
+    fitAll();
   } else if (part && (event.key === "Enter" || event.key === " ")) {
     choosePart(part);
   } else {
@@ -209,9 +216,9 @@ export function beginPicture() {
   at("picture").addEventListener("keydown", goByKeys);
   onClick("larger", () => zoom(LARGER));
   onClick("smaller", () => zoom(1 / LARGER));
-  onClick("fit-all", () => fitTo(".node, .arc"));
-  onClick("fit-limit", () => fitTo(".cut"));
-  onClick("fit-chosen", () => fitTo(pickedCount() || theChoice() ? ".chosen" : ".node, .arc"));
+  onClick("fit-all", fitAll);
+  onClick("fit-limit", () => fitTo(".cut", "The limit"));
+  onClick("fit-chosen", () => (pickedCount() || theChoice() ? fitTo(".chosen", "What is chosen") : fitAll()));
   onClick("near-limit", () => {
     near = "";
     at("picture").focus();

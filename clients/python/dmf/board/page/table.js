@@ -10,7 +10,7 @@ import { ask, caption, noun, units } from "./state.js";
 import { sentence, upper } from "./words.js";
 
 /** The height of a row in pixels, as the style has it; how many rows are asked for at once; how many a page of keys moves by. */
-const HEIGHT = 32, AT_ONCE = 120, PAGE = 10;
+const HEIGHT = 32, AT_ONCE = 60, PAGE = 10;
 const COLUMNS = [["name", ""], ["from", "From"], ["to", "To"], ["flow", "flows"], ["capacity", "fits"]];
 /** @type {Part} */
 let part = { total: 0, first: 0, rows: [], reading: "", fault: "" };
@@ -20,6 +20,8 @@ let part = { total: 0, first: 0, rows: [], reading: "", fault: "" };
  */
 let shown = new Map();
 let order = "", asked = 0, current = 0, anchor = 0, isAsking = false, isLate = false;
+/** How many signs the longest amount has that was shown, for which there is room. */
+let signs = 0;
 
 const words = () => `filter=${encodeURIComponent(field("filter").value.trim())}&sort=${order}`;
 
@@ -77,6 +79,8 @@ function draw() {
   });
   const grid = /** @type {HTMLTableElement} */ (at("grid"));
   grid.setAttribute("aria-rowcount", String(part.total + 1));
+  signs = Math.max(signs, ...part.rows.flatMap((arc) => [arc.flow.length, arc.capacity.length]));
+  grid.style.setProperty("--signs", String(signs));
   const keys = "arrow keys move, Space chooses, Control and A all, Enter shows one";
   grid.setAttribute("aria-label", `All ${noun()}s ${caption()}; ${keys}`);
   if (grid.tHead) replace(grid.tHead, [make("tr", [title("tick", "chosen"), ...heads, title("marks", "state")])]);
