@@ -9,6 +9,7 @@ use Rattle.dmf_path.specs.Walk.{AreCurrent, IsWalk}
 use Rattle.dmf_path.specs.Held.{Way, way_of, with_slots}
 use Rattle.dmf_path.specs.Residual.{residual_of, with_settled_rooms}
 use Rattle.dmf_path.specs.Searching.{labelling_of, sought}
+use Rattle.dmf_path.proofs.paths.LeastTrail.{between-labelled}
 use Rattle.dmf_path.proofs.searches.Beginning.{ready-at}
 use Rattle.dmf_path.proofs.searches.SearchTurns.{plainly, searching-anew, sought-free}
 use Rattle.dmf_path.proofs.slots.Settling.{told-free}
@@ -69,17 +70,15 @@ returns-then-not-label_anew c =
 
 -- The labels are new, and all else is as it was.
 pub begin_phase-requires : goal.begin_phase-requires
-begin_phase-requires c =
-    let labelled = c.label_anew.ensures.relabelled.labelled c.if-not-label_anew.false in
-    record {
-      before = c.args.levels.now;
-      goes = c.requires.goes;
-      settled = c.requires.settled;
-      current = c.label_anew.ensures.relabelled.current;
-      ready = c.label_anew.ensures.relabelled.ready;
-      labelled = labelled;
-      whole = c.label_anew.ensures.whole c.if-not-label_anew.false;
-    }
+begin_phase-requires c = record {
+  before = c.args.levels.now;
+  goes = c.requires.goes;
+  settled = c.requires.settled;
+  current = c.label_anew.ensures.relabelled.current;
+  ready = c.label_anew.ensures.relabelled.ready;
+  sound = between-labelled (c.label_anew.ensures.relabelled.labelled c.if-not-label_anew.false);
+  whole = c.label_anew.ensures.whole c.if-not-label_anew.false;
+}
 
 pub returns : goal.returns
 returns c =
