@@ -16,8 +16,9 @@ pub mod LoweredLabels
 pub mod Marking
 pub mod Marks
 pub mod Meeting
-pub mod OneWayOut
 pub mod Parted
 pub mod RaisedLabels
 pub mod Redirected
+pub mod Roots
 pub mod Spreading
+pub mod WaysOut

@@ -6,6 +6,7 @@ pub mod OneLeast
 pub mod OpenPaths
 pub mod Ranks
 pub mod Reaching
+pub mod Returning
 pub mod ShortestPaths
 pub mod SomeLeast
 pub mod Steps

@@ -31,7 +31,7 @@ AreNodes nodes queue done = (i : ℕ) → i < done → IsNode nodes (slice_index
 pub record IsKnown (ball : Ball) (r : ResidualLinks) : Type 0 where
   pub falls : r.takes_back ≡ false
   pub nodes : AreNodes r.links.nodes ball.around.queue ball.around.done
-  pub near : AreNear r.links r.rooms ball.around.root ball.radius ball.around.labels
+  pub near : AreNear r.links r.rooms ball.goal ball.radius ball.around.labels
 
 pub record IsFit (ball : Ball) (r : ResidualLinks) : Type 0 where
   pub tidy : IsTidy ball
@@ -39,7 +39,7 @@ pub record IsFit (ball : Ball) (r : ResidualLinks) : Type 0 where
 
 -- It is about this goal.
 abbrev pub IsAround : Ball → ℕ → Type 0
-IsAround ball goal = 0 < ball.radius → ball.around.root ≡ goal
+IsAround ball goal = 0 < ball.radius → ball.goal ≡ goal
 
 -- What is known is right, and about this goal.
 pub record IsFitFor (ball : Ball) (r : ResidualLinks) (goal : ℕ) : Type 0 where

@@ -1,9 +1,9 @@
 -- Labels from both ends: two breadth-first searches, one backwards from the goal and one forwards from the start, go on in turn, level
 -- by level, until a node has a label of both.
 -- Private: only contracts inside the crate and proofs use this.
-use Rattle.std.specs.Prelude.{ℕ, ◌≡◌, ◌≢◌, ◌+◌, ◌-◌, ◌<◌, ◌≤◌, ◌⊎◌, ◌==◌, if◌then◌else◌, List, Option, None, Some, length, slice_index, map}
+use Rattle.std.specs.Prelude.{ℕ, ◌≡◌, ◌≢◌, ◌+◌, ◌-◌, ◌<◌, ◌≤◌, ◌⊎◌, ◌==◌, if◌then◌else◌, List, [], ◌∷◌, Option, None, Some, length, slice_index, map}
 use Rattle.dmf_node.specs.Node.{IsNode}
-use Rattle.dmf_path.specs.Reach.{Reach}
+use Rattle.dmf_path.specs.Reach.{Reach, root_of}
 use Rattle.dmf_path.specs.declared.residual.Residual.{Residual}
 use Rattle.dmf_path.specs.Frontier.{AreApart, IsAtRest, IsSpread, MeetBeyond, next_label}
 use Rattle.dmf_links.specs.Links.{Links, LiesAt, open_flag}
@@ -43,13 +43,13 @@ pub record HasMetAt (l : Links) (flags opens : List ℕ) (start goal at : ℕ) (
 -- other search, and that is the one that was met.
 pub record HasExpandedLevel (l : Links) (opens : List ℕ) (old new : Reach) (others : List ℕ) (met : Option ℕ) : Type 0 where
   pub so_far : IsSpread l opens new
-  pub levels : AreLevels l opens new.root (next_label old) new.labels
+  pub levels : new.roots ≡ root_of new ∷ [] → AreLevels l opens (root_of new) (next_label old) new.labels
   pub at_rest : met ≡ None → IsAtRest new.labels new.queue new.done
   pub apart : met ≡ None → AreApart new.labels others
   pub beyond : MeetBeyond (next_label old) new.labels others
   pub both : (v : ℕ) → met ≡ Some v → IsNode l.nodes v × (slice_index new.labels v ≢ no_label) × (slice_index others v ≢ no_label)
   pub further : met ≡ None → old.done < new.done
-  pub root : new.root ≡ old.root
+  pub roots : new.roots ≡ old.roots
 
 -- The search from the goal goes on where it stopped, and so does the search from the start.
 abbrev pub IsGoalSide : Residual → Reach → Type 0
@@ -58,10 +58,15 @@ IsGoalSide links f = IsSpread (links_of links.table.value) links.flags.items f
 abbrev pub IsStartSide : Residual → Reach → Type 0
 IsStartSide links f = IsSpread (links_of links.table.value) (map open_flag links.rooms.items) f
 
+-- A search began at one node alone.
+pub record IsRooted (nodes : ℕ) (roots : List ℕ) : Type 0 where
+  pub node : IsNode nodes (slice_index roots 0)
+  pub alone : roots ≡ slice_index roots 0 ∷ []
+
 -- The two searches have not met yet: each has labelled all nodes up to the level of its next one, and no node has a label of both.
 pub record AreNearing (links : Residual) (to_goal from_start : Reach) : Type 0 where
-  pub goal : IsNode links.table.value.nodes to_goal.root
-  pub start : IsNode links.table.value.nodes from_start.root
+  pub goal : IsRooted links.table.value.nodes to_goal.roots
+  pub start : IsRooted links.table.value.nodes from_start.roots
   pub goal_side : IsGoalSide links to_goal
   pub start_side : IsStartSide links from_start
   pub goal_rest : IsAtRest to_goal.labels to_goal.queue to_goal.done
@@ -73,9 +78,9 @@ pub record HaveGoneOn (links : Residual) (to_goal from_start new_goal new_start 
   pub goal_side : IsGoalSide links new_goal
   pub start_side : IsStartSide links new_start
   pub met : (v : ℕ) → node ≡ Some v → HasMetAt (links_of links.table.value) links.flags.items (map open_flag links.rooms.items)
-      from_start.root to_goal.root v new_goal.labels new_start.labels
-  pub goal_root : new_goal.root ≡ to_goal.root
-  pub start_root : new_start.root ≡ from_start.root
+      (root_of from_start) (root_of to_goal) v new_goal.labels new_start.labels
+  pub goal_roots : new_goal.roots ≡ to_goal.roots
+  pub start_roots : new_start.roots ≡ from_start.roots
 
 -- a node's label, if it gets one that is made of its label in another search where it has none
 abbrev pub joined_by : (ℕ → ℕ) → ℕ → ℕ → ℕ
@@ -131,6 +136,12 @@ pub record AreSound (l : Links) (labels rooms : List ℕ) (top : ℕ) : Type 0 w
 pub record AreWhole (l : Links) (labels rooms : List ℕ) : Type 0 where
   pub small : AreSmall l.nodes labels
   pub valid : AreValid l labels rooms no_label
+
+-- Sound labels, by which the start has one that is not below the goal's.
+pub record AreSoundBetween (l : Links) (rooms labels : List ℕ) (start goal : ℕ) : Type 0 where
+  pub sound : AreSound l labels rooms (slice_index labels start)
+  pub start_label : slice_index labels start ≤ l.nodes
+  pub low : slice_index labels goal ≤ slice_index labels start
 
 -- The start has a label, and a walk leads from it to the goal, as least paths do.
 pub record IsLabelled (l : Links) (rooms labels : List ℕ) (start goal : ℕ) : Type 0 where

@@ -8,7 +8,7 @@ use Rattle.dmf_path.specs.declared.residual.Residual.{Residual}
 use Rattle.dmf_path.specs.declared.trail.Trail.{Trail}
 use Rattle.dmf_path.specs.Ball.{IsAround, IsFit}
 use Rattle.dmf_path.specs.Held.{way_of}
-use Rattle.dmf_path.specs.BothEnds.{AreWhole, IsLabelled}
+use Rattle.dmf_path.specs.BothEnds.{AreSoundBetween, AreWhole}
 use Rattle.dmf_path.specs.Residual.{residual_of, with_settled_rooms}
 use Rattle.dmf_path.specs.Searching.{labelling_of, AreReady, IsReady, IsSearching, MayLast}
 
@@ -25,12 +25,12 @@ pub record Goes (links : Residual) (levels : Levels) (ball : Ball) (trail : Trai
   pub keeps : IsBetweenLooks links levels ball trail
   pub around : IsAround ball trail.goal
 
--- What it has once the nodes are labelled anew: all but the labels is as it was, with no push held, and a walk leads along the labels.
+-- What it has once the nodes are labelled anew: all but the labels is as it was, with no push held, and the labels are sound.
 pub record IsRelabelledFor (links : Residual) (levels : Levels) (ball : Ball) (trail : Trail) : Type 0 where
   pub before : Levels
   pub goes : Goes links before ball trail
   pub settled : with_settled_rooms (residual_of links) (way_of trail) ≡ residual_of links
   pub current : levels.current ≡ before.current
   pub ready : IsReady links.table.value.nodes levels.near levels.far
-  pub labelled : IsLabelled (links_of links.table.value) links.rooms.items levels.near.labels trail.start trail.goal
+  pub sound : AreSoundBetween (links_of links.table.value) links.rooms.items levels.near.labels trail.start trail.goal
   pub whole : levels.all ≡ true → AreWhole (links_of links.table.value) levels.near.labels links.rooms.items

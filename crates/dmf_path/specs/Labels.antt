@@ -1,6 +1,6 @@
--- Labels of nodes: how many links a node is away from a root, where that is known.
+-- Labels of nodes: how many links a node is away from the nearest root, where that is known.
 -- Private: only contracts inside the crate and proofs use this.
-use Rattle.std.specs.Prelude.{ℕ, ◌≡◌, ◌≢◌, ◌+◌, ◌<◌, ◌≤◌, ◌⊎◌, ◌==◌, not, Bool, List, length, slice_index, count_by, Contains}
+use Rattle.std.specs.Prelude.{ℕ, ◌≡◌, ◌≢◌, ◌+◌, ◌<◌, ◌≤◌, ◌⊎◌, ◌==◌, not, Bool, List, [], ◌∷◌, length, slice_index, count_by, Contains}
 use Rattle.dmf_node.specs.Node.{IsNode}
 use Rattle.dmf_path.specs.ClosedSide.{is_marked}
 use Rattle.dmf_links.specs.Links.{Links, LiesAt, tail_of}
@@ -21,17 +21,21 @@ pub record IsBacked (l : Links) (opens labels : List ℕ) (v : ℕ) : Type 0 whe
   pub opened : slice_index opens place ≡ 1
   pub label : slice_index labels (tail_of l place) + 1 ≡ slice_index labels v
 
--- The labels of the nodes that open links reach from the root, at least up to the label of the node `stop`. Number 0, which is no node,
+-- The labels of the nodes that open links reach from the roots, at least up to the label of the node `stop`. Number 0, which is no node,
 -- has none.
-pub record AreLabels (l : Links) (opens : List ℕ) (root stop : ℕ) (labels : List ℕ) : Type 0 where
+pub record AreLabelsFrom (l : Links) (opens roots : List ℕ) (stop : ℕ) (labels : List ℕ) : Type 0 where
   pub one_each : length labels ≡ l.nodes + 1
-  pub root_is : slice_index labels root ≡ 0
+  pub roots_are : (v : ℕ) → Contains roots v → slice_index labels v ≡ 0
   pub zero : slice_index labels 0 ≡ no_label
   pub small : (v : ℕ) → IsNode l.nodes v → (slice_index labels v ≡ no_label) ⊎ (slice_index labels v < l.nodes)
   pub near : (v p : ℕ) → IsNode l.nodes v → LiesAt l v p → slice_index opens p ≡ 1
       → slice_index labels v + 1 < slice_index labels stop
       → slice_index labels (slice_index l.heads p) ≤ slice_index labels v + 1
-  pub backed : (v : ℕ) → IsNode l.nodes v → v ≢ root → slice_index labels v ≢ no_label → IsBacked l opens labels v
+  pub backed : (v : ℕ) → IsNode l.nodes v → ¬ Contains roots v → slice_index labels v ≢ no_label → IsBacked l opens labels v
+
+-- The same from one root.
+abbrev pub AreLabels : Links → List ℕ → ℕ → ℕ → List ℕ → Type 0
+AreLabels l opens root = AreLabelsFrom l opens (root ∷ [])
 
 -- The queue has the nodes with labels.
 pub record AreQueued (labels queue : List ℕ) : Type 0 where

@@ -20,8 +20,10 @@ const MOST: u64 = 4096;
 /// the goal.
 #[derive(Drop)]
 pub struct Ball {
-    /// The search, whose root is the goal.
+    /// The search, which began at the goal.
     pub around: Frontier,
+    /// The goal.
+    pub goal: u32,
     /// The level that the search has not looked through: each node with a lower label is known, and so are all links that lead to it. 0 if
     /// nothing is known.
     pub radius: u32,
@@ -34,6 +36,7 @@ impl Ball {
     {
         Ball {
             around: Frontier::none(alloc),
+            goal: 0,
             radius: 0,
         }
     }
@@ -45,6 +48,7 @@ impl Ball {
     {
         Ok(Ball {
             around: Frontier::new(alloc, nodes)?,
+            goal: 0,
             radius: 0,
         })
     }
@@ -55,6 +59,7 @@ impl Ball {
         ensures { IsFitFor self.new (residual_of links.now) goal }
     {
         self.around.unlabel();
+        self.goal = goal;
         self.radius = 0;
         if links.takes_back || self.around.labels().len() != links.table.nodes as usize + 1 {
             return;
@@ -78,7 +83,7 @@ impl Ball {
         ensures fit { (r : ResidualLinks) → IsFit self.old r → IsFit self.new r }
         ensures around { IsAround self.new goal }
     {
-        if self.around.root() != goal {
+        if self.goal != goal {
             self.radius = 0;
         }
     }
@@ -96,7 +101,6 @@ fn look_around(links: &Residual, around: &mut Frontier, goal: u32) -> u32
     requires goal { IsNode links.now.table.value.nodes goal }
     requires clean { IsClean links.now.table.value.nodes around.old }
     ensures near { AreNear (links_of links.now.table.value) links.now.rooms.items goal result around.new.labels }
-    ensures root { around.new.root ≡ goal }
     ensures inside { AreInside around.new.labels around.new.queue around.new.done result }
     ensures nodes { AreNodes links.now.table.value.nodes around.new.queue around.new.done }
 {

@@ -1,10 +1,10 @@
-//! A breadth-first search that goes on where it stopped: from a root, level by level, over open links.
-ghost use Rattle.std.specs.Prelude.{◌≡◌, ◌≢◌, ℕ, ◌+◌, ◌*◌, ◌^◌, ◌≤◌, ◌<◌, true, false, drop, take, IfOk, length, replicate, slice_index};
+//! A breadth-first search that goes on where it stopped: from its roots, level by level, over open links.
+ghost use Rattle.std.specs.Prelude.{◌≡◌, ◌≢◌, ℕ, ◌+◌, ◌*◌, ◌^◌, ◌≤◌, ◌<◌, true, false, drop, take, IfOk, length, replicate, slice_index, Contains, ◌↔◌};
 ghost use Rattle.dmf_node.specs.Node.{IsNode};
 ghost use Rattle.dmf_links.specs.LinkTable.{links_of};
 ghost use Rattle.dmf_path.specs.BothEnds.{AreJoined, AreJoinedBy, AreTurned};
-ghost use Rattle.dmf_path.specs.Frontier.{HasExpanded, IsClean, IsSpread, begun_at, next_label, unlabelled, with_label};
-ghost use Rattle.dmf_path.specs.Labels.{AreLabels, AreQueued, no_label, unlabelled_count};
+ghost use Rattle.dmf_path.specs.Frontier.{HasBegun, HasExpanded, IsClean, IsSpread, begun_at, next_label, unlabelled, with_label};
+ghost use Rattle.dmf_path.specs.Labels.{AreLabels, AreLabelsFrom, AreQueued, no_label, unlabelled_count};
 ghost use Rattle.dmf_path.specs.Searching.{fresh_labels};
 
 use crate::label::{NO_LABEL, take_labels_off};
@@ -17,9 +17,9 @@ use std::marker::Model;
 /// turned, the queue still has these nodes, though no longer in the order of their labels.
 #[derive(Drop)]
 pub struct Frontier {
-    /// The node at which the search began.
-    root: u32,
-    /// For each node the number of links from the root to it, or [`NO_LABEL`].
+    /// The search began at so many nodes, the first ones of the queue.
+    roots: usize,
+    /// For each node the number of links from the nearest of these to it, or [`NO_LABEL`].
     labels: Vec<u32>,
     /// The nodes with labels. There is memory for all nodes.
     queue: Vec<u32>,
@@ -30,16 +30,16 @@ pub struct Frontier {
 }
 
 impl Model for Frontier {
-    ghost use Rattle.std.specs.Prelude.{◌*◌, ◌^◌, ◌≤◌, length, vec_capacity};
+    ghost use Rattle.std.specs.Prelude.{◌*◌, ◌^◌, ◌≤◌, length, take, vec_capacity};
     ghost use Rattle.dmf_path.specs.Labels.{AreQueued};
     ghost use Rattle.dmf_path.specs.Reach.{Reach};
 
     ghost Value = { Reach };
 
-    ghost view = { λ a. record { root = a.root; labels = a.labels.items; queue = a.queue.items; done = a.done } };
+    ghost view = { λ a. record { roots = take a.roots a.queue.items; labels = a.labels.items; queue = a.queue.items; done = a.done } };
 
     ghost invariant = { λ a. AreQueued a.labels.items a.queue.items × (length a.labels.items ≤ vec_capacity a.queue)
-        × (a.done ≤ length a.queue.items) × (a.looked ≤ a.done * 2 ^ 31) };
+        × (a.done ≤ length a.queue.items) × (a.looked ≤ a.done * 2 ^ 31) × (a.roots ≤ length a.queue.items) };
 }
 
 impl Frontier {
@@ -49,7 +49,7 @@ impl Frontier {
         ensures { IfOk result (IsClean nodes) }
     {
         Ok(Frontier {
-            root: 0,
+            roots: 0,
             labels: vec![in alloc; NO_LABEL; nodes as usize + 1]?,
             queue: Vec::with_capacity(alloc, nodes as usize + 1)?,
             done: 0,
@@ -60,7 +60,7 @@ impl Frontier {
     /// A search among no nodes. Takes no memory.
     pub fn none(alloc: Global) -> Frontier {
         Frontier {
-            root: 0,
+            roots: 0,
             labels: Vec::new(alloc),
             queue: Vec::new(alloc),
             done: 0,
@@ -74,12 +74,33 @@ impl Frontier {
         requires root { root < length self.old.labels }
         ensures { self.new ≡ begun_at root self.old.labels }
     {
-        self.root = root;
+        self.roots = 1;
         self.done = 0;
         self.looked = 0;
         self.labels[root as usize] = 0;
         self.queue.clear();
         self.queue.push_reserved(root);
+    }
+
+    /// Begins at each of several roots. No node has a label yet.
+    pub fn begin_at(&mut self, roots: &[u32], nodes: u32)
+        requires clean { IsClean nodes self.old }
+        requires roots { (v : ℕ) → Contains roots.now v → IsNode nodes v }
+        ensures begun { HasBegun nodes self.new }
+        ensures roots { (v : ℕ) → Contains self.new.roots v ↔ Contains roots.now v }
+    {
+        self.done = 0;
+        self.looked = 0;
+        self.queue.clear();
+        let labels = &mut self.labels[..];
+        let queue = &mut self.queue;
+        for root in roots {
+            if labels[*root as usize] == NO_LABEL {
+                labels[*root as usize] = 0;
+                queue.push_reserved(*root);
+            }
+        }
+        self.roots = self.queue.len();
     }
 
     /// Removes all labels.
@@ -88,15 +109,9 @@ impl Frontier {
     {
         take_labels_off(&mut self.labels, &self.queue);
         self.queue.clear();
+        self.roots = 0;
         self.done = 0;
         self.looked = 0;
-    }
-
-    /// The node at which the search began.
-    pub fn root(&self) -> u32
-        ensures { result ≡ self.now.root }
-    {
-        self.root
     }
 
     /// The labels of the nodes. The first one belongs to number 0, which is no node.
@@ -233,7 +248,8 @@ impl Frontier {
     ) -> bool
         requires so_far { IsSpread (links_of table.now) (O.flags opens.now) self.old }
         requires stop { stop ≤ table.now.nodes }
-        ensures labels { result ≡ true → AreLabels (links_of table.now) (O.flags opens.now) self.old.root stop self.new.labels }
+        ensures labels { result ≡ true → AreLabelsFrom (links_of table.now) (O.flags opens.now) self.old.roots stop self.new.labels }
+        ensures roots { self.new.roots ≡ self.old.roots }
         ensures spread { IsSpread (links_of table.now) (O.flags opens.now) self.new }
         ensures enough { 2 ^ 62 ≤ most → result ≡ true }
         ensures long { length self.new.labels ≡ table.now.nodes + 1 }
@@ -254,6 +270,7 @@ impl Frontier {
         requires clean { IsClean nodes self.old }
         ensures { AreTurned nodes from_start.now.labels self.new.labels }
     {
+        self.roots = 0;
         self.done = 0;
         self.looked = 0;
         self.queue.clear();

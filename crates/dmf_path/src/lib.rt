@@ -2,7 +2,9 @@
 #![tactic(auto)]
 
 pub use aside::Ends;
+pub use search::through::Passage;
 pub use search::{AugmentingPath, Search};
+pub use through::WaysOut;
 pub use touched::{Indices, Touched};
 
 mod aside;

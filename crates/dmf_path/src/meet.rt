@@ -4,6 +4,7 @@ ghost use Rattle.dmf_links.specs.LinkTable.{links_of};
 ghost use Rattle.dmf_path.specs.BothEnds.{AreNearing, HasExpandedLevel, HaveGoneOn};
 ghost use Rattle.dmf_path.specs.Frontier.{AreApart, IsAtRest, IsSpread};
 ghost use Rattle.dmf_path.specs.Labels.{no_label};
+ghost use Rattle.dmf_path.specs.Reach.{root_of};
 ghost use Rattle.dmf_path.specs.Searching.{IsParted};
 
 use crate::frontier::Frontier;
@@ -23,7 +24,7 @@ pub fn meet(
 ) -> Option<u32>
     requires { AreNearing links.now to_goal.old from_start.old }
     ensures on { HaveGoneOn links.now to_goal.old from_start.old to_goal.new from_start.new result }
-    ensures none { result ≡ None → IsParted (links_of links.now.table.value) links.now.rooms.items from_start.old.root to_goal.old.root marks.new }
+    ensures none { result ≡ None → IsParted (links_of links.now.table.value) links.now.rooms.items (root_of from_start.old) (root_of to_goal.old) marks.new }
 {
     while to_goal.has_next() {
         if !from_start.has_next() {

@@ -8,7 +8,7 @@ ghost use Rattle.dmf_path.specs.Walk.{IsWalk};
 ghost use Rattle.dmf_path.specs.Held.{way_of, with_slots};
 ghost use Rattle.dmf_path.specs.Residual.{residual_of, with_settled_rooms};
 ghost use Rattle.dmf_path.specs.Searching.{sought, AreRedirected, IsReady, IsParted, fresh_labels};
-ghost use Rattle.dmf_path.specs.Through.{IsOnlyWay};
+ghost use Rattle.dmf_path.specs.Through.{AreWaysOut, FallOnce};
 
 use crate::aside::{Aside, Ends, take_up};
 use crate::ball::Ball;
@@ -17,7 +17,7 @@ use crate::raise::raise;
 use crate::redirect::{redirect, refit};
 use crate::relabel::label_anew;
 use crate::residual::Residual;
-use crate::through::{Through, label_through};
+use crate::through::{WaysOut, label_through};
 use crate::trail::Trail;
 use crate::walk::walk;
 use dmf_links::LinkTable;
@@ -260,23 +260,23 @@ fn mend(links: &Residual, levels: &mut Levels, ball: &mut Ball, start: u32, goal
     levels.near.label(goal) < before
 }
 
-/// Labels the nodes anew from the way out, which each path passes, and frees the slots; no push is held. Returns whether a path is left,
-/// or `None` if that is not known; then the search is fresh.
+/// Labels the nodes anew from the ways out of marked nodes, and frees the slots; no push is held. Returns whether paths may be left, or
+/// `None` if the labels were given up; then the search is fresh.
 pub fn relabel_through(
     links: &Residual,
     levels: &mut Levels,
     ball: &mut Ball,
     trail: &mut Trail,
-    way_out: u32,
+    ways: &WaysOut,
     marks: &mut [bool],
 ) -> Option<bool>
     requires goes { Goes links.now levels.old ball.old trail.old }
     requires settled { with_settled_rooms (residual_of links.now) (way_of trail.old) ≡ residual_of links.now }
-    requires way { IsOnlyWay (links_of links.now.table.value) links.now.rooms.items trail.old.start trail.old.goal way_out marks.old }
+    requires out { AreWaysOut (links_of links.now.table.value) links.now.rooms.items trail.old.start trail.old.goal ways.now marks.old }
     ensures goes { Goes links.now levels.new ball.new trail.new }
     ensures same { sought (residual_of links.now) (way_of trail.new) ≡ sought (residual_of links.now) (way_of trail.old) }
-    ensures labelled { result ≡ Some true → (ps : List ℕ) × IsWalk (links_of links.now.table.value) levels.new.near.labels links.now.rooms.items
-        trail.old.goal trail.old.start ps }
+    ensures labelled { result ≡ Some true → FallOnce (links_of links.now.table.value) links.now.rooms.items levels.new.near.labels
+        trail.old.start trail.old.goal marks.old }
     ensures parted { result ≡ Some false → IsParted (links_of links.now.table.value) links.now.rooms.items trail.old.start trail.old.goal marks.new }
     ensures marks { result ≢ Some false → marks.new ≡ marks.old }
 {
@@ -286,7 +286,7 @@ pub fn relabel_through(
         start: trail.start,
         goal: trail.goal,
     };
-    let Some(is_left) = label_through(links, levels, Through { ends, way_out }, marks) else {
+    let Some(is_left) = label_through(links, levels, ends, ways, marks) else {
         make_fresh(&links.table, levels, trail);
         return None;
     };
@@ -298,7 +298,7 @@ pub fn relabel_through(
     Some(true)
 }
 
-/// Begins the walks along new labels, by which one leads to the goal, and frees the slots.
+/// Begins the walks along new labels, and frees the slots.
 fn begin_phase(links: &Residual, levels: &mut Levels, ball: &mut Ball, trail: &mut Trail)
     requires { IsRelabelledFor links.now levels.old ball.old trail.old }
     ensures goes { Goes links.now levels.new ball.new trail.new }

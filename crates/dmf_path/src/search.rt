@@ -26,7 +26,7 @@ mod growing;
 mod making;
 mod shrinking;
 mod spares;
-mod through;
+pub mod through;
 
 /// What was pushed along a path.
 #[derive(Clone, Copy)]

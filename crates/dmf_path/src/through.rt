@@ -1,11 +1,11 @@
-//! Labels where each path passes one node: two short searches from that node, one on to the goal, and one back to the start.
+//! Labels from the ways out of marked nodes: two short searches, one on from where they lead to the goal, and one back to the start.
 ghost use Rattle.std.specs.Prelude.{◌≡◌, ◌≢◌, ◌+◌, Some, true, false, map, length};
 ghost use Rattle.dmf_node.specs.Node.{IsNode};
 ghost use Rattle.dmf_links.specs.LinkTable.{links_of};
 ghost use Rattle.dmf_links.specs.Links.{open_flag};
 ghost use Rattle.dmf_path.specs.Frontier.{IsClean};
 ghost use Rattle.dmf_path.specs.Searching.{IsParted, MayBeLabelled};
-ghost use Rattle.dmf_path.specs.Through.{flags_to, HasLooked, HasPassed, IsOnlyWay};
+ghost use Rattle.dmf_path.specs.Through.{flags_to, AreWaysOut, HasLooked, HasPassed};
 
 use crate::aside::Ends;
 use crate::frontier::Frontier;
@@ -14,13 +14,13 @@ use crate::mark::mark_queued;
 use crate::open::{Flagged, LedTo, OpenByRoom};
 use crate::residual::Residual;
 
-/// The two ends of paths, and a node that each path passes.
-#[derive(Clone, Copy)]
-pub struct Through {
-    /// The ends of the paths.
-    pub ends: Ends,
-    /// The only node without a mark to which links with room lead from marked nodes.
-    pub way_out: u32,
+/// The ends of the links with room that lead from marked nodes to others.
+#[derive(Drop)]
+pub struct WaysOut {
+    /// The marked nodes from which they lead.
+    pub tails: Vec<u32>,
+    /// The nodes without a mark to which they lead.
+    pub heads: Vec<u32>,
 }
 
 /// Each search looks at so many links, or at this part of all of them.
@@ -28,22 +28,23 @@ const FEW: u64 = 1024;
 
 const PART: u64 = 256;
 
-/// Labels nodes on the two sides of the way out. Returns whether a path is left; if not, changes marks, so that they are those of a
+/// Labels nodes on the two sides of the ways out. Returns whether paths may be left; if not, changes marks, so that they are those of a
 /// closed side. `None` if one end is too far away; the labels do not lead to the goal then.
 pub fn label_through(
     links: &Residual,
     levels: &mut Levels,
-    through: Through,
+    ends: Ends,
+    ways: &WaysOut,
     marks: &mut [bool],
 ) -> Option<bool>
-    requires clean { MayBeLabelled links.now levels.old through.ends }
-    requires way { IsOnlyWay (links_of links.now.table.value) links.now.rooms.items through.ends.start through.ends.goal through.way_out marks.old }
-    ensures passed { HasPassed links.now levels.new.near through.ends.start through.ends.goal result marks.old marks.new }
+    requires clean { MayBeLabelled links.now levels.old ends }
+    requires out { AreWaysOut (links_of links.now.table.value) links.now.rooms.items ends.start ends.goal ways.now marks.old }
+    ensures passed { HasPassed links.now levels.new.near ends.start ends.goal result marks.old marks.new }
     ensures far { IsClean links.now.table.value.nodes levels.new.far }
     ensures current { levels.new.current ≡ levels.old.current }
     ensures all { levels.new.all ≡ levels.old.all }
 {
-    let found = label_sides(links, &mut levels.near, &mut levels.far, through, marks);
+    let found = label_sides(links, &mut levels.near, &mut levels.far, ends, ways, marks);
     levels.far.unlabel();
     found
 }
@@ -53,95 +54,98 @@ fn label_sides(
     links: &Residual,
     near: &mut Frontier,
     far: &mut Frontier,
-    through: Through,
+    ends: Ends,
+    ways: &WaysOut,
     marks: &mut [bool],
 ) -> Option<bool>
     requires near { IsClean links.now.table.value.nodes near.old }
     requires far { IsClean links.now.table.value.nodes far.old }
-    requires start { IsNode links.now.table.value.nodes through.ends.start }
-    requires goal { IsNode links.now.table.value.nodes through.ends.goal }
-    requires way { IsOnlyWay (links_of links.now.table.value) links.now.rooms.items through.ends.start through.ends.goal through.way_out marks.old }
-    ensures passed { HasPassed links.now near.new through.ends.start through.ends.goal result marks.old marks.new }
+    requires start { IsNode links.now.table.value.nodes ends.start }
+    requires goal { IsNode links.now.table.value.nodes ends.goal }
+    requires out { AreWaysOut (links_of links.now.table.value) links.now.rooms.items ends.start ends.goal ways.now marks.old }
+    ensures passed { HasPassed links.now near.new ends.start ends.goal result marks.old marks.new }
     ensures long { length far.new.labels ≡ links.now.table.value.nodes + 1 }
 {
-    if !look_on(links, far, through, marks)? {
+    if !look_on(links, far, ends, ways, marks)? {
         return Some(false);
     }
-    let long = far.label(through.ends.goal);
-    near.begin(through.ends.goal);
+    let long = far.label(ends.goal);
+    near.begin(ends.goal);
     near.join(far, long);
     far.unlabel();
-    if !look_back(links, far, through, marks)? {
+    if !look_back(links, far, ends, ways, marks)? {
         return Some(false);
     }
-    near.join_before(far, long);
+    near.join_before(far, long + 1);
     Some(true)
 }
 
-/// Searches on from the way out among the nodes without a mark. Returns whether it comes to the goal; if not, marks the nodes to which
-/// it comes.
+/// Searches on from the heads among the nodes without a mark. Returns whether it comes to the goal; if not, marks the nodes to which it
+/// comes.
 fn look_on(
     links: &Residual,
     search: &mut Frontier,
-    through: Through,
+    ends: Ends,
+    ways: &WaysOut,
     marks: &mut [bool],
 ) -> Option<bool>
     requires clean { IsClean links.now.table.value.nodes search.old }
-    requires start { IsNode links.now.table.value.nodes through.ends.start }
-    requires goal { IsNode links.now.table.value.nodes through.ends.goal }
-    requires way { IsOnlyWay (links_of links.now.table.value) links.now.rooms.items through.ends.start through.ends.goal through.way_out marks.old }
+    requires start { IsNode links.now.table.value.nodes ends.start }
+    requires goal { IsNode links.now.table.value.nodes ends.goal }
+    requires out { AreWaysOut (links_of links.now.table.value) links.now.rooms.items ends.start ends.goal ways.now marks.old }
     ensures looked { HasLooked (links_of links.now.table.value)
-        (flags_to false marks.old links.now.table.value.heads.items (map open_flag links.now.rooms.items)) through.way_out through.ends.goal
-        search.new result }
-    ensures parted { result ≡ Some false → IsParted (links_of links.now.table.value) links.now.rooms.items through.ends.start through.ends.goal marks.new }
+        (flags_to false marks.old links.now.table.value.heads.items (map open_flag links.now.rooms.items)) ways.now.heads.items
+        ends.goal search.new result }
+    ensures parted { result ≡ Some false → IsParted (links_of links.now.table.value) links.now.rooms.items ends.start ends.goal marks.new }
     ensures same { result ≢ Some false → marks.new ≡ marks.old }
 {
-    search.begin(through.way_out);
+    search.begin_at(&ways.heads, links.table.nodes);
     let opens = LedTo {
         opens: OpenByRoom(&links.rooms),
         heads: &links.table.heads,
         marks: &*marks,
         mark: false,
     };
-    if !search.label_within(&links.table, &opens, through.ends.goal, most(links)) {
+    if !search.label_within(&links.table, &opens, ends.goal, most(links)) {
         return None;
     }
-    if search.has_label(through.ends.goal) {
+    if search.has_label(ends.goal) {
         return Some(true);
     }
     mark_queued(search, true, marks);
     Some(false)
 }
 
-/// Searches back from the way out among the marked nodes. Returns whether it comes to the start; if not, takes the marks off the nodes to
+/// Searches back from the tails among the marked nodes. Returns whether it comes to the start; if not, takes the marks off the nodes to
 /// which it comes.
 fn look_back(
     links: &Residual,
     search: &mut Frontier,
-    through: Through,
+    ends: Ends,
+    ways: &WaysOut,
     marks: &mut [bool],
 ) -> Option<bool>
     requires clean { IsClean links.now.table.value.nodes search.old }
-    requires start { IsNode links.now.table.value.nodes through.ends.start }
-    requires goal { IsNode links.now.table.value.nodes through.ends.goal }
-    requires way { IsOnlyWay (links_of links.now.table.value) links.now.rooms.items through.ends.start through.ends.goal through.way_out marks.old }
+    requires start { IsNode links.now.table.value.nodes ends.start }
+    requires goal { IsNode links.now.table.value.nodes ends.goal }
+    requires out { AreWaysOut (links_of links.now.table.value) links.now.rooms.items ends.start ends.goal ways.now marks.old }
     ensures looked { HasLooked (links_of links.now.table.value)
-        (flags_to true marks.old links.now.table.value.heads.items links.now.flags.items) through.way_out through.ends.start
+        (flags_to true marks.old links.now.table.value.heads.items links.now.flags.items) ways.now.tails.items ends.start
         search.new result }
-    ensures parted { result ≡ Some false → IsParted (links_of links.now.table.value) links.now.rooms.items through.ends.start through.ends.goal marks.new }
+    ensures parted { result ≡ Some false → IsParted (links_of links.now.table.value) links.now.rooms.items ends.start ends.goal marks.new }
     ensures same { result ≢ Some false → marks.new ≡ marks.old }
 {
-    search.begin(through.way_out);
+    search.begin_at(&ways.tails, links.table.nodes);
     let opens = LedTo {
         opens: Flagged(&links.flags),
         heads: &links.table.heads,
         marks: &*marks,
         mark: true,
     };
-    if !search.label_within(&links.table, &opens, through.ends.start, most(links)) {
+    if !search.label_within(&links.table, &opens, ends.start, most(links)) {
         return None;
     }
-    if search.has_label(through.ends.start) {
+    if search.has_label(ends.start) {
         return Some(true);
     }
     mark_queued(search, false, marks);

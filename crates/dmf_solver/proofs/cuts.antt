@@ -9,4 +9,4 @@ pub mod Optimal
 pub mod Reached
 pub mod SmallestSide
 pub mod SomeSide
-pub mod WayOut
+pub mod WaysOut

@@ -16,4 +16,4 @@ pub mod Planning
 pub mod SmallestSide
 pub mod Enclosed
 pub mod Gates
-pub mod WayOut
+pub mod WaysOut

@@ -12,7 +12,7 @@ use dmf_path::Search;
 use std::alloc::{AllocError, Global};
 use std::marker::Model;
 
-pub mod way_out;
+pub mod ways_out;
 
 /// A side has at most so many gates.
 const MOST_GATES: usize = 64;

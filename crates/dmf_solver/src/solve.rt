@@ -9,13 +9,13 @@ ghost use Rattle.dmf_solver.specs.Greatest.{IsGreatest, IsSurpassed};
 ghost use Rattle.dmf_solver.specs.Pairs.{reached_flows, HasSolved};
 ghost use Rattle.dmf_solver.specs.ResidualNetwork.{IsResidualOf};
 ghost use Rattle.dmf_solver.specs.Told.{AreTold, TellsSolve};
-ghost use Rattle.dmf_solver.specs.WayOut.{IsWayOut};
+ghost use Rattle.dmf_solver.specs.WaysOut.{AreKnown};
 
-use crate::closed_side::way_out::WayOut;
+use crate::closed_side::ways_out::KnownWays;
 use crate::enclosed::is_enclosed;
 use crate::residual::residual_search;
 use crate::watch::Watch;
-use dmf_path::{AugmentingPath, Search, Touched};
+use dmf_path::{AugmentingPath, Passage, Search, Touched};
 use dmf_state::{NoMemory, State};
 use std::alloc::Global;
 
@@ -30,17 +30,17 @@ pub struct SolvedSearch {
 /// Augments the flow of the state along least paths until none is left, and reports each to the watch. Afterwards the pairs of these
 /// paths count as touched. If there is a mark for each node, they are those of a closed side then.
 ///
-/// If links with room leave the marked nodes to one node alone, the first paths are looked for from there.
+/// If the ways out of the marked nodes are known, the first paths are looked for from there.
 pub fn solve<W: Watch>(
     mut search: Search,
     state: &State,
     mut touched: Touched,
     marks: &mut [bool],
-    mut way_out: Option<WayOut>,
+    mut known: Option<KnownWays>,
     watch: &mut W,
 ) -> SolvedSearch
     requires residual { IsResidualOf state.now search }
-    requires way { IfSome way_out (IsWayOut search marks.old) }
+    requires ways { IfSome known (AreKnown search marks.old) }
     requires below { AreBelow (length state.now.network.arcs + 1) touched }
     ensures solved { HasSolved state.now result }
     ensures told { TellsSolve state.now (reached_flows state.now result.search) (W.told watch.old) (W.told watch.new) }
@@ -50,7 +50,7 @@ pub fn solve<W: Watch>(
     ensures state { IsState state.now }
 {
     let mut value = state.value();
-    while let Some(found) = next_path(&mut search, &mut way_out, &mut touched, marks) {
+    while let Some(found) = next_path(&mut search, &mut known, &mut touched, marks) {
         value += found.amount;
         watch.augmented(value, found.links);
     }
@@ -62,30 +62,35 @@ pub fn solve<W: Watch>(
     }
 }
 
-/// Augments along the next least path, which is looked for from the way out while that is known. If no path is left, marks a closed side.
+/// Augments along the next least path, which is looked for from the ways out while they are known. If no path is left, marks a closed side.
 fn next_path(
     search: &mut Search,
-    way_out: &mut Option<WayOut>,
+    known: &mut Option<KnownWays>,
     touched: &mut Touched,
     marks: &mut [bool],
 ) -> Option<AugmentingPath>
-    requires way { IfSome way_out.old (IsWayOut search.old marks.old) }
+    requires ways { IfSome known.old (AreKnown search.old marks.old) }
     ensures found { MatchOption result
         (HasNoPath (steps_of search.old.pairs) search.old.start search.old.goal × (search.new ≡ search.old))
         (λ found. Augments (2 ^ 64 - 1) found search.old search.new) }
     ensures touched { Touches touched.old touched.new search.old.pairs search.new.pairs }
     ensures side { length marks.old ≡ search.old.nodes → result ≡ None
         → IsClosedSide (steps_of search.old.pairs) search.old.start search.old.goal marks.new }
-    ensures way { result ≢ None → IfSome way_out.new (IsWayOut search.new marks.new) }
+    ensures ways { result ≢ None → IfSome known.new (AreKnown search.new marks.new) }
 {
-    if let Some(way) = way_out.take()
-        && let Some(is_left) = search.label_through(way.node, marks)
-    {
-        if !is_left {
-            return None;
+    if let Some(before) = known.take() {
+        match search.label_through(&before.ways, marks) {
+            Passage::Closed => return None,
+            Passage::Once(long) => {
+                if let Some(found) = search.augment(u64::MAX, touched) {
+                    if found.links == long {
+                        *known = before.next();
+                    }
+                    return Some(found);
+                }
+            }
+            Passage::Unknown => {}
         }
-        *way_out = way.next();
-        return search.augment(u64::MAX, touched);
     }
     search.augment_or_mark(u64::MAX, touched, marks)
 }

@@ -1,5 +1,5 @@
 -- A level of a breadth-first search is expanded, node by node.
-use Rattle.std.proofs.Common.{ℕ, ◌≡◌, ◌≢◌, ◌+◌, ◌-◌, ◌≤◌, ◌<◌, take, drop, inl, inr, List, length, get_or, refl, ap, sym, ◌∙◌, arith, Contains}
+use Rattle.std.proofs.Common.{ℕ, ◌≡◌, ◌≢◌, ◌+◌, ◌-◌, ◌≤◌, ◌<◌, take, drop, inl, inr, List, [], ◌∷◌, length, get_or, refl, ap, sym, ◌∙◌, arith, Contains}
 use Rattle.std.proofs.lemmas.Bool.{cases_eq, cases_lt}
 use Rattle.std.proofs.lemmas.List.{get_or_append_left, get_or_default, get_or-append_right, length-append, length-drop, take_all}
 use Rattle.dmf_links.specs.Links.{Links, AreLinks}
@@ -7,17 +7,18 @@ use Rattle.dmf_path.specs.Labels.{no_label}
 use Rattle.dmf_path.specs.BothEnds.{AreLevels}
 use Rattle.dmf_path.specs.Frontier.{AreSpread, Expands, IsAtRest, AreApart, MeetBeyond}
 use Rattle.dmf_path.proofs.labels.Labelling.{queue-short, queued-at, label-below}
+use Rattle.dmf_path.proofs.labels.Roots.{first-root, one-root}
 
 -- The nodes of a level are expanded in turn. The waiting nodes are on that level or one beyond it, and no other node is further.
-pub record IsLevel (l : Links) (opens : List ℕ) (root level : ℕ) (labels queue : List ℕ) (done : ℕ) : Type 0 where
-  pub so_far : AreSpread l opens root labels queue done
+pub record IsLevel (l : Links) (opens roots : List ℕ) (level : ℕ) (labels queue : List ℕ) (done : ℕ) : Type 0 where
+  pub so_far : AreSpread l opens roots labels queue done
   pub from : (k : ℕ) → done ≤ k → k < length queue → level ≤ get_or labels (get_or queue k 0) 0
   pub most : (j : ℕ) → j < length queue → get_or labels (get_or queue j 0) 0 ≤ level + 1
   pub small : level < l.nodes
 
 -- A search at rest is at the beginning of a level.
-pub level-first : {l : Links} {opens : List ℕ} {root level : ℕ} {labels queue : List ℕ} {done : ℕ} → AreSpread l opens root labels queue done
-    → done < length queue → IsAtRest labels queue done → get_or labels (get_or queue done 0) 0 ≡ level → IsLevel l opens root level labels queue done
+pub level-first : {l : Links} {opens roots : List ℕ} {level : ℕ} {labels queue : List ℕ} {done : ℕ} → AreSpread l opens roots labels queue done
+    → done < length queue → IsAtRest labels queue done → get_or labels (get_or queue done 0) 0 ≡ level → IsLevel l opens roots level labels queue done
 level-first {done = done} so_far ahead rest is = record {
   small = omega (arith, (so_far.queued done ahead).small, ahead, queue-short so_far, is);
   so_far = so_far;
@@ -26,9 +27,9 @@ level-first {done = done} so_far ahead rest is = record {
 }
 
 -- A level stays one where its next node is expanded.
-pub level-next : {l : Links} {opens : List ℕ} {root level : ℕ} {labels queue : List ℕ} {done : ℕ} {new after : List ℕ} → AreLinks l
-    → IsLevel l opens root level labels queue done → done < length queue → get_or labels (get_or queue done 0) 0 ≡ level
-    → AreSpread l opens root new after (done + 1) → Expands l opens labels queue done new after → IsLevel l opens root level new after (done + 1)
+pub level-next : {l : Links} {opens roots : List ℕ} {level : ℕ} {labels queue : List ℕ} {done : ℕ} {new after : List ℕ} → AreLinks l
+    → IsLevel l opens roots level labels queue done → done < length queue → get_or labels (get_or queue done 0) 0 ≡ level
+    → AreSpread l opens roots new after (done + 1) → Expands l opens labels queue done new after → IsLevel l opens roots level new after (done + 1)
 level-next {queue = queue} {done = done} {new = new} are so_far ahead is next expands =
     let same = ap (λ q. get_or q done 0) expands.queued ∙ get_or_append_left queue expands.fresh 0 done ahead in
     let below = label-below so_far.so_far done are ahead in
@@ -42,13 +43,13 @@ level-next {queue = queue} {done = done} {new = new} are so_far ahead is next ex
     }
 
 -- All nodes up to the level have labels.
-pub level-labels : {l : Links} {opens : List ℕ} {root level : ℕ} {labels queue : List ℕ} {done : ℕ} → AreLinks l
-    → IsLevel l opens root level labels queue done → AreLevels l opens root level labels
-level-labels {labels = labels} {done = done} are so_far =
+pub level-labels : {l : Links} {opens roots : List ℕ} {root level : ℕ} {labels queue : List ℕ} {done : ℕ} → AreLinks l
+    → IsLevel l opens roots level labels queue done → roots ≡ root ∷ [] → AreLevels l opens root level labels
+level-labels {root = root} {labels = labels} {done = done} are so_far alone =
     let spread = so_far.so_far in
     record {
       one_each = spread.one_each;
-      root_is = spread.root_is;
+      root_is = spread.roots_are root (rw alone (first-root root));
       small = λ v node. elim (cases_eq (get_or labels v 0) no_label) [
         | inl none ↦ inl none
         | inr has ↦ let at = queued-at spread v node has in inr (omega (arith, so_far.most at.0 at.1, at.4))
@@ -62,7 +63,7 @@ level-labels {labels = labels} {done = done} are so_far =
               | inr behind ↦ absurd (omega (arith, at.4, below, so_far.from at.0 behind at.1))
             ]
       ];
-      backed = spread.backed;
+      backed = λ v node other. spread.backed v node (λ among. other (one-root (rw alone at among)));
     }
 
 -- A turn, beside another search.

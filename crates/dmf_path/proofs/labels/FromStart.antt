@@ -13,6 +13,7 @@ use Rattle.dmf_links.proofs.rooms.Flags.{room-of_flag, flag-of_room}
 use Rattle.dmf_path.proofs.labels.Labelled.{sound-below, sound-whole}
 use Rattle.dmf_path.proofs.labels.Joining.{queued-next}
 use Rattle.dmf_path.proofs.paths.Reaching.{AreOpen}
+use Rattle.dmf_path.proofs.labels.Roots.{one-root}
 use Rattle.dmf_path.proofs.labels.Spreading.{cases-set}
 
 -- The nodes before `node` have their labels.
@@ -62,7 +63,7 @@ module _ {l : Links} (rooms opens : List ℕ) {labels : List ℕ} {start : ℕ} 
   walk-turned goal (suc n) v ps low node has walk = elim (cases_eq v start) [
     | inl here ↦ (ps, subst (λ u. IsWalk l labels rooms goal u ps) here walk)
     | inr other ↦
-        let back = labelled.backed v node other has in
+        let back = labelled.backed v node (λ among. other (one-root among)) has in
         let p : ℕ = back.place in
         let x : ℕ = tail_of l p in
         let link = links.each p back.within in

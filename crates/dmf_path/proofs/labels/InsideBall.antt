@@ -1,5 +1,5 @@
 -- The nodes near a goal: what a breadth-first search from it knows before it has looked through all levels.
-use Rattle.std.proofs.Common.{ℕ, ◌≡◌, ◌≢◌, ◌≤◌, ◌<◌, inl, inr, false, List, length, get_or, ap, refl, arith}
+use Rattle.std.proofs.Common.{ℕ, ◌≡◌, ◌≢◌, ◌≤◌, ◌<◌, inl, inr, false, List, length, get_or, ap, refl, arith, Contains}
 use Rattle.std.proofs.lemmas.Bool.{cases_eq, cases_lt}
 use Rattle.dmf_node.specs.Node.{IsNode}
 use Rattle.dmf_links.specs.Links.{Links, AreLinks, AreFlags}
@@ -18,7 +18,7 @@ pub data IsLevel (labels queue : List ℕ) (done radius : ℕ) : Type 0 where
   next : done < length queue → radius ≡ get_or labels (get_or queue done 0) 0 → IsLevel labels queue done radius
   last : length queue ≤ done → radius ≡ no_label → IsLevel labels queue done radius
 
-module _ {l : Links} {flags : List ℕ} {goal : ℕ} {labels queue : List ℕ} {done radius : ℕ} (so_far : AreSpread l flags goal labels queue done)
+module _ {l : Links} {flags roots labels queue : List ℕ} {done radius : ℕ} (so_far : AreSpread l flags roots labels queue done)
     (level : IsLevel labels queue done radius) where
   -- A node below that level has been looked at.
   pub looked-below : (v : ℕ) → IsNode l.nodes v → get_or labels v 0 < radius → get_or labels v 0 ≢ no_label
@@ -45,10 +45,10 @@ module _ {l : Links} {flags : List ℕ} {goal : ℕ} {labels queue : List ℕ} {
           looked-below v (record { from_one = omega (arith, other); to_last = omega (arith, within, so_far.one_each) }) low (has-below v low most)
     ]
 
-    pub near-spread : {rooms : List ℕ} → AreLinks l → AreFlags l rooms flags → AreNear l rooms goal radius labels
-    near-spread {rooms = rooms} are flagged = record {
+    pub near-spread : {rooms : List ℕ} {goal : ℕ} → AreLinks l → AreFlags l rooms flags → Contains roots goal → AreNear l rooms goal radius labels
+    near-spread {rooms = rooms} {goal = goal} are flagged root = record {
       one_each = so_far.one_each;
-      goal_is = so_far.root_is;
+      goal_is = so_far.roots_are goal root;
       near = λ v p node lies room low.
           let w : ℕ = get_or l.heads p 0 in
           let head = (are.each p (lies-within l v p are node lies)).head in

@@ -9,6 +9,7 @@ use Rattle.dmf_path.specs.Walk.{IsWalk, AreValid}
 use Rattle.dmf_path.specs.BothEnds.{AreSmall, AreSound, AreWhole, IsLabelled}
 use Rattle.dmf_links.proofs.tables.LinkPlaces.{lies-within, lies-partner}
 use Rattle.dmf_links.proofs.rooms.Flags.{room-of_flag, flag-of_room}
+use Rattle.dmf_path.proofs.labels.Roots.{one-root}
 
 -- The link at place `p` has room, and leads from node `v` to this node.
 pub record LeadsTo (l : Links) (rooms : List ℕ) (node v p : ℕ) : Type 0 where
@@ -107,6 +108,6 @@ module _ {l : Links} (rooms flags : List ℕ) {labels : List ℕ} {stop goal : �
     sound = sound-below l labels rooms (get_or labels start 0) (get_or labels stop 0) low
         (sound-valid l labels rooms (get_or labels stop 0) links small-labelled valid-labelled);
     start_label = omega (arith, has, labelled.small start node);
-    walk = walk-down rooms flags labels labels links flagged labelled.backed (λ v is. omega (arith, labelled.small v is, links.at_most_nodes))
+    walk = walk-down rooms flags labels labels links flagged (λ v is other. labelled.backed v is (λ among. other (one-root among))) (λ v is. omega (arith, labelled.small v is, links.at_most_nodes))
         (λ v is set. refl) (get_or labels start 0 + 1) start (omega arith) node has;
   }

@@ -1,17 +1,18 @@
--- Spreading labels from a root, node by node in the order of a queue.
+-- Spreading labels from roots, node by node in the order of a queue.
 use Rattle.std.proofs.Common.{ℕ, ◌≡◌, ◌≢◌, ◌+◌, ◌≤◌, ◌<◌, ◌⊎◌, inl, inr, List, [], ◌∷◌, length, set, replicate, slice_index, refl, ap, sym, ◌∙◌}
-use Rattle.std.proofs.Common.{arith, ◌==◌, cond}
+use Rattle.std.proofs.Common.{arith, ◌==◌, cond, subst, Contains}
 use Rattle.std.proofs.lemmas.Bool.{cases_eq, cases_lt}
 use Rattle.std.proofs.lemmas.List.{get_or-replicate, get_or-set_same, length-set, length-replicate, get_or_default, ext_get_or}
 use Rattle.std.proofs.lemmas.List.Folds.{sum_by-replicate}
 use Rattle.dmf_node.specs.Node.{IsNode}
 use Rattle.dmf_links.specs.Links.{Links, AreLinks}
-use Rattle.dmf_path.specs.Labels.{no_label, AreLabels, AreQueued}
+use Rattle.dmf_path.specs.Labels.{no_label, AreLabelsFrom, AreQueued}
 use Rattle.dmf_path.specs.Frontier.{AreSpread, IsSpread, begun_at}
 use Rattle.dmf_path.specs.Reach.{Reach}
+use Rattle.dmf_path.proofs.labels.Roots.{first-root, one-root}
 use Rattle.dmf_path.proofs.labels.Spreading.{unlabelled_count-set, cases-set}
 
-module _ {l : Links} {opens : List ℕ} {root : ℕ} {labels queue : List ℕ} {done : ℕ} (so_far : AreSpread l opens root labels queue done) where
+module _ {l : Links} {opens roots labels queue : List ℕ} {done : ℕ} (so_far : AreSpread l opens roots labels queue done) where
   -- Number 0 is never in the queue, so the queue has room for all nodes.
   pub queue-short : length queue ≤ l.nodes
   queue-short =
@@ -54,10 +55,10 @@ module _ {l : Links} {opens : List ℕ} {root : ℕ} {labels queue : List ℕ} {
 
   -- The labels after the queue is used up, or after the node `stop` has a label.
   pub labels-spread : (stop : ℕ) → AreLinks l → stop ≤ l.nodes → (done ≡ length queue) ⊎ (slice_index labels stop ≢ no_label)
-      → AreLabels l opens root stop labels
+      → AreLabelsFrom l opens roots stop labels
   labels-spread stop are within ended = record {
     one_each = so_far.one_each;
-    root_is = so_far.root_is;
+    roots_are = so_far.roots_are;
     zero = so_far.zero;
     small = λ v node. elim (cases_eq (slice_index labels v) no_label) [
       | inl none ↦ inl none
@@ -97,7 +98,7 @@ starts-spread {l = l} {root = root} node flags clean_is begun_is =
     rw (begun_is, clean_is) (record {
       one_flag_each = flags;
       one_each = length-set none root 0 ∙ long;
-      root_is = at_root;
+      roots_are = λ v c. ap (λ u. slice_index (set none root 0) u) (one-root c) ∙ at_root;
       zero = omega (arith, cases-set none root 0 0 inside, node.from_one, unset 0 (omega arith));
       counted = omega (arith, unlabelled_count-set none root 0 inside (unset root node.to_last) (omega arith), sum_by-replicate f (l.nodes + 1) no_label);
       come = omega arith;
@@ -106,7 +107,7 @@ starts-spread {l = l} {root = root} node flags clean_is begun_is =
       ascending = λ i j to first. omega (arith, same i (omega arith), same j first);
       close = λ i j from first_i first_j. omega (arith, same i first_i, same j first_j);
       scanned = λ k p none lies opened. absurd (omega arith);
-      backed = λ v is other has. absurd (other (only_root v is.to_last has));
+      backed = λ v is other has. absurd (other (subst (Contains (root ∷ [])) (sym (only_root v is.to_last has)) (first-root root)));
     })
 
 -- The nodes with labels stand in the queue from place `k` on.

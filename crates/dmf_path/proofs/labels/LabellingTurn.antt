@@ -1,4 +1,4 @@
--- One turn of spreading labels from a root: the next node in the queue.
+-- One turn of spreading labels from roots: the next node in the queue.
 use Rattle.std.proofs.Common.{ℕ, ◌≡◌, ◌≢◌, ◌+◌, ◌-◌, ◌≤◌, ◌<◌, ◌⊎◌, inl, inr, List, length, slice_index, get_or, refl, ap, sym, subst, ◌∙◌, arith}
 use Rattle.std.proofs.Common.{Contains}
 use Rattle.std.proofs.lemmas.Bool.{cases_eq, cases_lt}
@@ -12,8 +12,8 @@ use Rattle.dmf_path.specs.Frontier.{AreSpread, Expands}
 use Rattle.dmf_path.proofs.labels.Labelling.{queue-short, queued-at}
 
 -- A turn looks at the open links of the next node in the queue.
-module _ {l : Links} {opens : List ℕ} {root : ℕ} {old queue : List ℕ} {done : ℕ} {new after : List ℕ} (are : AreLinks l)
-    (so_far : AreSpread l opens root old queue done) (ahead : done < length queue) (long : length new ≡ length old)
+module _ {l : Links} {opens roots old queue : List ℕ} {done : ℕ} {new after : List ℕ} (are : AreLinks l)
+    (so_far : AreSpread l opens roots old queue done) (ahead : done < length queue) (long : length new ≡ length old)
     (turn : Expands l opens old queue done new after) where
   -- A node whose label is no more than a place of the queue keeps it.
   kept-at : (k v : ℕ) → k < length queue → slice_index old v ≤ k → slice_index new v ≡ slice_index old v
@@ -83,7 +83,7 @@ module _ {l : Links} {opens : List ℕ} {root : ℕ} {old queue : List ℕ} {don
             omega (arith, was, kept-at (k + 1) head (omega arith) (omega (arith, was, entry.small)))
       ]
 
-  backed-next : (v : ℕ) → IsNode l.nodes v → v ≢ root → slice_index new v ≢ no_label → IsBacked l opens new v
+  backed-next : (v : ℕ) → IsNode l.nodes v → ¬ Contains roots v → slice_index new v ≢ no_label → IsBacked l opens new v
   backed-next v node other has = elim (label-cases v node.to_last has) [
     | inl was ↦
         let back = so_far.backed v node other was.0 in
@@ -108,13 +108,13 @@ module _ {l : Links} {opens : List ℕ} {root : ℕ} {old queue : List ℕ} {don
       grind (arith, place-cases i within_i, place-cases j within_j, close, first, so_far.ascending done i (omega arith))
 
   -- A turn leaves the search as far as the next node.
-  pub spread-turn : AreSpread l opens root new after (done + 1)
+  pub spread-turn : AreSpread l opens roots new after (done + 1)
   spread-turn =
       let count = ap length turn.queued ∙ length-append queue turn.fresh in
       record {
         one_flag_each = so_far.one_flag_each;
         one_each = long ∙ so_far.one_each;
-        root_is = kept-at done root ahead (omega (arith, so_far.root_is)) ∙ so_far.root_is;
+        roots_are = λ v c. let is = so_far.roots_are v c in kept-at done v ahead (omega (arith, is)) ∙ is;
         zero = elim (cases_eq (slice_index new 0) no_label) [
           | inl is ↦ is
           | inr other ↦
@@ -143,7 +143,7 @@ module _ {l : Links} {opens : List ℕ} {root : ℕ} {old queue : List ℕ} {don
       }
 
 -- What is read of the queue is the next node, and its label plus one is a label.
-pub node-read : {l : Links} {opens : List ℕ} {root : ℕ} {labels queue : List ℕ} {done node : ℕ} → AreLinks l → AreSpread l opens root labels queue done
+pub node-read : {l : Links} {opens roots labels queue : List ℕ} {done node : ℕ} → AreLinks l → AreSpread l opens roots labels queue done
     → done < length queue → node ≡ get_or queue done node → (slice_index queue done ≡ node) × IsNode l.nodes node × (slice_index labels node + 1 < no_label)
 node-read {labels = labels} {queue = queue} {done = done} {node = node} are so_far ahead read =
     let is : slice_index queue done ≡ node = get_or_default queue done 0 node ahead ∙ sym read in

@@ -1,12 +1,12 @@
 -- Two searches meet: what their labels say then, and that a path has no more links than there are nodes.
-use Rattle.std.proofs.Common.{Bool, ℕ, ◌≡◌, ◌≢◌, ◌+◌, ◌≤◌, ◌<◌, ◌⊎◌, inl, inr, List, [], ◌∷◌, Option, None, length, get_or, set, replicate, map, zero, suc, refl, ap, sym, ◌∙◌, arith}
+use Rattle.std.proofs.Common.{Bool, ℕ, ◌≡◌, ◌≢◌, ◌+◌, ◌≤◌, ◌<◌, ◌⊎◌, inl, inr, List, [], ◌∷◌, Option, None, length, get_or, set, replicate, map, suc, refl, ap, sym, ◌∙◌, arith}
 use Rattle.std.proofs.Common.{◌==◌, cond}
 use Rattle.std.proofs.lemmas.Bool.{cases_lt}
 use Rattle.std.proofs.lemmas.Bool.Decides.{nat_tests}
 use Rattle.std.proofs.lemmas.List.{get_or-replicate, length-replicate, length-set}
 use Rattle.std.proofs.lemmas.List.Sums.{sum_by-cons}
 use Rattle.dmf_node.specs.Node.{IsNode}
-use Rattle.dmf_path.specs.Reach.{Reach}
+use Rattle.dmf_path.specs.Reach.{Reach, root_of}
 use Rattle.dmf_path.specs.declared.residual.Residual.{Residual}
 use Rattle.dmf_links.specs.Links.{Links, LiesAt, AreLinks, open_flag, tail_of}
 use Rattle.dmf_links.specs.LinkTable.{links_of}
@@ -16,15 +16,16 @@ use Rattle.dmf_path.specs.Searching.{IsParted}
 use Rattle.dmf_path.specs.Frontier.{AreSpread, IsAtRest, AreApart, MeetBeyond, next_label}
 use Rattle.dmf_links.proofs.tables.LinkPlaces.{lies-partner}
 use Rattle.dmf_path.proofs.labels.Labelling.{queued-at, labels-spread}
+use Rattle.dmf_path.proofs.labels.Roots.{first-root}
 use Rattle.dmf_path.proofs.labels.Spreading.{cases-set}
 use Rattle.dmf_path.proofs.labels.Expanding.{level-first, level-labels}
 use Rattle.dmf_path.proofs.paths.Reaching.{AreOpen-map, parted-unlabelled, parted-labelled}
 
 -- Where a search goes on and meets another one, which is at rest on level `far` and comes over the same links from their other ends, the
 -- node has that label of the latter.
-sum-met : {l : Links} {a b : List ℕ} {root other near far : ℕ} {xs ys queue : List ℕ} {done : ℕ} (v : ℕ) → AreLinks l
+sum-met : {l : Links} {a b roots : List ℕ} {root other near far : ℕ} {xs ys queue : List ℕ} {done : ℕ} (v : ℕ) → AreLinks l
     → ((p : ℕ) → p < length l.heads → get_or a p 0 ≡ 1 → get_or b (get_or l.partners p 0) 0 ≡ 1)
-    → AreLevels l a root near xs → AreSpread l b other ys queue done → AreLevels l b other far ys → done < length queue → IsAtRest ys queue done
+    → AreLevels l a root near xs → AreSpread l b roots ys queue done → AreLevels l b other far ys → done < length queue → IsAtRest ys queue done
     → get_or ys (get_or queue done 0) 0 ≡ far → MeetBeyond near xs ys → IsNode l.nodes v → near + far + 2 < no_label
     → get_or xs v 0 ≢ no_label → get_or ys v 0 ≢ no_label → get_or xs v 0 + get_or ys v 0 ≡ near + far + 1
 sum-met {l = l} {root = root} {far = far} {xs = xs} {ys = ys} v are mirrored levels so_far behind ahead rest is beyond node small has_x has_y =
@@ -57,21 +58,6 @@ apart-count (x ∷ g) (y ∷ s) long apart =
     let f : ℕ → ℕ = λ label. cond (label == no_label) 1 0 in
     omega (arith, rest, one-of x y (apart 0 (omega arith)), sum_by-cons f x g, sum_by-cons f y s)
 
--- If they are apart but for one number, at least as many but one do.
-pub beside-count : (g s : List ℕ) (x : ℕ) → length g ≡ length s
-    → ((v : ℕ) → v < length g → v ≢ x → (get_or g v 0 ≡ no_label) ⊎ (get_or s v 0 ≡ no_label))
-    → length g ≤ unlabelled_count g + unlabelled_count s + 1
-beside-count [] s x long apart = omega arith
-beside-count (a ∷ g) [] x long apart = absurd (omega (arith, long))
-beside-count (a ∷ g) (b ∷ s) zero long apart =
-    let rest = apart-count g s (omega (arith, long)) (λ v within. apart (suc v) (omega (arith, within)) (λ same. omega (arith, same))) in
-    let f : ℕ → ℕ = λ label. cond (label == no_label) 1 0 in
-    omega (arith, rest, sum_by-cons f a g, sum_by-cons f b s)
-beside-count (a ∷ g) (b ∷ s) (suc x) long apart =
-    let rest = beside-count g s x (omega (arith, long)) (λ v within other. apart (suc v) (omega (arith, within)) (λ same. other (omega (arith, same)))) in
-    let f : ℕ → ℕ = λ label. cond (label == no_label) 1 0 in
-    omega (arith, rest, one-of a b (apart 0 (omega arith) (λ same. omega (arith, same))), sum_by-cons f a g, sum_by-cons f b s)
-
 -- the open links of the search from the start
 abbrev opens_of : Residual → List ℕ
 opens_of links = map open_flag links.rooms.items
@@ -95,11 +81,11 @@ module _ (links : Residual) (g s : Reach) (are : AreNearing links g s) (ahead_g 
       omega (arith, small, small_s, ahead_g, ahead_s, goal.counted, start.counted, goal.one_each, apart)
 
   -- Two searches have met if the labels of each node that has both add up to the length of a path across their two levels.
-  has-met : {at : ℕ} (to_goal from_start : List ℕ) → AreLevels (links_of links.table.value) links.flags.items g.root (next_label g) to_goal
-      → AreLevels (links_of links.table.value) (opens_of links) s.root (next_label s) from_start → IsNode links.table.value.nodes at
+  has-met : {at : ℕ} (to_goal from_start : List ℕ) → AreLevels (links_of links.table.value) links.flags.items (root_of g) (next_label g) to_goal
+      → AreLevels (links_of links.table.value) (opens_of links) (root_of s) (next_label s) from_start → IsNode links.table.value.nodes at
       → get_or to_goal at 0 ≢ no_label → get_or from_start at 0 ≢ no_label → ((v : ℕ) → IsNode links.table.value.nodes v → get_or to_goal v 0 ≢ no_label
       → get_or from_start v 0 ≢ no_label → get_or to_goal v 0 + get_or from_start v 0 ≡ next_label g + next_label s + 1)
-      → HasMetAt (links_of links.table.value) links.flags.items (opens_of links) s.root g.root at to_goal from_start
+      → HasMetAt (links_of links.table.value) links.flags.items (opens_of links) (root_of s) (root_of g) at to_goal from_start
   has-met to_goal from_start goal_side start_side node has_g has_s sum = record {
     near = next_label g;
     far = next_label s;
@@ -115,23 +101,23 @@ module _ (links : Residual) (g s : Reach) (are : AreNearing links g s) (ahead_g 
   }
 
   -- The goal's side has met the start's.
-  pub has-met_goal : {at : ℕ} {new : List ℕ} → AreLevels (links_of links.table.value) links.flags.items g.root (next_label g) new
+  pub has-met_goal : {at : ℕ} {new : List ℕ} → AreLevels (links_of links.table.value) links.flags.items (root_of g) (next_label g) new
       → MeetBeyond (next_label g) new s.labels → IsNode links.table.value.nodes at → get_or new at 0 ≢ no_label → get_or s.labels at 0 ≢ no_label
-      → HasMetAt (links_of links.table.value) links.flags.items (opens_of links) s.root g.root at new s.labels
+      → HasMetAt (links_of links.table.value) links.flags.items (opens_of links) (root_of s) (root_of g) at new s.labels
   has-met_goal {new = new} levels beyond node has_g has_s =
       let whole = links.table.value.are in
-      let side = level-labels whole (level-first are.start_side ahead_s are.start_rest refl) in
+      let side = level-labels whole (level-first are.start_side ahead_s are.start_rest refl) are.start.alone in
       has-met new s.labels levels side node has_g has_s
       (λ v is. sum-met v whole (λ p within one. sym (flag-opposite links p within) ∙ one) levels are.start_side side ahead_s are.start_rest refl beyond is
       (omega (arith, few-levels, whole.at_most_nodes)))
 
   -- The start's side has met the goal's.
-  pub has-met_start : {at : ℕ} {new : List ℕ} → AreLevels (links_of links.table.value) (opens_of links) s.root (next_label s) new
+  pub has-met_start : {at : ℕ} {new : List ℕ} → AreLevels (links_of links.table.value) (opens_of links) (root_of s) (next_label s) new
       → MeetBeyond (next_label s) new g.labels → IsNode links.table.value.nodes at → get_or new at 0 ≢ no_label → get_or g.labels at 0 ≢ no_label
-      → HasMetAt (links_of links.table.value) links.flags.items (opens_of links) s.root g.root at g.labels new
+      → HasMetAt (links_of links.table.value) links.flags.items (opens_of links) (root_of s) (root_of g) at g.labels new
   has-met_start {new = new} levels beyond node has_s has_g =
       let whole = links.table.value.are in
-      let side = level-labels whole (level-first are.goal_side ahead_g are.goal_rest refl) in
+      let side = level-labels whole (level-first are.goal_side ahead_g are.goal_rest refl) are.goal.alone in
       has-met g.labels new side levels node has_g has_s (λ v is has_x has_y.
       let sum = sum-met v whole (λ p within one.
       let link = whole.each p within in
@@ -167,8 +153,8 @@ on-from are = record {
   goal_side = are.goal_side;
   start_side = are.start_side;
   met = λ v none. absurd (cc);
-  goal_root = refl;
-  start_root = refl;
+  goal_roots = refl;
+  start_roots = refl;
 }
 
 -- and where they have gone on and go on again, they have gone on.
@@ -177,9 +163,9 @@ pub on-again : {links : Residual} {g s a b c d : Reach} {at : Option ℕ} → Ha
 on-again on next = record {
   goal_side = next.goal_side;
   start_side = next.start_side;
-  met = rw (← on.goal_root, ← on.start_root) next.met;
-  goal_root = next.goal_root ∙ on.goal_root;
-  start_root = next.start_root ∙ on.start_root;
+  met = rw (← on.goal_roots, ← on.start_roots) next.met;
+  goal_roots = next.goal_roots ∙ on.goal_roots;
+  start_roots = next.start_roots ∙ on.start_roots;
 }
 
 -- ---- no path is left
@@ -187,21 +173,24 @@ on-again on next = record {
 module _ {links : Residual} {g s : Reach} (are : AreNearing links g s) where
   -- All nodes that lead to the goal have labels, and the start has none.
   pub goal-used_up : length g.queue ≤ g.done → (marks : List Bool) → MarksUnlabelled g.labels marks
-      → IsParted (links_of links.table.value) links.rooms.items s.root g.root marks
+      → IsParted (links_of links.table.value) links.rooms.items (root_of s) (root_of g) marks
   goal-used_up all marks marked =
       let side = are.goal_side in
       let whole = links.table.value.are in
-      let unset : get_or g.labels s.root 0 ≡ no_label =
-      omega (arith, are.apart s.root (omega (arith, are.start.to_last, side.one_each)), are.start_side.root_is) in
+      let root : ℕ = root_of s in
+      let has = are.start_side.roots_are root (rw are.start.alone (first-root root)) in
+      let unset : get_or g.labels root 0 ≡ no_label = omega (arith, are.apart root (omega (arith, are.start.node.to_last, side.one_each)), has) in
       parted-unlabelled links.rooms.items links.flags.items whole links.flags_are
-      (labels-spread side s.root whole are.start.to_last (inl (omega (arith, all, side.come)))) unset unset marks marked
+      (rw are.goal.alone at (labels-spread side root whole are.start.node.to_last (inl (omega (arith, all, side.come))))) unset unset marks marked
 
   -- All nodes to which the start leads have labels, and the goal has none.
   pub start-used_up : length s.queue ≤ s.done → (marks : List Bool) → MarksLabelled s.labels marks
-      → IsParted (links_of links.table.value) links.rooms.items s.root g.root marks
+      → IsParted (links_of links.table.value) links.rooms.items (root_of s) (root_of g) marks
   start-used_up all marks marked =
       let side = are.start_side in
       let whole = links.table.value.are in
-      let either = are.apart g.root (omega (arith, are.goal.to_last, are.goal_side.one_each)) in
+      let root : ℕ = root_of g in
+      let has = are.goal_side.roots_are root (rw are.goal.alone (first-root root)) in
+      let either = are.apart root (omega (arith, are.goal.node.to_last, are.goal_side.one_each)) in
       parted-labelled links.rooms.items whole (AreOpen-map (links_of links.table.value) links.rooms.items (opens_of links) links.rooms_are refl)
-      (labels-spread side g.root whole are.goal.to_last (inl (omega (arith, all, side.come)))) (omega (arith, either, are.goal_side.root_is)) marks marked
+      (rw are.start.alone at (labels-spread side root whole are.goal.node.to_last (inl (omega (arith, all, side.come))))) (omega (arith, either, has)) marks marked

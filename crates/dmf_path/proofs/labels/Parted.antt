@@ -1,14 +1,15 @@
--- A set of nodes that no link with room leaves, by its marks, is a closed side. One that links with room leave to one node alone is a set
--- that steps leave so.
-use Rattle.std.proofs.Common.{ℕ, ◌≡◌, ◌∙◌, inl, inr, Bool, true, false, List, length, get_or, ap, sym}
+-- A set of nodes that no link with room leaves, by its marks, is a closed side. Ways out of marked nodes for steps are so for links with
+-- room.
+use Rattle.std.proofs.Common.{ℕ, ◌≡◌, ◌∙◌, inl, inr, Bool, true, false, List, length, get_or, ap, sym, subst, Contains}
 use Rattle.std.proofs.lemmas.Bool.{cases_Bool, false≢true}
 use Rattle.dmf_links.specs.Links.{Links, AreLinks, ArePlaces, AreRooms, pairs_at, tail_of}
 use Rattle.dmf_node.specs.Node.{IsNode}
-use Rattle.dmf_path.specs.ClosedSide.{is_marked, HasOneWayOut, IsClosedSide}
+use Rattle.dmf_path.specs.ClosedSide.{is_marked, HasWaysOut, IsClosedSide}
 use Rattle.dmf_path.specs.Pair.{steps_of}
 use Rattle.dmf_path.specs.Searching.{IsParted}
 use Rattle.dmf_path.specs.Step.{Step}
-use Rattle.dmf_path.specs.Through.{IsOnlyWay}
+use Rattle.dmf_path.specs.Through.{AreWaysOut}
+use Rattle.dmf_path.specs.declared.through.WaysOut.{WaysOut}
 use Rattle.dmf_links.proofs.tables.LinkPlaces.{lies-within, room-used}
 use Rattle.dmf_path.proofs.paths.LinkSteps.{link-of_step, step-of_link}
 use Rattle.dmf_path.proofs.paths.Steps.{step_on}
@@ -29,20 +30,21 @@ closed-parted l places rooms start goal marks links are start_is goal_is long pa
           ap (λ (t : Step). is_marked marks t.to) (sym on.step) ∙ marked (get_or l.heads on.place 0) link.head ∙ head;
     }
 
-pub only-way : (l : Links) (places rooms : List ℕ) (start goal way_out : ℕ) (marks : List Bool) → AreLinks l → ArePlaces l places → AreRooms l rooms
-    → IsNode l.nodes way_out → length marks ≡ l.nodes → HasOneWayOut (steps_of (pairs_at l places rooms)) start goal way_out marks
-    → IsOnlyWay l rooms start goal way_out marks
-only-way l places rooms start goal way_out marks links are fit node long way =
+pub ways-out : (l : Links) (places rooms : List ℕ) (start goal : ℕ) (ways : WaysOut) (marks : List Bool) → AreLinks l → ArePlaces l places
+    → AreRooms l rooms → HasWaysOut l.nodes (steps_of (pairs_at l places rooms)) start goal ways marks → AreWaysOut l rooms start goal ways marks
+ways-out l places rooms start goal ways marks links are fit out =
     let off : (v : ℕ) → ¬ (is_marked marks v ≡ true) → is_marked marks v ≡ false = λ v off_it.
-    elim (cases_Bool (is_marked marks v)) [ inl in_it ↦ absurd (off_it in_it) | inr out ↦ out ] in
+    elim (cases_Bool (is_marked marks v)) [ inl in_it ↦ absurd (off_it in_it) | inr outside ↦ outside ] in
     record {
-      one_each = long;
-      way_out_is = node;
-      start_in = way.start_in;
-      goal_out = off goal way.goal_out;
-      out = off way_out way.way_out_is;
-      leaves = λ v p is lies room inside.
+      one_each = out.one_each;
+      start_in = out.start_in;
+      goal_out = off goal out.goal_out;
+      tails_in = out.tails_in;
+      heads_out = λ v among. let is = out.heads_out v among in (is.0, off v is.1);
+      leaves = λ v p is lies room inside outside.
           let within = lies-within l v p links is lies in
           let there = step-of_link l places rooms links are p within (room-used l rooms p fit within room) room in
-          way.one_leaves (step_on l places rooms p) there (ap (is_marked marks) (links.at_tail v p is lies) ∙ inside);
+          let tail = links.at_tail v p is lies in
+          let way = out.leaves (step_on l places rooms p) there (ap (is_marked marks) tail ∙ inside) (λ in_it. false≢true (sym outside ∙ in_it)) in
+          (subst (λ u. Contains ways.tails.items u) tail way.0, way.1);
     }

@@ -9,13 +9,13 @@ use Rattle.dmf_path.specs.Path.{IsPath, ComesBefore, ranks, IsLeastPath}
 use Rattle.dmf_path.specs.Pair.{steps_of}
 use Rattle.dmf_links.specs.Links.{Links, LiesAt, AreLinks, ArePlaces, AreRooms, IsSpare, pairs_at}
 use Rattle.dmf_path.specs.Labels.{no_label}
-use Rattle.dmf_path.specs.BothEnds.{AreSound}
+use Rattle.dmf_path.specs.BothEnds.{AreSound, AreSoundBetween, IsLabelled}
 use Rattle.dmf_path.specs.Walk.{IsWalk, AreValid, ArePassed, IsTrail, end_of, IsWalking}
 use Rattle.dmf_links.proofs.tables.LinkPlaces.{lies-within, room-used}
 use Rattle.dmf_path.proofs.labels.Gated.{walk-labels}
 use Rattle.dmf_path.proofs.paths.Steps.{rank_of, step_on, path_on}
 use Rattle.dmf_path.proofs.paths.Ranks.{rank_of-ascends}
-use Rattle.dmf_path.proofs.paths.OpenPaths.{IsOpenPath, head-node, path-of_links, links-of_path}
+use Rattle.dmf_path.proofs.paths.OpenPaths.{IsOpenPath, IsPathOn, head-node, path-of_links, links-of_path}
 
 module _ (l : Links) (rooms labels : List ℕ) (goal : ℕ) where
   module _ (top : ℕ) (links : AreLinks l) (valid : AreValid l labels rooms top) where
@@ -82,6 +82,33 @@ module _ (l : Links) (rooms labels : List ℕ) (goal : ℕ) where
               none-before (get_or l.heads p 0) ps qs (head-node l v p links node is.0.lies) is.2 rest tails.1
         ]
 
+-- A path that is as long as sound labels fall is a walk along them.
+pub walk-of_path : (l : Links) (places rooms labels : List ℕ) (start goal : ℕ) (path : List Step) → AreLinks l → ArePlaces l places
+    → IsNode l.nodes start → IsNode l.nodes goal → AreSoundBetween l rooms labels start goal
+    → IsPath (steps_of (pairs_at l places rooms)) start goal path → length path + get_or labels goal 0 ≡ get_or labels start 0
+    → (on : IsPathOn l places rooms goal start path) × IsWalk l labels rooms goal start on.on
+walk-of_path l places rooms labels start goal path links are node goal_is between leads long =
+    let sound = between.sound in
+    let counts : List ℕ = sound.counts in
+    let on = links-of_path l places rooms goal start path links are leads in
+    let count : length on.on ≡ length path = sym (length-map on.on (step_on l places rooms)) ∙ ap length on.steps in
+    let has : get_or labels start 0 ≢ no_label = λ none. omega (arith, none, between.start_label, links.at_most_nodes) in
+    let at_start : get_or counts start 0 ≡ get_or labels start 0 = sound.filled_are start node has in
+    let at_goal : get_or counts goal 0 ≡ get_or labels goal 0 = sound.filled_are goal goal_is
+    (λ none. omega (arith, none, between.low, between.start_label, links.at_most_nodes)) in
+    let counted = walk-from_label l rooms counts goal (get_or labels start 0) links sound.valid start on.on node on.leads
+    (omega (arith, long, count, at_start, at_goal)) (omega (arith, at_start)) in
+    (on, walk-labels l labels rooms counts goal start on.on links sound.filled_are sound.gated node has counted)
+
+-- Labels along which a walk leads to the goal are sound, and the start is not below the goal.
+pub between-labelled : {l : Links} {rooms labels : List ℕ} {start goal : ℕ} → IsLabelled l rooms labels start goal
+    → AreSoundBetween l rooms labels start goal
+between-labelled {l = l} {rooms = rooms} {labels = labels} {start = start} {goal = goal} labelled = record {
+  sound = labelled.sound;
+  start_label = labelled.start_label;
+  low = omega (arith, (walk-path l rooms labels goal start labelled.walk.0 labelled.walk.1).1);
+}
+
 -- A trail from the start to the goal is the least path.
 pub least-trail : (l : Links) (places rooms labels current trail : List ℕ) (start goal : ℕ) → AreLinks l → ArePlaces l places → AreRooms l rooms
     → IsNode l.nodes start → IsNode l.nodes goal
@@ -109,9 +136,8 @@ least-trail l places rooms labels current trail start goal links are fit node go
           let most = label-at_most l rooms counts goal top links sound.valid start (on other leads).on node (on other leads).leads in
           grind (arith, walk.1, trail_count, count other leads, at_start, at_goal, most);
       first = λ other leads same before.
-          let counted = walk-from_label l rooms counts goal top links sound.valid start (on other leads).on node (on other leads).leads
-          (omega (arith, walk.1, trail_count, count other leads, same, at_start, at_goal)) (omega (arith, at_start)) in
-          let other_walk = walk-labels l labels rooms counts goal start (on other leads).on links sound.filled_are sound.gated node has counted in
-          none-before l rooms labels goal places current links are fit walking.passed start trail (on other leads).on node walking.trail_is other_walk
-          (subst (λ (p : List Step). ComesBefore (ranks p) (ranks path)) (sym (on other leads).steps) before);
+          let between : AreSoundBetween l rooms labels start goal = record { sound = sound; start_label = start_label; low = omega (arith, walk.1) } in
+          let found = walk-of_path l places rooms labels start goal other links are node goal_is between leads (omega (arith, walk.1, trail_count, same)) in
+          none-before l rooms labels goal places current links are fit walking.passed start trail found.0.on node walking.trail_is found.1
+          (subst (λ (p : List Step). ComesBefore (ranks p) (ranks path)) (sym found.0.steps) before);
     }

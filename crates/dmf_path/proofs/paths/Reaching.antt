@@ -12,6 +12,7 @@ use Rattle.dmf_path.specs.Searching.{IsClosed, IsSeparated, IsParted}
 use Rattle.dmf_links.proofs.rooms.Flags.{room-of_flag, flag-of_room}
 use Rattle.dmf_links.proofs.tables.LinkPlaces.{lies-within}
 use Rattle.dmf_path.proofs.labels.Labelled.{valid-labelled}
+use Rattle.dmf_path.proofs.labels.Roots.{first-root, one-root}
 use Rattle.dmf_path.proofs.paths.Steps.{path_on}
 use Rattle.dmf_path.proofs.paths.OpenPaths.{IsOpenPath, head-node, path-of_links, links-of_path}
 
@@ -41,7 +42,7 @@ pub separated-unlabelled : {l : Links} (rooms flags : List ℕ) {labels : List �
 separated-unlabelled {l = l} rooms flags {labels = labels} {start = start} {goal = goal} links told are unlabelled outside = record {
   inside = λ v. get_or labels v 0 == no_label;
   start_in = eq-eqb (get_or labels start 0) no_label outside;
-  goal_out = ne_eqb (get_or labels goal 0) no_label (omega (arith, are.root_is));
+  goal_out = ne_eqb (get_or labels goal 0) no_label (omega (arith, are.roots_are goal (first-root goal)));
   closed = λ v p node lies room within.
       let head : ℕ = get_or l.heads p 0 in
       let valid = valid-labelled rooms flags links told are v p node lies room in
@@ -102,7 +103,7 @@ module _ {l : Links} (rooms : List ℕ) {opens labels : List ℕ} {root stop : �
   pub separated-labelled : get_or labels stop 0 ≡ no_label → IsSeparated l rooms root stop
   separated-labelled unlabelled = record {
     inside = λ v. is_label (get_or labels v 0);
-    start_in = label-to (get_or labels root 0) (omega (arith, are.root_is));
+    start_in = label-to (get_or labels root 0) (omega (arith, are.roots_are root (first-root root)));
     goal_out = rw (eq-eqb (get_or labels stop 0) no_label unlabelled) refl;
     closed = closed-labelled unlabelled;
   }
@@ -121,7 +122,7 @@ module _ {l : Links} (rooms : List ℕ) {opens labels : List ℕ} {root stop : �
   path-to_labelled v (suc n) node labelled low = elim (cases_eq v root) [
     | inl same ↦ ([], sym same)
     | inr other ↦
-        let backed = are.backed v node other labelled in
+        let backed = are.backed v node (λ among. other (one-root among)) labelled in
         let p : ℕ = backed.place in
         let link = links.each p backed.within in
         let room = room-of_flag (get_or rooms p 0) (sym (told p backed.within) ∙ backed.opened) in
@@ -142,5 +143,5 @@ reachable-labelled l places rooms {labels = labels} {root = root} links places_a
   (λ reached.
       let on = links-of_path l places rooms v root reached.0 links places_are reached.1 in
       label-from (get_or labels v 0) (inside-on_path rooms (λ u. is_label (get_or labels u 0)) root v on.on links
-      (closed-labelled rooms links told are are.zero) root_is (label-to (get_or labels root 0) (omega (arith, are.root_is))) on.leads)),
+      (closed-labelled rooms links told are are.zero) root_is (label-to (get_or labels root 0) (omega (arith, are.roots_are root (first-root root)))) on.leads)),
 )

@@ -2,12 +2,13 @@
 use Rattle.std.proofs.Common.{refl, ap, arith}
 use Rattle.dmf_path.proofs.labels.InsideBall.{next, last, inside-spread, near-spread}
 use Rattle.dmf_path.proofs.labels.Labelling.{label-below, starts-spread}
+use Rattle.dmf_path.proofs.labels.Roots.{first-root}
 use Rattle.dmf_path.proofs.ball.look_around.Goals as goal
 
 pub loop-around-init : goal.loop-around-init
 loop-around-init c = record {
   so_far = starts-spread c.requires.goal c.args.links.now.flags_are.0 c.requires.clean c.begin.ensures;
-  root = ap (λ f. f.root) c.begin.ensures;
+  roots = ap (λ f. f.roots) c.begin.ensures;
 }
 
 pub returns-then-has_next-clause-near : goal.returns-then-has_next-clause-near
@@ -15,8 +16,8 @@ returns-then-has_next-clause-near c =
     let i = c.loop-around.invariant in
     let more = c.has_next-2.ensures.more c.if-has_next.true in
     let low = label-below i.so_far c.loop-around.around.done c.args.links.now.table.value.are more in
-    rw (← i.root) (near-spread i.so_far (next more c.next_label.ensures) (omega (arith, low, c.next_label.ensures)) c.args.links.now.table.value.are
-    c.args.links.now.flags_are)
+    near-spread i.so_far (next more c.next_label.ensures) (omega (arith, low, c.next_label.ensures)) c.args.links.now.table.value.are
+    c.args.links.now.flags_are (rw i.roots (first-root c.args.goal))
 
 pub returns-then-has_next-clause-inside : goal.returns-then-has_next-clause-inside
 returns-then-has_next-clause-inside c =
@@ -28,8 +29,8 @@ returns-then-has_next-clause-inside c =
 pub returns-clause-near : goal.returns-clause-near
 returns-clause-near c =
     let i = c.loop-around.invariant in
-    rw (← i.root) (near-spread i.so_far (last (c.has_next-2.ensures.none c.if-has_next.false) refl) (omega arith) c.args.links.now.table.value.are
-    c.args.links.now.flags_are)
+    near-spread i.so_far (last (c.has_next-2.ensures.none c.if-has_next.false) refl) (omega arith) c.args.links.now.table.value.are
+    c.args.links.now.flags_are (rw i.roots (first-root c.args.goal))
 
 pub returns-clause-inside : goal.returns-clause-inside
 returns-clause-inside c = inside-spread c.loop-around.invariant.so_far (last (c.has_next-2.ensures.none c.if-has_next.false) refl) (omega arith)

@@ -1,4 +1,4 @@
-use Rattle.std.proofs.Common.{◌≡◌, ◌+◌, ◌-◌}
+use Rattle.std.proofs.Common.{◌≡◌, ◌+◌, ◌-◌, [], ◌∷◌}
 use Rattle.dmf_links.specs.LinkTable.{links_of}
 use Rattle.dmf_path.specs.Frontier.{IsSpread}
 use Rattle.dmf_path.proofs.ball.look_around.Given as goal
@@ -6,7 +6,7 @@ use Rattle.dmf_path.proofs.ball.look_around.Given as goal
 abbrev pub invariant-loop-around : goal.invariant-loop-around
 invariant-loop-around l = record {
   so_far : IsSpread (links_of l.links.table.value) l.links.flags.items l.around;
-  root : l.around.root ≡ l.goal;
+  roots : l.around.roots ≡ l.goal ∷ [];
 }
 
 abbrev pub decreases-loop-around : goal.decreases-loop-around

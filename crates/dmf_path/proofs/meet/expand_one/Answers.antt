@@ -13,14 +13,14 @@ returns-then-waiting_links c =
         start_side = e.so_far;
         met = λ v is.
             let met = e.both v is in
-            has-met_start c.args.links.now c.args.to_goal.now c.args.from_start.now n c.requires.goal_ahead c.requires.start_ahead (rw e.root at e.levels)
+            has-met_start c.args.links.now c.args.to_goal.now c.args.from_start.now n c.requires.goal_ahead c.requires.start_ahead (rw e.roots at e.levels n.start.alone)
             e.beyond met.0 met.1 met.2;
-        goal_root = refl;
-        start_root = e.root;
+        goal_roots = refl;
+        start_roots = e.roots;
       };
       nearing = λ none. record {
         goal = n.goal;
-        start = rw e.root n.start;
+        start = rw e.roots n.start;
         goal_side = n.goal_side;
         start_side = e.so_far;
         goal_rest = n.goal_rest;
@@ -43,13 +43,13 @@ returns c =
         start_side = n.start_side;
         met = λ v is.
             let met = e.both v is in
-            has-met_goal c.args.links.now c.args.to_goal.now c.args.from_start.now n c.requires.goal_ahead c.requires.start_ahead (rw e.root at e.levels)
+            has-met_goal c.args.links.now c.args.to_goal.now c.args.from_start.now n c.requires.goal_ahead c.requires.start_ahead (rw e.roots at e.levels n.goal.alone)
             e.beyond met.0 met.1 met.2;
-        goal_root = e.root;
-        start_root = refl;
+        goal_roots = e.roots;
+        start_roots = refl;
       };
       nearing = λ none. record {
-        goal = rw e.root n.goal;
+        goal = rw e.roots n.goal;
         start = n.start;
         goal_side = e.so_far;
         start_side = n.start_side;

@@ -18,13 +18,13 @@ returns-then-is_some-clause-on c = on-again c.loop-from_start.invariant.on c.exp
 pub returns-then-not-has_next-clause-none : goal.returns-then-not-has_next-clause-none
 returns-then-not-has_next-clause-none c is =
     let i = c.loop-from_start.invariant in
-    rw (← i.on.goal_root, ← i.on.start_root)
+    rw (← i.on.goal_roots, ← i.on.start_roots)
     (start-used_up i.nearing (c.has_next-in-loop-from_start.ensures.none c.if-not-has_next.true) c.mark_labelled.new.marks
     (rw c.labels.ensures at c.mark_labelled.ensures))
 
 pub returns-clause-none : goal.returns-clause-none
 returns-clause-none c is =
     let i = c.loop-from_start.invariant in
-    rw (← i.on.goal_root, ← i.on.start_root)
+    rw (← i.on.goal_roots, ← i.on.start_roots)
     (goal-used_up i.nearing (c.has_next.ensures.none c.loop-from_start-test.false) c.mark_unlabelled.new.marks
     (rw c.labels-2.ensures at c.mark_unlabelled.ensures))

@@ -8,7 +8,6 @@ use Rattle.dmf_path.specs.Walk.{AreCurrent, AreSkipped}
 use Rattle.dmf_path.specs.Held.{Way, way_of, with_slots}
 use Rattle.dmf_path.specs.Residual.{residual_of, with_settled_rooms}
 use Rattle.dmf_path.specs.Searching.{Labelling, sought, AreLasting}
-use Rattle.dmf_path.proofs.paths.LeastTrail.{walk-path}
 use Rattle.dmf_path.proofs.searches.Beginning.{first-queued, skipped-first}
 use Rattle.dmf_path.proofs.searches.SearchTurns.{aimed-with, plainly, searching-free, sought-free}
 use Rattle.dmf_path.proofs.slots.Settling.{told-free}
@@ -41,20 +40,16 @@ read c = (c.label-start_label.ensures, c.label-goal_label.ensures)
 
 -- The goal is not above the start.
 low : (c : After-label-goal_label) → c.label-goal_label.result ≤ c.label-start_label.result
-low c =
-    let walk = c.requires.labelled.walk in
-    let long = walk-path (links_of c.args.links.now.table.value) c.args.links.now.rooms.items c.args.levels.now.near.labels
-    c.args.trail.now.goal c.args.trail.now.start walk.0 walk.1 in
-    omega (arith, read c, long.1)
+low c = omega (arith, read c, c.requires.sound.low)
 
 pub overflow_sub-start_label : goal.overflow_sub-start_label
 overflow_sub-start_label c = low (goal.at.overflow_sub-start_label c).After-label-goal_label
 
 pub free-requires : goal.free-requires
 free-requires c =
-    let labelled = c.requires.labelled in
+    let between = c.requires.sound in
     let read = (read (goal.at.free-requires c).After-label-goal_label).0 in
-    record { capacity = omega (arith, read, labelled.start_label, c.requires.goes.keeps.searching.aimed.capacity_is) }
+    record { capacity = omega (arith, read, between.start_label, c.requires.goes.keeps.searching.aimed.capacity_is) }
 
 pub returns : goal.returns
 returns c =
@@ -64,13 +59,13 @@ returns c =
     let w = way_of c.args.trail.now in
     let levels = c.args.levels.now in
     let is = c.requires.ready in
-    let labelled = c.requires.labelled in
+    let between = c.requires.sound in
     let slots = c.free.new.self.slots.items in
     let current = with_items_is levels.current c.set_current.new.current (c.set_current.auto.current ∙ c.deref_mut.ensures.len) in
     let first = first-queued l levels.near.labels levels.near.queue c.set_current.new.current is.one_label_each c.queue.ensures.queued
     (rw (c.deref.ensures, c.queue.ensures.value) at c.set_current.ensures.first) in
-    let skipped : AreSkipped l levels.near.labels links.rooms.items c.set_current.new.current = skipped-first l levels.near.labels links.rooms.items c.set_current.new.current a.links labelled.sound.small first in
-    let aimed = aimed-with (residual_of links) w a labelled.start_label labelled.sound in
+    let skipped : AreSkipped l levels.near.labels links.rooms.items c.set_current.new.current = skipped-first l levels.near.labels links.rooms.items c.set_current.new.current a.links between.sound.small first in
+    let aimed = aimed-with (residual_of links) w a between.start_label between.sound in
     let v : Labelling = record { labels = levels.near.labels; current = c.set_current.new.current } in
     let searching = searching-free (residual_of links) v w slots aimed links.rooms_are c.requires.goes.keeps.searching.holding.small
     (rw c.deref.ensures at c.set_current.ensures.current)

@@ -1,11 +1,12 @@
--- Labels through the way out, or fresh ones.
-use Rattle.std.proofs.Common.{ℕ, ◌≡◌, Some, List, [], replicate, refl, ap, sym, ◌∙◌, subst}
+-- Labels from the ways out, or fresh ones.
+use Rattle.std.proofs.Common.{◌≡◌, Some, List, [], replicate, refl, ap, sym, ◌∙◌, subst}
 use Rattle.dmf_links.specs.LinkTable.{links_of}
 use Rattle.dmf_path.specs.declared.trail.Slot.{Slot}
 use Rattle.dmf_path.specs.Ball.{IsFit}
 use Rattle.dmf_path.specs.Labels.{no_label}
 use Rattle.dmf_path.specs.Reach.{Reach}
-use Rattle.dmf_path.specs.Walk.{AreCurrent, IsWalk}
+use Rattle.dmf_path.specs.Through.{FallOnce}
+use Rattle.dmf_path.specs.Walk.{AreCurrent}
 use Rattle.dmf_path.specs.Held.{Way, way_of, with_slots}
 use Rattle.dmf_path.specs.Residual.{residual_of, with_settled_rooms}
 use Rattle.dmf_path.specs.Searching.{labelling_of, sought, IsReady}
@@ -36,7 +37,7 @@ label_through-requires c =
         goal_is = a.goal_is;
         apart = a.apart;
       };
-      way = c.requires.way;
+      out = c.requires.out;
     }
 
 -- The levels are ready for the next labels.
@@ -113,7 +114,7 @@ begin_phase-requires c = record {
   settled = c.requires.settled;
   current = c.label_through.ensures.current;
   ready = ready (goal.at.begin_phase-requires c).After-label_through;
-  labelled = c.label_through.ensures.passed.labelled (c.in-Some.is ∙ ap Some c.if-not-is_left.false);
+  sound = (c.label_through.ensures.passed.labelled (c.in-Some.is ∙ ap Some c.if-not-is_left.false)).sound;
   whole = λ all. absurd (cc);
 }
 
@@ -123,8 +124,8 @@ returns c =
     record {
       goes = c.begin_phase.ensures.goes;
       same = c.begin_phase.ensures.same;
-      labelled = λ yes. subst (λ (f : Reach). (ps : List ℕ) × IsWalk (links_of c.args.links.now.table.value) f.labels c.args.links.now.rooms.items
-          c.args.trail.now.goal c.args.trail.now.start ps) (sym c.begin_phase.ensures.near) labelled.walk;
+      labelled = λ yes. subst (λ (f : Reach). FallOnce (links_of c.args.links.now.table.value) c.args.links.now.rooms.items f.labels
+          c.args.trail.now.start c.args.trail.now.goal c.args.marks.now) (sym c.begin_phase.ensures.near) labelled;
       parted = λ e. absurd (cc);
       marks = λ _. c.label_through.ensures.passed.same (λ e. let found = c.if-not-is_left.false in let is = c.in-Some.is in cc);
     }

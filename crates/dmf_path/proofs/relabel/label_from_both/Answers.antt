@@ -22,8 +22,8 @@ meet-requires c =
     let start_is = c.requires.start_is in
     let nodes = links.table.value.nodes in
     record {
-      goal = rw near goal_is;
-      start = rw far start_is;
+      goal = rw near (record { node = goal_is; alone = refl });
+      start = rw far (record { node = start_is; alone = refl });
       goal_side = starts-spread goal_is links.flags_are.0 c.requires.near_is near;
       start_side = starts-spread start_is (length-map links.rooms.items open_flag ∙ links.rooms_are.0) c.requires.far_is far;
       goal_rest = rw near (begun-rest c.args.ends.goal c.args.levels.now.near.labels);

@@ -6,11 +6,11 @@ use Rattle.dmf_node.specs.Node.{IsNode}
 use Rattle.dmf_links.specs.Links.{open_flag}
 use Rattle.dmf_links.specs.LinkTable.{links_of}
 use Rattle.dmf_path.specs.Frontier.{IsSpread}
-use Rattle.dmf_path.specs.Labels.{no_label, AreLabels}
+use Rattle.dmf_path.specs.Labels.{no_label, AreLabelsFrom}
 use Rattle.dmf_path.specs.Reach.{Reach}
 use Rattle.dmf_path.specs.Through.{flags_to, HasLooked}
 use Rattle.dmf_path.proofs.labels.Labelling.{starts-spread}
-use Rattle.dmf_path.proofs.labels.OneWayOut.{few-through, labelled-through, third-f, third-g, third-long, third-none}
+use Rattle.dmf_path.proofs.labels.WaysOut.{falls-once, few-through, third-f, third-g, third-long, third-none}
 use Rattle.dmf_path.proofs.paths.Reaching.{AreOpen-map}
 use Rattle.dmf_path.proofs.through.label_sides.Goals as goal
 use Rattle.dmf_path.proofs.through.label_sides.Goals.{After-begin, Else-not-branch-2}
@@ -46,40 +46,40 @@ kept c = c.in_ok-look_on.ensures.same (λ e. let found = c.if-not-branch.false i
 
 -- what the two searches have labelled
 on : (c : Else-not-branch-2) → HasLooked (links_of c.args.links.now.table.value)
-    (flags_to false c.args.marks.now c.args.links.now.table.value.heads.items (map open_flag c.args.links.now.rooms.items)) c.args.through.way_out
-    c.args.through.ends.goal c.look_on.new.search (Some true)
+    (flags_to false c.args.marks.now c.args.links.now.table.value.heads.items (map open_flag c.args.links.now.rooms.items))
+    c.args.ways.now.heads.items c.args.ends.goal c.look_on.new.search (Some true)
 on c = rw c.if-not-branch.false at c.in_ok-look_on.ensures.looked
 
 back : (c : Else-not-branch-2) → HasLooked (links_of c.args.links.now.table.value)
-    (flags_to true c.args.marks.now c.args.links.now.table.value.heads.items c.args.links.now.flags.items) c.args.through.way_out
-    c.args.through.ends.start c.look_back.new.search (Some true)
+    (flags_to true c.args.marks.now c.args.links.now.table.value.heads.items c.args.links.now.flags.items)
+    c.args.ways.now.tails.items c.args.ends.start c.look_back.new.search (Some true)
 back c = rw (kept c, c.if-not-branch-2.false) at c.in_ok-look_back.ensures.looked
 
-beyond : (c : Else-not-branch-2) → AreLabels (links_of c.args.links.now.table.value)
-    (flags_to false c.args.marks.now c.args.links.now.table.value.heads.items (map open_flag c.args.links.now.rooms.items)) c.args.through.way_out
-    c.args.through.ends.goal c.look_on.new.search.labels
+beyond : (c : Else-not-branch-2) → AreLabelsFrom (links_of c.args.links.now.table.value)
+    (flags_to false c.args.marks.now c.args.links.now.table.value.heads.items (map open_flag c.args.links.now.rooms.items)) c.look_on.new.search.roots
+    c.args.ends.goal c.look_on.new.search.labels
 beyond c = (on c).labels (λ none. (cc))
 
-before : (c : Else-not-branch-2) → AreLabels (links_of c.args.links.now.table.value)
-    (flags_to true c.args.marks.now c.args.links.now.table.value.heads.items c.args.links.now.flags.items) c.args.through.way_out
-    c.args.through.ends.start c.look_back.new.search.labels
+before : (c : Else-not-branch-2) → AreLabelsFrom (links_of c.args.links.now.table.value)
+    (flags_to true c.args.marks.now c.args.links.now.table.value.heads.items c.args.links.now.flags.items) c.look_back.new.search.roots
+    c.args.ends.start c.look_back.new.search.labels
 before c = (back c).labels (λ none. (cc))
 
 -- Their labels add up to small numbers.
 few : (c : Else-not-branch-2) → (v : ℕ) → IsNode c.args.links.now.table.value.nodes v → get_or c.look_back.new.search.labels v 0 ≢ no_label
-    → c.label-long.result + get_or c.look_back.new.search.labels v 0 ≤ c.args.links.now.table.value.nodes
+    → c.label-long.result + 1 + get_or c.look_back.new.search.labels v 0 ≤ c.args.links.now.table.value.nodes
 few c v node has =
     let links = c.args.links.now in
     let l = links_of links.table.value in
     let rooms = links.rooms.items in
     let sum = few-through rooms links.flags.items (map open_flag rooms) c.args.marks.now links.table.value.are links.flags_are
-    (AreOpen-map l rooms (map open_flag rooms) links.rooms_are refl) (length-map rooms open_flag ∙ links.rooms_are.0) c.requires.way
-    c.look_on.new.search c.look_back.new.search (on c).spread (back c).spread (beyond c) (before c) c.requires.goal ((on c).found_is refl) v node has in
+    (AreOpen-map l rooms (map open_flag rooms) links.rooms_are refl) (length-map rooms open_flag ∙ links.rooms_are.0) c.requires.out
+    (on c).roots (back c).roots c.look_on.new.search c.look_back.new.search (on c).spread (back c).spread (beyond c) (before c) c.requires.goal ((on c).found_is refl) v node has in
     omega (arith, sum, c.label-long.ensures)
 
 -- The start has a label, so the length of the part beyond is small.
-short : (c : Else-not-branch-2) → c.label-long.result ≤ c.args.links.now.table.value.nodes
-short c = omega (arith, few c c.args.through.ends.start c.requires.start ((back c).found_is refl))
+short : (c : Else-not-branch-2) → c.label-long.result + 1 ≤ c.args.links.now.table.value.nodes
+short c = omega (arith, few c c.args.ends.start c.requires.start ((back c).found_is refl))
 
 pub join_before-requires-clause-small : goal.join_before-requires-clause-small
 join_before-requires-clause-small c = λ v has.
@@ -103,7 +103,7 @@ returns-clause-passed c =
     let l = links_of links.table.value in
     let rooms = links.rooms.items in
     let nodes = links.table.value.nodes in
-    let goal = c.args.through.ends.goal in
+    let goal = c.args.ends.goal in
     let long = c.label-long.result in
     let f = c.look_on.new.search.labels in
     let g = c.look_back.new.search.labels in
@@ -118,9 +118,9 @@ returns-clause-passed c =
     let whole = third-long nodes goal long first second third f g first_is c.requires.goal f_long joined c.join_before.ensures c.label-long.ensures small in
     record {
       one_label_each = whole;
-      labelled = λ _. labelled-through rooms links.flags.items (map open_flag rooms) c.args.marks.now links.table.value.are links.flags_are
-          (AreOpen-map l rooms (map open_flag rooms) links.rooms_are refl) (length-map rooms open_flag ∙ links.rooms_are.0) c.requires.way
-          f g third long (beyond at) (before at) c.requires.start c.requires.goal c.label-long.ensures ((on at).found_is refl) ((back at).found_is refl)
+      labelled = λ _. falls-once rooms links.flags.items (map open_flag rooms) c.args.marks.now links.table.value.are links.flags_are
+          (AreOpen-map l rooms (map open_flag rooms) links.rooms_are refl) (length-map rooms open_flag ∙ links.rooms_are.0) c.requires.out
+          (on at).roots (back at).roots f g third long (beyond at) (before at) c.requires.start c.requires.goal c.label-long.ensures ((on at).found_is refl) ((back at).found_is refl)
           (few at) whole
           (third-f nodes goal long first second third f g first_is c.requires.goal f_long joined c.join_before.ensures c.label-long.ensures small)
           (third-g nodes goal long first second third f g first_is c.requires.goal f_long joined c.join_before.ensures c.label-long.ensures small)

@@ -70,7 +70,7 @@ turn c =
       end_read = rw c.deref-in-loop-node.ensures at c.index-end.ensures;
       near = λ some.
           let known = c.requires.fit.known some in
-          let is : c.args.ball.now.around.root ≡ c.loop-node.trail.goal = c.requires.around some ∙ sym c.loop-node.invariant.goal in
+          let is : c.args.ball.now.goal ≡ c.loop-node.trail.goal = c.requires.around some ∙ sym c.loop-node.invariant.goal in
           rw is at known.near;
       from = omega (arith, found.from_first, found.order);
       skipped = found.from_first;

@@ -1,24 +1,38 @@
--- The way out stays after a path from it. If no path is left there, the side is closed.
-use Rattle.std.proofs.Common.{Some, ap, sym, subst, ◌∙◌}
+-- The ways out stay after a path that leaves the marked nodes once. If no path is left, the side is closed.
+use Rattle.std.proofs.Common.{◌≡◌, sym, subst, ◌∙◌}
 use Rattle.std.specs.Prelude.{IfSome}
 use Rattle.std.proofs.lemmas.Option.{IfSome_then}
-use Rattle.dmf_solver.specs.WayOut.{IsWayOut, IsWayThrough}
+use Rattle.dmf_path.specs.ClosedSide.{HasWaysOut}
+use Rattle.dmf_path.specs.Pair.{steps_of}
+use Rattle.dmf_path.specs.Search.{Augments}
+use Rattle.dmf_path.specs.declared.through.WaysOut.{WaysOut}
+use Rattle.dmf_solver.specs.WaysOut.{AreKnown}
 use Rattle.dmf_solver.proofs.cuts.Gates.{no_path-closed}
-use Rattle.dmf_solver.proofs.cuts.WayOut.{way-after}
+use Rattle.dmf_solver.proofs.cuts.WaysOut.{ways-next}
 use Rattle.dmf_solver.proofs.solve.next_path.Goals as goal
+use Rattle.dmf_solver.proofs.solve.next_path.Goals.{in-Some, in-Once+in_default-augment, in-Unknown, in_default}
 
-pub returns-then-not-is_left-clause-found : goal.returns-then-not-is_left-clause-found
-returns-then-not-is_left-clause-found c = (
-  no_path-closed _ _ _ _ (c.label_through.ensures.parted (c.in-Some-label_through.is ∙ ap Some c.if-not-is_left.true)),
-  c.label_through.ensures.same,
-)
+pub returns-in-Closed-clause-found : goal.returns-in-Closed-clause-found
+returns-in-Closed-clause-found c = (no_path-closed _ _ _ _ c.in-Closed.ensures.passage, c.label_through.ensures.same)
 
-pub returns-clause-way : goal.returns-clause-way
-returns-clause-way c = λ some.
-    let marks = c.label_through.ensures.marks (λ e. let found = c.if-not-is_left.false in let is = c.in-Some-label_through.is in cc) in
-    let way = subst (λ o. IfSome o (IsWayOut c.args.search.now c.args.marks.now)) (sym c.take.ensures.value ∙ c.in-Some.is) c.requires.way in
-    let there : IsWayThrough c.label_through.new.self c.label_through.new.marks c.in-Some.way.node =
-    rw (marks, c.label_through.ensures.same) way in
-    let after = way-after c.label_through.new.self c.augment.new.self _ c.augment.result c.label_through.new.marks c.in-Some.way.node _ there
-    c.augment.ensures.found some in
-    IfSome_then c.next.result c.next.ensures (λ next same. rw same after)
+pub returns-then-found-long-clause-ways : goal.returns-then-found-long-clause-ways
+returns-then-found-long-clause-ways c = λ some.
+    let s = c.args.search.now in
+    let new = c.augment.new.self in
+    let marks = c.args.marks.now in
+    let out = subst (λ o. IfSome o (AreKnown s marks)) (sym c.take.ensures.value ∙ c.in-Some.is) c.requires.ways in
+    let found : Augments _ c.in-Some-augment.found s new = rw c.label_through.ensures.same at c.in-Some-augment.ensures.found in
+    let after = ways-next s new _ c.in-Once.long c.in-Some-augment.found marks c.in-Some.before.ways out c.in-Once.ensures.passage.0 c.if-found-long.true found in
+    rw c.in-Once.ensures.passage.1 (IfSome_then c.next.result c.next.ensures (λ known same.
+    subst (λ (ways : WaysOut). HasWaysOut new.nodes (steps_of new.pairs) new.start new.goal ways marks) (sym same) after))
+
+pub returns-clause-side : goal.returns-clause-side
+returns-clause-side c =
+    let same : c.match-take.search ≡ c.args.search.now = elim c.match-take.branch [
+      | in-Some w ↦ w.search-is ∙ (elim w.match-label_through.branch [
+        | in-Once+in_default-augment w' ↦ w'.search-is ∙ w'.in_default-augment.ensures.found.1 ∙ w.label_through.ensures.same
+        | in-Unknown w' ↦ w'.search-is ∙ w.label_through.ensures.same
+      ])
+      | in_default w ↦ w.search-is
+    ] in
+    λ long none. (rw same at c.augment_or_mark.ensures.side) (c.match-take.auto.marks ∙ long) none

@@ -31,7 +31,7 @@ loop-found-init g c = record {
   drained = AreTold-none _;
   kept = keeps-same _ _ _ (ap (λ (o : Searched). o.pairs) c.requires.residual);
   below = c.requires.below;
-  way = c.requires.way;
+  ways = c.requires.ways;
 }
 
 -- one more path: its pairs count as touched
@@ -47,7 +47,7 @@ loop-found-preserved g c =
       drained = AreTold-trans _ _ _ [] [] is.drained c.augmented.ensures.drained;
       kept = keeps-next c.loop-found.touched c.next_path.new.touched _ c.loop-found.search.pairs c.next_path.new.search.pairs is.kept touches;
       below = below-next s c.loop-found.value c.loop-found.search c.loop-found.touched c.next_path.new.touched is.solving touches.below is.below;
-      way = c.next_path.ensures.way (λ none. let is = c.in-Some.is in cc);
+      ways = c.next_path.ensures.ways (λ none. let is = c.in-Some.is in cc);
     }
 
 pub returns-clause-solved : goal.returns-clause-solved

@@ -2,7 +2,7 @@ use Rattle.std.proofs.Common.{[], ◌+◌, length}
 use Rattle.std.specs.Prelude.{IfSome}
 use Rattle.dmf_path.specs.Touched.{AreBelow, KeepsUntouched}
 use Rattle.dmf_solver.specs.ResidualNetwork.{network_pairs}
-use Rattle.dmf_solver.specs.WayOut.{IsWayOut}
+use Rattle.dmf_solver.specs.WaysOut.{AreKnown}
 use Rattle.dmf_solver.specs.Told.{told_of, AreTold}
 use Rattle.dmf_solver.proofs.solving.SolvingSearch.{IsSolving}
 use Rattle.dmf_solver.proofs.solving.RoomLeaving.{room_leaving}
@@ -15,7 +15,7 @@ invariant-loop-found g l = record {
   drained : AreTold (g.W.Watch.drained l.initial.watch) (g.W.Watch.drained l.watch) [];
   kept : KeepsUntouched l.touched (network_pairs l.state.network l.state.flows) l.search.pairs;
   below : AreBelow (length l.state.network.arcs + 1) l.touched;
-  way : IfSome l.way_out (IsWayOut l.search l.marks);
+  ways : IfSome l.known (AreKnown l.search l.marks);
 }
 
 abbrev pub decreases-loop-found : goal.decreases-loop-found

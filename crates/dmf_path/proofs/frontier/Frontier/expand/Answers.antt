@@ -1,7 +1,7 @@
 -- The links of the next node are its own, and lead to nodes; a turn of the search.
-use Rattle.std.proofs.Common.{◌≡◌, ◌≢◌, ◌+◌, ◌<◌, refl, sym, ◌∙◌, ap, arith, ◌∷◌, [], ◌++◌, length, slice_index, append_assoc, vec_capacity}
+use Rattle.std.proofs.Common.{◌≡◌, ◌≢◌, ◌+◌, ◌<◌, refl, sym, ◌∙◌, ap, arith, ◌∷◌, [], ◌++◌, length, take, slice_index, append_assoc, vec_capacity}
 use Rattle.std.proofs.lemmas.Bool.{eqb-true, eqb-false}
-use Rattle.std.proofs.lemmas.List.{get_or_default, with_items_is}
+use Rattle.std.proofs.lemmas.List.{get_or_default, length-append, take-append-le, with_items_is}
 use Rattle.dmf_node.specs.Node.{IsNode}
 use Rattle.dmf_links.specs.LinkTable.{links_of}
 use Rattle.dmf_path.specs.Labels.{no_label}
@@ -15,8 +15,8 @@ use Rattle.dmf_path.proofs.frontier.Frontier.expand.Goals.{then-is_open+then-lab
 use Rattle.dmf_path.proofs.frontier.Frontier.expand.Goals.{else-is_open-via-then-is_open+else-labels-head, else-is_open-via-else-is_open}
 
 -- the search so far, by its fields
-so-far : (g : _) (c : After-index g) → AreSpread (links_of c.args.table.now) (g.O.OpenLinks.flags c.args.opens.now) c.self.inside.root
-    c.self.inside.labels.items c.self.inside.queue.items c.self.inside.done
+so-far : (g : _) (c : After-index g) → AreSpread (links_of c.args.table.now) (g.O.OpenLinks.flags c.args.opens.now)
+    (take c.self.inside.roots c.self.inside.queue.items) c.self.inside.labels.items c.self.inside.queue.items c.self.inside.done
 so-far g c = rw (← c.self.view_is) at c.requires.so_far
 
 ahead : (g : _) (c : After-index g) → c.self.inside.done < length c.self.inside.queue.items
@@ -47,8 +47,8 @@ expands g c =
           (rw (last, c.deref_mut.ensures.value) at spreads.2);
     }
 
-spread : (g : _) (c : After-loop-place g) → AreSpread (links_of c.args.table.now) (g.O.OpenLinks.flags c.args.opens.now) c.self.inside.root
-    c.loop-place.labels c.loop-place.queue.items (c.self.inside.done + 1)
+spread : (g : _) (c : After-loop-place g) → AreSpread (links_of c.args.table.now) (g.O.OpenLinks.flags c.args.opens.now)
+    (take c.self.inside.roots c.self.inside.queue.items) c.loop-place.labels c.loop-place.queue.items (c.self.inside.done + 1)
 spread g c =
     let at = (goal.at.After-loop-place g c).After-index in
     spread-turn c.args.table.now.are (so-far g at) (ahead g at) (c.loop-place.auto.labels ∙ ap length c.deref_mut.ensures.value) (expands g c)
@@ -104,10 +104,14 @@ invariant_of-self g c =
       omega (arith, c.self.invariant.1, c.loop-place.invariant.queue_capacity, c.loop-place.auto.labels, ap length c.deref_mut.ensures.value),
       spread.come,
       omega (arith, c.self.invariant.3, c.places_at-places.ensures.within, c.args.table.now.are.at_most),
+      omega (arith, c.self.invariant.4, ap length c.loop-place.invariant.spreads.1, length-append c.self.inside.queue.items c.loop-place.invariant.spreads.0),
     )
 
 pub returns : goal.returns
 returns g c =
     let at = (goal.at.returns g c).After-loop-place in
     let labels = with_items_is c.self.inside.labels c.loop-place.labels (c.loop-place.auto.labels ∙ c.deref_mut.ensures.len) in
-    rw (← c.self.view_is, labels) (record { so_far = spread g at; expands = expands g at; done = refl; root = refl })
+    let roots : take c.self.inside.roots c.loop-place.queue.items ≡ take c.self.inside.roots c.self.inside.queue.items =
+    ap (take c.self.inside.roots) c.loop-place.invariant.spreads.1
+    ∙ take-append-le c.self.inside.roots c.self.inside.queue.items c.loop-place.invariant.spreads.0 c.self.invariant.4 in
+    rw (← c.self.view_is, labels) (record { so_far = rw roots (spread g at); expands = expands g at; done = refl; roots = roots })

@@ -1,11 +1,11 @@
 -- A level: its first node, a turn, and its end.
-use Rattle.std.proofs.Common.{rules, ℕ, ◌≡◌, ◌≢◌, ◌+◌, ◌<◌, ◌≤◌, inl, inr, None, Option, true, ap, sym, ◌∙◌, arith, length, get_or}
+use Rattle.std.proofs.Common.{rules, ℕ, ◌≡◌, ◌≢◌, ◌+◌, ◌<◌, ◌≤◌, inl, inr, None, Option, true, ap, sym, ◌∙◌, arith, [], ◌∷◌, length, get_or}
 use Rattle.std.specs.Option.{is_some}
 use Rattle.std.proofs.lemmas.Bool.{cases_eq}
 use Rattle.std.proofs.lemmas.List.{length-drop, get_or-drop}
 use Rattle.dmf_path.specs.BothEnds.{AreLevels, HasExpandedLevel}
 use Rattle.dmf_path.specs.Frontier.{AreApart, next_label}
-use Rattle.dmf_path.specs.Reach.{Reach}
+use Rattle.dmf_path.specs.Reach.{Reach, root_of}
 use Rattle.dmf_links.specs.LinkTable.{links_of}
 use Rattle.dmf_path.proofs.labels.Labelling.{label-below}
 use Rattle.dmf_path.proofs.labels.Expanding.{IsLevel, level-next, level-labels, beyond-next, apart-next, apart-beyond, behind-is}
@@ -14,9 +14,9 @@ use Rattle.dmf_path.proofs.frontier.Frontier.expand_level.Goals.{After-expand, A
 
 -- What is labelled up to the level, is labelled by levels.
 labelled : (g : _) (c : After-next_label-level g) (f : Reach)
-    → IsLevel (links_of c.args.table.now) (g.O.OpenLinks.flags c.args.opens.now) f.root c.next_label-level.result f.labels f.queue f.done
-    → AreLevels (links_of c.args.table.now) (g.O.OpenLinks.flags c.args.opens.now) f.root (next_label c.args.self.now) f.labels
-labelled g c f level = rw (← c.next_label-level.ensures) (level-labels c.args.table.now.are level)
+    → IsLevel (links_of c.args.table.now) (g.O.OpenLinks.flags c.args.opens.now) f.roots c.next_label-level.result f.labels f.queue f.done
+    → f.roots ≡ root_of f ∷ [] → AreLevels (links_of c.args.table.now) (g.O.OpenLinks.flags c.args.opens.now) (root_of f) (next_label c.args.self.now) f.labels
+labelled g c f level alone = rw (← c.next_label-level.ensures) (level-labels c.args.table.now.are level alone)
 
 -- the label of the node that is expanded
 next-is : (g : _) (c : After-expand g) → next_label c.loop-self.self ≡ c.next_label-level.result
@@ -24,12 +24,12 @@ next-is g c = sym c.next_label.ensures ∙ c.if-next_label-level.true
 
 -- a turn
 turn : (g : _) (c : After-expand g)
-    → IsLevel (links_of c.args.table.now) (g.O.OpenLinks.flags c.args.opens.now) c.expand.new.self.root c.next_label-level.result
+    → IsLevel (links_of c.args.table.now) (g.O.OpenLinks.flags c.args.opens.now) c.expand.new.self.roots c.next_label-level.result
     c.expand.new.self.labels c.expand.new.self.queue c.expand.new.self.done
 turn g c =
     let e = c.expand.ensures in
-    rw (e.root, e.done) (level-next c.args.table.now.are c.loop-self.invariant.level (c.has_next.ensures.more c.loop-self-test.true) (next-is g c)
-    (rw (← e.root, ← e.done) e.so_far) e.expands)
+    rw (e.roots, e.done) (level-next c.args.table.now.are c.loop-self.invariant.level (c.has_next.ensures.more c.loop-self-test.true) (next-is g c)
+    (rw (← e.roots, ← e.done) e.so_far) e.expands)
 
 -- each node has a label still
 long : (g : _) (c : After-expand g) → length c.expand.new.self.labels ≡ length c.loop-self.self.labels
@@ -37,11 +37,11 @@ long g c = c.expand.ensures.so_far.one_each ∙ sym c.loop-self.invariant.level.
 
 -- The level is at its end, without a node of both searches.
 ended : (g : _) (c : After-next_label-level g) (f : Reach)
-    → IsLevel (links_of c.args.table.now) (g.O.OpenLinks.flags c.args.opens.now) f.root c.next_label-level.result f.labels f.queue f.done
+    → IsLevel (links_of c.args.table.now) (g.O.OpenLinks.flags c.args.opens.now) f.roots c.next_label-level.result f.labels f.queue f.done
     → AreApart f.labels c.args.others.now → (f.done ≡ c.args.self.now.done → (f.done < length f.queue) × (next_label f ≡ c.next_label-level.result))
-    → c.args.self.now.done ≤ f.done → f.root ≡ c.args.self.now.root → (f.done < length f.queue → next_label f ≢ c.next_label-level.result)
+    → c.args.self.now.done ≤ f.done → f.roots ≡ c.args.self.now.roots → (f.done < length f.queue → next_label f ≢ c.next_label-level.result)
     → HasExpandedLevel (links_of c.args.table.now) (g.O.OpenLinks.flags c.args.opens.now) c.args.self.now f c.args.others.now None
-ended g c f level apart first further root other = record {
+ended g c f level apart first further roots other = record {
   so_far = level.so_far;
   levels = labelled g c f level;
   at_rest = λ _ j ahead within. let more = other ahead in omega (arith, level.most j within, level.from f.done (omega arith) ahead, more);
@@ -52,7 +52,7 @@ ended g c f level apart first further root other = record {
     | inl same ↦ let is = first same in absurd (other is.0 is.1)
     | inr later ↦ omega (arith, later, further)
   ];
-  root = root;
+  roots = roots;
 }
 
 pub first_labelled-met-requires : goal.first_labelled-met-requires
@@ -85,7 +85,7 @@ returns-then-is_some g c =
           let below = label-below e.so_far (before + found.1) c.args.table.now.are within in
           (rw here at (e.so_far.queued (before + found.1) within).node, (λ none. omega (arith, none, rw here at below)), found.0);
       further = λ none. absurd (some none);
-      root = e.root ∙ i.root;
+      roots = e.roots ∙ i.roots;
     }
 
 pub loop-self-preserved : goal.loop-self-preserved
@@ -104,18 +104,18 @@ loop-self-preserved g c =
           (none k (omega (arith, within, before, length-drop (length c.queue-before.result.now) q))));
       first = λ same. absurd (omega (arith, same, e.done, i.further));
       further = omega (arith, e.done, i.further);
-      root = e.root ∙ i.root;
+      roots = e.roots ∙ i.roots;
     }
 
 pub returns-else-next_label-level : goal.returns-else-next_label-level
 returns-else-next_label-level g c =
     let i = c.loop-self.invariant in
-    ended g (goal.at.returns-else-next_label-level g c).After-next_label-level c.loop-self.self i.level i.apart i.first i.further i.root
+    ended g (goal.at.returns-else-next_label-level g c).After-next_label-level c.loop-self.self i.level i.apart i.first i.further i.roots
     (λ ahead same. c.if-next_label-level.false (c.next_label.ensures ∙ same))
 
 pub returns-after-loop-self : goal.returns-after-loop-self
 returns-after-loop-self g c =
     let i = c.loop-self.invariant in
     let all = c.has_next.ensures.none c.loop-self-test.false in
-    ended g (goal.at.returns-after-loop-self g c).After-next_label-level c.loop-self.self i.level i.apart i.first i.further i.root
+    ended g (goal.at.returns-after-loop-self g c).After-next_label-level c.loop-self.self i.level i.apart i.first i.further i.roots
     (λ ahead same. omega (arith, ahead, all))

@@ -6,11 +6,11 @@ use Rattle.dmf_path.proofs.frontier.Frontier.expand_level.Given as goal
 
 abbrev pub invariant-loop-self : goal.invariant-loop-self
 invariant-loop-self g l = record {
-  level : IsLevel (links_of l.table) (g.O.OpenLinks.flags l.opens) l.self.root l.level l.self.labels l.self.queue l.self.done;
+  level : IsLevel (links_of l.table) (g.O.OpenLinks.flags l.opens) l.self.roots l.level l.self.labels l.self.queue l.self.done;
   apart : AreApart l.self.labels l.others;
   first : l.self.done ≡ l.fn.self.done → (l.self.done < length l.self.queue) × (next_label l.self ≡ l.level);
   further : l.fn.self.done ≤ l.self.done;
-  root : l.self.root ≡ l.fn.self.root;
+  roots : l.self.roots ≡ l.fn.self.roots;
 }
 
 abbrev pub decreases-loop-self : goal.decreases-loop-self

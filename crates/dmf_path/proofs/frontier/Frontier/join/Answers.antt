@@ -75,6 +75,7 @@ invariant_of-self c =
       omega (arith, c.self.invariant.1, i.queue_capacity, c.loop-node.auto.labels, ap length c.deref_mut.ensures.value),
       omega (arith, c.self.invariant.2, i.longer),
       c.self.invariant.3,
+      omega (arith, c.self.invariant.4, i.longer),
     )
 
 pub returns-clause-joined : goal.returns-clause-joined

@@ -6,7 +6,7 @@ use Rattle.dmf_path.proofs.frontier.Frontier.label_within.Given as goal
 abbrev pub invariant-loop-self : goal.invariant-loop-self
 invariant-loop-self g l = record {
   so_far : IsSpread (links_of l.table) (g.O.OpenLinks.flags l.opens) l.self;
-  root : l.self.root ≡ l.fn.self.root;
+  roots : l.self.roots ≡ l.fn.self.roots;
 }
 
 abbrev pub decreases-loop-self : goal.decreases-loop-self

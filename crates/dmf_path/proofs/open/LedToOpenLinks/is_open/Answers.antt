@@ -1,7 +1,7 @@
 -- The head of the link is a node, so it has a mark.
 use Rattle.std.proofs.Common.{◌<◌, get_or, ap, sym, ◌∙◌, length, arith, rules}
 use Rattle.dmf_path.specs.Through.{has_mark}
-use Rattle.dmf_path.proofs.labels.OneWayOut.{length-flags_to, open-to, shut-to}
+use Rattle.dmf_path.proofs.labels.WaysOut.{length-flags_to, open-to, shut-to}
 use Rattle.dmf_path.proofs.open.LedToOpenLinks.is_open.Goals.{Start}
 use Rattle.dmf_path.proofs.open.LedToOpenLinks.is_open.Goals as goal
 

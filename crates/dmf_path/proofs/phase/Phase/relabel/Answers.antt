@@ -9,6 +9,7 @@ use Rattle.dmf_path.specs.Searching.{Sought, sought}
 use Rattle.dmf_path.specs.Walk.{AreCurrent}
 use Rattle.dmf_path.specs.Held.{Way, way_of}
 use Rattle.dmf_path.specs.Residual.{ResidualLinks, residual_of, with_settled_rooms}
+use Rattle.dmf_path.proofs.paths.LeastTrail.{between-labelled}
 use Rattle.dmf_path.proofs.searches.Beginning.{ready-at}
 use Rattle.dmf_path.proofs.searches.Going.{keeps-fresh}
 use Rattle.dmf_path.proofs.searches.SearchTurns.{plainly, sought-free}
@@ -79,7 +80,7 @@ begin_phase-requires c =
       settled = rw (← c.self.view_is) at c.requires.settled;
       current = e.relabelled.current;
       ready = e.relabelled.ready;
-      labelled = e.relabelled.labelled c.if-not-label_anew.false;
+      sound = between-labelled (e.relabelled.labelled c.if-not-label_anew.false);
       whole = e.whole c.if-not-label_anew.false;
     }
 
