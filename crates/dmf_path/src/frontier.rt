@@ -1,5 +1,5 @@
 //! A breadth-first search that goes on where it stopped: from its roots, level by level, over open links.
-ghost use Rattle.std.specs.Prelude.{◌≡◌, ◌≢◌, ℕ, ◌+◌, ◌*◌, ◌^◌, ◌≤◌, ◌<◌, true, false, drop, take, IfOk, length, replicate, slice_index, Contains, ◌↔◌};
+ghost use Rattle.std.specs.Prelude.{◌≡◌, ◌≢◌, ℕ, ◌+◌, ◌-◌, ◌*◌, ◌^◌, ◌≤◌, ◌<◌, true, false, drop, take, IfOk, length, replicate, slice_index, Contains, ◌↔◌};
 ghost use Rattle.dmf_node.specs.Node.{IsNode};
 ghost use Rattle.dmf_links.specs.LinkTable.{links_of};
 ghost use Rattle.dmf_path.specs.BothEnds.{AreJoined, AreJoinedBy, AreTurned};
@@ -83,10 +83,10 @@ impl Frontier {
     }
 
     /// Begins at each of several roots. No node has a label yet.
-    pub fn begin_at(&mut self, roots: &[u32], nodes: u32)
-        requires clean { IsClean nodes self.old }
-        requires roots { (v : ℕ) → Contains roots.now v → IsNode nodes v }
-        ensures begun { HasBegun nodes self.new }
+    pub fn begin_at(&mut self, roots: &[u32])
+        requires clean { IsClean (length self.old.labels - 1) self.old }
+        requires roots { (v : ℕ) → Contains roots.now v → IsNode (length self.old.labels - 1) v }
+        ensures begun { HasBegun (length self.old.labels - 1) self.new }
         ensures roots { (v : ℕ) → Contains self.new.roots v ↔ Contains roots.now v }
     {
         self.done = 0;

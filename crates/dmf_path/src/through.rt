@@ -99,7 +99,7 @@ fn look_on(
     ensures parted { result ≡ Some false → IsParted (links_of links.now.table.value) links.now.rooms.items ends.start ends.goal marks.new }
     ensures same { result ≢ Some false → marks.new ≡ marks.old }
 {
-    search.begin_at(&ways.heads, links.table.nodes);
+    search.begin_at(&ways.heads);
     let opens = LedTo {
         opens: OpenByRoom(&links.rooms),
         heads: &links.table.heads,
@@ -135,7 +135,7 @@ fn look_back(
     ensures parted { result ≡ Some false → IsParted (links_of links.now.table.value) links.now.rooms.items ends.start ends.goal marks.new }
     ensures same { result ≢ Some false → marks.new ≡ marks.old }
 {
-    search.begin_at(&ways.tails, links.table.nodes);
+    search.begin_at(&ways.tails);
     let opens = LedTo {
         opens: Flagged(&links.flags),
         heads: &links.table.heads,

@@ -19,6 +19,10 @@ first-root root = (0, omega arith, refl)
 pub one-root : {root v : ℕ} → Contains (root ∷ []) v → v ≡ root
 one-root c = let first : c.0 ≡ 0 = omega (arith, c.1) in sym (rw first at c.2)
 
+-- A search without labels has one place for each node, and one for number 0.
+pub nodes-of : {nodes : ℕ} {labels : List ℕ} → labels ≡ replicate (nodes + 1) no_label → length labels - 1 ≡ nodes
+nodes-of {nodes = nodes} clean = omega (arith, ap length clean, length-replicate (nodes + 1) no_label)
+
 -- At first no node is a root,
 pub roots-none : {nodes : ℕ} {labels : List ℕ} → labels ≡ replicate (nodes + 1) no_label → AreRoots nodes labels []
 roots-none {nodes = nodes} clean =

@@ -1,15 +1,14 @@
 -- Marked nodes keep their ways out when a push is made along a path that leads back to none of them.
-use Rattle.std.proofs.Common.{ℕ, ◌≡◌, ◌≢◌, ◌+◌, ◌-◌, ◌*◌, ◌<◌, ◌≤◌, ◌⊎◌, ⊎_elim, inl, inr, Bool, true, false, List, [], ◌∷◌, ◌++◌, length, zero, suc, refl, sym}
-use Rattle.std.proofs.Common.{◌∙◌, ◌==◌, subst, ap, arith, Option, Some, None, cond, get_or, set}
-use Rattle.std.specs.Prelude.{IfSome, IsTrue, MatchOption, nat_lt}
+use Rattle.std.proofs.Common.{ℕ, ◌≡◌, ◌+◌, ◌-◌, ◌*◌, ◌<◌, ◌≤◌, ◌⊎◌, ⊎_elim, inl, inr, Bool, true, false, List, [], ◌∷◌, ◌++◌, length, zero, suc, refl, sym}
+use Rattle.std.proofs.Common.{◌∙◌, ◌==◌, subst, ap, arith, Option, Some, None, cond, get_or}
+use Rattle.std.specs.Prelude.{IsTrue, nat_lt}
 use Rattle.std.specs.List.{Contains}
 use Rattle.std.proofs.lemmas.Bool.{cases_eq, cases_Bool, false≢true}
-use Rattle.std.proofs.lemmas.List.{get_or_default, get_or-set_other, get_or-set_same, length-append, length-set}
+use Rattle.std.proofs.lemmas.List.{get_or_default}
 use Rattle.std.proofs.lemmas.Bool.{or_cases, eqb-true}
 use Rattle.std.proofs.lemmas.List.Elements.{Contains-append_cases, Contains-append_left, Contains-push, Contains-push_cases}
 use Rattle.dmf_links.specs.declared.pair.Pair.{Pair}
-use Rattle.dmf_links.specs.Pair.{pair_number, ArePairs}
-use Rattle.dmf_links.proofs.building.Counting.{is_pair}
+use Rattle.dmf_links.specs.Pair.{pair_number}
 use Rattle.dmf_node.specs.Node.{IsNode}
 use Rattle.dmf_path.specs.ClosedSide.{is_marked, HasWaysOut, NoneReturns}
 use Rattle.dmf_path.specs.Pair.{pair_steps, steps_from, steps_of, pushed_pair, pushed_from, pushed_pairs}

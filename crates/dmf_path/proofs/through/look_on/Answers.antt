@@ -6,21 +6,25 @@ use Rattle.dmf_links.specs.LinkTable.{links_of}
 use Rattle.dmf_path.specs.Frontier.{IsSpread}
 use Rattle.dmf_path.specs.Labels.{AreLabelsFrom}
 use Rattle.dmf_path.specs.Through.{flags_to}
-use Rattle.dmf_path.proofs.labels.Roots.{begun-spread}
+use Rattle.dmf_path.proofs.labels.Roots.{begun-spread, nodes-of}
 use Rattle.dmf_path.proofs.labels.WaysOut.{length-flags_to, parted-beyond}
 use Rattle.dmf_path.proofs.paths.Reaching.{AreOpen-map}
 use Rattle.dmf_path.proofs.through.look_on.Goals as goal
 use Rattle.dmf_path.proofs.through.look_on.Goals.{After-label_within}
 
 pub begin_at-requires-clause-roots : goal.begin_at-requires-clause-roots
-begin_at-requires-clause-roots c = λ v among. rw c.deref-2.ensures (c.requires.out.heads_out v (rw c.deref.ensures.value at among)).0
+begin_at-requires-clause-roots c = λ v among.
+    rw (nodes-of c.requires.clean) (c.requires.out.heads_out v (rw c.deref.ensures.value at among)).0
+
+pub begin_at-requires-clause-clean : goal.begin_at-requires-clause-clean
+begin_at-requires-clause-clean c = rw (nodes-of c.requires.clean) c.requires.clean
 
 pub label_within-requires-clause-so_far : goal.label_within-requires-clause-so_far
 label_within-requires-clause-so_far c =
     let links = c.args.links.now in
-    rw (c.deref-6.ensures, c.deref-5.ensures.value, c.deref-4.ensures, c.deref-3.ensures.value)
+    rw (c.deref-5.ensures, c.deref-4.ensures.value, c.deref-3.ensures, c.deref-2.ensures.value)
     (begun-spread (length-flags_to false c.args.marks.now links.table.value.heads.items (map open_flag links.rooms.items) (length-map links.rooms.items open_flag ∙ links.rooms_are.0))
-    (rw c.deref-2.ensures at c.begin_at.ensures.begun))
+    (rw (nodes-of c.requires.clean) at c.begin_at.ensures.begun))
 
 -- The roots are the heads, however far the search has come.
 roots : (c : After-label_within) → (v : ℕ) → Contains c.label_within.new.self.roots v ↔ Contains c.args.ways.now.heads.items v
@@ -29,13 +33,13 @@ roots c = rw c.label_within.ensures.roots (rw c.deref.ensures.value at c.begin_a
 -- The links are the open ones to nodes with the mark.
 spread : (c : After-label_within) → IsSpread (links_of c.args.links.now.table.value)
     (flags_to false c.args.marks.now c.args.links.now.table.value.heads.items (map open_flag c.args.links.now.rooms.items)) c.label_within.new.self
-spread c = rw (c.deref-6.ensures, c.deref-5.ensures.value, c.deref-4.ensures, c.deref-3.ensures.value) at c.label_within.ensures.spread
+spread c = rw (c.deref-5.ensures, c.deref-4.ensures.value, c.deref-3.ensures, c.deref-2.ensures.value) at c.label_within.ensures.spread
 
 labels : (c : After-label_within) → c.label_within.result ≡ true → AreLabelsFrom (links_of c.args.links.now.table.value)
     (flags_to false c.args.marks.now c.args.links.now.table.value.heads.items (map open_flag c.args.links.now.rooms.items))
     c.label_within.new.self.roots c.args.ends.goal c.label_within.new.self.labels
 labels c whole =
-    rw c.label_within.ensures.roots (rw (c.deref-6.ensures, c.deref-5.ensures.value, c.deref-4.ensures, c.deref-3.ensures.value) at
+    rw c.label_within.ensures.roots (rw (c.deref-5.ensures, c.deref-4.ensures.value, c.deref-3.ensures, c.deref-2.ensures.value) at
     (c.label_within.ensures.labels whole))
 
 pub returns-then-not-label_within-clause-looked : goal.returns-then-not-label_within-clause-looked

@@ -1,8 +1,9 @@
 -- Root by root gets the label 0 and is queued, unless it has it.
-use Rattle.std.proofs.Common.{◌≡◌, ◌<◌, ◌++◌, ◌∷◌, [], length, take, get_or, refl, ap, ◌∙◌, arith, vec_capacity}
+use Rattle.std.proofs.Common.{◌≡◌, ◌-◌, ◌<◌, ◌++◌, ◌∷◌, [], length, take, get_or, refl, ap, ◌∙◌, arith, vec_capacity}
 use Rattle.std.proofs.lemmas.List.{take_all, with_items_is}
 use Rattle.std.proofs.lemmas.List.Elements.{Contains-get_or}
 use Rattle.dmf_node.specs.Node.{IsNode}
+use Rattle.dmf_path.specs.Reach.{Reach}
 use Rattle.dmf_path.proofs.labels.Roots.{beginning-last, beginning-next, beginning-skip, roots-none, roots-queued}
 use Rattle.dmf_path.proofs.labels.Spreading.{unlabelled_count-set}
 use Rattle.dmf_path.proofs.frontier.Frontier.begin_at.Goals as goal
@@ -11,7 +12,7 @@ use Rattle.dmf_path.proofs.frontier.Frontier.begin_at.Goals.{In-loop-root, After
 pub loop-root-init : goal.loop-root-init
 loop-root-init c = record {
   beginning = rw c.clear.ensures.items (record {
-    are = roots-none (c.deref_mut.ensures.value ∙ (rw (← c.self.view_is) at c.requires.clean));
+    are = roots-none (c.deref_mut.ensures.value ∙ ap (λ (f : Reach). f.labels) c.self.view_is ∙ c.requires.clean);
     from = λ v none. absurd (omega (arith, none.1));
     covered = λ i none. absurd (omega (arith, none));
   });
@@ -19,7 +20,7 @@ loop-root-init c = record {
 }
 
 -- The next root is a node, which has a label.
-node : (c : In-loop-root) → IsNode c.args.nodes (get_or c.args.roots.now c.loop-root.root-index 0)
+node : (c : In-loop-root) → IsNode (length c.args.self.now.labels - 1) (get_or c.args.roots.now c.loop-root.root-index 0)
 node c = c.requires.roots (get_or c.args.roots.now c.loop-root.root-index 0) (Contains-get_or c.args.roots.now c.loop-root.root-index 0 c.loop-root-test.true)
 
 pub bounds-labels-root : goal.bounds-labels-root
