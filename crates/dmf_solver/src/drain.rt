@@ -13,7 +13,7 @@ ghost use Rattle.dmf_solver.specs.Turns.{TellsDrain};
 
 use crate::drained_flows::DrainedFlows;
 use crate::moves::list_moves;
-use crate::residual_network::{ResidualNetwork, kept_or_new};
+use crate::residual_network::{ResidualNetwork, new_network};
 use crate::watch::{Turn, Watch};
 use dmf_path::{Search, Touched};
 use dmf_state::{Move, Shutting, State};
@@ -79,10 +79,13 @@ pub fn take_carrying(
     ensures kept { KeepsNetwork state.now kept.new }
     ensures carrying { IfOk result (IsCarryingOf state.now) }
 {
-    let mut network = kept_or_new(alloc, state, kept.take())?;
-    let carrying = network.take_carrying(alloc, state)?;
-    *kept = Some(network);
-    Ok(carrying)
+    if kept.is_none() {
+        *kept = Some(new_network(alloc, state)?);
+    }
+    match kept {
+        Some(network) => network.take_carrying(alloc, state),
+        None => unreachable!(),
+    }
 }
 
 /// The move that drains arc number `j`, a self loop: no other arc carries its flow.

@@ -53,7 +53,7 @@ pub fn plan_cap(alloc: Global, state: &State, j: u64, cap: u64) -> Result<Edit, 
 /// drain takes off.
 ///
 /// A plan that drains takes the kept network for it; where none is kept, one is made and kept. A plan that is refused leaves the
-/// network as it is, but for want of memory: then it may be dropped, or lose the search that drains use.
+/// network as it is, but for want of memory: then it may be a new one, or lose the search that drains use.
 pub fn plan_cap_watched<W: Watch>(
     alloc: Global,
     state: &State,
@@ -193,9 +193,9 @@ fn follow_drained(
     requires kept { KeepsNetwork state.now kept.old }
     ensures { KeepsNetwork (applied edit.now state.now) kept.new }
 {
-    if let Some(network) = kept.take() {
-        let network = network.follow_along(state, edit, Direction::Forward);
-        *kept = Some(network.with_carrying(carrying));
+    if let Some(network) = kept {
+        network.follow_along(state, edit, Direction::Forward);
+        network.keep_carrying(carrying);
     }
 }
 

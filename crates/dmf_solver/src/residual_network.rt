@@ -6,7 +6,7 @@ ghost use Rattle.dmf_state.specs.NetworkState.{IsState, NetworkState, with_idle_
 ghost use Rattle.dmf_solver.specs.Pairs.{reached_flows, HasSolved};
 ghost use Rattle.dmf_solver.specs.Planning.{PlansSolve, IsSideWanted};
 ghost use Rattle.dmf_solver.specs.CarryingNetwork.{IsCarryingOf, MayCarry};
-ghost use Rattle.dmf_solver.specs.KeptNetwork.{IsNetworkOf, KeepsNetwork};
+ghost use Rattle.dmf_solver.specs.KeptNetwork.{IsNetworkOf};
 ghost use Rattle.dmf_solver.specs.ResidualNetwork.{IsResidualOf};
 ghost use Rattle.dmf_state.specs.Revert.{without_last};
 ghost use Rattle.dmf_solver.specs.SmallestSide.{TellsSide};
@@ -55,7 +55,7 @@ impl ResidualNetwork {
     pub fn new(alloc: Global, state: &State) -> Result<ResidualNetwork, NoMemory>
         ensures { IfOk result (IsNetworkOf state.now) }
     {
-        let network = kept_or_new(alloc, state, None)?;
+        let network = new_network(alloc, state)?;
         Ok(network)
     }
 
@@ -178,7 +178,7 @@ impl ResidualNetwork {
     /// label. An edit that adds an arc takes constant time besides, or time for a look at each link after a drain. Forward, where an end
     /// of the arc has no spare link, all links are made anew. `None` only for such an edit, if memory is refused.
     pub fn follow(
-        self,
+        mut self,
         alloc: Global,
         state: &State,
         edit: &Edit,
@@ -194,7 +194,10 @@ impl ResidualNetwork {
                 Direction::Forward => self.with_arc(alloc, state, Arc::open(tail, head, cap)),
                 Direction::Back => self.without_last_arc(state),
             },
-            _ => Some(self.follow_along(state, edit, direction)),
+            _ => {
+                self.follow_along(state, edit, direction);
+                Some(self)
+            }
         }
     }
 
@@ -241,33 +244,18 @@ impl ResidualNetwork {
         })
     }
 
-    /// The residual network of the state to which an edit that adds no arc leads, as [`follow`](ResidualNetwork::follow) makes it.
+    /// Follows an edit that adds no arc, as [`follow`](ResidualNetwork::follow) does.
     #[inline(never)]
-    pub(crate) fn follow_along(
-        self,
-        state: &State,
-        edit: &Edit,
-        direction: Direction,
-    ) -> ResidualNetwork
-        requires network { IsNetworkOf state.now self }
+    pub(crate) fn follow_along(&mut self, state: &State, edit: &Edit, direction: Direction)
+        requires network { IsNetworkOf state.now self.old }
         requires fits { FitsAlong direction edit.now state.now }
         requires adds_none { ¬ AddsArc edit.now }
-        ensures { IsNetworkOf (edited_along direction edit.now state.now) result }
+        ensures { IsNetworkOf (edited_along direction edit.now state.now) self.new }
     {
-        let ResidualNetwork {
-            mut search,
-            carrying,
-            is_used,
-        } = self;
         let moves = moves_of(edit);
-        put_flows(&mut search, state, moves, direction);
-        put_capacities(&mut search, state, edit, direction);
-        let carrying = carry_flows(carrying, state, moves, direction);
-        ResidualNetwork {
-            search,
-            carrying,
-            is_used,
-        }
+        put_flows(&mut self.search, state, moves, direction);
+        put_capacities(&mut self.search, state, edit, direction);
+        self.carrying = carry_flows(self.carrying.take(), state, moves, direction);
     }
 
     /// Takes the carrying search of the state's flow out of the network, which has none afterwards. If it had none, makes the search
@@ -293,33 +281,20 @@ impl ResidualNetwork {
         Ok(carrying)
     }
 
-    /// The network with this carrying search in place of its own. `None` keeps its own.
-    pub(crate) fn with_carrying(self, carrying: Option<Search>) -> ResidualNetwork
-        ensures { (s : NetworkState) → IsNetworkOf s self → IfSome carrying (MayCarry s) → IsNetworkOf s result }
+    /// Takes this carrying search in place of its own. `None` keeps its own.
+    pub(crate) fn keep_carrying(&mut self, carrying: Option<Search>)
+        ensures { (s : NetworkState) → IsNetworkOf s self.old → IfSome carrying (MayCarry s) → IsNetworkOf s self.new }
     {
-        match carrying {
-            Some(_) => ResidualNetwork {
-                search: self.search,
-                carrying,
-                is_used: self.is_used,
-            },
-            None => self,
+        if carrying.is_some() {
+            self.carrying = carrying;
         }
     }
 }
 
-/// The kept network of the state, or a new one. A new one takes memory for two links an arc and some numbers a node.
-pub fn kept_or_new(
-    alloc: Global,
-    state: &State,
-    kept: Option<ResidualNetwork>,
-) -> Result<ResidualNetwork, AllocError>
-    requires { KeepsNetwork state.now kept }
+/// A new network of the state. Takes memory for two links an arc and some numbers a node.
+pub fn new_network(alloc: Global, state: &State) -> Result<ResidualNetwork, AllocError>
     ensures { IfOk result (IsNetworkOf state.now) }
 {
-    if let Some(network) = kept {
-        return Ok(network);
-    }
     let search = residual_search(alloc, state)?;
     Ok(ResidualNetwork {
         search: SidedSearch::new(search),

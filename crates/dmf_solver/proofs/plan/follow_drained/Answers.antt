@@ -7,5 +7,5 @@ pub returns-in-Some : goal.returns-in-Some
 returns-in-Some c =
     let s = c.args.state.now in
     let edit = c.args.edit.now in
-    c.with_carrying.ensures (applied edit s) c.follow_along-network.ensures
+    c.keep_carrying.ensures (applied edit s) c.follow_along.ensures
     (some_carry-along Forward edit s c.args.carrying c.requires.adds_none c.requires.carrying)
