@@ -29,8 +29,7 @@ export function paint() {
   pen.resetTransform();
   pen.clearRect(0, 0, wide, high);
   pen.setTransform(scale() * by, 0, 0, scale() * by, -box.x * scale() * by, -box.y * scale() * by);
-  const seen = lines.filter((line) => isIn(box, line)), style = getComputedStyle(document.documentElement);
-  const colour = (/** @type {string} */ name) => style.getPropertyValue(`--${name}`);
+  const seen = lines.filter((line) => isIn(box, line)), colour = colours();
   if (isFar()) shade(pen, colour("side"));
   stroke(pen, seen.filter(isMarked), colour("mark"), 9);
   for (const look of LOOKS) {
@@ -40,6 +39,13 @@ export function paint() {
     if (scale() >= ARROWS && look !== "c") point(pen, alike, ink);
   }
   paintPlaces(pen, box, colour);
+}
+
+/** The page's colours, by their names. To ask for one takes longer than to draw with it. */
+function colours() {
+  const style = getComputedStyle(document.documentElement);
+  const found = new Map(["ink", "limit", "mark", "paper", "side", "unused"].map((name) => [name, style.getPropertyValue(`--${name}`)]));
+  return (/** @type {string} */ name) => found.get(name) ?? "";
 }
 
 /**
@@ -114,21 +120,42 @@ function point(pen, drawn, ink) {
  * @param {(name: string) => string} colour
  */
 function paintPlaces(pen, box, colour) {
-  const size = Math.min(5, Math.max(1, 14 * scale())) / scale(), rim = 60;
+  const rim = 60, isNear = scale() >= NAMES;
   const seen = [...places.values()].filter(({ x, y }) => x >= box.x - rim && y >= box.y - rim && x <= box.x + box.width + rim
     && y <= box.y + box.height + rim);
-  for (const place of seen) {
-    if (before.has(`node-${place.node}`) && scale() >= NAMES) continue;
-    pen.beginPath();
-    pen.arc(place.x, place.y, place.isEnd ? Math.max(1.6 * size, 5 / scale()) : size, 0, 2 * Math.PI);
-    pen.setLineDash([]);
-    const ink = colour(isMarked(place) ? "mark" : place.look === SHUT ? "unused" : "ink");
-    Object.assign(pen, { strokeStyle: ink, lineWidth: (isMarked(place) ? 5 : 1) / scale() });
-    pen.fillStyle = place.look === BEFORE ? colour("side") : colour("paper");
+  const behind = isNear ? seen.filter((place) => !before.has(`node-${place.node}`)) : seen;
+  /**
+   * Those that look alike are drawn at once, and those that are chosen at last.
+   * @type {Record<string, Spot[]>}
+   */
+  const alike = { unused: [], ink: [], mark: [] };
+  for (const place of behind) alike[isMarked(place) ? "mark" : place.look === SHUT ? "unused" : "ink"].push(place);
+  pen.setLineDash([]);
+  for (const [ink, spots] of Object.entries(alike)) {
+    circle(pen, spots);
+    Object.assign(pen, { strokeStyle: colour(ink), lineWidth: (ink === "mark" ? 5 : 1) / scale() });
     pen.stroke();
-    pen.fill();
+    for (const fill of ["side", "paper"]) {
+      circle(pen, spots.filter(({ look }) => (look === BEFORE) === (fill === "side")));
+      pen.fillStyle = colour(fill);
+      pen.fill();
+    }
   }
-  paintNames(pen, seen.filter((place) => scale() >= NAMES ? !before.has(`node-${place.node}`) : place.isEnd || isMarked(place)), colour);
+  paintNames(pen, isNear ? behind : seen.filter((place) => place.isEnd || isMarked(place)), colour);
+}
+
+/**
+ * Has the pen's way lead around each place.
+ * @param {CanvasRenderingContext2D} pen
+ * @param {Spot[]} spots
+ */
+function circle(pen, spots) {
+  const size = Math.min(5, Math.max(1, 14 * scale())) / scale(), end = Math.max(1.6 * size, 5 / scale());
+  pen.beginPath();
+  for (const { x, y, isEnd } of spots) {
+    pen.moveTo(x + (isEnd ? end : size), y);
+    pen.arc(x, y, isEnd ? end : size, 0, 2 * Math.PI);
+  }
 }
 
 /**

@@ -157,11 +157,13 @@ export async function act(content, words = "") {
   /** @type {State | null | undefined} */
   const told = await patiently(ask("do", content));
   acting = false;
-  if (!told) news("");
   if (told) {
     dropTyped();
     news(`${upper(words || told.steps[told.at].text)}: ${told.value}${units()}${before ? `, ${moved(before.value, told.value)}` : ""}`);
     await show(told);
+  } else {
+    // What was done before has nothing to do with what is refused.
+    news("");
   }
   await catchUp();
   at("main").setAttribute("aria-busy", String(acting));
