@@ -10,11 +10,11 @@ abbrev pub AreNumbers : Links → List ℕ → List ℕ → Type 0
 AreNumbers l places numbers = (length numbers ≡ length l.heads)
     × ((p : ℕ) → p < length l.heads → ¬ IsSpare l p → IsOf l places p (slice_index numbers p))
 
--- The same, if there are numbers.
+-- If there are numbers, they are those of the pairs.
 abbrev pub MayBeNumbered : Links → List ℕ → Option (Rc (Vec ℕ Global) Global) → Type 0
 MayBeNumbered l places numbers = IfSome numbers (λ known. AreNumbers l places known.value.items)
 
--- The same, if there are numbers, of each link that is not one of the last pair.
+-- If there are numbers, each link that is neither spare nor of the last pair has that of its pair.
 abbrev pub AreOthersNumbered : Links → List ℕ → Option (Rc (Vec ℕ Global) Global) → Type 0
 AreOthersNumbered l places numbers = IfSome numbers (λ known. (length known.value.items ≡ length l.heads)
     × ((p : ℕ) → p < length l.heads → ¬ IsSpare l p → ¬ IsOf l places p (length places - 1) → IsOf l places p (slice_index known.value.items p)))

@@ -57,7 +57,7 @@ fn number_against(table: &LinkTable, places: &Places, numbers: &mut [u32])
     }
 }
 
-/// The same numbers, which searches then share, if there are some. Takes no memory.
+/// These numbers, if there are some: searches share them from then on. Takes no memory.
 pub fn share_known(numbers: &Option<Rc<Vec<u32>>>) -> Option<Rc<Vec<u32>>>
     ensures { (l : Links) (places : List ℕ) → MayBeNumbered l places numbers.now → MayBeNumbered l places result }
 {

@@ -33,7 +33,7 @@ pub record AreLabelsFrom (l : Links) (opens roots : List ℕ) (stop : ℕ) (labe
       → slice_index labels (slice_index l.heads p) ≤ slice_index labels v + 1
   pub backed : (v : ℕ) → IsNode l.nodes v → ¬ Contains roots v → slice_index labels v ≢ no_label → IsBacked l opens labels v
 
--- The same from one root.
+-- The labels of the nodes that open links reach from one root, at least up to the label of the node `stop`.
 abbrev pub AreLabels : Links → List ℕ → ℕ → ℕ → List ℕ → Type 0
 AreLabels l opens root = AreLabelsFrom l opens (root ∷ [])
 
@@ -69,7 +69,7 @@ abbrev pub MarksLabelled : List ℕ → List Bool → Type 0
 MarksLabelled labels marks =
     length labels ≡ length marks + 1 → (v : ℕ) → IsNode (length marks) v → is_marked marks v ≡ is_label (slice_index labels v)
 
--- The same of the nodes without one.
+-- If there is a mark for each node, those of the nodes without a label say so.
 abbrev pub MarksUnlabelled : List ℕ → List Bool → Type 0
 MarksUnlabelled labels marks =
     length labels ≡ length marks + 1 → (v : ℕ) → IsNode (length marks) v → is_marked marks v ≡ (slice_index labels v == no_label)

@@ -37,7 +37,7 @@ pub record IsLook (links : Residual) (labels : List ℕ) (ball : Ball) (wanted :
       → slice_index labels (slice_index links.table.value.heads.items p) + 1 ≡ wanted.label
       → IsAstray ball wanted.goal wanted.left (slice_index links.table.value.heads.items p)
 
--- The same for a look from a node, which finds links only where the node is above the goal.
+-- What a look from a node finds: links only where the node is above the goal.
 pub record IsLookFrom (links : Residual) (labels : List ℕ) (ball : Ball) (goal : ℕ) (range : LinkRange) (look : Look) : Type 0 where
   pub from_first : range.from ≤ look.skipped
   pub order : look.skipped ≤ look.place

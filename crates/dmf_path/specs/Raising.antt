@@ -10,7 +10,7 @@ use Rattle.dmf_path.specs.Searching.{Labelling, AreNoted}
 use Rattle.dmf_path.specs.Walk.{AreCurrent, ArePassed}
 
 -- Of the labels to which links with room lead from node `v` this is the least one, or no label if there are none.
-pub record IsLeast (l : Links) (labels rooms : List ℕ) (v label : ℕ) : Type 0 where
+pub record IsLeastAhead (l : Links) (labels rooms : List ℕ) (v label : ℕ) : Type 0 where
   pub most : (p : ℕ) → LiesAt l v p → 0 < slice_index rooms p → label ≤ slice_index labels (slice_index l.heads p)
   pub one : label ≢ no_label → (p : ℕ) × LiesAt l v p × (0 < slice_index rooms p) × (slice_index labels (slice_index l.heads p) ≡ label)
 

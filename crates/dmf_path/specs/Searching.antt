@@ -142,7 +142,7 @@ pub record MayBeLabelled (links : Residual) (levels : Levels) (ends : Ends) : Ty
   pub goal_is : IsNode links.table.value.nodes ends.goal
   pub apart : ends.start ≢ ends.goal
 
--- The same for some number of nodes.
+-- Each of so many nodes, however many they are, has a place for its label, and none has a label of the search from the start.
 abbrev pub AreReady : Levels → Type 0
 AreReady v = (nodes : ℕ) × IsReady nodes v.near v.far
 

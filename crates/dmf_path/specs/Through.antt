@@ -14,15 +14,15 @@ use Rattle.dmf_path.specs.Searching.{IsParted}
 use Rattle.dmf_path.specs.declared.residual.Residual.{Residual}
 use Rattle.dmf_path.specs.declared.through.WaysOut.{WaysOut}
 
--- whether the node has this mark
-abbrev pub has_mark : Bool → List Bool → ℕ → Bool
-has_mark mark marks v = if mark then is_marked marks v else not (is_marked marks v)
+-- whether the node is on this side: has the mark, or has none
+abbrev pub is_on_side : Bool → List Bool → ℕ → Bool
+is_on_side mark marks v = if mark then is_marked marks v else not (is_marked marks v)
 
 -- the flags of the links to nodes with this mark, and 0 for the others
 abbrev pub flags_to : Bool → List Bool → List ℕ → List ℕ → List ℕ
 flags_to mark marks [] flags = []
 flags_to mark marks (head ∷ heads) [] = []
-flags_to mark marks (head ∷ heads) (flag ∷ flags) = (if has_mark mark marks head then flag else 0) ∷ flags_to mark marks heads flags
+flags_to mark marks (head ∷ heads) (flag ∷ flags) = (if is_on_side mark marks head then flag else 0) ∷ flags_to mark marks heads flags
 
 -- The start and the tails are marked, the goal and the heads are not, and each link with room from a marked node to one that is not leads
 -- from one of the tails to one of the heads.

@@ -2,7 +2,7 @@
 ghost use Rattle.std.specs.Prelude.{◌≡◌, ◌≢◌, ◌+◌, ℕ, List, true, length};
 ghost use Rattle.dmf_node.specs.Node.{IsNode};
 ghost use Rattle.dmf_links.specs.LinkTable.{links_of};
-ghost use Rattle.dmf_path.specs.Raising.{AreRaised, IsLeast, MayBeRaised};
+ghost use Rattle.dmf_path.specs.Raising.{AreRaised, IsLeastAhead, MayBeRaised};
 ghost use Rattle.dmf_path.specs.Residual.{residual_of};
 ghost use Rattle.dmf_path.specs.Walk.{IsWalk};
 
@@ -95,7 +95,7 @@ fn raise_node(
 fn least_label(links: &Residual, node: u32, labels: &[u32]) -> u32
     requires node { IsNode links.now.table.value.nodes node }
     requires one_each { length labels.now ≡ links.now.table.value.nodes + 1 }
-    ensures { IsLeast (links_of links.now.table.value) labels.now links.now.rooms.items node result }
+    ensures { IsLeastAhead (links_of links.now.table.value) labels.now links.now.rooms.items node result }
 {
     let mut least = NO_LABEL;
     let places = links.table.places_at(node);

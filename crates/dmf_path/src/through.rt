@@ -49,7 +49,7 @@ pub fn label_through(
     found
 }
 
-/// The same, with labels of the last search left over.
+/// Labels nodes on the two sides of the ways out, and leaves labels of the last search behind.
 fn label_sides(
     links: &Residual,
     near: &mut Frontier,

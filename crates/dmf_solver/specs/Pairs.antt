@@ -61,13 +61,13 @@ abbrev pub IsCarryingSearch : NetworkState → List ℕ → Searched → Type 0
 IsCarryingSearch s unpaired search = Carries s unpaired (flows_read Along unpaired search.pairs) search
 
 -- the flows, without the flow on these arcs
-abbrev pub emptied : List Shutting → List ℕ → List ℕ
-emptied [] flows = flows
-emptied (a ∷ arcs) flows = emptied arcs (slice_set flows (a.arc - 1) 0)
+abbrev pub flows_without : List Shutting → List ℕ → List ℕ
+flows_without [] flows = flows
+flows_without (a ∷ arcs) flows = flows_without arcs (slice_set flows (a.arc - 1) 0)
 
 -- the flows that a search over carrying steps has reached from the state's, if these arcs are drained to 0
 abbrev pub drained_flows : NetworkState → List Shutting → Searched → List ℕ
-drained_flows s shut search = flows_read Along (emptied shut s.flows) search.pairs
+drained_flows s shut search = flows_read Along (flows_without shut s.flows) search.pairs
 
 -- the flows that a search for augmenting paths has reached from the state's
 abbrev pub reached_flows : NetworkState → Searched → List ℕ

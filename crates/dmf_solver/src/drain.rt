@@ -7,7 +7,7 @@ ghost use Rattle.dmf_path.specs.Touched.{AreBelow, Touches};
 ghost use Rattle.dmf_solver.specs.CarryingNetwork.{IsCarryingOf};
 ghost use Rattle.dmf_solver.specs.KeptNetwork.{KeepsNetwork};
 ghost use Rattle.dmf_solver.specs.Moves.{AreDrainingMoves, CarriesMoved, TellsMoves, UntouchedStay};
-ghost use Rattle.dmf_solver.specs.Pairs.{Along, IsCarryingSearch, drained_flows, emptied, flows_read};
+ghost use Rattle.dmf_solver.specs.Pairs.{Along, IsCarryingSearch, drained_flows, flows_without, flows_read};
 ghost use Rattle.dmf_solver.specs.Told.{AreTold};
 ghost use Rattle.dmf_solver.specs.Turns.{TellsDrain};
 
@@ -132,7 +132,7 @@ pub fn list_drained(
     mut touched: Touched,
 ) -> Result<Drained, AllocError>
     requires shut { AreOpenWith 0 shut.now state.now.network }
-    requires carrying { IsCarryingSearch state.now (emptied shut.now state.now.flows) carrying }
+    requires carrying { IsCarryingSearch state.now (flows_without shut.now state.now.flows) carrying }
     requires below { AreBelow (length state.now.flows + 1) touched }
     requires others_stay { UntouchedStay touched state.now.flows (drained_flows state.now shut.now carrying) }
     ensures moves { IfOk result (λ drained. drained.moves.items ≡ differences 1 state.now.flows (drained_flows state.now shut.now carrying)) }

@@ -1,7 +1,7 @@
 //! The flows after draining.
 ghost use Rattle.std.specs.Prelude.{◌≡◌, ◌<◌, length, slice_index};
 ghost use Rattle.dmf_state.specs.Edit.{AreOpenWith};
-ghost use Rattle.dmf_solver.specs.Pairs.{emptied};
+ghost use Rattle.dmf_solver.specs.Pairs.{flows_without};
 
 use crate::moves::Flows;
 use dmf_path::Search;
@@ -20,7 +20,7 @@ pub struct DrainedFlows<'a> {
 impl<'a> Model for DrainedFlows<'a> {
     ghost use Rattle.std.specs.Prelude.{ℕ, List};
     ghost use Rattle.dmf_state.specs.Edit.{AreOpenWith};
-    ghost use Rattle.dmf_solver.specs.Pairs.{IsCarryingSearch, drained_flows, emptied};
+    ghost use Rattle.dmf_solver.specs.Pairs.{IsCarryingSearch, drained_flows, flows_without};
 
     ghost Value = { List ℕ };
 
@@ -28,7 +28,7 @@ impl<'a> Model for DrainedFlows<'a> {
 
     ghost invariant = { λ a. record {
       shut : AreOpenWith 0 a.shut.now a.state.now.network;
-      carrying : IsCarryingSearch a.state.now (emptied a.shut.now a.state.now.flows) a.search.now;
+      carrying : IsCarryingSearch a.state.now (flows_without a.shut.now a.state.now.flows) a.search.now;
     } };
 }
 
@@ -47,7 +47,7 @@ impl Flows for DrainedFlows<'_> {
 fn emptied_flow(state: &State, shut: &[Shutting], k: usize) -> u64
     requires shut { AreOpenWith 0 shut.now state.now.network }
     requires within { k < length state.now.flows }
-    ensures { result ≡ slice_index (emptied shut.now state.now.flows) k }
+    ensures { result ≡ slice_index (flows_without shut.now state.now.flows) k }
 {
     let flow = state.flows()[k];
     match shut.binary_search_by_key(&(k + 1), |shutting| shutting.arc as usize) {

@@ -16,7 +16,7 @@ use Rattle.dmf_path.specs.Frontier.{AreApart, IsSpread}
 use Rattle.dmf_path.specs.Labels.{no_label, is_label, AreLabelsFrom}
 use Rattle.dmf_path.specs.Reach.{Reach}
 use Rattle.dmf_path.specs.Searching.{IsParted}
-use Rattle.dmf_path.specs.Through.{flags_to, has_mark, AreMarked, AreWaysOut, FallOnce}
+use Rattle.dmf_path.specs.Through.{flags_to, is_on_side, AreMarked, AreWaysOut, FallOnce}
 use Rattle.dmf_path.specs.declared.through.WaysOut.{WaysOut}
 use Rattle.dmf_path.specs.Walk.{AreValid}
 use Rattle.dmf_path.proofs.labels.Labelled.{opposite}
@@ -34,7 +34,7 @@ length-flags_to mark marks (h ∷ heads) [] long = absurd (omega (arith, long))
 length-flags_to mark marks (h ∷ heads) (f ∷ flags) long = ap suc (length-flags_to mark marks heads flags (omega (arith, long)))
 
 pub flag-to : (mark : Bool) (marks : List Bool) (heads flags : List ℕ) (p : ℕ) → length flags ≡ length heads → p < length heads
-    → get_or (flags_to mark marks heads flags) p 0 ≡ cond (has_mark mark marks (get_or heads p 0)) (get_or flags p 0) 0
+    → get_or (flags_to mark marks heads flags) p 0 ≡ cond (is_on_side mark marks (get_or heads p 0)) (get_or flags p 0) 0
 flag-to mark marks [] flags p long within = absurd (omega (arith, within))
 flag-to mark marks (h ∷ heads) [] p long within = absurd (omega (arith, long))
 flag-to mark marks (h ∷ heads) (f ∷ flags) zero long within = refl
@@ -58,15 +58,15 @@ cond-shut false flag is = refl
 
 -- A link that is open is so among them if it leads to a node with the mark,
 pub open-to : (mark : Bool) (marks : List Bool) (heads flags : List ℕ) (p : ℕ) → length flags ≡ length heads → p < length heads
-    → (get_or flags p 0 == 1) ≡ true → (get_or (flags_to mark marks heads flags) p 0 == 1) ≡ has_mark mark marks (get_or heads p 0)
+    → (get_or flags p 0 == 1) ≡ true → (get_or (flags_to mark marks heads flags) p 0 == 1) ≡ is_on_side mark marks (get_or heads p 0)
 open-to mark marks heads flags p long within is =
-    ap (λ (f : ℕ). (f == 1)) (flag-to mark marks heads flags p long within) ∙ cond-open (has_mark mark marks (get_or heads p 0)) (get_or flags p 0) is
+    ap (λ (f : ℕ). (f == 1)) (flag-to mark marks heads flags p long within) ∙ cond-open (is_on_side mark marks (get_or heads p 0)) (get_or flags p 0) is
 
 -- and one that is not open is not.
 pub shut-to : (mark : Bool) (marks : List Bool) (heads flags : List ℕ) (p : ℕ) → length flags ≡ length heads → p < length heads
     → (get_or flags p 0 == 1) ≡ false → (get_or (flags_to mark marks heads flags) p 0 == 1) ≡ false
 shut-to mark marks heads flags p long within is =
-    ap (λ (f : ℕ). (f == 1)) (flag-to mark marks heads flags p long within) ∙ cond-shut (has_mark mark marks (get_or heads p 0)) (get_or flags p 0) is
+    ap (λ (f : ℕ). (f == 1)) (flag-to mark marks heads flags p long within) ∙ cond-shut (is_on_side mark marks (get_or heads p 0)) (get_or flags p 0) is
 
 cond-either : (a b : Bool) → b ≡ true → cond a true b ≡ true
 cond-either true b e = refl

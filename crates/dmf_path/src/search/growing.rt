@@ -62,7 +62,7 @@ impl Search {
         ))
     }
 
-    /// The same searches, if both ends of the pair have spare links; or else the first one alone, over links made anew.
+    /// Both searches as they are, if both ends of the pair have spare links; or else the first one alone, over links made anew.
     fn ready_for(
         self,
         alloc: Global,

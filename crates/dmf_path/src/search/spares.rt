@@ -15,7 +15,7 @@ const MOST_PAIRS: usize = (1 << 27) + 1;
 const MOST_NODES: u32 = 1 << 24;
 
 impl Search {
-    /// The same search over links made anew: two spare ones at each node, and as many more at the node `hub` as it has links now. Takes
+    /// This search over links made anew: two spare ones at each node, and as many more at the node `hub` as it has links now. Takes
     /// memory as [`new`](Search::new) does, and for the spare links. `None` if it is refused, or if there are too many links.
     pub(super) fn with_spares(self, alloc: Global, hub: u32) -> Option<Search>
         requires { IsNode self.nodes hub }

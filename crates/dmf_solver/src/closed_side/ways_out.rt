@@ -22,7 +22,7 @@ pub struct KnownWays {
 }
 
 impl KnownWays {
-    /// The same after one more path, unless there were enough.
+    /// These ways out after one more path, unless there were enough.
     pub fn next(self) -> Option<KnownWays>
         ensures { IfSome result (λ known. known.ways ≡ self.ways) }
     {

@@ -1,7 +1,7 @@
 use Rattle.std.proofs.Common.{◌+◌, ◌∙◌, length, sym, arith}
 use Rattle.std.proofs.lemmas.Slice.Zip.{AllZip-long}
 use Rattle.dmf_path.specs.Search.{indices_of}
-use Rattle.dmf_solver.specs.Pairs.{drained_flows, emptied}
+use Rattle.dmf_solver.specs.Pairs.{drained_flows, flows_without}
 use Rattle.dmf_solver.proofs.draining.DrainingSearch.{carries-moved, one_each}
 use Rattle.dmf_solver.proofs.pairs.Untouched.{changed-cover}
 use Rattle.dmf_solver.proofs.drain.list_drained.Goals as goal
@@ -12,7 +12,7 @@ indices-indices-requires-clause-below c = rw c.flows.ensures.value (c.sort.ensur
 pub list_moves-requires-clause-one_each : goal.list_moves-requires-clause-one_each
 list_moves-requires-clause-one_each c =
     let s = c.args.state.now in
-    one_each s (emptied c.args.shut.now s.flows) _ c.args.carrying c.requires.carrying
+    one_each s (flows_without c.args.shut.now s.flows) _ c.args.carrying c.requires.carrying
     ∙ sym (AllZip-long _ s.network.arcs s.flows c.flows.ensures.state.flow.within)
 
 pub list_moves-requires-clause-others_stay : goal.list_moves-requires-clause-others_stay
@@ -24,4 +24,4 @@ list_moves-requires-clause-others_stay c =
 pub returns-clause-carrying : goal.returns-clause-carrying
 returns-clause-carrying c =
     let s = c.args.state.now in
-    carries-moved s (emptied c.args.shut.now s.flows) c.in_ok-moves.moves.items c.args.carrying c.flows.ensures.state c.requires.carrying c.in_ok-moves.ensures
+    carries-moved s (flows_without c.args.shut.now s.flows) c.in_ok-moves.moves.items c.args.carrying c.flows.ensures.state c.requires.carrying c.in_ok-moves.ensures

@@ -7,7 +7,7 @@ use Rattle.dmf_state.specs.Edit.{numbers}
 use Rattle.dmf_state.specs.declared.edit.Shutting.{Shutting}
 use Rattle.dmf_solver.specs.declared.watch.Turn.{Turn}
 use Rattle.dmf_solver.specs.Moves.{UntouchedStay}
-use Rattle.dmf_solver.specs.Pairs.{Along, IsCarryingSearch, drained_flows, emptied, flows_read}
+use Rattle.dmf_solver.specs.Pairs.{Along, IsCarryingSearch, drained_flows, flows_without, flows_read}
 use Rattle.dmf_solver.specs.Turns.{TellsDrains, turns_from, turns_to_zero}
 use Rattle.dmf_state.proofs.ClosedArcs.{no_shutting, open-at, numbers-next, numbers-end, HasArcs-open}
 use Rattle.dmf_solver.proofs.draining.DrainedInTurn.{AreDrainedUpTo, drained-next_arc, drained-every_arc, drains-told, shutting-moves}
@@ -34,7 +34,7 @@ loop-i-init g c =
     }
 
 pub drain_in_turn-requires-clause-carrying : goal.drain_in_turn-requires-clause-carrying
-drain_in_turn-requires-clause-carrying g c = (emptied (take c.loop-i.i c.args.arcs.now) c.args.state.now.flows, c.loop-i.invariant.up_to.carrying)
+drain_in_turn-requires-clause-carrying g c = (flows_without (take c.loop-i.i c.args.arcs.now) c.args.state.now.flows, c.loop-i.invariant.up_to.carrying)
 
 pub drain_in_turn-requires-clause-is_there : goal.drain_in_turn-requires-clause-is_there
 drain_in_turn-requires-clause-is_there g c =
@@ -54,9 +54,9 @@ loop-i-preserved g c =
     let turn : ℕ → Turn = λ n. record { arc = (get_or arcs i no_shutting).arc; limit = 0; place = i + 1; count = n } in
     let rest : List Turn = turns_from (i + 1 + 1) (length js) (numbers (drop (i + 1) arcs)) in
     let left = ap (turns_from (i + 1) (length js)) (numbers-next arcs i c.loop-i-test.true) ∙ ap (λ n. turn n ∷ rest) count in
-    let unpaired : List ℕ = emptied (take i arcs) s.flows in
+    let unpaired : List ℕ = flows_without (take i arcs) s.flows in
     let next : List ℕ = set unpaired ((get_or arcs i no_shutting).arc - 1) 0 in
-    let same : emptied (take (i + 1) arcs) s.flows ≡ next = emptied-next arcs s.flows i c.loop-i-test.true in
+    let same : flows_without (take (i + 1) arcs) s.flows ≡ next = emptied-next arcs s.flows i c.loop-i-test.true in
     let drains = c.drain_in_turn.ensures.drains unpaired is.up_to.carrying (emptied-before 0 arcs s.network s.flows i c.requires.arcs c.loop-i-test.true) in
     let pairs = length-carries s unpaired _ c.loop-i.search is.up_to.carrying in
     let long : length c.loop-i.search.pairs ≡ length s.flows + 1 =
@@ -73,10 +73,10 @@ loop-i-preserved g c =
     }
 
 -- All arcs are passed.
-all : (g : _) (c : After-loop-i g) → emptied (take c.loop-i.i c.args.arcs.now) c.args.state.now.flows ≡ emptied c.args.arcs.now c.args.state.now.flows
-all g c = ap (λ (arcs : List Shutting). emptied arcs c.args.state.now.flows) (take_all c.loop-i.i c.args.arcs.now c.loop-i-test.false)
+all : (g : _) (c : After-loop-i g) → flows_without (take c.loop-i.i c.args.arcs.now) c.args.state.now.flows ≡ flows_without c.args.arcs.now c.args.state.now.flows
+all g c = ap (λ (arcs : List Shutting). flows_without arcs c.args.state.now.flows) (take_all c.loop-i.i c.args.arcs.now c.loop-i-test.false)
 
-carrying : (g : _) (c : After-loop-i g) → IsCarryingSearch c.args.state.now (emptied c.args.arcs.now c.args.state.now.flows) c.loop-i.search
+carrying : (g : _) (c : After-loop-i g) → IsCarryingSearch c.args.state.now (flows_without c.args.arcs.now c.args.state.now.flows) c.loop-i.search
 carrying g c = subst (λ unpaired. IsCarryingSearch c.args.state.now unpaired c.loop-i.search) (all g c) c.loop-i.invariant.up_to.carrying
 
 pub list_drained-requires-clause-carrying : goal.list_drained-requires-clause-carrying
@@ -100,7 +100,7 @@ told g c =
     let none = ap (turns_from (c.loop-i.i + 1) (length (numbers arcs))) (numbers-end arcs c.loop-i.i c.loop-i-test.false) in
     subst (λ unpaired. TellsDrains s.network (turns_to_zero (numbers arcs)) s.flows (flows_read Along unpaired c.loop-i.search.pairs)
     (g.W.Watch.drained c.args.watch.now) (g.W.Watch.drained c.loop-i.watch)) (all g c)
-    (drained-every_arc s _ _ (emptied (take c.loop-i.i arcs) s.flows) c.loop-i.search _ _ none c.loop-i.invariant.up_to)
+    (drained-every_arc s _ _ (flows_without (take c.loop-i.i arcs) s.flows) c.loop-i.search _ _ none c.loop-i.invariant.up_to)
 
 pub returns-clause-moves : goal.returns-clause-moves
 returns-clause-moves g c =
@@ -124,7 +124,7 @@ returns-clause-drained g c =
     let here = (goal.at.returns-clause-drained g c).After-loop-i in
     tells-listed s (turns_to_zero (numbers c.args.arcs.now)) (drained_flows s c.args.arcs.now c.loop-i.search)
     c.list_drained.result _ _
-    (one_each s (emptied c.args.arcs.now s.flows) _ c.loop-i.search (carrying g here)
+    (one_each s (flows_without c.args.arcs.now s.flows) _ c.loop-i.search (carrying g here)
     ∙ sym (AllZip-long _ s.network.arcs s.flows c.nodes.ensures.state.flow.within)) c.list_drained.ensures.moves (told g here)
 
 -- Nothing was reported.

@@ -1,6 +1,6 @@
 -- The head of the link is a node, so it has a mark.
 use Rattle.std.proofs.Common.{◌<◌, get_or, ap, sym, ◌∙◌, length, arith, rules}
-use Rattle.dmf_path.specs.Through.{has_mark}
+use Rattle.dmf_path.specs.Through.{is_on_side}
 use Rattle.dmf_path.proofs.labels.WaysOut.{length-flags_to, open-to, shut-to}
 use Rattle.dmf_path.proofs.open.LedToOpenLinks.is_open.Goals.{Start}
 use Rattle.dmf_path.proofs.open.LedToOpenLinks.is_open.Goals as goal
@@ -33,13 +33,13 @@ pub returns-then-self : goal.returns-then-self
 returns-then-self g c =
     let s = c.args.self.now in
     sym (open-to s.mark s.marks.now s.heads.now (g.O.OpenLinks.flags s.opens) c.args.place s.one_flag_each (within g (goal.at.returns-then-self g c).Start)
-    (sym c.is_open.ensures ∙ c.if-is_open.true) ∙ ap (λ m. has_mark m s.marks.now (get_or s.heads.now c.args.place 0)) c.if-self.true)
+    (sym c.is_open.ensures ∙ c.if-is_open.true) ∙ ap (λ m. is_on_side m s.marks.now (get_or s.heads.now c.args.place 0)) c.if-self.true)
 
 pub returns-else-self : goal.returns-else-self
 returns-else-self g c =
     let s = c.args.self.now in
     sym (open-to s.mark s.marks.now s.heads.now (g.O.OpenLinks.flags s.opens) c.args.place s.one_flag_each (within g (goal.at.returns-else-self g c).Start)
-    (sym c.is_open.ensures ∙ c.if-is_open.true) ∙ ap (λ m. has_mark m s.marks.now (get_or s.heads.now c.args.place 0)) c.if-self.false)
+    (sym c.is_open.ensures ∙ c.if-is_open.true) ∙ ap (λ m. is_on_side m s.marks.now (get_or s.heads.now c.args.place 0)) c.if-self.false)
 
 pub returns-else-is_open : goal.returns-else-is_open
 returns-else-is_open g c =

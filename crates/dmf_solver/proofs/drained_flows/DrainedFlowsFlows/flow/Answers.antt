@@ -2,7 +2,7 @@ use Rattle.std.proofs.Common.{◌≡◌, ◌∙◌, ◌<◌, ◌≤◌, ℕ, Lis
 use Rattle.std.specs.Option.{unwrap_or}
 use Rattle.dmf_path.specs.Search.{Searched}
 use Rattle.dmf_state.specs.NetworkState.{NetworkState}
-use Rattle.dmf_solver.specs.Pairs.{Along, IsCarryingSearch, drained_flows, emptied}
+use Rattle.dmf_solver.specs.Pairs.{Along, IsCarryingSearch, drained_flows, flows_without}
 use Rattle.dmf_solver.proofs.draining.DrainingSearch.{length-carries}
 use Rattle.dmf_solver.proofs.pairs.FlowsRead.{length-flows_read, get_or-flows_read}
 use Rattle.dmf_solver.proofs.Emptied.{length-emptied}
@@ -15,7 +15,7 @@ each s unpaired search carries = omega (arith, length-carries s unpaired _ searc
 
 -- the flows of the state, without those of the drained arcs
 abbrev left : After-self → List ℕ
-left c = emptied c.self.inside.shut.now c.self.inside.state.now.flows
+left c = flows_without c.self.inside.shut.now c.self.inside.state.now.flows
 
 -- The index is one of these flows, and of the pairs.
 within : (c : After-self) → (c.args.k < length (left c)) × (c.args.k < length c.self.inside.search.now.pairs)
