@@ -12,6 +12,8 @@ use Rattle.dmf_path.specs.Labels.{no_label, is_label, AreLabelsFrom}
 use Rattle.dmf_path.specs.Reach.{Reach}
 use Rattle.dmf_path.specs.Searching.{IsParted}
 use Rattle.dmf_path.specs.declared.residual.Residual.{Residual}
+use Rattle.dmf_path.specs.declared.search.through.Passage.{Passage}
+use Rattle.dmf_path.specs.declared.search.through.Passage.TheVariants.{Once, Closed, Unknown}
 use Rattle.dmf_path.specs.declared.through.WaysOut.{WaysOut}
 
 -- whether the node is on this side: has the mark, or has none
@@ -64,3 +66,9 @@ pub record HasPassed (links : Residual) (near : Reach) (start goal : ℕ) (found
   pub labelled : found ≡ Some true → FallOnce (links_of links.table.value) links.rooms.items near.labels start goal before
   pub parted : found ≡ Some false → IsParted (links_of links.table.value) links.rooms.items start goal after
   pub same : found ≢ Some false → after ≡ before
+
+-- what is known of paths where labels pass, with this label of the start; or do not pass; or were given up
+abbrev pub passage_by : Option Bool → ℕ → Passage
+passage_by (Some true) long = Once long
+passage_by (Some false) long = Closed
+passage_by None long = Unknown

@@ -1,6 +1,7 @@
 //! Labels through the ways out of marked nodes.
 ghost use Rattle.std.specs.Prelude.{◌≡◌};
 ghost use Rattle.dmf_path.specs.ClosedSide.{HasWaysOut, IsPassage};
+ghost use Rattle.dmf_path.specs.Through.{passage_by};
 ghost use Rattle.dmf_path.specs.Pair.{steps_of};
 
 use crate::phase::relabel_through;
@@ -38,10 +39,17 @@ impl Search {
             ways,
             marks,
         );
-        match passes {
-            Some(true) => Passage::Once(phase.levels.near.label(phase.trail.start)),
-            Some(false) => Passage::Closed,
-            None => Passage::Unknown,
-        }
+        passage_of(passes, phase.levels.near.label(phase.trail.start))
+    }
+}
+
+/// What is known where labels pass, with this label of the start; or do not pass; or were given up.
+fn passage_of(passes: Option<bool>, long: u32) -> Passage
+    ensures { result ≡ passage_by passes long }
+{
+    match passes {
+        Some(true) => Passage::Once(long),
+        Some(false) => Passage::Closed,
+        None => Passage::Unknown,
     }
 }

@@ -1,13 +1,13 @@
 -- The search goes on from the labels through the ways out, or is fresh.
-use Rattle.std.proofs.Common.{◌≡◌, Some, true, false, get_or, refl, ap, sym, subst, ◌∙◌}
-use Rattle.dmf_path.specs.ClosedSide.{IsClosedSide, NoneReturns}
+use Rattle.std.proofs.Common.{ℕ, ◌≡◌, Bool, Option, None, Some, true, false, get_or, refl, ap, sym, subst, ◌∙◌}
+use Rattle.dmf_path.specs.ClosedSide.{IsClosedSide, IsPassage, NoneReturns}
 use Rattle.dmf_path.specs.Going.{Goes}
 use Rattle.dmf_path.specs.Held.{way_of, filled_slots}
 use Rattle.dmf_path.specs.Pair.{steps_of}
 use Rattle.dmf_path.specs.Residual.{residual_of}
 use Rattle.dmf_path.specs.Phase.{sought_by, IsPartedBy, IsSearch, begun}
 use Rattle.dmf_path.specs.Searching.{Sought, sought, searched}
-use Rattle.dmf_path.specs.Through.{AreWaysOut, FallOnce}
+use Rattle.dmf_path.specs.Through.{AreWaysOut, FallOnce, passage_by}
 use Rattle.dmf_path.proofs.searches.Going.{goes-settled}
 use Rattle.dmf_path.proofs.paths.Returning.{none-returns}
 use Rattle.dmf_path.proofs.labels.Parted.{closed-parted, ways-out}
@@ -15,7 +15,7 @@ use Rattle.dmf_path.proofs.slots.Settled.{AreRooms-settled}
 use Rattle.dmf_path.proofs.slots.Settling.{can-settle}
 use Rattle.dmf_path.proofs.searches.SearchTurns.{plainly, plainly-settled, sought-settled, told-settled}
 use Rattle.dmf_path.proofs.search.Search.label_through.Goals as goal
-use Rattle.dmf_path.proofs.search.Search.label_through.Goals.{After-settle, After-relabel_through-passes, in-Some-true, in-Some-false, in-None}
+use Rattle.dmf_path.proofs.search.Search.label_through.Goals.{After-settle, After-relabel_through-passes}
 
 pub settle-requires : goal.settle-requires
 settle-requires c = record { can = can-settle c.phase.invariant.searching }
@@ -104,15 +104,18 @@ closed c none =
     closed-parted s.residual.links c.self.inside.places.value s.residual.rooms s.start s.goal c.relabel_through-passes.new.marks a.links places_are a.start_is a.goal_is
     (c.relabel_through-passes.auto.marks ∙ out.one_each) parted
 
+-- What the labels say, in each case.
+said : (c : After-relabel_through-passes) (passes : Option Bool) → c.relabel_through-passes.result ≡ passes
+    → IsPassage (steps_of (searched (sought (residual_of c.phase.inside.links) (way_of c.phase.inside.trail)) c.self.inside.places.value).pairs)
+    c.phase.inside.trail.start c.phase.inside.trail.goal c.args.marks.now c.relabel_through-passes.new.marks
+    (passage_by passes (get_or c.relabel_through-passes.new.levels.near.labels c.phase.inside.trail.start 0))
+said c (Some true) is = (once c is, c.relabel_through-passes.ensures.marks (λ e. cc))
+said c (Some false) is = closed c is
+said c None is = c.relabel_through-passes.ensures.marks (λ e. cc)
+
 pub returns-clause-passage : goal.returns-clause-passage
 returns-clause-passage c =
     let at = (goal.at.returns-clause-passage c).After-relabel_through-passes in
     let start = ap (λ (s : Sought). s.start) (same at) in
-    rw (← c.self.view_is, ← c.phase.view_is) (elim c.match-passes.branch [
-      | in-Some-true w ↦
-          let label = w.label.ensures ∙ ap (λ v. get_or c.relabel_through-passes.new.levels.near.labels v 0) start in
-          let left = w.in-Some-true.is ∙ ap Some w.in-Some-true.field-0-test in
-          rw (w.result-is, label) (once at left, c.relabel_through-passes.ensures.marks (λ e. let is = left in cc))
-      | in-Some-false w ↦ rw w.result-is (closed at (w.in-Some-false.is ∙ ap Some w.in-Some-false.field-0-test))
-      | in-None w ↦ rw w.result-is (c.relabel_through-passes.ensures.marks (λ e. let is = w.in-None.is in cc))
-    ])
+    let label = c.label.ensures ∙ ap (λ v. get_or c.relabel_through-passes.new.levels.near.labels v 0) start in
+    rw (← c.self.view_is, ← c.phase.view_is, c.passage_of.ensures, label) (said at c.relabel_through-passes.result refl)
