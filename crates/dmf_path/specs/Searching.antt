@@ -4,10 +4,12 @@ use Rattle.std.specs.Prelude.{ℕ, ◌≡◌, ◌≢◌, ◌+◌, ◌^◌, ◌<�
 use Rattle.std.specs.List.{All}
 use Rattle.dmf_path.specs.declared.aside.Aside.{Aside}
 use Rattle.dmf_path.specs.declared.aside.Ends.{Ends}
+use Rattle.dmf_path.specs.declared.ball.Ball.{Ball}
 use Rattle.dmf_path.specs.declared.levels.Levels.{Levels}
 use Rattle.dmf_path.specs.declared.residual.Residual.{Residual}
 use Rattle.dmf_path.specs.Reach.{Reach}
 use Rattle.dmf_path.specs.declared.noted.Noted.{Noted}
+use Rattle.dmf_path.specs.Ball.{IsFit}
 use Rattle.dmf_path.specs.Labels.{no_label}
 use Rattle.dmf_path.specs.Frontier.{IsClean}
 use Rattle.dmf_path.specs.BothEnds.{AreSound, AreWhole, IsLabelled}
@@ -154,23 +156,22 @@ pub record AreUsable (levels : Levels) (r : ResidualLinks) (goal : ℕ) : Type 0
   pub current_is : AreCurrent r.links levels.current.items
   pub kept : levels.all ≡ true → AreKeptFor (labelling_of levels) levels.noted r goal
 
--- Labels that may be made to lead to another goal.
-pub record MayBeRefitted (levels : Levels) (r : ResidualLinks) : Type 0 where
+-- Labels from which those can be made that lead from the start to the goal: no link with room falls by more than one, and the start has a
+-- label that is not lower than the goal's.
+pub record MayLead (levels : Levels) (ball : Ball) (r : ResidualLinks) (start goal : ℕ) : Type 0 where
   pub ready : IsReady r.links.nodes levels.near levels.far
   pub current_is : AreCurrent r.links levels.current.items
   pub lasting : AreLasting (labelling_of levels) levels.noted r
-
--- No label has risen, and that of the start has not fallen.
-pub record HaveFallen (old new : Levels) (start goal : ℕ) : Type 0 where
-  pub all : new.all ≡ old.all
-  pub start_label : slice_index new.near.labels start ≡ slice_index old.near.labels start
-  pub less : slice_index new.near.labels goal ≤ slice_index old.near.labels goal
-
--- The labels lead to the goal, and the start has one that is not lower than the goal's.
-pub record AreRedirected (levels : Levels) (r : ResidualLinks) (start goal : ℕ) : Type 0 where
-  pub kept : AreKeptFor (labelling_of levels) levels.noted r goal
   pub labelled : slice_index levels.near.labels start ≢ no_label
   pub above : slice_index levels.near.labels goal ≤ slice_index levels.near.labels start
+  pub fit : IsFit ball r
+  pub start_is : IsNode r.links.nodes start
+  pub goal_is : IsNode r.links.nodes goal
+
+-- They lead there: no walk to the goal begins with a passed link.
+pub record Lead (levels : Levels) (ball : Ball) (r : ResidualLinks) (start goal : ℕ) : Type 0 where
+  pub may : MayLead levels ball r start goal
+  pub passed : ArePassed r.links levels.near.labels r.rooms goal levels.current.items
 
 -- Those that are set aside are so for the goal that they had, and no room rises.
 abbrev pub AreAside : List Aside → ResidualLinks → Type 0

@@ -3,11 +3,11 @@ ghost use Rattle.std.specs.Prelude.{◌≡◌, ◌≢◌, ℕ, List, Some, true,
 ghost use Rattle.dmf_node.specs.Node.{IsNode};
 ghost use Rattle.dmf_links.specs.LinkTable.{links_of};
 ghost use Rattle.dmf_path.specs.Going.{Goes, IsRelabelledFor};
-ghost use Rattle.dmf_path.specs.Ball.{IsFitFor};
+ghost use Rattle.dmf_path.specs.Ball.{IsAround};
 ghost use Rattle.dmf_path.specs.Walk.{IsWalk};
 ghost use Rattle.dmf_path.specs.Held.{way_of, with_slots};
 ghost use Rattle.dmf_path.specs.Residual.{residual_of, with_settled_rooms};
-ghost use Rattle.dmf_path.specs.Searching.{sought, AreRedirected, IsReady, IsParted, fresh_labels};
+ghost use Rattle.dmf_path.specs.Searching.{sought, IsReady, IsParted, Lead, fresh_labels};
 ghost use Rattle.dmf_path.specs.Through.{AreWaysOut, FallOnce};
 
 use crate::aside::{Aside, Ends, take_up};
@@ -51,7 +51,6 @@ impl Model for Phase {
 impl Phase {
     ghost use Rattle.std.specs.Prelude.{◌+◌, ◌^◌, ◌<◌, length, slice_index};
     ghost use Rattle.dmf_links.specs.Links.{IsSpare};
-    ghost use Rattle.dmf_path.specs.Ball.{IsAround};
     ghost use Rattle.dmf_path.specs.Phase.{sought_by, sought_at, with_residual, GoesOn, HasEnds, HasGoneOn, HasNotBegun, IsFoundBy, IsMarked, IsPartedBy, IsSettled, IsWalkBy, MayRise, Settles};
     ghost use Rattle.dmf_path.specs.Residual.{pair_set};
     ghost use Rattle.dmf_path.specs.Searching.{AreAside};
@@ -234,14 +233,10 @@ impl Phase {
 /// Lowers the labels near the goal, if they are those from the start, and raises labels to the goal. Returns whether a walk may lead to
 /// the goal then: whether the goal's label fell, or a trial found such a walk.
 fn mend(links: &Residual, levels: &mut Levels, ball: &mut Ball, start: u32, goal: u32) -> bool
-    requires ready { IsReady links.now.table.value.nodes levels.old.near levels.old.far }
-    requires redirected { AreRedirected levels.old (residual_of links.now) start goal }
-    requires fit { IsFitFor ball.old (residual_of links.now) goal }
-    requires start { IsNode links.now.table.value.nodes start }
-    requires goal { IsNode links.now.table.value.nodes goal }
-    ensures ready { IsReady links.now.table.value.nodes levels.new.near levels.new.far }
-    ensures redirected { AreRedirected levels.new (residual_of links.now) start goal }
-    ensures fit { IsFitFor ball.new (residual_of links.now) goal }
+    requires led { Lead levels.old ball.old (residual_of links.now) start goal }
+    requires around { IsAround ball.old goal }
+    ensures led { Lead levels.new ball.new (residual_of links.now) start goal }
+    ensures around { IsAround ball.new goal }
 {
     if !levels.course.is_from_start() {
         return raise(

@@ -4,9 +4,9 @@ ghost use Rattle.std.specs.List.{All};
 ghost use Rattle.dmf_node.specs.Node.{IsNode};
 ghost use Rattle.dmf_links.specs.Links.{tail_of};
 ghost use Rattle.dmf_links.specs.LinkTable.{links_of};
-ghost use Rattle.dmf_path.specs.Ball.{IsFit, IsFitFor};
+ghost use Rattle.dmf_path.specs.Ball.{IsAround, IsFit};
 ghost use Rattle.dmf_path.specs.Residual.{residual_of};
-ghost use Rattle.dmf_path.specs.Searching.{labelling_of, AreKeptFor, AreLowered, AreRedirected, AreUsable, HaveFallen, IsReady, MayBeLowered, MayBeRefitted};
+ghost use Rattle.dmf_path.specs.Searching.{AreLowered, AreUsable, Lead, MayBeLowered, MayLead};
 ghost use Rattle.dmf_path.specs.Walk.{AreCurrent};
 
 use crate::ball::Ball;
@@ -31,10 +31,8 @@ pub fn redirect(
     requires fit { IsFit ball.old (residual_of links.now) }
     requires start { IsNode links.now.table.value.nodes start }
     requires goal { IsNode links.now.table.value.nodes goal }
-    ensures ready { IsReady links.now.table.value.nodes levels.new.near levels.new.far }
-    ensures redirected { result ≡ true → AreRedirected levels.new (residual_of links.now) start goal }
-    ensures same { result ≡ false → levels.new ≡ levels.old }
-    ensures fit { IsFit ball.new (residual_of links.now) }
+    ensures led { result ≡ true → Lead levels.new ball.new (residual_of links.now) start goal }
+    ensures same { result ≡ false → (levels.new ≡ levels.old) × (ball.new ≡ ball.old) }
 {
     let near = &levels.near;
     if !levels.all || !near.has_label(start) || near.label(goal) > near.label(start) {
@@ -53,14 +51,10 @@ pub fn redirect(
 /// Makes labels lead to this goal, once all links are noted that have to be looked at again. Labels from the start are first lowered near
 /// the goal, where they can be.
 pub fn refit(links: &Residual, levels: &mut Levels, ball: &mut Ball, start: u32, goal: u32)
-    requires refitted { MayBeRefitted levels.old (residual_of links.now) }
+    requires may { MayLead levels.old ball.old (residual_of links.now) start goal }
     requires noted { levels.old.noted.lost ≡ false }
-    requires fit { IsFit ball.old (residual_of links.now) }
-    requires goal { IsNode links.now.table.value.nodes goal }
-    ensures ready { IsReady links.now.table.value.nodes levels.new.near levels.new.far }
-    ensures kept { AreKeptFor (labelling_of levels.new) levels.new.noted (residual_of links.now) goal }
-    ensures fallen { HaveFallen levels.old levels.new start goal }
-    ensures fit { IsFitFor ball.new (residual_of links.now) goal }
+    ensures led { Lead levels.new ball.new (residual_of links.now) start goal }
+    ensures around { IsAround ball.new goal }
 {
     lower_from_start(links, levels, ball, start, goal);
     bring_back(&links.table, &levels.noted.places, &mut levels.current);
@@ -69,13 +63,10 @@ pub fn refit(links: &Residual, levels: &mut Levels, ball: &mut Ball, start: u32,
 
 /// Lowers labels from the start near this goal, where they can be. Leaves other labels.
 fn lower_from_start(links: &Residual, levels: &mut Levels, ball: &mut Ball, start: u32, goal: u32)
-    requires refitted { MayBeRefitted levels.old (residual_of links.now) }
-    requires fit { IsFit ball.old (residual_of links.now) }
-    requires goal { IsNode links.now.table.value.nodes goal }
-    ensures refitted { MayBeRefitted levels.new (residual_of links.now) }
+    requires { MayLead levels.old ball.old (residual_of links.now) start goal }
+    ensures may { MayLead levels.new ball.new (residual_of links.now) start goal }
     ensures noted { levels.new.noted ≡ levels.old.noted }
-    ensures fallen { HaveFallen levels.old levels.new start goal }
-    ensures fit { IsFitFor ball.new (residual_of links.now) goal }
+    ensures around { IsAround ball.new goal }
 {
     if !levels.course.is_from_start() {
         ball.keep_for(goal);

@@ -1,6 +1,5 @@
 -- All links leave. The labels that fit are taken up, and made to lead to the goal, or taken off.
-use Rattle.std.proofs.Common.{◌≡◌, get_or, [], refl, ap, sym, ◌∙◌, subst, arith}
-use Rattle.dmf_path.specs.declared.levels.Levels.{Levels}
+use Rattle.std.proofs.Common.{false, ◌≡◌, get_or, [], refl, ap, sym, ◌∙◌, subst, arith}
 use Rattle.dmf_path.specs.Ball.{IsFit}
 use Rattle.dmf_path.specs.Going.{IsBetweenLooks}
 use Rattle.dmf_path.specs.Phase.{sought_at, HasEnds, begun, fresh}
@@ -8,7 +7,7 @@ use Rattle.dmf_links.specs.LinkTable.{links_of}
 use Rattle.dmf_path.specs.Walk.{AreCurrent, ArePassed}
 use Rattle.dmf_path.specs.Held.{way_of}
 use Rattle.dmf_path.specs.Residual.{ResidualLinks, residual_of, with_settled_rooms}
-use Rattle.dmf_path.specs.Searching.{Sought, labelling_of, AreAside, AreLasting, AreUsable, IsFresh}
+use Rattle.dmf_path.specs.Searching.{Sought, IsReady, labelling_of, AreAside, AreLasting, AreUsable, IsFresh}
 use Rattle.dmf_path.proofs.searches.Beginning.{ready-at}
 use Rattle.dmf_path.proofs.searches.Going.{between, keeps-free, keeps-fresh, small-start}
 use Rattle.dmf_path.proofs.searches.SearchTurns.{plainly, sought-free}
@@ -70,22 +69,20 @@ read c = (c.label-start_label.ensures, c.label-goal_label.ensures)
 
 pub overflow_sub-start_label : goal.overflow_sub-start_label
 overflow_sub-start_label c =
-    omega (arith, read (goal.at.overflow_sub-start_label c).After-label-goal_label, (c.redirect.ensures.redirected c.if-redirect.true).above)
+    omega (arith, read (goal.at.overflow_sub-start_label c).After-label-goal_label, (c.redirect.ensures.led c.if-redirect.true).may.above)
 
 pub free-requires : goal.free-requires
 free-requires c =
     let at = goal.at.free-requires c in
-    let small = small-start (ends at.After-take_up-used).start_is (c.redirect.ensures.redirected c.if-redirect.true) in
+    let small = small-start (c.redirect.ensures.led c.if-redirect.true).may in
     record { capacity = omega (arith, (read at.After-label-goal_label).0, small, c.self.invariant.searching.aimed.capacity_is) }
 
 pub invariant_of-self : goal.invariant_of-self
 invariant_of-self c =
     let at = goal.at.invariant_of-self c in
-    let ends = ends at.After-take_up-used in
-    let e = c.redirect.ensures in
-    let redirected = e.redirected c.if-redirect.true in
-    keeps-free c.self.inside.trail c.self.invariant.searching ends.start_is ends.goal_is ends.apart e.ready e.fit redirected c.free.new.self.slots.items
-    c.free.ensures.way (omega (arith, c.free.ensures.count, read at.After-label-goal_label, redirected.above))
+    let led = c.redirect.ensures.led c.if-redirect.true in
+    keeps-free c.self.inside.trail c.self.invariant.searching c.requires.ends.apart led c.free.new.self.slots.items
+    c.free.ensures.way (omega (arith, c.free.ensures.count, read at.After-label-goal_label, led.may.above))
 
 pub returns-then-redirect : goal.returns-then-redirect
 returns-then-redirect c =
@@ -99,11 +96,22 @@ returns-then-redirect c =
       same = free ∙ ap (λ (x : ResidualLinks). plainly x w) (plain at);
     }
 
+-- The labels and the ball are as they were.
+kept : (c : After-redirect) → c.redirect.result ≡ false → IsReady c.self.inside.links.table.value.nodes c.redirect.new.levels.near c.redirect.new.levels.far
+    × AreCurrent (links_of c.self.inside.links.table.value) c.redirect.new.levels.current.items
+    × IsFit c.redirect.new.ball (residual_of c.self.inside.links)
+kept c cannot =
+    let at = (goal.at.After-redirect c).After-take_up-used in
+    let same = c.redirect.ensures.same cannot in
+    let usable = (taken at).0 in
+    rw (same.0, same.1) (usable.ready, usable.current_is, subst (IsFit c.self.inside.ball) (settled at) c.self.invariant.fit)
+
 pub make_fresh-requires : goal.make_fresh-requires
 make_fresh-requires c =
-    let ends = ends (goal.at.make_fresh-requires c).After-take_up-used in
+    let at = goal.at.make_fresh-requires c in
+    let ends = ends at.After-take_up-used in
     record {
-      ready = rw c.deref.ensures c.redirect.ensures.ready;
+      ready = rw c.deref.ensures (kept at.After-redirect c.if-redirect.false).0;
       start = rw c.deref.ensures ends.start_is;
       goal = rw c.deref.ensures ends.goal_is;
     }
@@ -112,13 +120,13 @@ make_fresh-requires c =
 anew : (c : After-make_fresh) → IsBetweenLooks c.self.inside.links c.make_fresh.new.levels c.redirect.new.ball c.make_fresh.new.trail
     × IsFresh (links_of c.self.inside.links.table.value) c.make_fresh.new.levels.near.labels c.make_fresh.new.trail.start
 anew c =
-    let at = (goal.at.After-make_fresh c).After-take_up-used in
+    let at = goal.at.After-make_fresh c in
     let of = c.self.inside in
-    let ends = ends at in
+    let ends = ends at.After-take_up-used in
+    let kept = kept at.After-redirect c.if-redirect.false in
     let m = rw c.deref.ensures at c.make_fresh.ensures in
-    let current = ap (λ v. v.items) m.current ∙ ap (λ (x : Levels). x.current.items) (c.redirect.ensures.same c.if-redirect.false) in
-    keeps-fresh of.trail c.self.invariant.searching ends.start_is ends.goal_is ends.apart m.ready c.redirect.ensures.fit m.all m.labels
-    (subst (AreCurrent (links_of of.links.table.value)) (sym current) (taken at).0.current_is) m.way
+    keeps-fresh of.trail c.self.invariant.searching ends.apart ends.start_is ends.goal_is kept.2 m.ready m.all m.labels
+    (subst (AreCurrent (links_of of.links.table.value)) (sym (ap (λ v. v.items) m.current)) kept.1) m.way
 
 pub invariant_of-self-2 : goal.invariant_of-self-2
 invariant_of-self-2 c = (anew c).0

@@ -36,7 +36,7 @@ anew c =
     let is = c.self.invariant in
     let a = is.searching.aimed in
     let m = rw c.deref.ensures at c.make_fresh.ensures in
-    keeps-fresh of.trail is.searching a.start_is a.goal_is a.apart m.ready (subst (IsFit of.ball) (settled c) is.fit) m.all m.labels
+    keeps-fresh of.trail is.searching a.apart a.start_is a.goal_is (subst (IsFit of.ball) (settled c) is.fit) m.ready m.all m.labels
     (subst (AreCurrent (links_of of.links.table.value)) (sym (ap (λ v. v.items) m.current)) is.searching.under_way.walking.current_is) m.way
 
 pub invariant_of-self : goal.invariant_of-self

@@ -21,19 +21,20 @@ mend-is_mended-requires c =
     let walking = is.searching.under_way.walking in
     let settled : with_settled_rooms r (way_of of.trail) ≡ r = rw (← c.self.view_is) at c.requires.settled in
     record {
-      ready = ready-at of.links.table.value.nodes levels is.ready aimed.one_label_each;
-      redirected = record {
-        kept = record {
-          lasting = subst (AreLasting (labelling_of levels) levels.noted) settled (is.lasting c.if-not-self.false);
+      led = record {
+        may = record {
+          ready = ready-at of.links.table.value.nodes levels is.ready aimed.one_label_each;
           current_is = walking.current_is;
-          passed = subst (λ (x : ResidualLinks). ArePassed r.links levels.near.labels x.rooms of.trail.goal levels.current.items) settled walking.passed;
+          lasting = subst (AreLasting (labelling_of levels) levels.noted) settled (is.lasting c.if-not-self.false);
+          labelled = λ none. absurd (omega (arith, none, aimed.start_label, aimed.links.at_most_nodes));
+          above = omega (arith, is.searching.under_way.one_slot_each);
+          fit = subst (IsFit of.ball) settled is.fit;
+          start_is = aimed.start_is;
+          goal_is = aimed.goal_is;
         };
-        labelled = λ none. absurd (omega (arith, none, aimed.start_label, aimed.links.at_most_nodes));
-        above = omega (arith, is.searching.under_way.one_slot_each);
+        passed = subst (λ (x : ResidualLinks). ArePassed r.links levels.near.labels x.rooms of.trail.goal levels.current.items) settled walking.passed;
       };
-      fit = record { fit = subst (IsFit of.ball) settled is.fit; around = rw (← c.self.view_is) at c.requires.around };
-      start = aimed.start_is;
-      goal = aimed.goal_is;
+      around = rw (← c.self.view_is) at c.requires.around;
     }
 
 -- the labels of the start and of the goal are read
@@ -43,7 +44,7 @@ read c = (c.label-start_label.ensures, c.label-goal_label.ensures)
 
 -- The goal is not above the start.
 low : (c : After-label-goal_label) → c.label-goal_label.result ≤ c.label-start_label.result
-low c = omega (arith, read c, c.mend-is_mended.ensures.redirected.above)
+low c = omega (arith, read c, c.mend-is_mended.ensures.led.may.above)
 
 pub overflow_sub-start_label : goal.overflow_sub-start_label
 overflow_sub-start_label c = low (goal.at.overflow_sub-start_label c).After-label-goal_label
@@ -51,16 +52,13 @@ overflow_sub-start_label c = low (goal.at.overflow_sub-start_label c).After-labe
 pub free-requires : goal.free-requires
 free-requires c =
     let at = (goal.at.free-requires c).After-label-goal_label in
-    let a = c.self.invariant.searching.aimed in
-    record { capacity = omega (arith, (read at).0, small-start a.start_is c.mend-is_mended.ensures.redirected, a.capacity_is) }
+    record { capacity = omega (arith, (read at).0, small-start c.mend-is_mended.ensures.led.may, c.self.invariant.searching.aimed.capacity_is) }
 
 pub invariant_of-self : goal.invariant_of-self
 invariant_of-self c =
     let at = (goal.at.invariant_of-self c).After-label-goal_label in
     let is = c.self.invariant.searching in
-    let a = is.aimed in
-    let e = c.mend-is_mended.ensures in
-    keeps-free c.self.inside.trail is a.start_is a.goal_is a.apart e.ready e.fit.fit e.redirected c.free.new.self.slots.items c.free.ensures.way
+    keeps-free c.self.inside.trail is is.aimed.apart c.mend-is_mended.ensures.led c.free.new.self.slots.items c.free.ensures.way
     (omega (arith, c.free.ensures.count, read at, low at))
 
 pub returns : goal.returns
@@ -71,5 +69,5 @@ returns c =
     let settled : with_settled_rooms r w ≡ r = rw (← c.self.view_is) at c.requires.settled in
     rw (← c.self.view_is) (record {
       same = sought-free r w c.free.new.self.slots.items c.free.ensures.way ∙ (λ i. plainly (sym settled i) w);
-      around = λ some. c.mend-is_mended.ensures.fit.around some ∙ sym (ap (λ (u : Way). u.goal) c.free.ensures.way);
+      around = λ some. c.mend-is_mended.ensures.around some ∙ sym (ap (λ (u : Way). u.goal) c.free.ensures.way);
     })

@@ -51,7 +51,7 @@ invariant_of-self c =
     let m = rw c.deref.ensures at c.make_fresh.ensures in
     let current = subst (AreCurrent (links_of of.links.table.value)) (sym (ap (λ v. v.items) (m.current ∙ c.label_anew.ensures.relabelled.current)))
     is.searching.under_way.walking.current_is in
-    (keeps-fresh of.trail is.searching a.start_is a.goal_is a.apart m.ready (subst (IsFit of.ball) (settled at) is.fit) m.all m.labels current m.way).0
+    (keeps-fresh of.trail is.searching a.apart a.start_is a.goal_is (subst (IsFit of.ball) (settled at) is.fit) m.ready m.all m.labels current m.way).0
 
 pub returns-then-not-label_anew : goal.returns-then-not-label_anew
 returns-then-not-label_anew c =
