@@ -171,7 +171,7 @@ def test_added_arcs(family: str, maker: Path, tmp_path: Path) -> None:
 @pytest.mark.seconds(4)
 @pytest.mark.parametrize("family", ["grid", "random"])
 def test_added_self_loops(family: str, maker: Path, tmp_path: Path) -> None:
-    """An added self loop has no link, and neither has its undo: the close and the solve behind them make none anew."""
+    """An added self loop, its undo and its redo touch no link: the close and the solve behind them need make none anew."""
     text = subprocess.run([maker, family, str(ARCS), "1990"], capture_output=True, check=True, text=True).stdout
     solution = subprocess.run([BUILT, "solve"], input=text, capture_output=True, check=True, text=True).stdout
     carrying = next(number for number, line in enumerate(solution.splitlines()[1:], 1) if not line.endswith(" 0"))
