@@ -135,7 +135,12 @@ def test_long(driver: Any) -> None:
         stop_session(session)
         page.press("Shut it")
         stop = driver.find_element("id", "end")
+        driver.execute_script("scrollTo(0, 80)")
+        seen = "return document.getElementById('picture').getBoundingClientRect().top"
+        before = driver.execute_script(seen)
         page.wait(stop.is_displayed)
+        # What comes above the picture does not move it.
+        assert driver.execute_script(seen) == pytest.approx(before, abs=1)
         wait_until_asked(session)
         stop.click()
         page.wait(lambda: "It was stopped. The session was begun again" in page.text("#trouble"))

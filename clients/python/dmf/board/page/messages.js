@@ -30,13 +30,14 @@ export function news(text) {
  * @param {Promise<Told>} answer
  */
 export async function patiently(answer) {
-  const late = setTimeout(() => {
-    at("long").hidden = false;
-  }, LONG);
+  const hide = (/** @type {boolean} */ isHidden) => keepInSight(() => {
+    at("long").hidden = isHidden;
+  });
+  const late = setTimeout(() => hide(false), LONG);
   try {
     return await answer;
   } finally {
     clearTimeout(late);
-    at("long").hidden = true;
+    if (!at("long").hidden) hide(true);
   }
 }
