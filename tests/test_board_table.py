@@ -201,6 +201,20 @@ def test_choice(driver: Any) -> None:
         page.wait(lambda: "'x' is no number" in page.text("#filter-told"))
 
 
+def test_press(driver: Any) -> None:
+    """A click is not lost where the board tells another state between the press and the release, by which flows of that row changed."""
+    with board(PIPES) as it:
+        page = Page(driver, it.address)
+        order = [pipe.name for pipe in water()]
+        before = page.text("#row-0 .flow")
+        row = driver.find_element("css selector", "#row-0 .name")
+        page.actions().move_to_element(row).click_and_hold().perform()
+        it.do(what="close-all", arcs=[3])
+        page.wait(lambda: page.text("#row-0 .flow") != before)
+        page.actions().release().perform()
+        page.wait(lambda: chosen(page) == order[:1])
+
+
 def test_keys(driver: Any) -> None:
     """The keyboard alone moves in the table, chooses, and shows an arc; the focus stays in it."""
     with board(PIPES) as it:

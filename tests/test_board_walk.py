@@ -135,8 +135,6 @@ class Walk:
         first = self.chance.randrange(len(self.model.rows) - 1)
         last = self.chance.randrange(first + 1, min(first + 5, len(self.model.rows)))
         self.click_row(first)
-        # As a person does, who sees the first one chosen before the next click.
-        self.page.wait(lambda: self.page.text("#many-told").startswith("1 chosen"))
         self.click_row(last, shift=True)
         opened, closed = ([at for at in range(first, last + 1) if self.model.rows[at].is_closed == is_so] for is_so in (False, True))
         count = last - first + 1

@@ -15,7 +15,7 @@ const COLUMNS = [["name", ""], ["from", "From"], ["to", "To"], ["flow", "flows"]
 /** @type {Part} */
 let part = { total: 0, first: 0, rows: [], reading: "", fault: "" };
 /**
- * The rows that are shown, by what stands in them.
+ * The rows that are shown, by their places and their arcs' numbers.
  * @type {Map<string, HTMLTableRowElement>}
  */
 let shown = new Map();
@@ -85,8 +85,11 @@ function draw() {
   grid.setAttribute("aria-label", `All ${noun()}s ${caption()}; ${keys}`);
   if (grid.tHead) replace(grid.tHead, [make("tr", [title("tick", "chosen"), ...heads, title("marks", "state")])]);
   const rest = part.total - part.first - part.rows.length, before = shown;
-  const told = part.rows.map((arc, place) => /** @type {[string, number]} */ ([JSON.stringify([part.first + place, arc]), place]));
-  shown = new Map(told.map(([text, place]) => [text, before.get(text) ?? row(part.rows[place], place)]));
+  shown = new Map(part.rows.map((arc, place) => {
+    const key = `${part.first + place} ${arc.number}`, made = before.get(key) ?? row(part.first + place);
+    fill(made, arc);
+    return [key, made];
+  }));
   replace(grid.tBodies[0], [spacer(part.first), ...shown.values(), spacer(rest)]);
   point();
 }
@@ -108,19 +111,26 @@ function spacer(count) {
 }
 
 /**
- * @param {Arc} arc
+ * An empty row at this place of the table.
  * @param {number} place
  */
-function row(arc, place) {
+function row(place) {
+  const tick = make("input", [], { type: "checkbox", tabindex: "-1" });
+  const cells = [...COLUMNS.map(([column]) => column), "marks"].map((column) => make("td", [], { class: column }));
+  return make("tr", [make("td", tick, { class: "tick" }), ...cells], { id: `row-${place}`, "aria-rowindex": String(place + 2) });
+}
+
+/**
+ * Has a row say what is so of an arc. The row stays where it is, since a click on one that is made anew under the pointer would be lost.
+ * @param {HTMLTableRowElement} made
+ * @param {Arc} arc
+ */
+function fill(made, arc) {
   const marks = [arc.closed && "closed", arc.full && "full", arc.limit && "limit"].filter(Boolean).join(", ");
-  const tick = make("input", [], { type: "checkbox", tabindex: "-1", "aria-label": `choose ${arc.label}` });
-  tick.checked = isPicked(arc.number);
-  return make("tr", [make("td", tick, { class: "tick" }),
-    make("td", arc.name || arc.label, { class: "name", title: arc.label }),
-    make("td", arc.tail, { class: "from" }), make("td", arc.head, { class: "to" }),
-    make("td", arc.closed ? "" : arc.flow, { class: "flow" }), make("td", arc.capacity, { class: "capacity" }),
-    make("td", marks, { class: "marks" })],
-  { id: `row-${part.first + place}`, "aria-rowindex": String(part.first + place + 2), "aria-selected": String(tick.checked) });
+  const [tick, ...cells] = made.cells, texts = [arc.name || arc.label, arc.tail, arc.head, arc.closed ? "" : arc.flow, arc.capacity, marks];
+  for (const [column, cell] of cells.entries()) if (cell.textContent !== texts[column]) cell.textContent = texts[column];
+  cells[0].title = arc.label;
+  tick.firstElementChild?.setAttribute("aria-label", `choose ${arc.label}`);
 }
 
 /** Marks the row that keys move from, and those that are chosen. */
