@@ -20,12 +20,16 @@ leads_out marks (Some p) = leads_from marks p.tail p.head p.along || leads_from 
 abbrev pub IsGuarded : List (Option Pair) → List Bool → List ℕ → ℕ → Type 0
 IsGuarded pairs marks gates k = Contains gates k ⊎ (leads_out marks (pair_number pairs k) ≡ false)
 
--- The start of the search is in the side, its goal is not, and links with room lead out of it over gates alone.
-pub record IsClosedBut (search : Searched) (side : ClosedSide) : Type 0 where
-  pub one_each : length side.marks.items ≡ search.nodes
-  pub start_in : IsTrue (is_marked side.marks.items search.start)
-  pub goal_out : ¬ IsTrue (is_marked side.marks.items search.goal)
-  pub guarded : (k : ℕ) → IsGuarded search.pairs side.marks.items side.gates.items k
+-- The start of the search is marked, its goal is not, and links with room lead out of the marked nodes over gates alone.
+pub record AreGuarded (search : Searched) (marks : List Bool) (gates : List ℕ) : Type 0 where
+  pub one_each : length marks ≡ search.nodes
+  pub start_in : IsTrue (is_marked marks search.start)
+  pub goal_out : ¬ IsTrue (is_marked marks search.goal)
+  pub guarded : (k : ℕ) → IsGuarded search.pairs marks gates k
+
+-- So it is with the nodes of the side.
+abbrev pub IsClosedBut : Searched → ClosedSide → Type 0
+IsClosedBut search side = AreGuarded search side.marks.items side.gates.items
 
 -- The marks stay. Each of these gates still is one, unless none of its links with room leads out.
 pub record KeepsGates (search : Searched) (marks : List Bool) (gates : List ℕ) (after : ClosedSide) : Type 0 where

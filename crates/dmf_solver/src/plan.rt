@@ -248,7 +248,7 @@ pub fn plan_solve_watched<W: Watch>(
     ensures drained { AreTold (W.drained watch.old) (W.drained watch.new) [] }
 {
     let search = residual_search(alloc, state)?;
-    let solved = solve(search, state, Touched::all(), &mut [], None, watch);
+    let solved = solve(alloc, search, state, Touched::all(), &mut [], None, watch);
     let side = wanted_side(alloc, state, &solved.search, solved.value, want_side)?;
     let moves = into_moves(alloc, state, solved)?;
     Ok((Edit::Solve { moves }, side))

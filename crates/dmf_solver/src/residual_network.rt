@@ -147,7 +147,7 @@ impl ResidualNetwork {
         number_once_used(alloc, &mut search, is_used)?;
         let (search, mut marks, known) = search.into_ways_out(alloc, state.nodes());
         let touched = search.none_touched(alloc, state.nodes() as usize / 8)?;
-        let solved = solve(search, state, touched, &mut marks, known, watch);
+        let solved = solve(alloc, search, state, touched, &mut marks, known, watch);
         let side = wanted_side(alloc, state, &solved.search, solved.value, want_side)?;
         let moves = touched_moves(alloc, state, &solved)?;
         let carrying = carry_flows(carrying, state, &moves, Direction::Forward);

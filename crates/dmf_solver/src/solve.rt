@@ -1,5 +1,5 @@
 ghost use Rattle.std.specs.Prelude.{◌≡◌, ◌≢◌, ◌+◌, ◌-◌, ◌^◌, ◌↔◌, false, [], length, None, IfOk, IfSome, IsTrue, MatchOption};
-ghost use Rattle.dmf_path.specs.ClosedSide.{IsClosedSide};
+ghost use Rattle.dmf_path.specs.ClosedSide.{IsClosedSide, IsPassage};
 ghost use Rattle.dmf_path.specs.Pair.{steps_of};
 ghost use Rattle.dmf_path.specs.Path.{HasNoPath};
 ghost use Rattle.dmf_path.specs.Search.{Augments};
@@ -32,6 +32,7 @@ pub struct SolvedSearch {
 ///
 /// If the ways out of the marked nodes are known, the first paths are looked for from there.
 pub fn solve<W: Watch>(
+    alloc: Global,
     mut search: Search,
     state: &State,
     mut touched: Touched,
@@ -50,7 +51,7 @@ pub fn solve<W: Watch>(
     ensures state { IsState state.now }
 {
     let mut value = state.value();
-    while let Some(found) = next_path(&mut search, &mut known, &mut touched, marks) {
+    while let Some(found) = next_path(alloc, &mut search, &mut known, &mut touched, marks) {
         value += found.amount;
         watch.augmented(value, found.links);
     }
@@ -62,8 +63,26 @@ pub fn solve<W: Watch>(
     }
 }
 
+/// Labels the nodes for the next path from the ways out that lead over known gates now.
+fn look_through(
+    alloc: Global,
+    search: &mut Search,
+    known: &KnownWays,
+    marks: &mut [bool],
+) -> Passage
+    requires { AreKnown search.old marks.old known.now }
+    ensures same { search.new ≡ search.old }
+    ensures passage { IsPassage (steps_of search.old.pairs) search.old.start search.old.goal marks.old marks.new result }
+{
+    let Some(ways) = known.ways_out(alloc, search, marks) else {
+        return Passage::Unknown;
+    };
+    search.label_through(&ways, marks)
+}
+
 /// Augments along the next least path, which is looked for from the ways out while they are known. If no path is left, marks a closed side.
 fn next_path(
+    alloc: Global,
     search: &mut Search,
     known: &mut Option<KnownWays>,
     touched: &mut Touched,
@@ -79,7 +98,7 @@ fn next_path(
     ensures ways { result ≢ None → IfSome known.new (AreKnown search.new marks.new) }
 {
     if let Some(before) = known.take() {
-        match search.label_through(&before.ways, marks) {
+        match look_through(alloc, search, &before, marks) {
             Passage::Closed => return None,
             Passage::Once(long) => {
                 if let Some(found) = search.augment(u64::MAX, touched) {

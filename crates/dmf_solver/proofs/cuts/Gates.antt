@@ -17,7 +17,7 @@ use Rattle.dmf_path.specs.Search.{Searched, with_pairs, with_rooms}
 use Rattle.dmf_path.specs.Step.{Step}
 use Rattle.dmf_path.proofs.pairs.PairLists.{emptied-twice}
 use Rattle.dmf_solver.specs.declared.closed_side.ClosedSide.{ClosedSide}
-use Rattle.dmf_solver.specs.Gates.{leads_out, leads_from, IsClosedBut, IsGuarded, KeepsGates, MayBeGated}
+use Rattle.dmf_solver.specs.Gates.{leads_out, leads_from, AreGuarded, IsClosedBut, IsGuarded, KeepsGates, MayBeGated}
 use Rattle.dmf_solver.proofs.pairs.ByArc.{optional-each, optional-has}
 
 -- ---- the tests
@@ -30,13 +30,13 @@ stays true false target e r i = absurd (false≢true i)
 stays false inside target e r i = absurd (false≢true r)
 
 -- and one that does leads out of no marked node.
-shut : (room inside target : Bool) → (IsTrue room → IsTrue inside → IsTrue target) → (room && (inside && not target)) ≡ false
+pub shut : (room inside target : Bool) → (IsTrue room → IsTrue inside → IsTrue target) → (room && (inside && not target)) ≡ false
 shut true true true f = refl
 shut true true false f = absurd (false≢true (f refl refl))
 shut true false target f = refl
 shut false inside target f = refl
 
-neither : (a b : Bool) → a ≡ false → b ≡ false → (a || b) ≡ false
+pub neither : (a b : Bool) → a ≡ false → b ≡ false → (a || b) ≡ false
 neither true b e f = absurd (false≢true (sym e))
 neither false b e f = f
 
@@ -51,7 +51,7 @@ second-not false b e = e
 pub some-room : (room : ℕ) → 0 < room → IsTrue (nat_lt 0 room)
 some-room room h = grind (arith, nat_tests)
 
-has-room : (room : ℕ) → IsTrue (nat_lt 0 room) → 0 < room
+pub has-room : (room : ℕ) → IsTrue (nat_lt 0 room) → 0 < room
 has-room room h = grind (arith, nat_tests)
 
 -- ---- the steps of pairs
@@ -168,23 +168,23 @@ no_path-without_gates search side is none =
     })
 
 -- A closed side needs no gate.
-pub closed-anew : (search : Searched) (side : ClosedSide) → length side.marks.items ≡ search.nodes
-    → IsClosedSide (steps_of search.pairs) search.start search.goal side.marks.items → IsClosedBut search side
-closed-anew search side long is =
+pub closed-anew : (search : Searched) (marks : List Bool) (gates : List ℕ) → length marks ≡ search.nodes
+    → IsClosedSide (steps_of search.pairs) search.start search.goal marks → AreGuarded search marks gates
+closed-anew search marks gates long is =
     record { one_each = long; start_in = is.start_in; goal_out = is.goal_out; guarded = λ k. inr (out k (pair_number search.pairs k) refl) }
   where
-    leads : (from to : ℕ) → HasStep (steps_of search.pairs) from to → IsTrue (is_marked side.marks.items from) → IsTrue (is_marked side.marks.items to)
+    leads : (from to : ℕ) → HasStep (steps_of search.pairs) from to → IsTrue (is_marked marks from) → IsTrue (is_marked marks to)
     leads from to has inside =
-        subst (λ v. IsTrue (is_marked side.marks.items v)) has.to_is
-        (is.none_leaves has.step has.there (subst (λ v. IsTrue (is_marked side.marks.items v)) (sym has.from_is) inside))
+        subst (λ v. IsTrue (is_marked marks v)) has.to_is
+        (is.none_leaves has.step has.there (subst (λ v. IsTrue (is_marked marks v)) (sym has.from_is) inside))
 
-    out : (k : ℕ) (pair : Option Pair) → pair_number search.pairs k ≡ pair → leads_out side.marks.items pair ≡ false
+    out : (k : ℕ) (pair : Option Pair) → pair_number search.pairs k ≡ pair → leads_out marks pair ≡ false
     out k None at = refl
     out k (Some p) at =
-        neither (leads_from side.marks.items p.tail p.head p.along) (leads_from side.marks.items p.head p.tail p.against)
-        (shut (nat_lt 0 p.along) (is_marked side.marks.items p.tail) (is_marked side.marks.items p.head)
+        neither (leads_from marks p.tail p.head p.along) (leads_from marks p.head p.tail p.against)
+        (shut (nat_lt 0 p.along) (is_marked marks p.tail) (is_marked marks p.head)
         (λ room. leads p.tail p.head (has-step 1 search.pairs k p p.tail p.head at (has-along p (has-room p.along room)))))
-        (shut (nat_lt 0 p.against) (is_marked side.marks.items p.head) (is_marked side.marks.items p.tail)
+        (shut (nat_lt 0 p.against) (is_marked marks p.head) (is_marked marks p.tail)
         (λ room. leads p.head p.tail (has-step 1 search.pairs k p p.head p.tail at (has-against p (has-room p.against room)))))
 
 -- ---- changes of pairs

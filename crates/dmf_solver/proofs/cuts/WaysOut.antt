@@ -1,4 +1,4 @@
--- Marked nodes keep their ways out when a push is made along a path that leads back to none of them.
+-- Marked nodes keep their gates when a push is made along a path that leads back to none of them.
 use Rattle.std.proofs.Common.{ℕ, ◌≡◌, ◌+◌, ◌-◌, ◌*◌, ◌<◌, ◌≤◌, ◌⊎◌, ⊎_elim, inl, inr, Bool, true, false, List, [], ◌∷◌, ◌++◌, length, zero, suc, refl, sym}
 use Rattle.std.proofs.Common.{◌∙◌, ◌==◌, subst, ap, arith, Option, Some, None, cond, get_or}
 use Rattle.std.specs.Prelude.{IsTrue, nat_lt}
@@ -17,11 +17,10 @@ use Rattle.dmf_path.specs.Search.{Augments, Searched}
 use Rattle.dmf_path.specs.Step.{Step}
 use Rattle.dmf_path.specs.declared.search.AugmentingPath.{AugmentingPath}
 use Rattle.dmf_path.specs.declared.through.WaysOut.{WaysOut}
-use Rattle.dmf_solver.specs.Gates.{leads_from, leads_out, IsClosedBut}
+use Rattle.dmf_solver.specs.Gates.{leads_from, leads_out, AreGuarded, IsGuarded}
 use Rattle.dmf_solver.specs.WaysOut.{LeadsOut}
-use Rattle.dmf_solver.specs.declared.closed_side.ClosedSide.{ClosedSide}
 use Rattle.dmf_solver.proofs.pairs.ByArc.{optional-each}
-use Rattle.dmf_solver.proofs.cuts.Gates.{OfPair, HasStep, each-step, first-not, has-step, has-along, has-against, second-not, some-room, stays}
+use Rattle.dmf_solver.proofs.cuts.Gates.{OfPair, each-step, first-not, has-room, neither, second-not, shut, some-room, stays}
 
 some-same : {A : Type 0} {x y : A} → Some x ≡ Some y → x ≡ y
 some-same same = cc
@@ -90,8 +89,8 @@ was-open : (takes_back has other : Bool) (room amount : ℕ) → other ≡ false
 was-open true has other room amount off some = let s = rw off at some in omega (arith, s)
 was-open false has other room amount off some = omega (arith, some)
 
-module _ (takes_back : Bool) (amount nodes : ℕ) (pairs : List (Option Pair)) (start goal : ℕ) (ways : WaysOut) (marks : List Bool) (path : List Step)
-    (out : HasWaysOut nodes (steps_of pairs) start goal ways marks) (leads : IsPath (steps_of pairs) start goal path)
+module _ (takes_back : Bool) (amount : ℕ) (pairs : List (Option Pair)) (start goal : ℕ) (marks : List Bool) (path : List Step)
+    (leads : IsPath (steps_of pairs) start goal path)
     (once : (s : Step) → Contains path s → IsTrue (is_marked marks s.to) → IsTrue (is_marked marks s.from)) where
   -- The step of this rank on the path, if it has one, is that of pair number `1 + k`.
   step-on : (k rank : ℕ) (p : Pair) → pair_number pairs k ≡ Some p → has_rank path rank ≡ true
@@ -114,75 +113,88 @@ module _ (takes_back : Bool) (amount nodes : ℕ) (pairs : List (Option Pair)) (
         ),
       )
 
-  -- Links with room still lead out between the same nodes.
-  Leaves : ℕ → ℕ → Type 0
-  Leaves from to = IsTrue (is_marked marks from) → ¬ IsTrue (is_marked marks to) → Contains ways.tails.items from × Contains ways.heads.items to
+  -- A link with room does not lead out of the marked nodes.
+  Stays : ℕ → ℕ → Type 0
+  Stays from to = IsTrue (is_marked marks from) → IsTrue (is_marked marks to)
 
-  -- A step that had room leads out between them,
-  led-out : (from to : ℕ) → HasStep (steps_of pairs) from to → Leaves from to
-  unfolding Leaves
-  led-out from to step inside outside =
-      let way = out.leaves step.step step.there (subst (λ v. IsTrue (is_marked marks v)) (sym step.from_is) inside)
-      (λ in_it. outside (subst (λ v. IsTrue (is_marked marks v)) step.to_is in_it)) in
-      (subst (λ v. Contains ways.tails.items v) step.from_is way.0, subst (λ v. Contains ways.heads.items v) step.to_is way.1)
+  -- The opposite of a step on the path does not.
+  opposite-stays : (from to : ℕ) (s : Step) → Contains path s → s.from ≡ to → s.to ≡ from → Stays from to
+  unfolding Stays
+  opposite-stays from to s on from_is to_is inside =
+      subst (λ v. IsTrue (is_marked marks v)) from_is (once s on (subst (λ v. IsTrue (is_marked marks v)) (sym to_is) inside))
 
-  -- and the opposite of a step on the path does not lead out.
-  none-opposite : (from to : ℕ) (s : Step) → Contains path s → s.from ≡ to → s.to ≡ from → Leaves from to
-  unfolding Leaves
-  none-opposite from to s on from_is to_is inside outside =
-      absurd (outside (subst (λ v. IsTrue (is_marked marks v)) from_is (once s on (subst (λ v. IsTrue (is_marked marks v)) (sym to_is) inside))))
-
-  leaves-pair : (k : ℕ) (after : Pair) → pair_number (pushed_pairs takes_back amount path pairs) k ≡ Some after → OfPair Leaves after
-  leaves-pair k after is =
-      let was = pushed-number takes_back 1 amount path pairs k after is in
-      let p : Pair = was.0 in
-      let made = some-same was.1.1 in
-      rw (← made) (
+  -- If no link of a pair led out, none does after the push.
+  stays-pair : (k : ℕ) (p after : Pair) → pair_number pairs k ≡ Some p → pushed_pair takes_back (1 + k) amount path (Some p) ≡ Some after
+      → OfPair Stays p → OfPair Stays after
+  stays-pair k p after at made had =
+      rw (← some-same made) (
         (λ room. elim (cases_Bool (has_rank path (2 * (1 + k) + 1))) [
           | inl on ↦
-              let s = step-on k (2 * (1 + k) + 1) p was.1.0 on (inr refl) in
+              let s = step-on k (2 * (1 + k) + 1) p at on (inr refl) in
               elim s.1.1 [
                 | inl along ↦ absurd (omega (arith, along.0))
-                | inr against ↦ none-opposite p.tail p.head s.0 s.1.0 against.1 against.2
+                | inr against ↦ opposite-stays p.tail p.head s.0 s.1.0 against.1 against.2
               ]
-          | inr off ↦
-              let had = was-open takes_back (has_rank path (2 * (1 + k))) (has_rank path (2 * (1 + k) + 1)) p.along amount off room in
-              led-out p.tail p.head (has-step 1 pairs k p p.tail p.head was.1.0 (has-along p had))
+          | inr off ↦ had.0 (was-open takes_back (has_rank path (2 * (1 + k))) (has_rank path (2 * (1 + k) + 1)) p.along amount off room)
         ]),
         (λ room. elim (cases_Bool (has_rank path (2 * (1 + k)))) [
           | inl on ↦
-              let s = step-on k (2 * (1 + k)) p was.1.0 on (inl refl) in
+              let s = step-on k (2 * (1 + k)) p at on (inl refl) in
               elim s.1.1 [
                 | inr against ↦ absurd (omega (arith, against.0))
-                | inl along ↦ none-opposite p.head p.tail s.0 s.1.0 along.1 along.2
+                | inl along ↦ opposite-stays p.head p.tail s.0 s.1.0 along.1 along.2
               ]
-          | inr off ↦
-              let had = was-open takes_back (has_rank path (2 * (1 + k) + 1)) (has_rank path (2 * (1 + k))) p.against amount off room in
-              led-out p.head p.tail (has-step 1 pairs k p p.head p.tail was.1.0 (has-against p had))
+          | inr off ↦ had.1 (was-open takes_back (has_rank path (2 * (1 + k) + 1)) (has_rank path (2 * (1 + k))) p.against amount off room)
         ]),
       )
 
-  pub ways-pushed : HasWaysOut nodes (steps_of (pushed_pairs takes_back amount path pairs)) start goal ways marks
-  unfolding Leaves
-  ways-pushed = record {
-    one_each = out.one_each;
-    start_in = out.start_in;
-    goal_out = out.goal_out;
-    tails_in = out.tails_in;
-    heads_out = out.heads_out;
-    leaves = λ s c. each-step Leaves 1 (pushed_pairs takes_back amount path pairs) s leaves-pair c;
-  }
+  -- Before the push, by the test.
+  stayed : (p : Pair) → leads_out marks (Some p) ≡ false → OfPair Stays p
+  unfolding Stays
+  stayed p none =
+      let along = first-not (leads_from marks p.tail p.head p.along) (leads_from marks p.head p.tail p.against) none in
+      let against = second-not (leads_from marks p.tail p.head p.along) (leads_from marks p.head p.tail p.against) none in (
+        (λ room inside. stays (nat_lt 0 p.along) (is_marked marks p.tail) (is_marked marks p.head) along (some-room p.along room) inside),
+        (λ room inside. stays (nat_lt 0 p.against) (is_marked marks p.head) (is_marked marks p.tail) against (some-room p.against room) inside),
+      )
+
+  -- After it.
+  stay : (p : Pair) → OfPair Stays p → leads_out marks (Some p) ≡ false
+  unfolding Stays
+  stay p each = neither (leads_from marks p.tail p.head p.along) (leads_from marks p.head p.tail p.against)
+      (shut (nat_lt 0 p.along) (is_marked marks p.tail) (is_marked marks p.head) (λ room. each.0 (has-room p.along room)))
+      (shut (nat_lt 0 p.against) (is_marked marks p.head) (is_marked marks p.tail) (λ room. each.1 (has-room p.against room)))
+
+  still : (k : ℕ) (pair : Option Pair) → pair_number (pushed_pairs takes_back amount path pairs) k ≡ pair
+      → leads_out marks (pair_number pairs k) ≡ false → leads_out marks pair ≡ false
+  still k None is none = refl
+  still k (Some after) is none =
+      let was = pushed-number takes_back 1 amount path pairs k after is in
+      stay after (stays-pair k was.0 after was.1.0 was.1.1 (stayed was.0 (subst (λ q. leads_out marks q ≡ false) was.1.0 none)))
+
+  pub guarded-pushed : (gates : List ℕ) → ((k : ℕ) → IsGuarded pairs marks gates k)
+      → (k : ℕ) → IsGuarded (pushed_pairs takes_back amount path pairs) marks gates k
+  guarded-pushed gates guarded k = elim (guarded k) [
+    | inl gate ↦ inl gate
+    | inr none ↦ inr (still k (pair_number (pushed_pairs takes_back amount path pairs) k) refl none)
+  ]
 
 -- ---- one more path
 
--- The marked nodes have the same ways out after a push along a least path that leads back to none of them.
-pub ways-next : (old new : Searched) (limit long : ℕ) (found : AugmentingPath) (marks : List Bool) (ways : WaysOut)
-    → HasWaysOut old.nodes (steps_of old.pairs) old.start old.goal ways marks → NoneReturns (steps_of old.pairs) old.start old.goal long marks
-    → found.links ≡ long → Augments limit found old new → HasWaysOut new.nodes (steps_of new.pairs) new.start new.goal ways marks
-ways-next old new limit long found marks ways out once same augments =
-    subst (λ (s : Searched). HasWaysOut s.nodes (steps_of s.pairs) s.start s.goal ways marks) (sym augments.gives)
-    (ways-pushed old.takes_back found.amount old.nodes old.pairs old.start old.goal ways marks augments.path out augments.least.leads
-    (once augments.path augments.least.leads (sym augments.links_are ∙ same)))
+-- The marked nodes have the same gates after a push along a least path that leads back to none of them.
+pub gates-next : (old new : Searched) (limit long : ℕ) (found : AugmentingPath) (marks : List Bool) (gates : List ℕ)
+    → AreGuarded old marks gates → NoneReturns (steps_of old.pairs) old.start old.goal long marks
+    → found.links ≡ long → Augments limit found old new → AreGuarded new marks gates
+gates-next old new limit long found marks gates is once same augments =
+    let path = augments.path in
+    let leads = augments.least.leads in
+    subst (λ (s : Searched). AreGuarded s marks gates) (sym augments.gives) (record {
+      one_each = is.one_each;
+      start_in = is.start_in;
+      goal_out = is.goal_out;
+      guarded = guarded-pushed old.takes_back found.amount old.pairs old.start old.goal marks path leads
+          (once path leads (sym augments.links_are ∙ same)) gates is.guarded;
+    })
 
 -- ---- the ways out of a closed side
 
@@ -204,13 +216,12 @@ leads-one {marks} x y =
       ]
     ]
 
-module _ (search : Searched) (side : ClosedSide) (is : IsClosedBut search side) where
+module _ (search : Searched) (marks : List Bool) (gates : List ℕ) (is : AreGuarded search marks gates) where
   -- What holds of the links that lead out over gates holds of all that lead out.
   out-each : (P : ℕ → ℕ → Type 0) (k : ℕ) (p : Pair) → pair_number search.pairs k ≡ Some p
-      → ((from to : ℕ) → Contains side.gates.items k → LeadsOut side.marks.items (pair_number search.pairs k) from to → P from to)
-      → OfPair (λ from to. is_marked side.marks.items from ≡ true → is_marked side.marks.items to ≡ false → P from to) p
+      → ((from to : ℕ) → Contains gates k → LeadsOut marks (pair_number search.pairs k) from to → P from to)
+      → OfPair (λ from to. is_marked marks from ≡ true → is_marked marks to ≡ false → P from to) p
   out-each P k p at each =
-      let marks = side.marks.items in
       elim (is.guarded k) [
         | inl gate ↦ (
           (λ room inside outside. each p.tail p.head gate (record { p = p; is = at; link = inl (room, refl, refl); inside = inside; outside = outside })),
@@ -226,13 +237,12 @@ module _ (search : Searched) (side : ClosedSide) (is : IsClosedBut search side) 
       ]
 
   -- The ends of all links that lead out over gates are the ways out.
-  pub ways-gates : (ways : WaysOut) → ((v : ℕ) → Contains ways.tails.items v → IsNode search.nodes v × (is_marked side.marks.items v ≡ true))
-      → ((v : ℕ) → Contains ways.heads.items v → IsNode search.nodes v × (is_marked side.marks.items v ≡ false))
-      → ((k from to : ℕ) → Contains side.gates.items k → LeadsOut side.marks.items (pair_number search.pairs k) from to
+  pub ways-gates : (ways : WaysOut) → ((v : ℕ) → Contains ways.tails.items v → IsNode search.nodes v × (is_marked marks v ≡ true))
+      → ((v : ℕ) → Contains ways.heads.items v → IsNode search.nodes v × (is_marked marks v ≡ false))
+      → ((k from to : ℕ) → Contains gates k → LeadsOut marks (pair_number search.pairs k) from to
       → Contains ways.tails.items from × Contains ways.heads.items to)
-      → HasWaysOut search.nodes (steps_of search.pairs) search.start search.goal ways side.marks.items
+      → HasWaysOut search.nodes (steps_of search.pairs) search.start search.goal ways marks
   ways-gates ways tails heads all =
-      let marks = side.marks.items in
       let Ends : ℕ → ℕ → Type 0 = λ from to. Contains ways.tails.items from × Contains ways.heads.items to in
       let off : (v : ℕ) → ¬ IsTrue (is_marked marks v) → is_marked marks v ≡ false = λ v out.
       elim (cases_Bool (is_marked marks v)) [ inl in_it ↦ absurd (out in_it) | inr outside ↦ outside ] in
@@ -291,9 +301,9 @@ module _ {search : Searched} {marks : List Bool} {gates tails heads : List ℕ} 
   }
 
 -- After all gates they are the ways out.
-pub ends-last : {search : Searched} {side : ClosedSide} {k : ℕ} (ways : WaysOut) → IsClosedBut search side
-    → AreEnds search side.marks.items side.gates.items ways.tails.items ways.heads.items k → length side.gates.items ≤ k
-    → HasWaysOut search.nodes (steps_of search.pairs) search.start search.goal ways side.marks.items
-ends-last {search = search} {side = side} ways is ends all = ways-gates search side is ways ends.tails_in ends.heads_out (λ j from to gate leads.
-    let same : get_or side.gates.items gate.0 0 ≡ j = get_or_default side.gates.items gate.0 0 j gate.1 ∙ gate.2 in
-    ends.each gate.0 from to (omega (arith, gate.1, all)) (subst (λ i. LeadsOut side.marks.items (pair_number search.pairs i) from to) (sym same) leads))
+pub ends-last : {search : Searched} {marks : List Bool} {gates : List ℕ} {k : ℕ} (ways : WaysOut) → AreGuarded search marks gates
+    → AreEnds search marks gates ways.tails.items ways.heads.items k → length gates ≤ k
+    → HasWaysOut search.nodes (steps_of search.pairs) search.start search.goal ways marks
+ends-last {search = search} {marks = marks} {gates = gates} ways is ends all = ways-gates search marks gates is ways ends.tails_in ends.heads_out (λ j from to gate leads.
+    let same : get_or gates gate.0 0 ≡ j = get_or_default gates gate.0 0 j gate.1 ∙ gate.2 in
+    ends.each gate.0 from to (omega (arith, gate.1, all)) (subst (λ i. LeadsOut marks (pair_number search.pairs i) from to) (sym same) leads))

@@ -2,8 +2,7 @@
 ghost use Rattle.std.specs.Prelude.{◌≡◌, ℕ, length, IfSome, MatchOption};
 ghost use Rattle.dmf_links.specs.Pair.{pair_number};
 ghost use Rattle.dmf_node.specs.Node.{IsNode};
-ghost use Rattle.dmf_solver.specs.Gates.{IsClosedBut};
-ghost use Rattle.dmf_solver.specs.WaysOut.{AreKnown, LeadsOut};
+ghost use Rattle.dmf_solver.specs.WaysOut.{AreKnown, HasWays, LeadsOut};
 
 use crate::closed_side::{ClosedSide, SidedSearch};
 use dmf_path::{Search, WaysOut};
@@ -12,23 +11,40 @@ use std::alloc::Global;
 /// At most so many paths are looked for from the ways out of a side. More are found sooner from the source and the sink.
 const MOST_PATHS: u32 = 16;
 
-/// The ways out of marked nodes, which have the start of a search and not its goal.
+/// What is known of the ways out of marked nodes, which have the start of a search and not its goal.
 #[derive(Drop)]
 pub struct KnownWays {
-    /// The ends of the links with room that lead out.
-    pub ways: WaysOut,
-    /// So many paths may be looked for from there.
+    /// The indices of pairs: of each whose links may lead out.
+    gates: Vec<usize>,
+    /// So many paths may be looked for from the ways out.
     left: u32,
 }
 
 impl KnownWays {
-    /// These ways out after one more path, unless there were enough.
+    /// The ends of the links with room that lead out now: those without room any more are no ways out. Takes memory for them; `None` if it
+    /// is refused.
+    pub fn ways_out(&self, alloc: Global, search: &Search, marks: &[bool]) -> Option<WaysOut>
+        requires { AreKnown search.now marks.now self.now }
+        ensures { IfSome result (HasWays search.now marks.now) }
+    {
+        let mut tails = Vec::new(alloc);
+        let mut heads = Vec::new(alloc);
+        for k in &self.gates {
+            if let Some(link) = link_out(search, marks, *k) {
+                tails.push(link.from).ok()?;
+                heads.push(link.to).ok()?;
+            }
+        }
+        Some(WaysOut { tails, heads })
+    }
+
+    /// The same gates after one more path, unless there were enough.
     pub fn next(self) -> Option<KnownWays>
-        ensures { IfSome result (λ known. known.ways ≡ self.ways) }
+        ensures { IfSome result (λ known. known.gates ≡ self.gates) }
     {
         let left = self.left.checked_sub(1)?;
         Some(KnownWays {
-            ways: self.ways,
+            gates: self.gates,
             left,
         })
     }
@@ -44,39 +60,18 @@ struct Leaving {
 }
 
 impl SidedSearch {
-    /// The search alone, with the marks of its side and the ways out of it, if the side is known; the ways take memory, and are not known
-    /// if it is refused. Else with some mark for each node, or with none if memory for them is refused.
+    /// The search alone, with the marks of its side and what is known of the ways out of it, if the side is known. Else with some mark for
+    /// each node, or with none if memory for them is refused.
     pub fn into_ways_out(self, alloc: Global, nodes: u32) -> (Search, Vec<bool>, Option<KnownWays>)
         ensures search { result.0 ≡ self }
         ensures ways { IfSome result.2 (AreKnown self result.1.items) }
     {
         let SidedSearch { search, side } = self;
-        let Some(side) = side else {
+        let Some(ClosedSide { marks, gates }) = side else {
             return (search, marks_or_none(alloc, nodes), None);
         };
-        let known = side.ways_out(alloc, &search);
-        (search, side.marks, known)
-    }
-}
-
-impl ClosedSide {
-    /// The ends of the links with room that lead out over gates. Takes memory for them; `None` if it is refused.
-    fn ways_out(&self, alloc: Global, search: &Search) -> Option<KnownWays>
-        requires { IsClosedBut search.now self.now }
-        ensures { IfSome result (AreKnown search.now self.now.marks.items) }
-    {
-        let mut tails = Vec::new(alloc);
-        let mut heads = Vec::new(alloc);
-        for k in &self.gates {
-            if let Some(link) = link_out(search, &self.marks, *k) {
-                tails.push(link.from).ok()?;
-                heads.push(link.to).ok()?;
-            }
-        }
-        Some(KnownWays {
-            ways: WaysOut { tails, heads },
-            left: MOST_PATHS,
-        })
+        let left = MOST_PATHS;
+        (search, marks, Some(KnownWays { gates, left }))
     }
 }
 

@@ -1,8 +1,8 @@
 -- Gate by gate the ends of its link that leads out join the others.
 use Rattle.std.proofs.Common.{◌≡◌, ◌++◌, ◌∷◌, [], ◌∙◌, length, arith, rules, ap}
 use Rattle.dmf_solver.proofs.cuts.WaysOut.{ends-last, ends-next, ends-skip}
-use Rattle.dmf_solver.proofs.closed_side.ClosedSide.ways_out.Goals as goal
-use Rattle.dmf_solver.proofs.closed_side.ClosedSide.ways_out.Goals.{in-Some+in_ok-ok+in_ok-ok-2, in_default}
+use Rattle.dmf_solver.proofs.closed_side.ways_out.KnownWays.ways_out.Goals as goal
+use Rattle.dmf_solver.proofs.closed_side.ways_out.KnownWays.ways_out.Goals.{in-Some+in_ok-ok+in_ok-ok-2, in_default}
 
 pub loop-k-init : goal.loop-k-init
 loop-k-init c = record {
@@ -21,11 +21,11 @@ loop-k-preserved c = elim c.match-link_out.branch [
       let heads : w.push-in-Some.new.self.items ≡ c.loop-k.heads.items ++ w.in-Some.link.to ∷ [] = search rules in
       record {
         ends = rw (ap (λ v. v.items) w.tails-is ∙ tails, ap (λ v. v.items) w.heads-is ∙ heads)
-            (ends-next c.loop-k.invariant.ends out.0 out.1 (rw c.deref.ensures.value at out.2));
+            (ends-next c.loop-k.invariant.ends out.0 out.1 out.2);
       }
   | in_default w ↦ record {
     ends = rw (ap (λ v. v.items) w.tails-is, ap (λ v. v.items) w.heads-is)
-        (ends-skip c.loop-k.invariant.ends (rw c.deref.ensures.value at w.in_default.ensures));
+        (ends-skip c.loop-k.invariant.ends w.in_default.ensures);
   }
 ]
 

@@ -1,5 +1,0 @@
-use Rattle.dmf_solver.proofs.cuts.WaysOut.{AreEnds}
-use Rattle.dmf_solver.proofs.closed_side.ClosedSide.ways_out.Given as goal
-
-abbrev pub invariant-loop-k : goal.invariant-loop-k
-invariant-loop-k l = record { ends : AreEnds l.search l.self.marks.items l.k-items l.tails.items l.heads.items l.k-index }
