@@ -63,7 +63,8 @@ def test_what_stays(driver: Any) -> None:
         driver.execute_script(f"for (const it of {PIECES}) it.isOld = true")
         assert "error" not in it.do(what="cap", arc=12, capacity="20")
         changed = {row["number"] for row, old in zip(rows_of(it), before) if row != old}
-        wanted = {f"arc-{number}" for number in changed} | {f"row-{number - 1}" for number in changed}
+        # Rows of the table stay, and say what is so now.
+        wanted = {f"arc-{number}" for number in changed}
         assert 12 in changed and len(changed) < len(before) / 2
         page.wait(lambda: set(driver.execute_script(f"return {PIECES}.filter((it) => !it.isOld).map((it) => it.id)")) == wanted)
         driver.get("about:blank")

@@ -177,4 +177,5 @@ def test_added_self_loops(family: str, maker: Path, tmp_path: Path) -> None:
     carrying = next(number for number, line in enumerate(solution.splitlines()[1:], 1) if not line.endswith(" 0"))
     loops = [f"add {node} {node} 1\nundo\nredo\n" for node in range(1, 21)]
     before, after = (instructions(tmp_path, text, f"solve\n{then}close {carrying}\nsolve\n") for then in ("", "".join(loops)))
-    assert (after - before) / len(loops) < ADD_BUDGET
+    # Three commands each, where an added arc has two.
+    assert (after - before) / len(loops) < 1.5 * ADD_BUDGET
