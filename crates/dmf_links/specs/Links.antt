@@ -33,6 +33,11 @@ pub record LiesAt (l : Links) (v p : ℕ) : Type 0 where
 abbrev pub IsSpare : Links → ℕ → Type 0
 IsSpare l p = slice_index l.ends (tail_of l p + 1) ≤ p
 
+-- The links of node `v` that belong to pairs are those at the places from `start` up to `end`.
+pub record AreUsed (l : Links) (v start end : ℕ) : Type 0 where
+  pub lie : (p : ℕ) → start ≤ p → p < end → LiesAt l v p × (p < slice_index l.ends (v + 1))
+  pub each : (p : ℕ) → LiesAt l v p → p < slice_index l.ends (v + 1) → (start ≤ p) × (p < end)
+
 -- The link at place `p` lies at its tail, which is not its head, unless the link is spare. Its opposite is another link, whose opposite
 -- it is. The opposite of a spare link is spare.
 pub record IsLink (l : Links) (p : ℕ) : Type 0 where
@@ -66,6 +71,15 @@ no_place = 4294967295
 pub record IsPlaceOf (places : List ℕ) (k place : ℕ) : Type 0 where
   pub is : place ≡ slice_index places k
   pub there : place ≢ no_place
+
+-- The first `n` pairs have places.
+pub record HaveFirstPlaces (n : ℕ) (places : List ℕ) : Type 0 where
+  pub within : n ≤ length places
+  pub there : (k : ℕ) → k < n → slice_index places k ≢ no_place
+
+-- Each pair has a place.
+abbrev pub HaveAllPlaces : List ℕ → Type 0
+HaveAllPlaces places = (k : ℕ) → k < length places → slice_index places k ≢ no_place
 
 -- The link at place `p` is one of the two of the pair at index `k`, whose link along lies at its place.
 abbrev pub IsOf : Links → List ℕ → ℕ → ℕ → Type 0

@@ -29,7 +29,7 @@ pub struct LinkTable {
 impl LinkTable {
     ghost use Rattle.std.specs.Bool.{Decides};
     ghost use Rattle.std.specs.Prelude.{◌≡◌, ◌+◌, ◌<◌, ◌≤◌, length, slice_index};
-    ghost use Rattle.dmf_links.specs.Links.{tail_of};
+    ghost use Rattle.dmf_links.specs.Links.{tail_of, AreUsed};
     ghost use Rattle.dmf_links.specs.LinkTable.{links_of};
 
     /// The places of the links of a node.
@@ -41,6 +41,18 @@ impl LinkTable {
         ensures within { result.end ≤ length self.now.heads.items }
     {
         self.first[node as usize] as usize..self.first[node as usize + 1] as usize
+    }
+
+    /// The places of the links of a node that belong to pairs.
+    pub fn used_at(&self, node: u32) -> Range<usize>
+        requires { node ≤ self.now.nodes }
+        ensures order { result.start ≤ result.end }
+        ensures within { result.end ≤ length self.now.heads.items }
+        ensures used { AreUsed (links_of self.now) node result.start result.end }
+    {
+        let all = self.places_at(node);
+        let end = self.ends()[node as usize + 1] as usize;
+        all.start..end.min(all.end)
     }
 
     /// The place of the opposite of the link at this place.

@@ -1,6 +1,6 @@
 -- What a search is to its callers: pairs of links between nodes, and the nodes between which it looks for least paths.
 -- Public: a public contract says no more than this.
-use Rattle.std.specs.Prelude.{ℕ, ◌≡◌, ◌-◌, ◌<◌, ◌≤◌, ◌⊎◌, Bool, List, length, slice_index, Option, Some, slice_get, slice_set, option_map}
+use Rattle.std.specs.Prelude.{ℕ, ◌≡◌, ◌≢◌, ◌-◌, ◌<◌, ◌≤◌, ◌⊎◌, Bool, List, length, slice_index, Option, Some, slice_get, slice_set, option_map}
 use Rattle.std.specs.List.{range_with_len}
 use Rattle.dmf_links.specs.declared.pair.Pair.{Pair}
 use Rattle.dmf_links.specs.Pair.{pair_number}
@@ -65,6 +65,13 @@ with_rooms pairs k along against = slice_set pairs k (option_map (pair_with alon
 -- the pairs, with this much less room along at index `k`
 abbrev pub lowered_along : List (Option Pair) → ℕ → ℕ → List (Option Pair)
 lowered_along pairs k amount = slice_set pairs k (option_map (lowered_pair amount) (pair_number pairs k))
+
+-- The pair at index `k` is there, and neither of its ends is node `v`.
+pub record IsElsewhere (pairs : List (Option Pair)) (v k : ℕ) : Type 0 where
+  pub pair : Pair
+  pub is : pair_number pairs k ≡ Some pair
+  pub tail : pair.tail ≢ v
+  pub head : pair.head ≢ v
 
 -- the list of the indices that are left
 abbrev pub indices_of : Indices → List ℕ

@@ -7,6 +7,7 @@ ghost use Rattle.dmf_path.specs.Path.{HasNoPath, IsReachable};
 ghost use Rattle.dmf_path.specs.Pair.{steps_of};
 ghost use Rattle.dmf_path.specs.Search.{Augments, HasAlong, along_at, against_at};
 ghost use Rattle.dmf_path.specs.Search.{aimed, lowered_along, with_rooms, with_pairs};
+ghost use Rattle.dmf_path.specs.Search.{Covers, IsElsewhere, indices_of};
 ghost use Rattle.dmf_path.specs.Touched.{AreBelow, Touches};
 
 use crate::aside::{Aside, Ends};
@@ -15,7 +16,7 @@ use crate::levels::Levels;
 use crate::noted::Noted;
 use crate::phase::Phase;
 use crate::reach::{labelled, labels_from_start};
-use crate::touched::Touched;
+use crate::touched::{Indices, Touched};
 use dmf_links::{Pair, Places, number_links};
 use std::alloc::{AllocError, Global};
 use std::marker::Model;
@@ -183,6 +184,21 @@ impl Search {
             along: links.settled_room(&phase.trail, place),
             against: links.opposite_room(&phase.trail, place),
         })
+    }
+
+    /// The indices of the pairs at a node, in ascending order. Others may be among them; but there are none, and the call looks at
+    /// nothing, once the links are numbered, unless a pair is missing. Takes no memory.
+    pub fn indices_at(&self, node: u32) -> Indices<'_>
+        requires { IsNode self.now.nodes node }
+        ensures { Covers (length self.now.pairs) (IsElsewhere self.now.pairs node) (indices_of result) }
+    {
+        let phase = &self.phase;
+        match &self.numbers {
+            Some(numbers) if self.places.are_all() => {
+                Indices::Listed(&numbers[phase.links.table.used_at(node)])
+            }
+            _ => Indices::Within(0..self.places.len()),
+        }
     }
 
     /// The room of one of the two links of the pair at index `k`: of that against it where `against` says so.

@@ -1,9 +1,12 @@
 -- The moves that drain an arc.
 -- Private: only contracts inside the crate and proofs use this.
-use Rattle.std.specs.Prelude.{ℕ, ◌≡◌, ◌≢◌, ◌+◌, ◌-◌, ◌≤◌, List, [], ◌∷◌, length, slice_index, slice_set, IfSome, Option, Result, MatchResult}
+use Rattle.std.specs.Prelude.{ℕ, ◌≡◌, ◌≢◌, ◌+◌, ◌-◌, ◌≤◌, true, false, List, [], ◌∷◌, length, slice_index, slice_index_or, slice_set, IfSome, Option, Result, MatchResult}
 use Rattle.dmf_path.specs.Search.{Covers, Searched}
 use Rattle.dmf_path.specs.Touched.{IsTouched}
+use Rattle.dmf_state.specs.declared.arc.Arc.{Arc}
 use Rattle.dmf_state.specs.declared.edit.Move.{Move}
+use Rattle.dmf_state.specs.declared.edit.Shutting.{Shutting}
+use Rattle.dmf_state.specs.Arc.{is_open_at, no_arc}
 use Rattle.dmf_solver.specs.declared.drain.Drained.{Drained}
 use Rattle.dmf_solver.specs.CarryingNetwork.{MayCarry}
 use Rattle.dmf_solver.specs.declared.watch.Turn.{Turn}
@@ -65,6 +68,21 @@ pub record CoverDifferences (before after indices : List ℕ) : Type 0 where
   pub count : ℕ
   pub most : length before ≤ count
   pub covers : Covers count (Stays before after) indices
+
+-- The arc at index `k`, if there is one, is closed, or not at node `v`.
+abbrev pub IsNotOpenAt : List Arc → ℕ → ℕ → Type 0
+IsNotOpenAt arcs v k = is_open_at v (slice_index_or arcs k no_arc) ≡ false
+
+-- The arc at index `k` is open and at node `v`, and this is how it is shut.
+pub record IsShuttingAt (arcs : List Arc) (v k : ℕ) (s : Shutting) : Type 0 where
+  pub at : is_open_at v (slice_index_or arcs k no_arc) ≡ true
+  pub is : s ≡ record { arc = k + 1; old = (slice_index_or arcs k no_arc).cap }
+
+-- The indices ascend, and only arcs that are not open at node `v` are left out. Some indices may be past the last arc.
+pub record CoverOpen (arcs : List Arc) (v : ℕ) (indices : List ℕ) : Type 0 where
+  pub count : ℕ
+  pub most : length arcs ≤ count
+  pub covers : Covers count (IsNotOpenAt arcs v) indices
 
 -- The arc whose turn it is is drained in the search, and its own number in the list is 0 then. The drain was reported, and the flows
 -- of arcs that do not count as touched stay.

@@ -170,7 +170,7 @@ pub fn plan_shut_watched<W: Watch>(
     if v < 1 || v > u64::from(state.nodes()) {
         return Err(PlanFault::NoSuchNode);
     }
-    let arcs = open_arcs_at(alloc, state, v as u32)?;
+    let arcs = open_arcs_at(alloc, state, v as u32, kept)?;
     let drained = drain_all(alloc, state, &arcs, kept, watch)?;
     let edit = Edit::Shut {
         arcs,

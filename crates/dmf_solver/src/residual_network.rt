@@ -1,4 +1,5 @@
-ghost use Rattle.std.specs.Prelude.{◌≡◌, [], List, None, Option, pos, IfOk, IfSome, IsOkUnless, MatchResult};
+ghost use Rattle.std.specs.Prelude.{◌≡◌, [], length, List, None, Option, pos, IfOk, IfSome, IsOkUnless, MatchResult};
+ghost use Rattle.dmf_node.specs.Node.{IsNode};
 ghost use Rattle.dmf_state.specs.Direction.{edited_along, FitsAlong, HasIdleLast};
 ghost use Rattle.dmf_state.specs.Edit.{applied, differences, AddsArc};
 ghost use Rattle.dmf_state.specs.Flow.{flow_value};
@@ -12,6 +13,7 @@ ghost use Rattle.dmf_state.specs.Revert.{without_last};
 ghost use Rattle.dmf_solver.specs.SmallestSide.{TellsSide};
 ghost use Rattle.dmf_path.specs.Pair.{steps_of};
 ghost use Rattle.dmf_path.specs.Path.{HasNoPath};
+ghost use Rattle.dmf_path.specs.Search.{Covers, IsElsewhere, indices_of};
 ghost use Rattle.dmf_solver.specs.Told.{AreTold, TellsSolve, MayTellSolve, Told};
 
 use crate::carrying_pairs::CarryingPairs;
@@ -24,7 +26,7 @@ use crate::residual::{residual_pair, residual_search};
 use crate::side::{side_along, wanted_side};
 use crate::solve::{SolvedSearch, solve};
 use crate::watch::Watch;
-use dmf_path::Search;
+use dmf_path::{Indices, Search};
 use dmf_state::{Arc, Direction, Edit, Move, NoMemory, Side, State};
 use std::alloc::{AllocError, Global};
 use std::marker::Model;
@@ -169,6 +171,14 @@ impl ResidualNetwork {
         ensures { TellsSide state.now result }
     {
         side_along(alloc, self.search.as_search(), state)
+    }
+
+    /// The indices of the pairs at a node, as [`Search::indices_at`] gives them.
+    pub(crate) fn indices_at(&self, node: u32) -> Indices<'_>
+        requires { IsNode self.now.residual.nodes node }
+        ensures { Covers (length self.now.residual.pairs) (IsElsewhere self.now.residual.pairs node) (indices_of result) }
+    {
+        self.search.as_search().indices_at(node)
     }
 
     /// The residual network of the state to which an edit leads: forward the state after the edit, which fits this one, and back the

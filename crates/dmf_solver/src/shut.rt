@@ -1,12 +1,14 @@
 //! Closing every open arc at a node.
-ghost use Rattle.std.specs.Prelude.{◌≡◌, ℕ, true, List, [], IfOk};
+ghost use Rattle.std.specs.Prelude.{◌≡◌, ◌≤◌, ℕ, true, List, [], IfOk, MatchOption};
+ghost use Rattle.dmf_node.specs.Node.{IsNode};
 ghost use Rattle.dmf_state.specs.Arc.{open_arcs_at};
 ghost use Rattle.dmf_solver.specs.CarryingNetwork.{IsCarryingOf};
 ghost use Rattle.dmf_solver.specs.KeptNetwork.{KeepsNetwork};
 ghost use Rattle.dmf_state.specs.Edit.{AreOpenWith, numbers};
 ghost use Rattle.dmf_state.specs.Flow.{flow_on, flow_on_all};
+ghost use Rattle.dmf_path.specs.Search.{indices_of};
 ghost use Rattle.dmf_path.specs.Touched.{Touches};
-ghost use Rattle.dmf_solver.specs.Moves.{AreShuttingMoves, CarriesMoved, DrainsNext, TellsMoves};
+ghost use Rattle.dmf_solver.specs.Moves.{AreShuttingMoves, CarriesMoved, CoverOpen, DrainsNext, IsNotOpenAt, IsShuttingAt, TellsMoves};
 ghost use Rattle.dmf_state.specs.Network.{has_arc};
 ghost use Rattle.dmf_state.specs.NetworkState.{IsState};
 ghost use Rattle.dmf_solver.specs.Pairs.{IsCarryingSearch};
@@ -16,28 +18,62 @@ ghost use Rattle.dmf_solver.specs.Turns.{turns_to_zero};
 use crate::drain::{Drained, drain_along, list_drained, take_carrying};
 use crate::residual_network::ResidualNetwork;
 use crate::watch::{Turn, Watch};
-use dmf_path::{Search, Touched};
+use dmf_path::{Indices, Search, Touched};
 use dmf_state::{Shutting, State};
 use std::alloc::{AllocError, Global};
 
 /// If no more arcs than these are drained, making a second set of labels takes longer than it saves.
 const FEW: usize = 16;
 
-/// The open arcs at node `v`, in the order of their numbers.
-pub fn open_arcs_at(alloc: Global, state: &State, v: u32) -> Result<Vec<Shutting>, AllocError>
+/// The open arcs at node `v`, in the order of their numbers. If a network is kept whose links are numbered, looks at the arcs at the node
+/// alone, unless some arc is a self loop; else at all arcs.
+pub fn open_arcs_at(
+    alloc: Global,
+    state: &State,
+    v: u32,
+    kept: &Option<ResidualNetwork>,
+) -> Result<Vec<Shutting>, AllocError>
+    requires node { IsNode state.now.network.nodes v }
+    requires kept { KeepsNetwork state.now kept.now }
     ensures are_open { IfOk result (λ arcs. AreOpenWith 0 arcs.items state.now.network) }
     ensures numbers { IfOk result (λ arcs. numbers arcs.items ≡ open_arcs_at v 1 state.now.network.arcs) }
 {
     let mut open = Vec::new(alloc);
-    for (i, arc) in state.arcs().iter().enumerate() {
-        if arc.is_open_at(v) {
-            open.push(Shutting {
-                arc: i as u32 + 1,
-                old: arc.cap,
-            })?;
+    let indices = indices_at(state, v, kept);
+    for k in indices {
+        if let Some(shutting) = open_at(state, v, k) {
+            open.push(shutting)?;
         }
     }
     Ok(open)
+}
+
+/// The indices of the open arcs at node `v`, in ascending order, among others.
+fn indices_at<'a>(state: &State, v: u32, kept: &'a Option<ResidualNetwork>) -> Indices<'a>
+    requires node { IsNode state.now.network.nodes v }
+    requires kept { KeepsNetwork state.now kept.now }
+    ensures { CoverOpen state.now.network.arcs v (indices_of result) }
+{
+    let count = state.arcs().len();
+    match kept {
+        Some(network) => network.indices_at(v),
+        None => Indices::Within(0..count),
+    }
+}
+
+/// The arc at index `k`, if it is open and at node `v`.
+fn open_at(state: &State, v: u32, k: usize) -> Option<Shutting>
+    requires { 1 ≤ v }
+    ensures { MatchOption result (IsNotOpenAt state.now.network.arcs v k) (IsShuttingAt state.now.network.arcs v k) }
+{
+    let arcs = state.arcs();
+    if k >= arcs.len() || !arcs[k].is_open_at(v) {
+        return None;
+    }
+    Some(Shutting {
+        arc: k as u32 + 1,
+        old: arcs[k].cap,
+    })
 }
 
 /// Drains these arcs in turn, and reports each path to the watch. If none of them carries flow, there are no moves, and the call looks

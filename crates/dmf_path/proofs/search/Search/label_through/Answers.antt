@@ -1,5 +1,5 @@
 -- The search goes on from the labels through the ways out, or is fresh.
-use Rattle.std.proofs.Common.{ℕ, ◌≡◌, Bool, Option, None, Some, true, false, get_or, refl, ap, sym, subst, ◌∙◌}
+use Rattle.std.proofs.Common.{◌≡◌, Bool, Option, None, Some, true, false, get_or, refl, ap, sym, subst, ◌∙◌}
 use Rattle.dmf_path.specs.ClosedSide.{IsClosedSide, IsPassage, NoneReturns}
 use Rattle.dmf_path.specs.Going.{Goes}
 use Rattle.dmf_path.specs.Held.{way_of, filled_slots}
