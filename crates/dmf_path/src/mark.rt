@@ -36,6 +36,7 @@ pub fn has_label_or_mark(search: &Frontier, node: u32, marks: &mut [bool]) -> bo
     ensures has { result ≡ true → slice_index search.now.labels node ≢ no_label }
     ensures none { result ≡ false → slice_index search.now.labels node ≡ no_label }
     ensures marks { result ≡ false → MarksUnlabelled search.now.labels marks.new }
+    ensures kept { result ≡ true → marks.new ≡ marks.old }
 {
     if search.has_label(node) {
         return true;

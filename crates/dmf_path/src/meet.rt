@@ -25,6 +25,7 @@ pub fn meet(
     requires { AreNearing links.now to_goal.old from_start.old }
     ensures on { HaveGoneOn links.now to_goal.old from_start.old to_goal.new from_start.new result }
     ensures none { result ≡ None → IsParted (links_of links.now.table.value) links.now.rooms.items (root_of from_start.old) (root_of to_goal.old) marks.new }
+    ensures kept { result ≢ None → marks.new ≡ marks.old }
 {
     while to_goal.has_next() {
         if !from_start.has_next() {

@@ -62,6 +62,7 @@ impl Phase {
         ensures ends { HasEnds (sought_by self.new) }
         ensures found { result ≡ true → IsFoundBy self.new }
         ensures none { result ≡ false → IsPartedBy (sought_by self.old) marks.new }
+        ensures kept { result ≡ true → marks.new ≡ marks.old }
     {
         self.ball.keep_for(self.trail.goal);
         if self.go_on() {
@@ -87,6 +88,7 @@ impl Phase {
         requires { IsAround self.old.ball self.old.trail.goal }
         ensures on { HasGoneOn self.old self.new result }
         ensures none { result ≡ false → IsPartedBy (sought_by self.old) marks.new }
+        ensures kept { result ≡ true → marks.new ≡ marks.old }
     {
         self.settle();
         self.relabel(marks) && self.go_on()
@@ -141,6 +143,7 @@ impl Phase {
         ensures on { GoesOn self.old self.new }
         ensures labelled { result ≡ true → (ps : List ℕ) × IsWalkBy (sought_by self.new) self.new.levels.near.labels ps }
         ensures none { result ≡ false → IsPartedBy (sought_by self.old) marks.new }
+        ensures kept { result ≡ true → marks.new ≡ marks.old }
     {
         let ends = Ends {
             start: self.trail.start,

@@ -20,6 +20,7 @@ use crate::residual::Residual;
 pub fn label_anew(links: &Residual, levels: &mut Levels, ends: Ends, marks: &mut [bool]) -> bool
     requires { MayBeLabelled links.now levels.old ends }
     ensures relabelled { IsRelabelled links.now levels.old levels.new ends result marks.new }
+    ensures kept { result ≡ true → marks.new ≡ marks.old }
     ensures whole { result ≡ true → levels.new.all ≡ true → AreWhole (links_of links.now.table.value) levels.new.near.labels links.now.rooms.items }
 {
     levels.all = levels.course.is_to_all(links.table.heads.len() as u64);
@@ -45,6 +46,7 @@ pub fn label_anew(links: &Residual, levels: &mut Levels, ends: Ends, marks: &mut
 fn label_from_goal(links: &Residual, levels: &mut Levels, ends: Ends, marks: &mut [bool]) -> bool
     requires { MayBeLabelled links.now levels.old ends }
     ensures relabelled { IsRelabelled links.now levels.old levels.new ends result marks.new }
+    ensures kept { result ≡ true → marks.new ≡ marks.old }
     ensures all { levels.new.all ≡ levels.old.all }
 {
     let near = &mut levels.near;
@@ -59,6 +61,7 @@ fn label_from_goal(links: &Residual, levels: &mut Levels, ends: Ends, marks: &mu
 fn label_all(links: &Residual, levels: &mut Levels, ends: Ends, marks: &mut [bool]) -> bool
     requires { MayBeLabelled links.now levels.old ends }
     ensures relabelled { IsRelabelled links.now levels.old levels.new ends result marks.new }
+    ensures kept { result ≡ true → marks.new ≡ marks.old }
     ensures whole { AreWhole (links_of links.now.table.value) levels.new.near.labels links.now.rooms.items }
 {
     let near = &mut levels.near;
@@ -71,6 +74,7 @@ fn label_all(links: &Residual, levels: &mut Levels, ends: Ends, marks: &mut [boo
 fn label_all_from(links: &Residual, levels: &mut Levels, ends: Ends, marks: &mut [bool]) -> bool
     requires { MayBeLabelled links.now levels.old ends }
     ensures relabelled { IsRelabelled links.now levels.old levels.new ends result marks.new }
+    ensures kept { result ≡ true → marks.new ≡ marks.old }
     ensures whole { result ≡ true → AreWhole (links_of links.now.table.value) levels.new.near.labels links.now.rooms.items }
 {
     let far = &mut levels.far;
@@ -99,6 +103,7 @@ fn misses_goal(
     requires { MayBeLabelled links.now levels.old ends }
     ensures enclosed { result ≡ true → IsRelabelled links.now levels.old levels.new ends false marks.new }
     ensures clean { result ≡ false → MayBeLabelled links.now levels.new ends }
+    ensures kept { result ≡ false → marks.new ≡ marks.old }
     ensures all { levels.new.all ≡ levels.old.all }
     ensures current { levels.new.current ≡ levels.old.current }
 {
@@ -118,6 +123,7 @@ fn misses_goal(
 fn label_from_both(links: &Residual, levels: &mut Levels, ends: Ends, marks: &mut [bool]) -> bool
     requires { MayBeLabelled links.now levels.old ends }
     ensures relabelled { IsRelabelled links.now levels.old levels.new ends result marks.new }
+    ensures kept { result ≡ true → marks.new ≡ marks.old }
     ensures all { levels.new.all ≡ levels.old.all }
 {
     let near = &mut levels.near;

@@ -94,6 +94,7 @@ impl Search {
         ensures touched { Touches touched.old touched.new self.old.pairs self.new.pairs }
         ensures side { length marks.old ≡ self.old.nodes → result ≡ None
             → IsClosedSide (steps_of self.old.pairs) self.old.start self.old.goal marks.new }
+        ensures kept { result ≢ None → marks.new ≡ marks.old }
     {
         self.is_fresh = false;
         let phase = &mut self.phase;

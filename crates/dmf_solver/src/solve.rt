@@ -101,12 +101,11 @@ fn next_path(
         match look_through(alloc, search, &before, marks) {
             Passage::Closed => return None,
             Passage::Once(long) => {
-                if let Some(found) = search.augment(u64::MAX, touched) {
-                    if found.links == long {
-                        *known = before.next();
-                    }
-                    return Some(found);
+                let found = search.augment_or_mark(u64::MAX, touched, marks)?;
+                if found.links == long {
+                    *known = before.next();
                 }
+                return Some(found);
             }
             Passage::Unknown => {}
         }

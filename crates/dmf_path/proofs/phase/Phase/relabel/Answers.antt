@@ -68,6 +68,7 @@ returns-then-not-label_anew c =
       labelled = λ e. absurd (cc);
       none = λ e. subst (λ (x : ResidualLinks). IsPartedBy (plainly x w) c.label_anew.new.marks) (sym (settled at))
           (c.label_anew.ensures.relabelled.none c.if-not-label_anew.true);
+      kept = λ e. absurd (cc);
     })
 
 -- The labels are new, and all else is as it was.
@@ -100,4 +101,5 @@ returns c =
       labelled = λ yes. subst (λ (f : Reach). (ps : List ℕ) × IsWalkBy (sought (residual_of of.links) (way_of c.begin_phase.new.trail)) f.labels ps)
           (sym e.near) (subst (λ (s : Sought). (ps : List ℕ) × IsWalkBy s c.label_anew.new.levels.near.labels ps) (sym same) labelled.walk);
       none = λ e. absurd (cc);
+      kept = λ yes. c.label_anew.ensures.kept c.if-not-label_anew.false;
     })
