@@ -84,7 +84,7 @@ pub fn plan_cap_watched<W: Watch>(
         new: cap,
         moves: drained.moves,
     };
-    follow_drained(state, &edit, drained.carrying, kept);
+    follow_drained(alloc, state, &edit, drained.carrying, kept);
     Ok(edit)
 }
 
@@ -128,7 +128,7 @@ pub fn plan_close_watched<W: Watch>(
         old,
         moves: drained.moves,
     };
-    follow_drained(state, &edit, drained.carrying, kept);
+    follow_drained(alloc, state, &edit, drained.carrying, kept);
     Ok(edit)
 }
 
@@ -176,12 +176,13 @@ pub fn plan_shut_watched<W: Watch>(
         arcs,
         moves: drained.moves,
     };
-    follow_drained(state, &edit, drained.carrying, kept);
+    follow_drained(alloc, state, &edit, drained.carrying, kept);
     Ok(edit)
 }
 
 /// Makes the kept network the network of the state after an edit that adds no arc. The carrying search is the one of the flow after the edit's moves.
 fn follow_drained(
+    alloc: Global,
     state: &State,
     edit: &Edit,
     carrying: Option<Search>,
@@ -195,7 +196,7 @@ fn follow_drained(
 {
     if let Some(network) = kept {
         network.follow_along(state, edit, Direction::Forward);
-        network.keep_carrying(carrying);
+        network.keep_carrying(alloc, carrying);
     }
 }
 

@@ -67,12 +67,11 @@ impl ResidualNetwork {
     /// If no edit since the last solve gave room to a link that leads out of the side to which that solve led, the flow is greatest, and
     /// the plan looks at no arc but those that were changed.
     ///
-    /// The first solve or drain looks at all arcs for its moves. The next one numbers the links. It and those after it look only at the arcs
-    /// of their paths, unless these have an eighth as many links as there are nodes.
+    /// The first solve or drain looks at all arcs for its moves. Once the links have numbers, a solve looks only at the arcs of its paths,
+    /// unless these have an eighth as many links as there are nodes.
     ///
-    /// Takes memory for the moves, and for a side that is wanted, with marks and numbers while it looks for the side. A plan that
-    /// numbers the links takes memory for a number a link, and each later one for an eighth of a number a node. If memory is refused,
-    /// fails with [`PlanFault::NoMemory`].
+    /// Takes memory for the moves, and for a side that is wanted, with marks and numbers while it looks for the side, and once the links
+    /// have numbers for an eighth of a number a node. If memory is refused, fails with [`PlanFault::NoMemory`].
     pub fn plan_solve<W: Watch>(
         mut self,
         alloc: Global,
@@ -142,11 +141,10 @@ impl ResidualNetwork {
         ensures drained { AreTold (W.drained watch.old) (W.drained watch.new) [] }
     {
         let ResidualNetwork {
-            mut search,
+            search,
             carrying,
-            is_used,
+            ..
         } = self;
-        number_once_used(alloc, &mut search, is_used)?;
         let (search, mut marks, known) = search.into_ways_out(alloc, state.nodes());
         let touched = search.none_touched(alloc, state.nodes() as usize / 8)?;
         let solved = solve(alloc, search, state, touched, &mut marks, known, watch);
@@ -184,9 +182,11 @@ impl ResidualNetwork {
     /// The residual network of the state to which an edit leads: forward the state after the edit, which fits this one, and back the
     /// state before the edit, which stands in this one.
     ///
-    /// Takes no memory, and time for the arcs that the edit names; the first call after a solve also takes time for each node that has a
-    /// label. An edit that adds an arc takes constant time besides, or time for a look at each link after a drain. Forward, where an end
-    /// of the arc has no spare link, all links are made anew. `None` only for such an edit, if memory is refused.
+    /// Takes time for the arcs that the edit names; the first call after a solve also takes time for each node that has a label. An edit
+    /// that adds an arc takes constant time besides, or time for a look at each link after a drain. Forward, where an end of the arc has
+    /// no spare link, all links are made anew. `None` only for such an edit, if memory is refused.
+    ///
+    /// The first call after a solve or a drain numbers the links: takes memory for a number a link, and does without if it is refused.
     pub fn follow(
         mut self,
         alloc: Global,
@@ -199,6 +199,7 @@ impl ResidualNetwork {
         ensures kept { IfSome result (IsNetworkOf (edited_along direction edit.now state.now)) }
         ensures dropped { result ≡ None → AddsArc edit.now }
     {
+        self.number_once_used(alloc);
         match *edit {
             Edit::Add { tail, head, cap } => match direction {
                 Direction::Forward => self.with_arc(alloc, state, Arc::open(tail, head, cap)),
@@ -281,7 +282,7 @@ impl ResidualNetwork {
         ensures network { IsNetworkOf state.now self.new }
         ensures carrying { IfOk result (IsCarryingOf state.now) }
     {
-        number_once_used(alloc, &mut self.search, self.is_used)?;
+        self.number_once_used(alloc);
         self.is_used = true;
         let mut carrying = match self.carrying.take() {
             Some(search) => with_value(search, state),
@@ -291,12 +292,24 @@ impl ResidualNetwork {
         Ok(carrying)
     }
 
-    /// Takes this carrying search in place of its own. `None` keeps its own.
-    pub(crate) fn keep_carrying(&mut self, carrying: Option<Search>)
+    /// Numbers the links of a network that has served a solve or a drain, if memory for it is there: that takes about as long as a look at
+    /// all arcs. The first solve or drain looks at all arcs instead, since it may be the only one, and numbers take memory.
+    pub(crate) fn number_once_used(&mut self, alloc: Global)
+        ensures { self.new ≡ self.old }
+    {
+        if self.is_used {
+            let _ = self.search.number_links(alloc);
+        }
+    }
+
+    /// Takes the carrying search of a drain in place of its own. Where nothing was drained, its own stays, and the links get numbers, for
+    /// which a drain sees itself.
+    pub(crate) fn keep_carrying(&mut self, alloc: Global, carrying: Option<Search>)
         ensures { (s : NetworkState) → IsNetworkOf s self.old → IfSome carrying (MayCarry s) → IsNetworkOf s self.new }
     {
-        if carrying.is_some() {
-            self.carrying = carrying;
+        match carrying {
+            Some(search) => self.carrying = Some(search),
+            None => self.number_once_used(alloc),
         }
     }
 }
@@ -311,21 +324,6 @@ pub fn new_network(alloc: Global, state: &State) -> Result<ResidualNetwork, Allo
         carrying: None,
         is_used: false,
     })
-}
-
-/// Numbers the links of a network that has served a solve or a drain: that takes about as long as a look at all arcs. The first one looks at
-/// all arcs instead, since it may be the only one, and numbers take memory.
-fn number_once_used(
-    alloc: Global,
-    search: &mut SidedSearch,
-    is_used: bool,
-) -> Result<(), AllocError>
-    ensures { search.new ≡ search.old }
-{
-    if is_used {
-        search.number_links(alloc)?;
-    }
-    Ok(())
 }
 
 /// The moves of a solve. Looks at no arc whose pair is not touched.

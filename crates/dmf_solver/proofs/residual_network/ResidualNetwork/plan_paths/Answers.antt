@@ -7,11 +7,8 @@ use Rattle.dmf_solver.proofs.solving.SolvedEdit.{PlansSolve-listed, value-listed
 use Rattle.dmf_solver.proofs.solving.Solving.{AreTold-none, fault-only, told-refused}
 use Rattle.dmf_solver.proofs.residual_network.ResidualNetwork.plan_paths.Goals as goal
 
-pub returns-in_err-number_once_used-clause-told : goal.returns-in_err-number_once_used-clause-told
-returns-in_err-number_once_used-clause-told g c = told-refused c.from_residual.result _ _ c.from_residual.ensures.0 (inl (AreTold-none _))
-
 pub returns-in_err-touched-clause-told : goal.returns-in_err-touched-clause-told
-returns-in_err-touched-clause-told g c = told-refused c.from_residual-in_err-touched.result _ _ c.from_residual-in_err-touched.ensures.0 (inl (AreTold-none _))
+returns-in_err-touched-clause-told g c = told-refused c.from_residual.result _ _ c.from_residual.ensures.0 (inl (AreTold-none _))
 
 pub returns-in_err-side-clause-told : goal.returns-in_err-side-clause-told
 returns-in_err-side-clause-told g c =
@@ -49,9 +46,6 @@ returns-clause-told g c =
     told-listed c.args.state.now c.solve-solved.result c.in_ok-moves.moves c.solve-solved.ensures.state c.solve-solved.ensures.solved c.in_ok-moves.ensures
     _ _ c.solve-solved.ensures.told
 
-pub returns-in_err-number_once_used-clause-drained : goal.returns-in_err-number_once_used-clause-drained
-returns-in_err-number_once_used-clause-drained g c = AreTold-none _
-
 pub returns-in_err-touched-clause-drained : goal.returns-in_err-touched-clause-drained
 returns-in_err-touched-clause-drained g c = AreTold-none _
 
@@ -65,11 +59,8 @@ at_end-requires-clause-side g c = λ long.
     subst (IsClosedSide (steps_of s.pairs) s.start s.goal) (sym same)
     (solved.side (sym c.solve-solved.auto.marks ∙ sym (ap length same) ∙ long ∙ nodes))
 
-pub returns-in_err-number_once_used-clause-refused : goal.returns-in_err-number_once_used-clause-refused
-returns-in_err-number_once_used-clause-refused g c = fault-only c.from_residual.result _ c.from_residual.ensures.1
-
 pub returns-in_err-touched-clause-refused : goal.returns-in_err-touched-clause-refused
-returns-in_err-touched-clause-refused g c = fault-only c.from_residual-in_err-touched.result _ c.from_residual-in_err-touched.ensures.1
+returns-in_err-touched-clause-refused g c = fault-only c.from_residual.result _ c.from_residual.ensures.1
 
 pub returns-in_err-side-clause-refused : goal.returns-in_err-side-clause-refused
 returns-in_err-side-clause-refused g c = fault-only c.from_residual-in_err-side.result _ c.from_residual-in_err-side.ensures.1
