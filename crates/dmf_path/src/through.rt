@@ -1,5 +1,5 @@
 //! Labels from the ways out of marked nodes: two short searches, one on from where they lead to the goal, and one back to the start.
-ghost use Rattle.std.specs.Prelude.{◌≡◌, ◌≢◌, ◌≤◌, ◌+◌, Some, true, false, map, length};
+ghost use Rattle.std.specs.Prelude.{◌≡◌, ◌≢◌, ◌+◌, Some, true, false, map, length};
 ghost use Rattle.dmf_node.specs.Node.{IsNode};
 ghost use Rattle.dmf_links.specs.LinkTable.{links_of};
 ghost use Rattle.dmf_links.specs.Links.{open_flag};
@@ -13,7 +13,6 @@ use crate::levels::Levels;
 use crate::mark::mark_queued;
 use crate::open::{Flagged, LedTo, OpenByRoom};
 use crate::residual::Residual;
-use dmf_links::LinkTable;
 
 /// The ends of the links with room that lead from marked nodes to others.
 #[derive(Drop)]
@@ -24,7 +23,7 @@ pub struct WaysOut {
     pub heads: Vec<u32>,
 }
 
-/// Each search looks at so many links at least, and at this part of all of them.
+/// Each search looks at so many links, or at this part of all of them.
 const FEW: u64 = 1024;
 
 const PART: u64 = 256;
@@ -107,7 +106,7 @@ fn look_on(
         marks: &*marks,
         mark: false,
     };
-    if !search.label_within(&links.table, &opens, ends.goal, most(&links.table, ends)) {
+    if !search.label_within(&links.table, &opens, ends.goal, most(links)) {
         return None;
     }
     if search.has_label(ends.goal) {
@@ -143,7 +142,7 @@ fn look_back(
         marks: &*marks,
         mark: true,
     };
-    if !search.label_within(&links.table, &opens, ends.start, most(&links.table, ends)) {
+    if !search.label_within(&links.table, &opens, ends.start, most(links)) {
         return None;
     }
     if search.has_label(ends.start) {
@@ -153,20 +152,7 @@ fn look_back(
     Some(false)
 }
 
-/// At how many links each of the two searches looks: at some, or at as many as there are at both ends, since a search from these looks at
-/// them first.
-fn most(table: &LinkTable, ends: Ends) -> u64
-    requires start { ends.start ≤ table.now.nodes }
-    requires goal { ends.goal ≤ table.now.nodes }
-{
-    let some = FEW.max(table.heads.len() as u64 / PART);
-    some.max(links_at(table, ends.start).saturating_add(links_at(table, ends.goal)))
-}
-
-/// How many links a node has.
-fn links_at(table: &LinkTable, node: u32) -> u64
-    requires { node ≤ table.now.nodes }
-{
-    let places = table.places_at(node);
-    (places.end - places.start) as u64
+/// At how many links each of the two searches looks.
+fn most(links: &Residual) -> u64 {
+    FEW.max(links.table.heads.len() as u64 / PART)
 }
