@@ -22,6 +22,8 @@ BUDGET, HUBS_BUDGET = 3_000, 9_000
 IDLE_BUDGET = 60_000
 # How many instructions an added arc and its undo take at most, after the first one.
 ADD_BUDGET = 30_000
+# The most instructions of a shut of a node whose arcs carry nothing and its undo, of which a look at all arcs takes four times as many.
+LIST_BUDGET = ARCS
 COLLECTED = re.compile(rb"Collected : ([0-9]+)")
 
 
@@ -179,3 +181,19 @@ def test_added_self_loops(family: str, maker: Path, tmp_path: Path) -> None:
     before, after = (instructions(tmp_path, text, f"solve\n{then}close {carrying}\nsolve\n") for then in ("", "".join(loops)))
     # Three commands each, where an added arc has two.
     assert (after - before) / len(loops) < 1.5 * ADD_BUDGET
+
+
+@needs_valgrind
+@pytest.mark.seconds(4)
+@pytest.mark.parametrize("family", ["bip", "grid"])
+def test_idle_nodes(family: str, maker: Path, tmp_path: Path) -> None:
+    """A shut looks for the arcs at its node among the node's links: the second one at no other arc. These networks have no self loop."""
+    text = subprocess.run([maker, family, str(ARCS), "1990"], capture_output=True, check=True, text=True).stdout
+    solution = subprocess.run([BUILT, "solve"], input=text, capture_output=True, check=True, text=True).stdout
+    ends = [(int(tail), int(head), flow != "0") for tail, head, flow in re.findall(r"^f ([0-9]+) ([0-9]+) ([0-9]+)$", solution, re.MULTILINE)]
+    assert all(tail != head for tail, head, _ in ends)
+    idle = {node for arc in ends for node in arc[:2]} - {node for tail, head, carries in ends if carries for node in (tail, head)}
+    first, *others = (f"shut {node}\nundo\n" for node in sorted(idle)[:20])
+    assert len(others) == 19
+    before, after = (instructions(tmp_path, text, f"solve\n{first}{then}") for then in ("", "".join(others)))
+    assert 0 < (after - before) / len(others) < LIST_BUDGET
