@@ -135,6 +135,8 @@ async function catchUp() {
 async function show(told) {
   const before = state;
   state = told;
+  // Before it has a content, to lay it out would be work for nothing.
+  at("main").hidden = false;
   const shown = Promise.all(watchers.map((watcher) => watcher(told, before)));
   if (told.flows_follow) news("What can be sent and the limit are known; the flows follow.");
   await (told.flows_follow ? patiently(shown) : shown);
