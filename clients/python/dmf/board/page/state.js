@@ -14,7 +14,7 @@
 import { moved } from "./amounts.js";
 import { heard, ONCE } from "./asking.js";
 import { at, button, dropTyped } from "./elements.js";
-import { live, sayLeft } from "./live.js";
+import { heedLeaving, live } from "./live.js";
 import { hasTrouble, news, patiently, trouble } from "./messages.js";
 import { sentence, upper } from "./words.js";
 
@@ -186,7 +186,7 @@ const follow = () => live({
 });
 
 let letGo = follow();
-sayLeft();
+heedLeaving();
 
 /** Shows the page for the first time. */
 export async function begin() {
