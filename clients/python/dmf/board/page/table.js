@@ -39,7 +39,7 @@ async function numbers(first, count) {
 /** Shows the rows that can be seen, after another state, filter or order. */
 export async function showTable() {
   const turn = (asked += 1);
-  const first = Math.max(0, Math.floor(at("rows").scrollTop / HEIGHT) - AT_ONCE / 3);
+  const above = Math.floor(at("rows").scrollTop / HEIGHT) - AT_ONCE / 3, first = Math.max(0, Math.min(above, part.total - AT_ONCE));
   const told = await ask(`rows?${words()}&first=${first}&count=${AT_ONCE}`);
   if (turn !== asked || !told) return;
   part = told;
