@@ -192,5 +192,6 @@ heedLeaving();
 export async function begin() {
   at("end").addEventListener("click", () => ask("stop", {}));
   await renew();
+  await catchUp();
   at("main").setAttribute("aria-busy", "false");
 }
