@@ -10,6 +10,8 @@ from typing import Any
 
 import pytest
 
+# A name that the browser takes for this machine, under which a page is no secure context.
+OTHER_NAME = "board.example"
 # How long the page is waited for, in seconds.
 SECONDS = 60
 # How long it is waited before the page is asked again whether something is so, at first and at most, in seconds.
@@ -28,6 +30,7 @@ def browser() -> Iterator[Any]:
     options: Any = webdriver.ChromeOptions()
     for word in ("--headless=new", "--no-sandbox", "--disable-gpu", "--disable-dev-shm-usage", "--window-size=1280,1000"):
         options.add_argument(word)
+    options.add_argument(f"--host-resolver-rules=MAP {OTHER_NAME} 127.0.0.1")
     options.set_capability("goog:loggingPrefs", {"browser": "ALL"})
     made = webdriver.Chrome(service=Service("/usr/bin/chromedriver"), options=options)
     yield made

@@ -2,11 +2,12 @@
 
 from __future__ import annotations
 
+import time
 from collections.abc import Iterator
 from typing import Any
 
 import pytest
-from board_pages import Page
+from board_pages import OTHER_NAME, Page
 from board_running import Board, board
 from desk_shared import PIPES, without
 
@@ -65,21 +66,48 @@ def test_many_tabs(driver: Any) -> None:
         assert it.ended() == 0
 
 
-# A browser without locks, and one that refuses them.
-UNLOCKED = [
-    "Object.defineProperty(Navigator.prototype, 'locks', { value: undefined });",
-    "LockManager.prototype.request = () => Promise.reject(new DOMException('no site may store anything', 'SecurityError'));",
-]
-
-
-@pytest.mark.parametrize("source", UNLOCKED)
-def test_without_locks(driver: Any, source: str) -> None:
-    """Where a browser has no locks, as for a page under another name than localhost, each tab holds a connection."""
-    script = driver.execute_cdp_cmd("Page.addScriptToEvaluateOnNewDocument", {"source": source})
-    with board(PIPES) as it:
-        page = Page(driver, it.address)
-        assert "error" not in it.do(what="close", arc=10)
-        page.wait(lambda: page.value() == without("Bridge pipe"))
+def test_other_name(driver: Any) -> None:
+    """So it is under another name than localhost, where a browser has no locks, no workers that last, and no more connections."""
+    first = driver.current_window_handle
+    with board("--host-name", OTHER_NAME, PIPES) as it:
+        here, it.address = it.address, f"http://{OTHER_NAME}:{it.port}{it.root}"
+        tabs = open_tabs(driver, it, TABS)
+        assert driver.execute_script("return [isSecureContext, location.hostname]") == [False, OTHER_NAME]
+        driver.switch_to.window(tabs.pop(0))
+        driver.close()
+        driver.switch_to.window(tabs[-1])
+        page = Page(driver, "")
+        page.choose("arc-10", "Bridge pipe")
+        assert page.after(lambda: page.press("Close it")) == without("Bridge pipe")
+        judge(driver, tabs, without("Bridge pipe"))
+        # A tab under the other name has its own connection.
+        driver.switch_to.window(first)
+        assert Page(driver, here).undo() == 165
+        judge(driver, tabs, 165)
+        for page in shown_by(driver, tabs):
+            driver.close()
+        driver.switch_to.window(first)
         driver.get("about:blank")
         assert it.ended() == 0
-    driver.execute_cdp_cmd("Page.removeScriptToEvaluateOnNewDocument", script)
+
+
+def test_dialog(driver: Any) -> None:
+    """While the tab that holds the connection has a dialog open, another one holds it. Then the first one shows what came meanwhile."""
+    first = driver.current_window_handle
+    with board(PIPES) as it:
+        tabs = open_tabs(driver, it, 3)
+        driver.switch_to.window(tabs[0])
+        driver.execute_script("setTimeout(() => confirm('Is this still open?'))")
+        time.sleep(0.2)
+        assert "error" not in it.do(what="close", arc=10)
+        judge(driver, tabs[1:], without("Bridge pipe"))
+        assert "error" not in it.do(what="go", step=0)
+        judge(driver, tabs[1:], 165)
+        assert "error" not in it.do(what="close", arc=9)
+        driver.switch_to.window(tabs[0])
+        driver.switch_to.alert.accept()
+        judge(driver, tabs, without("Mill Lane"))
+        for page in shown_by(driver, tabs):
+            driver.close()
+        driver.switch_to.window(first)
+        assert it.ended() == 0

@@ -14,6 +14,7 @@ from typing import Any
 from board_pages import Page
 from board_running import Board, board
 from desk_shared import PIPES, SECONDS, swept
+from dmf.board.sweeps import PATIENCE
 
 
 def test_sweep() -> None:
@@ -73,12 +74,30 @@ def test_sweep_in_portions(tmp_path: Path) -> None:
             time.sleep(0.05)
 
 
-# Lets answers to a sweep come until so many have had results. Those after them do not come before they are let go.
+def test_sweep_ends(tmp_path: Path) -> None:
+    """Where nothing is left to try, the copies of the network end at once, and not only where no portion was asked for in time."""
+    table = tmp_path / "large.csv"
+    table.write_text("".join(f"S,P{n},{n % 7 + 1}\nP{n},T,{n % 5 + 1}\n" for n in range(40_000)))
+    with board(str(table)) as it:
+        left = portion(it, list(range(1, 5_001)))["left"]
+        assert left and len(it.sessions()) > 1
+        ended, until = json.loads(it.post("sweep", arcs=[])[1]), time.monotonic() + PATIENCE / 2
+        assert (ended["trials"], ended["left"]) == ([], [])
+        while len(it.sessions()) > 1:
+            assert time.monotonic() < until, "the copies go on after a stop"
+            time.sleep(0.05)
+        assert portion(it, left)["trials"][0]["number"] == left[0]
+
+
+# Lets answers to a sweep come until so many have had results. Those after them do not come before they are let go. Tells the arcs that are
+# asked for.
 HELD = """
 const ask = window.fetch;
 const isLetGo = new Promise((done) => { window.letGo = done; });
 let first = arguments[0];
+window.asked = [];
 window.fetch = async (path, content) => {
+  if (path === "sweep") window.asked.push(JSON.parse(content.body).arcs);
   const told = await ask(path, content);
   if (path !== "sweep") return told;
   if (first < 1) await isLetGo;
@@ -99,6 +118,8 @@ def test_stop(driver: Any) -> None:
         stop.send_keys("\ue007")
         assert (stop.is_displayed(), page.text("#verdict")) == (False, "Stopped: 0 of 14 are tried.")
         assert driver.switch_to.active_element.get_attribute("id") == "try-all"
+        # The board learns that nothing more is tried.
+        assert driver.execute_script("return window.asked") == [list(range(1, 15)), []]
         page.press("Try each pipe")
         page.wait(stop.is_displayed)
         page.press("Try each pipe of the limit")

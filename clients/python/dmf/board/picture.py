@@ -122,8 +122,8 @@ class Picture:
 
     def _lay_out(self, shape: Shape) -> str:
         ways = shape.ways()
-        self.places.put((it.node for it in shape.nodes), ways.values(), _text(self._lines(shape, ways)))
-        return run(_text(self._lines(shape, ways, is_put=True)), "neato", "-n2", "-Tsvg")
+        drawn = self.places.put((it.node for it in shape.nodes), ways.values(), _text(self._lines(shape, ways)))
+        return drawn or run(_text(self._lines(shape, ways, is_put=True)), "neato", "-n2", "-Tsvg")
 
     def _ends(self, line: Line) -> tuple[int, int]:
         """The places at the ends of an arc."""

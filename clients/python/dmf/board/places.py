@@ -5,6 +5,7 @@ from __future__ import annotations
 
 import json
 import math
+import re
 from collections.abc import Iterable, Iterator, Mapping
 from dataclasses import dataclass, field
 from typing import NamedTuple
@@ -29,6 +30,8 @@ class Spot(NamedTuple):
     y: float
 
 
+# Where a place lies in a drawing of Graphviz.
+_DRAWN = re.compile(r'<g id="node(?:-|&#45;)(\d+)".*?<ellipse [^>]* cx="([-0-9.]+)" cy="([-0-9.]+)"', re.DOTALL)
 # An arc by its ends, and by its place among those with the same ends.
 Way = tuple[int, int, int]
 
@@ -47,23 +50,28 @@ class Places:
     spots: dict[int, Spot] = field(default_factory=dict)
     routes: dict[Way, Route] = field(default_factory=dict)
 
-    def put(self, nodes: Iterable[int], ways: Iterable[Way], text: str) -> None:
-        """Gives each of these nodes a spot that has none. The text draws them for Graphviz, without spots. Raises `NoPicture`."""
+    def put(self, nodes: Iterable[int], ways: Iterable[Way], text: str) -> str:
+        """Gives each of these nodes a spot that has none. The text draws them for Graphviz, without spots. Returns what Graphviz has drawn if
+        that lies at these spots. Raises `NoPicture`."""
         known, new = _parted(nodes, self.spots)
         if new and not known:
-            self._put_apart(new, list(ways), text)
-        elif new:
+            return self._put_apart(new, list(ways), text)
+        if new:
             self.put_near(_rough(text, {node: self.spots[node] for node in known}, new))
+        return ""
 
-    def _put_apart(self, new: list[int], ways: list[Way], text: str) -> None:
+    def _put_apart(self, new: list[int], ways: list[Way], text: str) -> str:
         """Places of which none is known are put as Graphviz does best, beside all that are known."""
-        found = laid_out("dot", text)
+        found, drawn = laid_out("dot", text, "-Tsvg")
+        # A drawing tells them in hundredths, and a layout in five digits.
+        found.spots = {int(node): Spot(float(x), -float(y)) for node, x, y in _DRAWN.findall(drawn)}
         right = max((spot.x for spot in self.spots.values()), default=-APART)
         left = min((spot.x for spot in found.spots.values()), default=0.0)
         by = right + APART - left if self.spots else 0.0
         self.spots.update({node: Spot(spot.x + by, spot.y) for node, spot in found.spots.items()})
         if not by:
             self.routes.update({way: route for way, route in found.routes.items() if way in set(ways)})
+        return "" if by else drawn
 
     def put_near(self, rough: Mapping[int, Spot]) -> None:
         """Puts each of these places near a spot, where none lies yet."""
@@ -111,17 +119,19 @@ def _rough(text: str, known: Mapping[int, Spot], new: list[int]) -> dict[int, Sp
     """Where places would lie by their neighbours, while those that are known stay."""
     pins = "".join(f'  {node} [pos="{spot.x:.2f},{spot.y:.2f}!"]\n' for node, spot in known.items())
     settings = "  overlap=true; notranslate=true; inputscale=72; splines=false; edge [len=1.8]\n"
-    found = laid_out("neato", text.rstrip().removesuffix("}") + settings + pins + "}\n").spots
-    return {node: found[node] for node in new}
+    found, _ = laid_out("neato", text.rstrip().removesuffix("}") + settings + pins + "}\n")
+    return {node: found.spots[node] for node in new}
 
 
-def laid_out(engine: str, text: str) -> Places:
-    """The spots and routes that an engine of Graphviz finds. Nodes are numbers in the text, and arcs have their way as `class`."""
-    told = json.loads(run(text, engine, "-Tjson0"))
+def laid_out(engine: str, text: str, *words: str) -> tuple[Places, str]:
+    """The spots and routes that an engine of Graphviz finds, and what it writes by these words too. Nodes are numbers in the text, and arcs
+    have their way as `class`."""
+    made = run(text, engine, "-Tjson0", *words)
+    told, end = json.JSONDecoder().raw_decode(made)
     # Graphviz names nodes by their place in this list.
     nodes = [int(one["name"]) for one in told.get("objects", ())]
     spots = {node: Spot(*map(float, one["pos"].split(","))) for node, one in zip(nodes, told.get("objects", ()))}
-    return Places(spots, {_way(one): Route(one.get("pos", ""), one.get("lp", "")) for one in told.get("edges", ())})
+    return Places(spots, {_way(one): Route(one.get("pos", ""), one.get("lp", "")) for one in told.get("edges", ())}), made[end:].lstrip()
 
 
 def _way(edge: Mapping[str, str]) -> Way:

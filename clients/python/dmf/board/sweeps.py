@@ -77,9 +77,11 @@ class Sweeps:
 
     def portion(self, numbers: list[int]) -> list[Trial]:
         """The results for the first arcs, as many as the time of a portion allows. The next portion goes on with the same copies of
-        the network, if it is asked for in time."""
+        the network, if it is asked for in time. Where no arc is left to try, as after a stop, they end at once."""
         if not self._left or numbers[: len(self._left)] != self._left:
             self.end()
+        if not numbers:
+            return []
         with self._lock:
             self._end.cancel()
             going_on = self._sweep or Sweep(self._desk.sweep(numbers))

@@ -18,18 +18,27 @@ let written = new Map();
 export const parts = () => [...at("picture").querySelectorAll("g")].filter((group) => group.matches(".node, .arc"));
 
 /**
+ * The part of the picture that a drawing takes, or nothing if the text is empty.
+ * @param {string} text
+ * @returns {Box | null}
+ */
+export function boxOf(text) {
+  const [x, y, width, height] = text.match(/ viewBox="(.*?)"/)?.[1].split(" ").map(Number) ?? [];
+  return text ? { x, y, width, height } : null;
+}
+
+/**
  * Shows a drawing, or none if the text is empty.
  * @param {string} text
- * @returns {Box | null} its size
  */
 export function show(text) {
   const before = written, shown = at("picture").querySelector("svg");
   written = new Map([...text.matchAll(PART)].map(([part, id]) => [id, part]));
   if (!text) {
     shown?.remove();
-    return null;
+    return;
   }
-  const frame = read(text.replace(PART, "")), { x, y, width, height } = frame.viewBox.baseVal;
+  const frame = read(text.replace(PART, ""));
   const present = new Map(parts().map((part) => [part.id, part]));
   const others = [...written].filter(([id, part]) => before.get(id) !== part).map(([, part]) => part);
   for (const part of read(`${ROOT}${others.join("")}</svg>`).querySelectorAll("g")) {
@@ -44,7 +53,6 @@ export function show(text) {
     frame.setAttribute("aria-hidden", "false");
     at("picture").append(frame);
   }
-  return { x, y, width, height };
 }
 
 /**

@@ -18,17 +18,15 @@ const APART = 5, NEAR = 9;
 export const NAMES = 0.3;
 /** @type {Map<number, Spot>} */
 export const places = new Map();
-/** @type {Line[]} */
-export let lines = [];
 /** @type {number[][] | null} */
 let ends = null;
 /**
- * The arcs and the places that the picture has, which is before it.
- * @type {Set<string>}
+ * The lines that lie there, and the arcs and places that the picture before them has.
+ * @type {{ lines: Line[], before: Set<string> }}
  */
-export let before = new Set();
+export const ground = { lines: [], before: new Set() };
 
-export const isGround = () => lines.length > 0;
+export const isGround = () => ground.lines.length > 0;
 
 /**
  * Asks for all that lies there, and then for how it looks.
@@ -37,7 +35,7 @@ export const isGround = () => lines.length > 0;
 export async function lookAtGround(isThere) {
   at("picture").classList.toggle("grounded", isThere);
   if (!isThere) {
-    lines = [];
+    ground.lines = [];
     return;
   }
   if (!ends) {
@@ -52,7 +50,7 @@ export async function lookAtGround(isThere) {
   [...places.values()].forEach((place, number) => {
     place.look = told.places[number];
   });
-  lines = linesOf([...ends.map((one, number) => [...one, told.arcs[number]]), ...told.added]);
+  ground.lines = linesOf([...ends.map((one, number) => [...one, told.arcs[number]]), ...told.added]);
 }
 
 /**
@@ -77,7 +75,7 @@ function linesOf(arcs) {
 
 /** @param {Iterable<string>} ids the parts that the picture has */
 export function setBefore(ids) {
-  before = new Set(ids);
+  ground.before = new Set(ids);
 }
 
 /**
@@ -85,8 +83,9 @@ export function setBefore(ids) {
  * @param {string} like a selector of the picture's parts
  */
 export function groundBox(like) {
+  const { lines } = ground;
   const drawn = like === ".cut" ? lines.filter((line) => line.look === "l") : like === ".chosen" ? lines.filter(isMarked) : [];
-  const put = !lines.length || like === ".cut" ? [] : [...places.values()].filter((place) => like !== ".chosen" || isMarked(place));
+  const put = !isGround() || like === ".cut" ? [] : [...places.values()].filter((place) => like !== ".chosen" || isMarked(place));
   const spots = [...drawn.flatMap((line) => [line.from, line.to]), ...put.map((place) => [place.x, place.y])];
   if (!spots.length) return null;
   let [left, top, right, bottom] = [Infinity, Infinity, -Infinity, -Infinity];
@@ -110,8 +109,8 @@ export function isMarked(it) {
 export function chooseNear(event) {
   const { left, top } = at("picture").getBoundingClientRect(), box = seenBox();
   const [x, y] = [box.x + (event.clientX - left) / scale(), box.y + (event.clientY - top) / scale()];
-  const place = lines.length ? nearest([...places.values()], (it) => Math.hypot(it.x - x, it.y - y)) : null;
-  const line = nearest(lines, (it) => away(it, x, y));
+  const place = isGround() ? nearest([...places.values()], (it) => Math.hypot(it.x - x, it.y - y)) : null;
+  const line = nearest(ground.lines, (it) => away(it, x, y));
   if (place) choose({ node: place.node });
   else if (line) choose({ arc: line.number });
 }
@@ -149,7 +148,7 @@ function away({ from, to }, x, y) {
  * @param {[number, number]} way to the right and downwards
  */
 export function nextPlace(node, [right, down]) {
-  const here = lines.length ? places.get(node) : null;
+  const here = isGround() ? places.get(node) : null;
   let best = null, least = Infinity;
   for (const place of here ? places.values() : []) {
     const [x, y] = [place.x - (here?.x ?? 0), place.y - (here?.y ?? 0)], along = x * right + y * down;
@@ -161,13 +160,13 @@ export function nextPlace(node, [right, down]) {
 
 /** The place in the middle of what is seen, if names can be read there and the picture lacks some that lie around it. */
 export function middlePlace() {
-  if (scale() < NAMES || !lines.length) return null;
+  if (scale() < NAMES || !isGround()) return null;
   const box = seenBox(), [x, y] = [box.x + box.width / 2, box.y + box.height / 2];
   let best = null, least = Infinity, isWhole = true;
   for (const place of places.values()) {
     const far = Math.hypot(place.x - x, place.y - y);
     if (far < least) [best, least] = [place.node, far];
-    isWhole = isWhole && (far > box.width / 4 || far > box.height / 4 || before.has(`node-${place.node}`));
+    isWhole = isWhole && (far > box.width / 4 || far > box.height / 4 || ground.before.has(`node-${place.node}`));
   }
   return isWhole ? null : best;
 }

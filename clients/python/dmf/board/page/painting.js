@@ -5,7 +5,7 @@
  * @typedef {import("./ground.js").Spot} Spot
  */
 import { at } from "./elements.js";
-import { before, isMarked, lines, NAMES, places } from "./ground.js";
+import { ground, isGround, isMarked, NAMES, places } from "./ground.js";
 import { scale, seenBox } from "./view.js";
 
 /** How an arc looks: nothing flows, closed, something flows, full, of the limit; by these signs, and in this order over one another. */
@@ -15,25 +15,26 @@ const LOOKS = "ucfFl", BEFORE = "b", SHUT = "s";
 const ARROWS = 0.2, MOST_NAMES = 400, LETTERS = 12, ROUND = 90, HALF = 36;
 
 /** Whether nothing can be read. Then the arcs of the picture are drawn as the others are. */
-const isFar = () => lines.length > 0 && scale() < NAMES;
+const isFar = () => isGround() && scale() < NAMES;
 
 /** Draws what is seen of it. */
 export function paint() {
-  const canvas = /** @type {HTMLCanvasElement} */ (at("ground")), pen = canvas.getContext("2d"), box = seenBox(), by = devicePixelRatio;
+  const canvas = /** @type {HTMLCanvasElement} */ (at("ground")), box = seenBox(), by = devicePixelRatio;
   // Where nothing lies behind the picture, an empty canvas would be drawn with it.
-  canvas.hidden = !lines.length;
+  canvas.hidden = !isGround();
   at("picture").classList.toggle("far", isFar());
-  if (!pen || !lines.length) return;
+  const pen = isGround() && canvas.getContext("2d");
+  if (!pen) return;
   const [wide, high] = [Math.round(at("picture").clientWidth * by), Math.round(at("picture").clientHeight * by)];
   if (canvas.width !== wide || canvas.height !== high) Object.assign(canvas, { width: wide, height: high });
   pen.resetTransform();
   pen.clearRect(0, 0, wide, high);
   pen.setTransform(scale() * by, 0, 0, scale() * by, -box.x * scale() * by, -box.y * scale() * by);
-  const seen = lines.filter((line) => isIn(box, line)), colour = colours();
+  const seen = ground.lines.filter((line) => isIn(box, line)), colour = colours();
   if (isFar()) shade(pen, colour("side"));
   stroke(pen, seen.filter(isMarked), colour("mark"), 9);
   for (const look of LOOKS) {
-    const alike = seen.filter((line) => line.look === look && (isFar() || !before.has(`arc-${line.number}`)));
+    const alike = seen.filter((line) => line.look === look && (isFar() || !ground.before.has(`arc-${line.number}`)));
     const ink = colour(look === "l" ? "limit" : look === "u" || look === "c" ? "unused" : "ink");
     stroke(pen, alike, ink, look === "l" ? 3 : look === "F" ? 2 : isFar() ? 0.6 : 1, look === "c" ? [5, 3] : []);
     if (scale() >= ARROWS && look !== "c") point(pen, alike, ink);
@@ -123,7 +124,7 @@ function paintPlaces(pen, box, colour) {
   const rim = 60, isNear = scale() >= NAMES;
   const seen = [...places.values()].filter(({ x, y }) => x >= box.x - rim && y >= box.y - rim && x <= box.x + box.width + rim
     && y <= box.y + box.height + rim);
-  const behind = isNear ? seen.filter((place) => !before.has(`node-${place.node}`)) : seen;
+  const behind = isNear ? seen.filter((place) => !ground.before.has(`node-${place.node}`)) : seen;
   /**
    * Those that look alike are drawn at once, and those that are chosen at last.
    * @type {Record<string, Spot[]>}
@@ -173,7 +174,7 @@ function paintNames(pen, seen, colour) {
     if (taken.length >= MOST_NAMES) return;
     const long = pen.measureText(place.name).width, edge = seenBox().x + seenBox().width;
     // To the left of a place that lies at the right edge.
-    const aside = Math.max(high / 2, before.has(`node-${place.node}`) ? HALF : 0);
+    const aside = Math.max(high / 2, ground.before.has(`node-${place.node}`) ? HALF : 0);
     const x = place.x + aside + long > edge ? place.x - aside - long : place.x + aside;
     const box = { x, y: place.y - 1.4 * high, width: long, height: high };
     if (taken.some((it) => it.x < box.x + box.width && box.x < it.x + it.width && Math.abs(it.y - box.y) < high)) continue;

@@ -5,7 +5,7 @@
  */
 import { moved } from "./amounts.js";
 import { choose, theChoice } from "./choice.js";
-import { parts, show } from "./drawing.js";
+import { boxOf, parts, show } from "./drawing.js";
 import { at, onClick } from "./elements.js";
 import { chooseNear, groundBox, isGround, lookAtGround, middlePlace, nextPlace, setBefore } from "./ground.js";
 import { arrange, labelsOf } from "./labels.js";
@@ -13,7 +13,7 @@ import { isPicked, pickedCount } from "./many.js";
 import { news } from "./messages.js";
 import { paint } from "./painting.js";
 import { ask, noun, present, units } from "./state.js";
-import { beginView, fit, move, refresh, reveal, scale, zoom } from "./view.js";
+import { beginView, fit, move, reveal, scale, see, zoom } from "./view.js";
 
 const LARGER = 1.4, STEP = 60, MOST_SAID = 10, STILL = 300;
 let asked = 0, count = 0, pending = 0, moving = 0;
@@ -65,22 +65,29 @@ export async function showPicture() {
 function draw(text) {
   const active = document.activeElement;
   const held = active && at("picture").contains(active) ? active.id : "";
-  const box = show(text);
+  const box = boxOf(text);
+  // Once it is there, to ask for its room would lay it out, and what is done then to its labels once more.
+  if (box && nearShown !== near) takeRoom(box);
+  show(text);
   if (!box) return;
   labels = labelsOf(parts());
   setBefore(parts().map((part) => part.id));
   mark();
-  if (nearShown === near) {
-    refresh();
-  } else {
-    // The room of a picture follows its form, once, so that nothing jumps at a step.
-    const all = groundBox(".node, .arc") ?? box;
-    at("main").classList.toggle("long", all.width > 700 && all.width > 2.5 * all.height);
-    at("picture").style.setProperty("--form", String(all.width / Math.max(all.height, 1)));
-    fit(nearShown === "none" ? all : box);
-    nearShown = near;
-  }
+  see();
   if (held && document.activeElement?.id !== held) (document.getElementById(held) ?? at("picture")).focus();
+}
+
+/**
+ * Fits what is seen to a picture that shows what lies near another place than before. Its room follows its form, once, so that nothing
+ * jumps at a step.
+ * @param {import("./view.js").Box} box
+ */
+function takeRoom(box) {
+  const all = groundBox(".node, .arc") ?? box;
+  at("main").classList.toggle("long", all.width > 700 && all.width > 2.5 * all.height);
+  at("picture").style.setProperty("--form", String(all.width / Math.max(all.height, 1)));
+  fit(nearShown === "none" ? all : box);
+  nearShown = near;
 }
 
 /** Marks what is chosen, and has its label seen. */

@@ -14,7 +14,7 @@
 import { moved } from "./amounts.js";
 import { heard, ONCE } from "./asking.js";
 import { at, button, dropTyped } from "./elements.js";
-import { live, sayLeft } from "./live.js";
+import { heedLeaving, live } from "./live.js";
 import { hasTrouble, news, patiently, trouble } from "./messages.js";
 import { sentence, upper } from "./words.js";
 
@@ -135,6 +135,8 @@ async function catchUp() {
 async function show(told) {
   const before = state;
   state = told;
+  // Before it has a content, to lay it out would be work for nothing.
+  at("main").hidden = false;
   const shown = Promise.all(watchers.map((watcher) => watcher(told, before)));
   if (told.flows_follow) news("What can be sent and the limit are known; the flows follow.");
   await (told.flows_follow ? patiently(shown) : shown);
@@ -184,11 +186,12 @@ const follow = () => live({
 });
 
 let letGo = follow();
-sayLeft();
+heedLeaving();
 
 /** Shows the page for the first time. */
 export async function begin() {
   at("end").addEventListener("click", () => ask("stop", {}));
   await renew();
+  await catchUp();
   at("main").setAttribute("aria-busy", "false");
 }

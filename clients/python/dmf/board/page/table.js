@@ -10,7 +10,7 @@ import { ask, caption, noun, units } from "./state.js";
 import { sentence, upper } from "./words.js";
 
 /** The height of a row in pixels, as the style has it; how many rows are asked for at once; how many a page of keys moves by. */
-const HEIGHT = 32, AT_ONCE = 60, PAGE = 10;
+const HEIGHT = 32, AT_ONCE = 36, PAGE = 10;
 const COLUMNS = [["name", ""], ["from", "From"], ["to", "To"], ["flow", "flows"], ["capacity", "fits"]];
 /** @type {Part} */
 let part = { total: 0, first: 0, rows: [], reading: "", fault: "" };
@@ -39,7 +39,7 @@ async function numbers(first, count) {
 /** Shows the rows that can be seen, after another state, filter or order. */
 export async function showTable() {
   const turn = (asked += 1);
-  const first = Math.max(0, Math.floor(at("rows").scrollTop / HEIGHT) - AT_ONCE / 3);
+  const above = Math.floor(at("rows").scrollTop / HEIGHT) - AT_ONCE / 3, first = Math.max(0, Math.min(above, part.total - AT_ONCE));
   const told = await ask(`rows?${words()}&first=${first}&count=${AT_ONCE}`);
   if (turn !== asked || !told) return;
   part = told;

@@ -45,11 +45,12 @@ async function sweep(numbers, which) {
   stop();
 }
 
-/** Ends the sweep that goes on, and tells what it has found. What is being tried is not waited for. */
+/** Ends the sweep that goes on, and tells what it has found. What is being tried is not waited for, and the board ends that. */
 function stop() {
   if (!going) return;
   const { trials, left, which } = going;
   leave();
+  if (left.length) ask("sweep", { arcs: [] }, true);
   showTrials(trials);
   const found = trials.length || !left.length ? verdict(trials, left.length ? `of these ${trials.length}` : which) : "";
   at("verdict").textContent = left.length ? `Stopped: ${trials.length} of ${trials.length + left.length} are tried. ${found}` : found;

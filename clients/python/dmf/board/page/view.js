@@ -30,11 +30,11 @@ function show(x, y, pixels) {
   const by = Math.min(MOST, Math.max(LEAST, pixels)), { clientWidth, clientHeight } = at("picture");
   [wide, high] = [clientWidth, clientHeight];
   seen = { width: clientWidth / by, height: clientHeight / by, x: x - clientWidth / by / 2, y: y - clientHeight / by / 2 };
-  put();
+  see();
 }
 
 /** Has the picture show what is to be seen. */
-function put() {
+export function see() {
   const svg = at("picture").querySelector("svg"), box = [seen.x, seen.y, seen.width, seen.height].join(" ");
   if (svg?.getAttribute("viewBox") !== box) svg?.setAttribute("viewBox", box);
   told();
@@ -42,11 +42,10 @@ function put() {
 
 const middle = () => ({ x: seen.x + seen.width / 2, y: seen.y + seen.height / 2 });
 
-/** Shows the same middle again, in another picture or in another room. */
-export function refresh() {
+/** Shows the same middle again, if the room is another one. */
+function refresh() {
   const { clientWidth, clientHeight } = at("picture");
-  if (clientWidth === wide && clientHeight === high) put();
-  else show(middle().x, middle().y, scale());
+  if (clientWidth !== wide || clientHeight !== high) show(middle().x, middle().y, scale());
 }
 
 /**
