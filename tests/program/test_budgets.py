@@ -92,6 +92,25 @@ MADE: dict[str, Callable[[Random], Network]] = {
 FAMILIES = "grid", "random", "bip", "ac", "road"
 
 
+class Solved(NamedTuple):
+    """An arc, and what it carries."""
+
+    tail: int
+    head: int
+    flow: int
+
+
+def of_family(maker: Path, family: str) -> str:
+    """The problem text of a network of a family."""
+    return subprocess.run([maker, family, str(ARCS), "1990"], capture_output=True, check=True, text=True).stdout
+
+
+def solved(text: str) -> list[Solved]:
+    """The arcs of a problem in the order of their numbers, with the flow that `dmf solve` finds."""
+    solution = subprocess.run([BUILT, "solve"], input=text, capture_output=True, check=True, text=True).stdout
+    return [Solved(*map(int, line.split()[1:])) for line in solution.splitlines()[1:]]
+
+
 def instructions(folder: Path, text: str, commands: str) -> int:
     """How many instructions a session takes for these commands."""
     file = folder / "problem.max"
@@ -138,7 +157,7 @@ def test_shuts(name: str, tmp_path: Path) -> None:
 @pytest.mark.parametrize("end", "st")
 def test_ends_of_families(end: str, family: str, maker: Path, tmp_path: Path) -> None:
     """The source and the sink of each family."""
-    text = subprocess.run([maker, family, str(ARCS), "1990"], capture_output=True, check=True, text=True).stdout
+    text = of_family(maker, family)
     (node,) = re.findall(rf"^n ([0-9]+) {end}$", text, re.MULTILINE)
     assert 0 < shut_instructions(tmp_path, Network(text, int(node))) < BUDGET
 
@@ -148,9 +167,8 @@ def test_ends_of_families(end: str, family: str, maker: Path, tmp_path: Path) ->
 @pytest.mark.parametrize("family", ["grid", "random"])
 def test_nothing_to_do(family: str, maker: Path, tmp_path: Path) -> None:
     """A session keeps the cut of its last solve: while no change gives room to an arc out of it, the next solve looks at no link."""
-    text = subprocess.run([maker, family, str(ARCS), "1990"], capture_output=True, check=True, text=True).stdout
-    solution = subprocess.run([BUILT, "solve"], input=text, capture_output=True, check=True, text=True).stdout
-    idle = [number for number, line in enumerate(solution.splitlines()[1:], 1) if line.endswith(" 0")][:20]
+    text = of_family(maker, family)
+    idle = [number for number, arc in enumerate(solved(text), 1) if arc.flow == 0][:20]
     assert len(idle) == 20
     # The first change after a solve takes the labels off, so it is in both runs.
     first, *others = (f"close {number}\nsolve\n" for number in idle)
@@ -163,7 +181,7 @@ def test_nothing_to_do(family: str, maker: Path, tmp_path: Path) -> None:
 @pytest.mark.parametrize("family", ["grid", "random"])
 def test_added_arcs(family: str, maker: Path, tmp_path: Path) -> None:
     """An added arc takes two spare links, and its undo leaves them: only the first one makes all links anew."""
-    text = subprocess.run([maker, family, str(ARCS), "1990"], capture_output=True, check=True, text=True).stdout
+    text = of_family(maker, family)
     others = [f"add {node} {node + 1} 1\nundo\n" for node in range(1, 41, 2)]
     before, after = (instructions(tmp_path, text, f"solve\nadd 1 2 1\n{then}") for then in ("", "".join(others)))
     assert (after - before) / len(others) < ADD_BUDGET
@@ -174,9 +192,8 @@ def test_added_arcs(family: str, maker: Path, tmp_path: Path) -> None:
 @pytest.mark.parametrize("family", ["grid", "random"])
 def test_added_self_loops(family: str, maker: Path, tmp_path: Path) -> None:
     """An added self loop, its undo and its redo touch no link: the close and the solve behind them need make none anew."""
-    text = subprocess.run([maker, family, str(ARCS), "1990"], capture_output=True, check=True, text=True).stdout
-    solution = subprocess.run([BUILT, "solve"], input=text, capture_output=True, check=True, text=True).stdout
-    carrying = next(number for number, line in enumerate(solution.splitlines()[1:], 1) if not line.endswith(" 0"))
+    text = of_family(maker, family)
+    carrying = next(number for number, arc in enumerate(solved(text), 1) if arc.flow > 0)
     loops = [f"add {node} {node} 1\nundo\nredo\n" for node in range(1, 21)]
     before, after = (instructions(tmp_path, text, f"solve\n{then}close {carrying}\nsolve\n") for then in ("", "".join(loops)))
     # Three commands each, where an added arc has two.
@@ -188,11 +205,10 @@ def test_added_self_loops(family: str, maker: Path, tmp_path: Path) -> None:
 @pytest.mark.parametrize("family", ["bip", "grid"])
 def test_idle_nodes(family: str, maker: Path, tmp_path: Path) -> None:
     """A shut looks for the arcs at its node among the node's links: the second one at no other arc. These networks have no self loop."""
-    text = subprocess.run([maker, family, str(ARCS), "1990"], capture_output=True, check=True, text=True).stdout
-    solution = subprocess.run([BUILT, "solve"], input=text, capture_output=True, check=True, text=True).stdout
-    ends = [(int(tail), int(head), flow != "0") for tail, head, flow in re.findall(r"^f ([0-9]+) ([0-9]+) ([0-9]+)$", solution, re.MULTILINE)]
-    assert all(tail != head for tail, head, _ in ends)
-    idle = {node for arc in ends for node in arc[:2]} - {node for tail, head, carries in ends if carries for node in (tail, head)}
+    text = of_family(maker, family)
+    arcs = solved(text)
+    assert all(arc.tail != arc.head for arc in arcs)
+    idle = {node for arc in arcs for node in arc[:2]} - {node for arc in arcs if arc.flow > 0 for node in arc[:2]}
     first, *others = (f"shut {node}\nundo\n" for node in sorted(idle)[:20])
     assert len(others) == 19
     before, after = (instructions(tmp_path, text, f"solve\n{first}{then}") for then in ("", "".join(others)))
