@@ -29,12 +29,12 @@ export function labelsOf(parts) {
 }
 
 /**
- * How much a label matters; less is more.
+ * How much a label matters; less is more. Names of places come before numbers.
  * @param {SVGElement} part
  */
 function rank(part) {
-  if (part.matches(".node")) return part.querySelectorAll("ellipse:not(.halo)").length > 1 ? 0 : 2;
-  return part.matches(".cut") ? 1 : part.matches(".full") ? 3 : 4;
+  if (part.matches(".node")) return part.querySelectorAll("ellipse:not(.halo)").length > 1 ? 0 : 1;
+  return part.matches(".cut") ? 2 : part.matches(".full") ? 3 : 4;
 }
 
 /**
