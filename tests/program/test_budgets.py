@@ -213,3 +213,14 @@ def test_idle_nodes(family: str, maker: Path, tmp_path: Path) -> None:
     assert len(others) == 19
     before, after = (instructions(tmp_path, text, f"solve\n{first}{then}") for then in ("", "".join(others)))
     assert 0 < (after - before) / len(others) < LIST_BUDGET
+
+
+@needs_valgrind
+@pytest.mark.seconds(3)
+@pytest.mark.parametrize("family", ["bip", "grid"])
+def test_numbered(family: str, maker: Path, tmp_path: Path) -> None:
+    """The first change after a solve numbers the links, so that the solve after it needs not: here one along an added arc, the only path."""
+    text = of_family(maker, family)
+    (source,), (sink,) = (re.findall(rf"^n ([0-9]+) {end}$", text, re.MULTILINE) for end in "st")
+    before, after = (instructions(tmp_path, text, f"solve\nadd {source} {sink} 1\n{then}") for then in ("", "solve\n"))
+    assert 0 < after - before < 2 * IDLE_BUDGET
