@@ -55,16 +55,20 @@ def test_strangers() -> None:
 
 
 def judge_scripts(it: Board) -> None:
-    """The page's script has all modules of the page and nothing of the network, and imports no other. Nothing else is a script to a
-    browser."""
-    status, sent, told = it.ask(it.root + "main.js")
-    assert (status, sent["Content-Type"], sent["X-Content-Type-Options"]) == (200, "text/javascript; charset=utf-8", "nosniff")
-    assert b"Reservoir" not in told and not re.search(rb"^(import|export)\b", told, re.MULTILINE)
-    modules = [file.stem for file in (ROOT / "clients/python/dmf/board/page").glob("*.js")]
-    assert sorted(re.findall(r"^const [$](\w+) = ", told.decode(), re.MULTILINE)) == sorted(modules)
+    """The page's scripts are its own files, which have nothing of the network, and each script that one of them imports is there. Nothing
+    else is a script to a browser."""
+    kinds: dict[str, str] = {}
+    left = ["main.js"]
+    while left:
+        name = left.pop()
+        status, sent, told = it.ask(it.root + name)
+        assert (status, sent["X-Content-Type-Options"], b"Reservoir" in told) == (200, "nosniff", False), name
+        kinds[name] = sent["Content-Type"]
+        left += [found for found in re.findall(r'from "[.]/(\w+[.]js)"', told.decode()) if found not in kinds and found not in left]
+    assert len(kinds) > 5 and set(kinds.values()) == {"text/javascript; charset=utf-8"}
     for path in "state", "picture?near=", "plan.csv?turn=2", "arc?number=1", "style.css", "":
         assert "script" not in it.ask(it.root + path)[1]["Content-Type"], path
-    for path in "../board.py", "%2e%2e/board.py", "page/main.js", "main.js/", "Main.js", "words.js", "tsconfig.json":
+    for path in "../board.py", "%2e%2e/board.py", "page/main.js", "main.js/", "Main.js", "tsconfig.json":
         assert it.ask(it.root + path)[0] in (400, 404), path
 
 
