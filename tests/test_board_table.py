@@ -215,6 +215,29 @@ def test_press(driver: Any) -> None:
         page.wait(lambda: chosen(page) == order[:1])
 
 
+# Has the numbers of rows told as of the state after the one that they are of.
+LATER = """const plain = window.fetch;
+window.fetch = async (path, ...rest) => {
+  const answer = await plain(path, ...rest);
+  if (!String(path).startsWith("numbers?")) return answer;
+  const told = await answer.json();
+  return new Response(JSON.stringify({ ...told, turn: told.turn + 1 }));
+};"""
+
+
+def test_a_late_choice(driver: Any) -> None:
+    """Where the board has another state by the time that a choice of many is asked for, nothing is chosen, and the page says so."""
+    with board(PIPES) as it:
+        page = Page(driver, it.address)
+        order = [pipe.name for pipe in water()]
+        click_row(page, order[2])
+        page.wait(lambda: chosen(page) == order[2:3])
+        driver.execute_script(LATER)
+        click_row(page, order[5], SHIFT)
+        page.wait(lambda: "nothing was chosen. Choose again." in page.text("#trouble"))
+        assert chosen(page) == order[2:3]
+
+
 def test_keys(driver: Any) -> None:
     """The keyboard alone moves in the table, chooses, and shows an arc; the focus stays in it."""
     with board(PIPES) as it:

@@ -6,6 +6,7 @@
 import { choose } from "./choice.js";
 import { at, field, make, onClick, replace } from "./elements.js";
 import { isPicked, pickMore, pickThese, toggle, watchPicked } from "./many.js";
+import { trouble } from "./messages.js";
 import { ask, caption, noun, units } from "./state.js";
 import { sentence, upper } from "./words.js";
 
@@ -26,13 +27,14 @@ let signs = 0;
 const words = () => `filter=${encodeURIComponent(field("filter").value.trim())}&sort=${order}`;
 
 /**
- * The numbers of so many arcs of the table.
+ * The numbers of so many arcs of the table. None where the board had another state when they were told: then other rows may stand there.
  * @param {number} first
  * @param {number} count
  * @returns {Promise<number[] | null>}
  */
 async function numbers(first, count) {
   const told = await ask(`numbers?${words()}&first=${first}&count=${count}`);
+  if (told === undefined) trouble("Something changed just then, so nothing was chosen. Choose again.");
   return told ? told.numbers : null;
 }
 
