@@ -16,7 +16,7 @@ from xml.etree import ElementTree
 import dmf
 import pytest
 from client_shared import needs
-from desk_shared import ODD, PIPES, ROOT, STORY, desk_of, run, swept, water_problem, without
+from desk_shared import ODD, PIPES, ROOT, STORY, desk_of, run, swept, water, water_problem, without
 from dmf.desk import Desk
 from dmf.desk_steps import DeskFault
 from dmf.project import findings as project_findings
@@ -139,6 +139,24 @@ def test_what_is_not_tried_is_said(tmp_path: Path, monkeypatch: pytest.MonkeyPat
     found = findings(desk).tried
     assert found.said == "of 14 arcs only the 3 of the limit were tried, each alone; others may be worse to lose"
     assert [name.partition(",")[0] for name, _ in found.losses] == ["North rise", "South main", "Mill Lane"]
+    desk.end()
+
+
+def test_the_table_has_its_arcs(tmp_path: Path) -> None:
+    """All arcs of the table are counted, also one that was opened again, twice too, and none that was added."""
+    desk = water_project(tmp_path)
+    counted = len(water())
+    assert findings(desk).arcs == counted
+    for name in "Bridge pipe", "Mill Lane", "Bridge pipe":
+        desk.close(named(desk, name))
+        assert findings(desk).arcs == counted
+        desk.open(named(desk, name))
+        assert findings(desk).arcs == counted
+    desk.add(desk.names.place("Mill"), desk.names.place("Station"), 25, "New")
+    desk.close(named(desk, "New"))
+    desk.open(named(desk, "New"))
+    assert findings(desk).arcs == counted
+    assert f"{counted} pipes between 9 places" in Page(report(desk)).text
     desk.end()
 
 

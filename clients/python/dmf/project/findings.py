@@ -142,6 +142,11 @@ def _tried(desk: Desk) -> Tried:
     )  # fmt: skip
 
 
+def _table_arcs(desk: Desk) -> int:
+    """Count the arcs of the table. One that was closed and opened again has a new number, and is the arc that it was."""
+    return sum((desk.line(number).first or number) <= desk.first_count for number in desk.pictured())
+
+
 def findings(desk: Desk) -> Findings:
     """What is to be said of a desk. Takes as long as the steps of all scenarios take, a comparison of each, and a sweep. Raises a `DeskFault`
     if the flow is not greatest."""
@@ -152,5 +157,5 @@ def findings(desk: Desk) -> Findings:
     assumed = desk.project.table.assumed if isinstance(desk, ProjectDesk) else subject.notes
     return Findings(
         os.path.basename(subject.path).removesuffix(ENDING), with_notes, desk.measure.told_unit, subject.noun or "arc", names.terminal(desk.source), names.terminal(desk.sink),
-        sum(number <= desk.first_count for number in desk.pictured()), len(names.places), tuple(assumed), tuple(_sections(desk)), _tried(desk),
+        _table_arcs(desk), len(names.places), tuple(assumed), tuple(_sections(desk)), _tried(desk),
     )  # fmt: skip
