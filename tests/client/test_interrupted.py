@@ -76,7 +76,7 @@ def test_what_is_tried_out(nested: bool) -> None:
                 with stopped(network):
                     network.shut("mill")
                 raise KeyboardInterrupt
-        assert (network.value, ends(network.arcs), network._kept.floor) == (other.value, ends(other.arcs), None)
+        assert (network.value, ends(network.arcs), network._kept.floors) == (other.value, ends(other.arcs), ())
         with pytest.raises(dmf.SessionEnded, match="was broken off$"):
             lost.values().__iter__()
         assert plan == seen and told(network) == told(other)

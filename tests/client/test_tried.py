@@ -1,5 +1,6 @@
 """What is tried out and taken back, arcs that are opened, histories that are bounded, arcs that tell of themselves, and notebooks."""
 
+import contextlib
 import shutil
 
 import pytest
@@ -94,6 +95,52 @@ def test_a_bounded_history() -> None:
         # Of a change that cannot be undone the command alone is kept.
         assert [change if isinstance(change, tuple) else change.command for change in network._kept._changes] == [("solve",)] * 51
         assert [isinstance(change, tuple) for change in network._kept._changes] == [True] * 49 + [False] * 2
+
+
+@pytest.mark.parametrize("bound", range(4))
+@pytest.mark.parametrize("blocks", [(1, 2), (0, 2, 2), (1, 1, 1, 1), (2, 0, 1), (0, 3)])
+def test_a_bounded_history_of_blocks_in_blocks(bound: int, blocks: tuple[int, ...]) -> None:
+    """Blocks in blocks, each with some changes at its beginning: the bound counts them from the outermost block on, so that all
+    of them can be taken back."""
+    with pipes(history=bound) as network:
+        for _ in range(3):
+            network.solve()
+        with contextlib.ExitStack() as stack:
+            made = 0
+            for changes in blocks:
+                stack.enter_context(network.try_out())
+                for _ in range(changes):
+                    if made < bound:
+                        network.add("lake", "sea", 1)
+                        made += 1
+                        continue
+                    with pytest.raises(dmf.HistoryOutOfRange):
+                        network.add("lake", "sea", 1)
+                assert len(network.arcs) == 5 + made
+            assert network.value == 5
+        assert (network.value, ends(network.arcs)) == (5, [row[:2] for row in PIPES])
+        # What was tried can be made once more, and the session goes on.
+        if made:
+            assert network.redo(made) == 5
+        assert (len(network.arcs), network.solve().value) == (5 + made, 5 + made)
+
+
+def test_a_block_that_undid_has_room_again() -> None:
+    with pipes(history=2) as network:
+        with network.try_out():
+            network.solve()
+            with network.try_out():
+                network.close(("lake", "mill"))
+                with pytest.raises(dmf.HistoryOutOfRange):
+                    network.close(("lake", "town"))
+                network.undo()
+                network.close(("lake", "town"))
+                assert network.value == 3
+            assert network.value == 5
+            network.undo()
+            network.shut("mill")
+            assert network.solve().value == 2
+        assert (network.value, len(network.arcs)) == (0, 5)
 
 
 def test_the_session_ends_inside() -> None:

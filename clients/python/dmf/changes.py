@@ -60,8 +60,8 @@ class Changes:
 
     def __init__(self, most: int) -> None:
         self.most = most
-        # How many changes may not be undone now.
-        self.floor: int | None = None
+        # How many changes led to the beginning of each trial that is open, the outermost first.
+        self.floors: tuple[int, ...] = ()
         self.begin_with(0)
 
     def begin_with(self, value: int) -> None:
@@ -158,15 +158,16 @@ class Changes:
         del self._changes[self.place :]
 
     def judge_change(self) -> None:
-        """Raises `HistoryOutOfRange` if one more change could not be undone at the end of the trial."""
-        if self.floor is not None and self.place - self.floor >= self.most:
+        """Raise `HistoryOutOfRange` if the outermost trial could not be undone after one more change."""
+        if self.floors and self.place - self.floors[0] >= self.most:
             why = f"history out of range: of what is tried out, {self.most} changes can be taken back, and not one more"
             raise HistoryOutOfRange(why)
 
     def judge_undo(self, count: int) -> None:
-        """Raises `NothingToUndo` if that would undo a change from before the trial."""
-        if self.floor is not None and self.place - count < self.floor:
-            raise NothingToUndo(f"undo {count}, of {self.place - self.floor} changes that are tried out")
+        """Raise `NothingToUndo` if that would undo a change from before the innermost trial."""
+        if self.floors and self.place - count < self.floors[-1]:
+            made = self.place - self.floors[-1]
+            raise NothingToUndo(f"undo {count}, of {made} changes that are tried out")
 
     def judge_redo(self, count: int) -> None:
         """Raises `NothingToRedo` if fewer changes can be made again."""

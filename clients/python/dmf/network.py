@@ -277,16 +277,16 @@ class Network(Showing[Node]):
                 loss = before - network.solve().value
 
         Inside the block `undo` takes back no more than what was done in it, and raises `NothingToUndo`. Where `history` bounds the
-        changes that can be undone, a change past so many in one block is refused by `HistoryOutOfRange`. Blocks may stand in
-        blocks."""
+        changes that can be undone, a change past that many is refused by `HistoryOutOfRange`. Blocks may stand in blocks, and
+        then the outermost block counts."""
         self._ready()
         kept, value = self._kept, self._kept.value
-        outer, place = kept.floor, kept.place
+        outer, place = kept.floors, kept.place
         try:
-            kept.floor = place
+            kept.floors = (*outer, place)
             yield self
         finally:
-            kept.floor = outer
+            kept.floors = outer
             try:
                 if kept.place > place and self._is_running:
                     self.undo(kept.place - place)
