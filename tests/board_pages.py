@@ -3,12 +3,10 @@
 from __future__ import annotations
 
 import contextlib
-import shutil
 import time
 from collections.abc import Callable, Iterator
 from typing import Any
 
-import pytest
 
 # A name that the browser takes for this machine, under which a page is no secure context.
 OTHER_NAME = "board.example"
@@ -19,11 +17,7 @@ SOON, LATE = 0.01, 0.2
 
 
 def browser() -> Iterator[Any]:
-    """A headless Chromium. Skips the test where something is not there that it needs."""
-    for program in "chromium", "chromedriver", "dot":
-        if not shutil.which(program):
-            pytest.skip(f"{program} is not there, so the board was not shown by a browser")
-    pytest.importorskip("selenium", reason="python3-selenium is not there, so the board was not shown by a browser")
+    """Yield a headless Chromium."""
     from selenium import webdriver
     from selenium.webdriver.chrome.service import Service
 

@@ -1,7 +1,6 @@
 """What the tests of the client share: the client, where the repository is, networks, and programs that stand in for dmf."""
 
 import contextlib
-import importlib
 import os
 import signal
 import subprocess
@@ -11,7 +10,6 @@ from collections.abc import Iterable, Iterator
 from typing import Any
 
 import dmf as dmf
-import pytest
 from dmf.process import Child
 
 ROOT = os.path.dirname(os.path.dirname(os.path.abspath(__file__)))
@@ -23,19 +21,6 @@ os.environ["DMF"] = BUILT
 # What is said of a row of another form.
 WANTED = "wanted is (tail, head, capacity) or (tail, head, capacity, key), of which all but the capacity can be hashed"
 PIPES = [("lake", "mill", 3), ("lake", "town", 2), ("mill", "town", 5), ("mill", "sea", 2), ("town", "sea", 3)]
-
-
-def there(name: str) -> Any:
-    """A package that some tests need, or None where it is not there."""
-    try:
-        return importlib.import_module(name)
-    except ImportError:
-        return None
-
-
-def needs(is_there: object, package: str, so: str) -> pytest.MarkDecorator:
-    """Skips a test where a package of Debian is not there, and names what was not tested."""
-    return pytest.mark.skipif(not is_there, reason=f"{package} is not there, so {so}")
 
 
 def pipes(**options: Any) -> dmf.Network[str]:

@@ -4,7 +4,6 @@ from __future__ import annotations
 
 import fcntl
 import os
-import re
 import shutil
 import subprocess
 import sys
@@ -98,24 +97,36 @@ def dealt(items: list[pytest.Item], workers: int) -> list[pytest.Item]:
     return order
 
 
+def left_out(config: pytest.Config) -> set[str]:
+    """The marks of tests that are not run: long ones without --long, and those that act as another user where root does not run them."""
+    return {mark for mark, runs in (("long", config.getoption("--long")), ("root", os.geteuid() == 0)) if not runs}
+
+
 def pytest_collection_modifyitems(config: pytest.Config, items: list[pytest.Item]) -> None:
-    if not config.getoption("--long"):
-        config.hook.pytest_deselected(items=[item for item in items if item.get_closest_marker("long")])
-        items[:] = [item for item in items if not item.get_closest_marker("long")]
-    items[:] = dealt(items, int(os.environ.get("PYTEST_XDIST_WORKER_COUNT", "1")))
+    out = [item for item in items if any(map(item.get_closest_marker, left_out(config)))]
+    config.hook.pytest_deselected(items=out)
+    items[:] = dealt([item for item in items if item not in out], int(os.environ.get("PYTEST_XDIST_WORKER_COUNT", "1")))
 
 
-def pytest_terminal_summary(terminalreporter: TerminalReporter) -> None:
-    """Keeps the shortest cases that failed, tells what was skipped, and ends with the line 'N passed, M failed', in which a script counts
-    for each of its cases. With CI=true nothing may be skipped. A worker of pytest-xdist, which knows its own tests alone, does none of this."""
-    if hasattr(terminalreporter.config, "workerinput"):
+@pytest.hookimpl(hookwrapper=True, tryfirst=True)
+def pytest_sessionfinish(session: pytest.Session) -> Iterator[None]:
+    """Keeps the shortest cases that failed, and ends with the line 'N passed, M failed', in which a script counts for each of its cases, and a
+    skipped test as one that failed. A worker of pytest-xdist, which knows its own tests alone, does none of this."""
+    yield
+    reporter = session.config.pluginmanager.get_plugin("terminalreporter")
+    if reporter is None or hasattr(session.config, "workerinput"):
         return
-    stats = terminalreporter.stats
+    passed, failed = counted(reporter)
+    if failed and session.exitstatus == pytest.ExitCode.OK:
+        session.exitstatus = pytest.ExitCode.TESTS_FAILED
+    reporter.write_line(f"{passed} passed, {failed} failed")
+
+
+def counted(reporter: TerminalReporter) -> tuple[int, int]:
+    """How many tests and cases of scripts passed and failed. Writes lines on what else is to be told."""
+    stats = reporter.stats
     passed = len(stats.get("passed", []))
-    failed = len(stats.get("failed", [])) + len(stats.get("error", []))
-    skipped = [re.sub("^Skipped: ", "", report.longrepr[2]) for report in stats.get("skipped", [])]
-    if "DMF_BUILT" in os.environ:
-        skipped.append(f"the built program, since DMF_BUILT names {BUILT}")
+    failed = sum(len(stats.get(how, [])) for how in ("failed", "error", "skipped"))
     for report in stats.get("passed", []) + stats.get("failed", []):
         told = dict(report.user_properties)
         if "cases" in told:
@@ -123,24 +134,18 @@ def pytest_terminal_summary(terminalreporter: TerminalReporter) -> None:
             # The script itself was counted as one.
             passed += ran - (report.outcome == "passed")
             failed += max(wrong, 1) - 1 if report.outcome == "failed" else 0
-            skipped += told["skipped"]
-    terminalreporter.ensure_newline()
+    reporter.ensure_newline()
     unmet = [set(it[1]) for report in stats.get("passed", []) for it in report.user_properties if it[0] == "unmet"]
     if len(unmet) >= GATE_CASES // BATCH and set.intersection(*unmet):
         failed += 1
-        terminalreporter.write_line(f"failed: no random case meets {sorted(set.intersection(*unmet))}")
+        reporter.write_line(f"failed: no random case meets {sorted(set.intersection(*unmet))}")
     shown = shown_cases(report.longreprtext for report in stats.get("failed", []))
     if shown:
         FOUND_FILE.write_text(with_cases(FOUND_FILE.read_text(), shown))
-        terminalreporter.write_line(f"{FOUND_FILE.relative_to(ROOT)} keeps {len(shown)} cases that failed")
-    for why in dict.fromkeys(skipped):
-        terminalreporter.write_line(f"skipped: {why}")
-    if os.environ.get("CI") == "true":
-        failed += len(skipped)
-    terminalreporter.write_line(f"{passed} passed, {failed} failed")
-    session = terminalreporter._session
-    if failed and session and session.exitstatus == pytest.ExitCode.OK:
-        session.exitstatus = pytest.ExitCode.TESTS_FAILED
+        reporter.write_line(f"{FOUND_FILE.relative_to(ROOT)} keeps {len(shown)} cases that failed")
+    if "root" in left_out(reporter.config):
+        reporter.write_line("not run, since only root can: the tests that act as another user")
+    return passed, failed
 
 
 @contextmanager
@@ -156,8 +161,6 @@ def shared(factory: pytest.TempPathFactory, name: str) -> Iterator[Path]:
 @pytest.fixture(scope="session")
 def faults(tmp_path_factory: pytest.TempPathFactory) -> str:
     """The library of tests/faults.c, which is preloaded to refuse memory and to let reads and writes fail."""
-    if not shutil.which("gcc"):
-        pytest.skip("no gcc, so no request for memory was refused, and no read or write failed")
     with shared(tmp_path_factory, "faults.so") as library:
         if not library.exists():
             source = ROOT / "tests" / "faults.c"

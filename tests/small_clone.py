@@ -49,7 +49,7 @@ class Clone:
             (self.root / "crates" / crate / "src" / "lib.rt").write_text(f"// {crate}\n")
         for folder in self.bin, self.home, self.rt.parent, self.root / "tools", self.root / ".ci":
             folder.mkdir()
-        for script in "dmf", "prove", ".ci/run", "tools/build.py", "tools/prebuilt", "tools/count.sh", "tools/packages.sh":
+        for script in "dmf", "prove", ".ci/run", ".ci/typed", ".ci/bare_debian.sh", "tools/build.py", "tools/prebuilt", "tools/count.sh", "tools/packages.sh":
             shutil.copy(ROOT / script, self.root / script)
         (self.root / "crates.txt").write_text("# Crates.\nlow:\ndmf: low # and no other\ndmf_c staticlib: low\ntest_low: low\n")
         (self.root / "tools/library").write_text(MAKES_LIBRARY)

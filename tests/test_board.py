@@ -8,7 +8,6 @@ import http.client
 import io
 import json
 import os
-import shutil
 import signal
 import socket
 import tempfile
@@ -333,8 +332,6 @@ def test_large() -> None:
 
 def test_picture() -> None:
     """Names are text in a picture, and its numbers are those of the table, at each step."""
-    if not shutil.which("dot"):
-        pytest.skip("graphviz is not there, so no picture of a board was made")
     with tempfile.TemporaryDirectory() as folder:
         table = Path(folder, "odd.csv")
         quoted = ODD.replace('"', '""')

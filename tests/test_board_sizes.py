@@ -13,9 +13,10 @@ from board_running import Board, board
 from test_board_access import ENTER, ESCAPE, RIGHT, SCHEMES, WIDTHS, as_before, judge_colours, judge_tree, show
 from test_board_ground import city, rows_of
 from test_board_view import HEIGHTS, is_in, spots
+from packages import load
 
-sparse = pytest.importorskip("scipy.sparse", reason="python3-scipy is not there, so no board was compared with it")
-csgraph = pytest.importorskip("scipy.sparse.csgraph")
+sparse = load("scipy.sparse")
+csgraph = load("scipy.sparse.csgraph")
 SMALL = "from,to,litres,pipe\nLake,Mill,9,one\nLake,Town,4,two\nMill,Town,3,three\nMill,Sea,5,four\nTown,Sea,8,five\n"
 # By how many arcs a network has: the side of its square of places. Of those that lie on a map all arcs are drawn.
 SIDES = {5: 0, 98: 7, 2_048: 32, 10_082: 71}

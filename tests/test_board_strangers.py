@@ -113,8 +113,6 @@ NOBODY = 65_534
 
 def as_nobody(script: str, *words: object) -> subprocess.Popen[str]:
     """A script in Python that another user runs. It says what it found, and may wait for a line."""
-    if os.getuid():
-        pytest.skip("the tests do not run as root, so nobody came to the board of another user")
     pipe = subprocess.PIPE
     return subprocess.Popen(
         ["/usr/bin/python3", "-c", script, *map(str, words)], stdin=pipe, stdout=pipe, text=True, cwd="/", user=NOBODY, group=NOBODY,
@@ -179,6 +177,7 @@ def test_opening(tmp_path: Path) -> None:
     assert not door.parent.exists()
 
 
+@pytest.mark.root
 def test_opening_to_others(tmp_path: Path) -> None:
     """Nothing that another user can read of any process has the token, and they cannot read the file."""
     with opened(tmp_path) as (address, given), another(LOOK, urlsplit(address).path.strip("/"), urlsplit(given).path) as found:
@@ -218,6 +217,7 @@ def ports_held(port: int) -> int:
     return sum(row[2] == f"0100007F:{port:04X}" and row[7] == str(NOBODY) for row in rows)
 
 
+@pytest.mark.root
 @pytest.mark.seconds(8)
 def test_crowd() -> None:
     """A thousand idle connections of another user keep no page out, and the board holds a few of them, for some seconds."""
@@ -251,6 +251,7 @@ while time.monotonic() < until:
 """
 
 
+@pytest.mark.root
 @pytest.mark.seconds(5)
 def test_flood() -> None:
     """A page gets in also while another user comes as often as possible."""
@@ -307,6 +308,7 @@ print(taken, flush=True)
 """
 
 
+@pytest.mark.root
 def test_port_is_taken() -> None:
     """Nobody else can listen at the board's port, under any name of this machine."""
     with board(PIPES) as it:

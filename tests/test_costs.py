@@ -10,7 +10,6 @@ from typing import Any
 
 import dmf
 import pytest
-from client_shared import needs
 from desk_shared import run
 from dmf.costs import Bought, cheapest, prices, priced
 from dmf.desk import Desk
@@ -22,7 +21,6 @@ try:
     import networkx
 except ImportError:
     networkx = None
-NETWORKX = needs(networkx, "python3-networkx", "least costs were not computed by it")
 Row = tuple[str, str, int, str]
 
 
@@ -73,7 +71,6 @@ def least_cost(rows: list[Row], value: Decimal) -> Decimal | None:
         return None
 
 
-@NETWORKX
 @pytest.mark.parametrize("seed", range(60))
 def test_beside_networkx(tmp_path: Path, seed: int) -> None:
     rows = drawn(random.Random(seed))
@@ -103,7 +100,6 @@ def assert_end(rows: list[Row], bought: list[Bought], end: str, wanted: int) -> 
         assert greatest(rows, without_bound) == reached
 
 
-@NETWORKX
 def test_one_limit_after_the_other(tmp_path: Path) -> None:
     """Where limits stand one behind the other, the arcs of all are widened together, and on a chain that is the least cost."""
     rows = [("S", "A", 4, "2"), ("A", "B", 4, "3"), ("B", "T", 4, "1")]

@@ -1,4 +1,4 @@
-"""Tests how the gate counts: .ci/run and ./prove in a small clone, and what a skipped test is with CI=true."""
+"""Tests how the gate counts: .ci/run and ./prove in a small clone, and that a skipped test is a failed one."""
 
 from __future__ import annotations
 
@@ -12,15 +12,34 @@ from nested import run_pytest
 from small_clone import SECONDS, Clone
 
 SAID = "2 passed, 0 failed"
+GATE = ".ci/run", "--no-root"
+README = """# A program
+
+## Two commands
+
+It answers:
+
+    $ ./dmf one two
+    ran the first one two
+
+Its tests:
+
+    $ ./test
+
+## More
+
+    $ ./dmf three
+"""
 SKIPPING = "import pytest\n\n\ndef test_one() -> None:\n    pytest.skip('no tool')\n\n\ndef test_two() -> None:\n    pass\n"
 
 
 @pytest.fixture
 def clone(tmp_path: Path) -> Clone:
-    """A clone whose ./test and tools/all_edits.py write $TEST and $EDITS, and that has one mutant."""
+    """A clone whose ./test writes the file `tested`, whose tools/all_edits.py writes $EDITS, and that has one mutant."""
     clone = Clone(tmp_path)
     clone.renew()
-    (clone.root / "test").write_text("#!/bin/sh\necho \"$TEST\"\n")
+    (clone.root / "README.md").write_text(README)
+    (clone.root / "test").write_text("#!/bin/sh\ncat tested\n")
     (clone.root / "test").chmod(0o755)
     (clone.root / "tests/toolchain").mkdir(parents=True)
     (clone.root / "tests/toolchain/test_main.py").write_text("def test_one() -> None:\n    pass\n")
@@ -31,15 +50,16 @@ def clone(tmp_path: Path) -> Clone:
 
 def ended(clone: Clone, *words: str, said: str = SAID, test: str = SAID) -> tuple[int, list[str]]:
     """The status of a command, and the last lines that it writes."""
-    environment = clone.with_toolchain(SAID=said, TEST=test, EDITS="7 passed, 0 failed")
+    (clone.root / "tested").write_text(f"{test}\n")
+    environment = clone.with_toolchain(SAID=said, EDITS="7 passed, 0 failed")
     ran = subprocess.run([*words], cwd=clone.root, env=environment, capture_output=True, text=True, timeout=SECONDS)
     return ran.returncode, (ran.stdout + ran.stderr).splitlines()
 
 
 def test_all_well(clone: Clone) -> None:
     """Tests, proofs, a mutant, and two comparisons: that prebuilt/ is of these sources, and what they make."""
-    status, lines = ended(clone, ".ci/run")
-    assert (status, lines[-1], lines.count(SAID)) == (0, "7 passed, 0 failed", 2)
+    status, lines = ended(clone, *GATE)
+    assert (status, lines[-1], lines.count(SAID)) == (0, "8 passed, 0 failed", 2)
 
 
 def test_all_edits(clone: Clone) -> None:
@@ -53,23 +73,51 @@ def test_all_edits(clone: Clone) -> None:
 def test_failures(clone: Clone, said: str) -> None:
     """A part that tells a failure, or that tells nothing."""
     missing = said != "1 passed, 1 failed"
-    assert ended(clone, ".ci/run", said=said)[1][-1] == f"{5 + (not missing)} passed, 1 failed"
-    status, lines = ended(clone, ".ci/run", test=said)
-    assert (status, lines[-1]) == (1, f"{5 + (not missing)} passed, 1 failed")
+    assert ended(clone, *GATE, said=said)[1][-1] == f"{6 + (not missing)} passed, 1 failed"
+    status, lines = ended(clone, *GATE, test=said)
+    assert (status, lines[-1]) == (1, f"{6 + (not missing)} passed, 1 failed")
+
+
+@pytest.mark.parametrize(
+    "old, new, told",
+    [
+        ("ran the first one two", "ran the first one", "typed: ./dmf one two wrote"),
+        ("    ran the first one two\n", "", "typed: ./dmf one two wrote"),
+        ("./dmf one two", "./dmf one; exit 3", "typed: ./dmf one; exit 3 wrote"),
+        ("    $ ./test", "Nothing.", "typed: README's heading 'Two commands' has no two commands, of which one is ./test"),
+        ("## Two commands", "## Commands", "typed: README's heading 'Two commands' has no two commands, of which one is ./test"),
+    ],
+)
+def test_what_readme_shows(clone: Clone, old: str, new: str, told: str) -> None:
+    """A command that fails, or that writes something else than README shows, has failed, and so has a README without the two."""
+    readme = clone.root / "README.md"
+    readme.write_text(readme.read_text().replace(old, new))
+    status, lines = ended(clone, *GATE)
+    assert (status, lines[-1].endswith(" passed, 1 failed"), told in lines) == (1, True, True)
+
+
+def test_no_bare_debian(clone: Clone) -> None:
+    """Where no bare Debian can be made, this machine does the tests; that is a failure, and the last lines say why."""
+    (clone.rt.parent / "id").write_text("#!/bin/sh\necho 1000\n")
+    (clone.rt.parent / "id").chmod(0o755)
+    status, lines = ended(clone, ".ci/run")
+    said = "gate: no bare Debian could be made (only root can), so README's commands ran on this machine: a failure, unless --no-root is given"
+    assert (status, lines[-2:], lines.count(SAID)) == (1, [said, "8 passed, 1 failed"], 2)
+    assert ended(clone, ".ci/run", "--root") == (2, ["Usage: .ci/run [--no-root]"])
 
 
 def test_other_sources(clone: Clone) -> None:
     """A source that was changed, and prebuilt/ not renewed: the gate ends at once, and says what makes it anew."""
     (clone.root / "crates/low/src/lib.rt").write_text("// Changed.\n")
-    assert ended(clone, ".ci/run") == (1, ["prebuilt/ is of other sources: `tools/prebuilt renew` makes it anew", "0 passed, 1 failed"])
+    assert ended(clone, *GATE) == (1, ["prebuilt/ is of other sources: `tools/prebuilt renew` makes it anew", "0 passed, 1 failed"])
 
 
 def test_another_executable(clone: Clone) -> None:
     """Sources that make another executable than the one of prebuilt/, by one byte."""
     clone.made.write_text(clone.made.read_text() + "\n")
-    status, lines = ended(clone, ".ci/run")
+    status, lines = ended(clone, *GATE)
     said = "prebuilt/ has another executable than crates/dmf/out/dmf: `tools/prebuilt renew` makes it anew"
-    assert (status, lines[-1], said in lines) == (1, "6 passed, 1 failed", True)
+    assert (status, lines[-1], said in lines) == (1, "7 passed, 1 failed", True)
 
 
 def test_another_library(clone: Clone) -> None:
@@ -81,8 +129,8 @@ def test_another_library(clone: Clone) -> None:
         (clone.root / "tools/made").write_text(script)
         (clone.root / "tools/made").chmod(0o755)
         (clone.root / "prove").write_text((ROOT / "prove").read_text().replace("\ntools/library ", "\ntools/made "))
-        status, lines = ended(clone, ".ci/run")
-        assert (status, lines[-1], said in lines) == (1, "6 passed, 1 failed", True)
+        status, lines = ended(clone, *GATE)
+        assert (status, lines[-1], said in lines) == (1, "7 passed, 1 failed", True)
 
 
 def nested(tmp_path: Path, *words: str, **environment: str) -> subprocess.CompletedProcess[str]:
@@ -92,18 +140,12 @@ def nested(tmp_path: Path, *words: str, **environment: str) -> subprocess.Comple
     return run_pytest(*given, folder=tmp_path, seconds=SECONDS, environment={"PYTHONPATH": path, **environment})
 
 
-def skipping(tmp_path: Path, **environment: str) -> tuple[int, str]:
-    """How pytest ends on a test that is skipped and one that passes."""
+@pytest.mark.parametrize("variables", [{}, {"CI": "true"}])
+def test_skipped(tmp_path: Path, variables: dict[str, str]) -> None:
+    """A test that is skipped is one that failed, whatever the environment says."""
     (tmp_path / "test_skipping.py").write_text(SKIPPING)
-    ran = nested(tmp_path, **environment)
-    (line,) = [line for line in ran.stdout.splitlines() if " passed, " in line and " failed" in line]
-    assert "skipped: no tool" in ran.stdout
-    return ran.returncode, line
-
-
-def test_skipped(tmp_path: Path) -> None:
-    assert skipping(tmp_path) == (0, "1 passed, 0 failed")
-    assert skipping(tmp_path, CI="true") == (1, "1 passed, 1 failed")
+    ran = nested(tmp_path, **variables)
+    assert (ran.returncode, ran.stdout.splitlines()[-1]) == (1, "1 passed, 1 failed")
 
 
 def test_the_program_is_taken(tmp_path: Path) -> None:

@@ -9,7 +9,6 @@ import io
 import json
 import random
 import re
-import shutil
 import subprocess
 from collections.abc import Iterator
 from decimal import Decimal
@@ -262,7 +261,6 @@ def test_exports_of_a_board(page: Board, folder: Path) -> None:
     assert page.ask(page.root + f"problem.max?turn={turn}")[2].decode() == (folder / "pipes.max").read_text()
 
 
-@pytest.mark.skipif(not shutil.which("dot"), reason="graphviz is not there, so no picture of a board was drawn")
 def test_picture_of_a_board(page: Board) -> None:
     """No numbers but those of the table, each in its place, and the unit."""
     svg = page.ask(page.root + f"picture.svg?near=&turn={page.turn()}")[2].decode()

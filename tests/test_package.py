@@ -45,8 +45,6 @@ def ran(*words: str | Path, folder: Path = ROOT, **environment: str) -> str:
 @pytest.fixture(scope="module")
 def made(tmp_path_factory: pytest.TempPathFactory) -> Path:
     """A folder with both packages."""
-    if not shutil.which("dpkg-deb"):
-        pytest.skip("dpkg-deb is not there, so no package was made")
     folder = tmp_path_factory.mktemp("made")
     told = ran("./package", "--output", folder)
     assert sorted(told.split()[1::2]) == sorted(map(str, folder.iterdir()))
@@ -117,8 +115,6 @@ def test_sums(made: Path) -> None:
 
 def test_the_same_elsewhere(tmp_path: Path) -> None:
     """Two copies of the tree give the same bytes, whatever lies beside what git tracks, in whatever order and with whatever modes."""
-    if not shutil.which("dpkg-deb"):
-        pytest.skip("dpkg-deb is not there, so no package was made")
     contents = []
     for name in "one", "another place":
         tree, output = tmp_path / name / "tree", tmp_path / name / "made"
@@ -177,8 +173,6 @@ def test_plain_links(tmp_path: Path) -> None:
 
 
 def test_lintian(made: Path) -> None:
-    if not shutil.which("lintian"):
-        pytest.skip("lintian is not there, so the Debian package was not judged")
     for package in made.glob("*.deb"):
         said = run("lintian", package).stdout
         assert not re.search("^[EW]: ", said, re.MULTILINE), said
@@ -240,7 +234,7 @@ def test_the_library(system: Path, made: Path, tmp_path: Path) -> None:
     assert (root / "usr/share/man/man3/dmf.3.gz").is_file()
 
 
-@pytest.mark.skipif(os.geteuid() != 0, reason="only root puts a package into a root")
+@pytest.mark.root
 def test_removed(made: Path, tmp_path: Path) -> None:
     """Nothing is left but what dpkg keeps, also where Python has compiled the modules."""
     call_dpkg(tmp_path, "-i", the(made, "dmf_*.deb"))

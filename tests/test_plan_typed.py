@@ -163,7 +163,6 @@ def test_typed() -> None:
 
 def drawn(folder: Path, table: str = PIPES) -> Terminal:
     """A session on a terminal that moves its cursor, where prompt-toolkit asks for lines."""
-    pytest.importorskip("prompt_toolkit", reason="python3-prompt-toolkit is not there, so its prompt was not tested")
     return Terminal(str(folder), "xterm", table)
 
 

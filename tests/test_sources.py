@@ -4,7 +4,6 @@ shell, and eslint and tsc the page of a board."""
 from __future__ import annotations
 
 import os
-import shutil
 import subprocess
 import sys
 from pathlib import Path
@@ -52,15 +51,11 @@ def test_shell(script: Path) -> None:
 @pytest.mark.parametrize("words", [["eslint", "--no-eslintrc", "-f", "unix", "-c", "tests/eslint.json", PAGE], ["tsc", "-p", "tests/tsconfig.json"]])
 def test_page(words: list[object]) -> None:
     """The scripts of a board's page, their types by what their comments say of them."""
-    if not shutil.which(str(words[0])):
-        pytest.skip(f"{words[0]} is not there, so the page's scripts were not checked by it")
     judge(*words)
 
 
 def test_page_is_seen(tmp_path: Path) -> None:
     """These tools find what is wrong in a script, so their silence on the page means something."""
-    if not shutil.which("eslint") or not shutil.which("tsc"):
-        pytest.skip("eslint or tsc is not there, so it was not tried whether they find a fault")
     script = tmp_path / "wrong.js"
     script.write_text("/** @param {string} text */\nexport const wrong = (text) => { nowhere.innerHTML = text * 2; };\n")
     tools: list[tuple[list[object], tuple[str, str]]] = [

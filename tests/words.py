@@ -11,7 +11,7 @@ from itertools import permutations
 
 import built
 from built import PROBLEM, Case
-from oracle.program import Outcome
+from oracle.program import RELEASE, Outcome
 from worked_forms import CROSSED, CROSSED_FLOW, Worked, text
 
 # How the program and its commands are used.
@@ -122,7 +122,7 @@ HELPS: list[tuple[str, tuple[str, ...]]] = [
     ("help session", (SESSION,)),
     ("help check", (CHECK,)),
 ]
-VERSIONS = [("--version", "dmf 0.1.0\n"), ("-V", "dmf 0.1.0\n")]
+VERSIONS = [(word, f"dmf {RELEASE}\n") for word in ("--version", "-V")]
 
 
 # What may stand after a command; the words of one part stand together.

@@ -1,7 +1,7 @@
-# For scripts of the gate, which source it: sees to it that packages of Debian are there.
+# For scripts of the gate, which source it: provides packages of Debian.
 # shellcheck shell=bash
 
-# Those of these packages that are not installed.
+# Prints those of these packages that are not installed.
 missing() {
     local package
     for package in "$@"; do
@@ -9,30 +9,27 @@ missing() {
     done
 }
 
-# Installs packages, with a fresh list of them where the present one does not do. Waits where another call of apt-get is at work.
-# Tells nothing but a failure.
+# Installs packages. If the present list of packages does not do, it is fetched anew. Waits for another call of apt-get.
+# Prints nothing but why it failed, in a line.
 install_packages() {
     local said install=(apt-get install -y -q --no-install-recommends -o DPkg::Lock::Timeout=300 "$@")
     export DEBIAN_FRONTEND=noninteractive
-    if ! "${install[@]}" >/dev/null 2>&1; then
-        if ! said=$(apt-get update -q 2>&1 && "${install[@]}" 2>&1); then
-            tail -n 20 <<<"$said" >&2
-        fi
-    fi
+    "${install[@]}" >/dev/null 2>&1 && return
+    said=$(apt-get update -q 2>&1 && "${install[@]}" 2>&1) || grep -m 1 '^[EW]: ' <<<"$said" || tail -n 1 <<<"$said"
 }
 
-# Wants packages for a script of this name. Where root calls, those that are missing are installed; else one line says which they are,
-# and the status is 2.
+# Wants packages for a script of this name. If root calls, missing ones are installed; otherwise, or if that fails, one line says
+# which they are, and the status is 2.
 want_packages() {
-    local name=$1 wanted
+    local name=$1 wanted why=''
     shift
     mapfile -t wanted < <(missing "$@")
-    if [ "${#wanted[@]}" -gt 0 ] && [ "$(id -u)" -eq 0 ] && command -v apt-get >/dev/null; then
-        install_packages "${wanted[@]}"
+    [ "${#wanted[@]}" -gt 0 ] || return 0
+    if [ "$(id -u)" -eq 0 ] && command -v apt-get >/dev/null; then
+        why=$(install_packages "${wanted[@]}")
         mapfile -t wanted < <(missing "$@")
+        [ "${#wanted[@]}" -gt 0 ] || return 0
     fi
-    if [ "${#wanted[@]}" -gt 0 ]; then
-        echo "$name: these packages of Debian are missing: ${wanted[*]} (apt-get install ${wanted[*]})" >&2
-        exit 2
-    fi
+    echo "$name: packages of Debian are missing: apt install ${wanted[*]}${why:+ ($why)}" >&2
+    exit 2
 }

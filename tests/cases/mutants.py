@@ -5,6 +5,8 @@ from __future__ import annotations
 
 from typing import NamedTuple
 
+from oracle.program import RELEASE
+
 
 class Mutant(NamedTuple):
     """A fault: the file, a text in it, what stands there instead, and the test."""
@@ -117,6 +119,6 @@ MUTANTS = [
         "dmf_arguments/src/help.rt",
         ("the help tells another reply", "c add ARC value VALUE\n", "c add value VALUE\n", "test_commands.py::test_help"),
         ("the help tells another status", "  0  success\n", "  0  good\n", "program/test_worked.py::test_words"),
-        ("another version", 'VERSION: &str = "0.1.0"', 'VERSION: &str = "0.1.1"', "program/test_program.py::test_ends"),
+        ("another version", f'VERSION: &str = "{RELEASE}"', f'VERSION: &str = "{RELEASE}1"', "program/test_program.py::test_ends"),
     ),
 ]  # fmt: skip

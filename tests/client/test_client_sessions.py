@@ -5,16 +5,17 @@ from random import Random
 from typing import Any
 
 import pytest
-from client_shared import PIPES, dmf, needs, there
+from client_shared import PIPES, dmf
 from oracle.network import is_greatest, smallest_side
 from oracle.problem import problem_text
 from oracle.session import Session, SolveReply
 from oracle.texts import LARGEST, Fault
 from random_cases import fitting
 from random_cases import network as random_network
+from packages import load
 
 SESSIONS = 150
-numpy, networkx = map(there, ("numpy", "networkx"))
+numpy, networkx = map(load, ("numpy", "networkx"))
 
 
 @pytest.mark.parametrize("seed", range(SESSIONS))
@@ -125,7 +126,6 @@ def compare(state: Any, network: dmf.Network[str]) -> None:
             network.cut()
 
 
-@needs(networkx, "python3-networkx", "no network was made from a graph of it")
 def test_worked() -> None:
     graph = networkx.DiGraph()
     graph.add_weighted_edges_from(PIPES, weight="litres")
@@ -133,7 +133,6 @@ def test_worked() -> None:
         assert (network.solve().value, network.cap(("town", "sea"), 1)) == (5, 3)
 
 
-@needs(networkx, "python3-networkx", "no network was made from a graph of it")
 def test_undirected() -> None:
     graph = networkx.Graph()
     graph.add_edge("a", "b", capacity=3)
@@ -143,7 +142,6 @@ def test_undirected() -> None:
         assert (network.solve()["b", "c"], len(network.arcs)) == (2, 5)
 
 
-@needs(networkx, "python3-networkx", "no network was made from a graph of it")
 def test_multigraph() -> None:
     graph = networkx.MultiDiGraph()
     graph.add_edge("a", "b", key="old", capacity=3)
@@ -152,7 +150,6 @@ def test_multigraph() -> None:
         assert (network.solve().value, network.close(("a", "b", "old"))) == (7, 4)
 
 
-@needs(networkx, "python3-networkx", "no network was made from a graph of it")
 def test_refused() -> None:
     graph = networkx.DiGraph([("a", "b")])
     with pytest.raises(dmf.NoCapacity) as caught:
@@ -169,7 +166,6 @@ def test_refused() -> None:
         dmf.from_networkx(graph, "a", "x")
 
 
-@needs(networkx, "python3-networkx", "no network was made from a graph of it")
 def test_values() -> None:
     random = Random("networkx")
     for _ in range(20):

@@ -9,10 +9,11 @@ from random import Random
 from typing import Any
 
 import pytest
-from client_shared import BUILT, CLIENT, PIPES, dmf, needs, pipes, there, written
+from client_shared import BUILT, CLIENT, PIPES, dmf, pipes, written
+from packages import load
 
 LARGEST = 2**64 - 1
-numpy, pandas, networkx, scipy = map(there, ("numpy", "pandas", "networkx", "scipy"))
+numpy, pandas, networkx, scipy = map(load, ("numpy", "pandas", "networkx", "scipy"))
 
 
 TAIL, HEAD, CAPACITY = (list(column) for column in zip(*PIPES))
@@ -118,7 +119,6 @@ def same(tail: Any, head: Any, capacity: Any, **options: Any) -> None:
             assert [type(node) for node in network.nodes] == [type(node) for node in wanted.nodes]
 
 
-@needs(numpy, "python3-numpy", "no network was made from arrays and no flow was an array")
 def test_random_arrays() -> None:
     random = Random("arrays")
     for _ in range(60):
@@ -132,14 +132,12 @@ def test_random_arrays() -> None:
         same(numpy.array(ends[0], kind), numpy.array(ends[1], kind), capacity, nodes=random.choice([[], [0, most], range(60), range(2, 9)]))
 
 
-@needs(numpy, "python3-numpy", "no network was made from arrays and no flow was an array")
 def test_other_kinds() -> None:
     same(numpy.array(TAIL), numpy.array(HEAD), numpy.array(CAPACITY))
     same(numpy.array(TAIL, object), numpy.array(HEAD, object), numpy.array(CAPACITY, numpy.int8))
     same(numpy.array([1, 2], numpy.int8), numpy.array([2, 3], numpy.uint8), numpy.array([True, True]))
 
 
-@needs(numpy, "python3-numpy", "no network was made from arrays and no flow was an array")
 def test_capacities() -> None:
     ends = numpy.array([1, 1]), numpy.array([2, 2])
     make = dmf.Network.from_arrays
@@ -157,7 +155,6 @@ def test_capacities() -> None:
         assert (network.solve().array().tolist(), network.flow().array().dtype.kind) == ([], "i")
 
 
-@needs(numpy, "python3-numpy", "no network was made from arrays and no flow was an array")
 def test_flows_after_a_close() -> None:
     with pipes() as network:
         network.solve()
@@ -167,7 +164,6 @@ def test_flows_after_a_close() -> None:
         assert (plan.array().tolist(), list(plan.values()), plan.array().tolist()) == ([2, 0, 0, 2, 7],) * 3
 
 
-@needs(pandas, "python3-pandas", "no network was made from a frame")
 def test_frames() -> None:
     frame = pandas.DataFrame(PIPES, columns=["tail", "head", "capacity"])
     frame["name"] = ["a", None, "c", float("nan"), "e"]
@@ -184,7 +180,6 @@ def test_frames() -> None:
     assert list(zip(told["tail"], told["head"]))[-1] == ("lake", "sea")
 
 
-@needs(networkx, "python3-networkx", "no network was made a graph of it")
 def test_there_and_back() -> None:
     with dmf.Network([("a", "b", 3), ("a", "b", 4, "x"), ("b", "c", 5)], "a", "c", nodes=["z"]) as network:
         network.solve()
@@ -196,7 +191,6 @@ def test_there_and_back() -> None:
         assert (again.solve().value, again.capacity(("a", "b", 2))) == (5, 4)
 
 
-@needs(networkx, "python3-networkx", "no network was made a graph of it")
 def test_infinite() -> None:
     graph = networkx.DiGraph()
     graph.add_edge("a", "b")
@@ -208,9 +202,8 @@ def test_infinite() -> None:
         dmf.from_networkx(graph, "a", "d")
 
 
-@needs(scipy and numpy, "python3-scipy", "no network was made from a matrix")
 def test_matrices() -> None:
-    sparse, solve = there("scipy.sparse"), there("scipy.sparse.csgraph").maximum_flow
+    sparse, solve = load("scipy.sparse"), load("scipy.sparse.csgraph").maximum_flow
     random = Random("matrices")
     for _ in range(20):
         count = random.randint(2, 12)

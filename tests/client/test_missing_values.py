@@ -7,10 +7,11 @@ from datetime import date
 from typing import Any
 
 import pytest
-from client_shared import dmf, needs, there
+from client_shared import dmf
+from packages import load
 
 NAN = float("nan")
-numpy, pandas = there("numpy"), there("pandas")
+numpy, pandas = load("numpy"), load("pandas")
 make = dmf.Network.from_arrays
 
 
@@ -48,21 +49,18 @@ def test_none_is_a_node_of_rows_alone() -> None:
     refused(lambda: dmf.Network([("a", "b", 1)], "a", "b", nodes=[NAN]), "the node nan is no name")
 
 
-@needs(numpy, "python3-numpy", "no array with a missing node was refused")
 def test_a_node_in_arrays() -> None:
     hidden = numpy.ma.masked_array([1, 2], [False, True])
     refused(lambda: make(hidden, numpy.array([2, 3]), numpy.array([5, 6]), source=1, sink=3), "number 2, (None, 3, 6): None is no node")
     refused(lambda: make(numpy.array([1.0, NAN]), numpy.array([2, 3]), [5, 6], source=1, sink=3), "number 2, (nan, 3, 6): nan is no node")
 
 
-@needs(pandas, "python3-pandas", "no frame with a missing node was refused")
 def test_a_node_in_frames() -> None:
     for kind, tail in ("string", ["a", pandas.NA]), ("Int64", [1, pandas.NA]):
         frame = pandas.DataFrame({"tail": pandas.Series(tail, dtype=kind), "head": [2, 3], "capacity": [5, 6]})
         refused(lambda: dmf.Network.from_frame(frame, source=2, sink=3), "number 2, (<NA>, 3, 6): <NA> is no node")
 
 
-@needs(numpy, "python3-numpy", "no table was refused as a column")
 def test_a_table_is_no_column() -> None:
     for place in range(4):
         columns: list[Any] = [*whole_numbers(), numpy.array([5, 6]), numpy.array([7, 8])]
@@ -73,7 +71,6 @@ def test_a_table_is_no_column() -> None:
     refused(lambda: make(*whole_numbers(), numpy.array(7), source=1, sink=3), "a column has 0 dimensions, and not one")
 
 
-@needs(numpy, "python3-numpy", "no times were refused")
 @pytest.mark.parametrize("kind", ["datetime64[ns]", "timedelta64[ns]"])
 def test_times_that_would_become_whole_numbers(kind: str) -> None:
     """They are refused in each column; times that Python has are nodes as they are."""
@@ -90,7 +87,6 @@ def test_times_that_would_become_whole_numbers(kind: str) -> None:
         assert network.nodes == [date(2026, 11, 24), "night", date(2026, 11, 25), "sea"]
 
 
-@needs(numpy, "python3-numpy", "no masked array was read")
 @pytest.mark.parametrize("kind", ["int64", "float64", "uint8"])
 def test_a_hidden_capacity(kind: str) -> None:
     """What stands under the mask is not read: it is a capacity that is missing."""
@@ -103,7 +99,6 @@ def test_a_hidden_capacity(kind: str) -> None:
         assert [arc.capacity for arc in network.arcs] == [4, 5]
 
 
-@needs(pandas, "python3-pandas", "no series with missing values was read")
 def test_capacities_and_keys_of_frames() -> None:
     """What pandas writes as missing is missing, in the columns that are taken together and in those that are taken row by row."""
     rooms = pandas.Series([4, pandas.NA], dtype="Int64")
@@ -119,7 +114,6 @@ def test_capacities_and_keys_of_frames() -> None:
             make(tail, head, rooms, **options)
 
 
-@needs(numpy, "python3-numpy", "no numbers of numpy were capacities of rows")
 def test_capacities_of_numpy_in_rows() -> None:
     """Every width of floats is taken where it is whole."""
     for kind in numpy.float16, numpy.float32, numpy.float64, numpy.longdouble, numpy.int8, numpy.uint64:
@@ -130,7 +124,6 @@ def test_capacities_of_numpy_in_rows() -> None:
             dmf.Network([("a", "b", number)], "a", "b")
 
 
-@needs(numpy, "python3-numpy", "no array was refused as a key")
 def test_keys_that_cannot_be_hashed() -> None:
     for key in [1], numpy.array([1, 2]):
         with pytest.raises(dmf.NotAnArc, match=r"^not an arc: number 1: its key .* cannot be hashed$"):

@@ -9,15 +9,14 @@ from random import Random
 from typing import Any
 
 import pytest
-from client_shared import PIPES, dmf, interrupted_soon, is_running, needs, script, there
+from client_shared import PIPES, dmf, interrupted_soon, is_running, script
+from packages import load
 
 names = "numpy", "pandas", "networkx", "igraph", "scipy.sparse", "scipy.sparse.csgraph"
-numpy, pandas, networkx, igraph, sparse, csgraph = map(there, names)
+numpy, pandas, networkx, igraph, sparse, csgraph = map(load, names)
 SECONDS = 20
 DICTIONARY = {"lake": {"mill": 3, "town": 2}, "mill": {"town": 5, "sea": 2}, "town": {"sea": 3}}
 FLOWS = {"lake": {"mill": 3, "town": 2}, "mill": {"town": 1, "sea": 2}, "town": {"sea": 3}, "sea": {}}
-with_networkx = needs(networkx, "python3-networkx", "graphs of networkx were not solved")
-with_scipy = needs(csgraph, "python3-scipy", "matrices of scipy were not solved")
 
 
 def test_dictionaries() -> None:
@@ -41,7 +40,6 @@ def test_rows_and_columns() -> None:
             dmf.value(network, "lake", "sea")
 
 
-@needs(pandas, "python3-pandas", "frames were not solved")
 def test_frames_and_arrays() -> None:
     frame = pandas.DataFrame(PIPES, columns=["tail", "head", "capacity"])
     assert (dmf.value(frame, "lake", "sea"), dmf.minimum_cut(frame, "lake", "sea")[1][0]) == (5, {"lake"})
@@ -69,7 +67,6 @@ def judge_flow(edges: list[tuple[Any, Any, int, int]], value: int) -> None:
     assert {node: amount for node, amount in excess.items() if amount} == ({"n0": -value, "n1": value} if value else {})
 
 
-@with_networkx
 @pytest.mark.parametrize("kind", ["Graph", "DiGraph"])
 @pytest.mark.parametrize("seed", range(25))
 def test_graphs(kind: str, seed: int) -> None:
@@ -89,7 +86,6 @@ def test_graphs(kind: str, seed: int) -> None:
     assert sum(room for tail, head, room in edges if tail in side and head in others or kind == "Graph" and tail in others and head in side) == wanted
 
 
-@with_networkx
 @pytest.mark.parametrize("kind", ["MultiGraph", "MultiDiGraph"])
 @pytest.mark.parametrize("seed", range(10))
 def test_multigraphs(kind: str, seed: int) -> None:
@@ -107,7 +103,6 @@ def test_multigraphs(kind: str, seed: int) -> None:
     judge_flow([(tail, head, graph[tail][head][key]["capacity"], flow) for tail, head, key, flow in edges], value)
 
 
-@with_networkx
 def test_edges_without_a_bound() -> None:
     """As in networkx: an edge without the attribute, or with an infinite one, has no bound."""
     graph = networkx.DiGraph([("a", "b", {"capacity": float("inf")}), ("b", "c", {"capacity": 4}), ("a", "c", {"capacity": 2}), ("b", "d")])
@@ -123,7 +118,6 @@ def test_edges_without_a_bound() -> None:
     assert dmf.value({"a": {"b": 5}, "b": {"c": None}}, "a", "c") == 5
 
 
-@with_scipy
 @pytest.mark.parametrize("seed", range(25))
 def test_matrices(seed: int) -> None:
     random = numpy.random.default_rng(seed)
@@ -173,7 +167,6 @@ def test_nothing_is_left_behind() -> None:
             time.sleep(0.01)
 
 
-@needs(igraph, "python3-igraph", "graphs of igraph were not solved")
 @pytest.mark.parametrize("seed", range(10))
 def test_coming_from_igraph(seed: int) -> None:
     """As docs/PYTHON.md says."""

@@ -5,7 +5,6 @@ from __future__ import annotations
 import base64
 import csv
 import hashlib
-import importlib.util
 import os
 import re
 import shutil
@@ -20,14 +19,11 @@ from typing import NamedTuple
 import pytest
 from built import heed_interrupts
 from c_library import library_folder
-from client_shared import BUILT, CLIENT, dmf, needs
+from client_shared import BUILT, CLIENT, dmf
 from conftest import ROOT, shared
 from trees import copy_tracked
 
-pytestmark = [
-    needs(importlib.util.find_spec("ensurepip"), "python3-venv", "the package was not installed in an environment"),
-    pytest.mark.seconds(10),
-]
+pytestmark = pytest.mark.seconds(10)
 SECONDS = 60
 TOOLS = sorted(path.name for path in (ROOT / "tools").glob("dmf-*"))
 TABLE = str(ROOT / "examples/water/pipes.csv")
@@ -104,7 +100,6 @@ print(dmf.program(), dmf.library(), type(network._session).__name__, network.sol
     assert library.read_bytes() == (library_folder() / "libdmf.so.0").read_bytes()
 
 
-@needs(shutil.which("g++"), "g++", "no program in C or C++ was compiled with the library of the wheel")
 def test_the_examples_of_the_library(folder: Path) -> None:
     """Each runs by the library that pip put, with the header beside it, as LIBRARY.md says."""
     library = own(folder).with_name("libdmf.so.0")
@@ -198,8 +193,6 @@ def wheel(folder: Path, tmp_path_factory: pytest.TempPathFactory) -> Path:
 
 def test_the_tag(wheel: Path) -> None:
     """It names the oldest glibc that has all symbols of the executable, as the tools of the system tell."""
-    if not shutil.which("objdump"):
-        pytest.skip("objdump is not there (binutils), so the wheel's tag was not compared")
     told = subprocess.run(["objdump", "-p", BUILT], capture_output=True, text=True, check=True).stdout
     minor = max(int(it) for it in re.findall(r"GLIBC_2\.(\d+)", told))
     tag = f"py3-none-manylinux_2_{minor}_{os.uname().machine}"

@@ -10,10 +10,11 @@ from pathlib import Path
 from typing import Any
 
 import pytest
-from client_shared import CLIENT, PIPES, dmf, needs, pipes, process_of, there
+from client_shared import CLIENT, PIPES, dmf, pipes, process_of
+from packages import load
 
-matplotlib = there("matplotlib")
-networkx = there("networkx")
+matplotlib = load("matplotlib")
+networkx = load("networkx")
 
 
 def test_a_file(tmp_path: Path) -> None:
@@ -45,7 +46,6 @@ def test_a_dictionary() -> None:
         assert network.flow().flow_dict() == wanted
 
 
-@needs(networkx, "python3-networkx", "dictionaries of flows were not compared")
 def test_the_dictionary_of_networkx() -> None:
     graph = networkx.DiGraph()
     graph.add_weighted_edges_from(PIPES, weight="capacity")
@@ -100,7 +100,6 @@ def test_a_picture(tmp_path: Path) -> None:
         assert "fillcolor" in (tmp_path / "net.dot").read_text() and network.value == 5
 
 
-@needs(shutil.which("dot"), "graphviz", "pictures were not drawn")
 def test_forms_of_pictures(tmp_path: Path) -> None:
     with pipes() as network:
         for form, begin in ("svg", b"<?xml"), ("png", b"\x89PNG"), ("pdf", b"%PDF"):
@@ -110,12 +109,9 @@ def test_forms_of_pictures(tmp_path: Path) -> None:
             network.plot(tmp_path / "net.windy")
 
 
-@needs(matplotlib, "python3-matplotlib", "plots were not made")
 @pytest.mark.parametrize("has_graphviz", [False, True])
 def test_axes(monkeypatch: pytest.MonkeyPatch, has_graphviz: bool) -> None:
     monkeypatch.setenv("MPLBACKEND", "Agg")
-    if has_graphviz and not shutil.which("dot"):
-        pytest.skip("graphviz is not there, so a plot was made without it")
     with pipes() as network:
         network.solve()
         if not has_graphviz:

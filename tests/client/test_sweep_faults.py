@@ -13,7 +13,7 @@ from queue import Queue
 from typing import Any
 
 import pytest
-from client_shared import BUILT, dmf, pipes, script, there
+from client_shared import BUILT, dmf, pipes, script
 from dmf.copies import Answer
 
 SECONDS = 20
@@ -173,8 +173,6 @@ def test_how_many_cases_are_left(cases: Any, count: int) -> None:
 
 def test_a_bar(capsys: pytest.CaptureFixture[str]) -> None:
     """It tells of how many cases it is, ready-made ones and others, where that is known."""
-    if not there("tqdm"):
-        pytest.skip("python3-tqdm is not there, so no bar was shown")
     with pipes() as network:
         told: list[tuple[Any, str]] = [(dmf.each_arc_closed(), "5/5"), (dmf.each_node_shut(), "2/2"), ([[("close", ("lake", "mill"))]] * 7, "7/7")]
         for cases, bar in [*told, (map(list, ["", ""]), "2case")]:

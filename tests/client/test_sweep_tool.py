@@ -13,7 +13,7 @@ from pathlib import Path
 
 import pytest
 from built import heed_interrupts
-from client_shared import ROOT, is_running, there
+from client_shared import ROOT, is_running
 from tool_runs import Tools
 
 # The pipes of the other tests, whose greatest value is 5.
@@ -202,8 +202,6 @@ def programs_of(process: int) -> list[int]:
 
 def test_a_bar() -> None:
     """On a terminal the bar tells how many cases were tried of how many; else nothing is told."""
-    if not there("tqdm"):
-        pytest.skip("python3-tqdm is not there, so no bar was shown")
     ours, theirs = os.openpty()
     command = [sys.executable, f"{ROOT}/tools/dmf-sweep", "net.max", "--close-each"]
     ran = subprocess.run(command, stdout=subprocess.PIPE, stderr=theirs, text=True, timeout=60)
@@ -228,7 +226,4 @@ def test_faults() -> None:
 
 def test_a_plot() -> None:
     ran = run_tool("--close-each", "--plot", "losses.png")
-    if not there("matplotlib"):
-        assert (ran.returncode, ran.stderr) == (1, "dmf-sweep: a plot needs the package matplotlib, which is not there\n")
-        pytest.skip("matplotlib is not there (package python3-matplotlib), so no losses were drawn")
     assert (ran.returncode, Path("losses.png").read_bytes()[:4]) == (0, b"\x89PNG")

@@ -9,15 +9,16 @@ from random import Random
 from typing import Any
 
 import pytest
-from client_shared import dmf, is_running, needs, pipes, process_of, there
+from client_shared import dmf, is_running, pipes, process_of
 from oracle.network import smallest_side
 from oracle.session import Session, SolveReply
 from oracle.texts import LARGEST, Fault
 from random_cases import fitting
 from random_cases import network as random_network
+from packages import load
 
 SECONDS = 20
-distributed = there("distributed")
+distributed = load("distributed")
 
 
 def children() -> set[int]:
@@ -225,7 +226,6 @@ def test_executors() -> None:
             assert len(results) == 42
 
 
-@needs(distributed, "python3-distributed", "no sweep was held over a cluster")
 def test_a_cluster() -> None:
     """With two workers, of which one is killed: each result is that of one process, refusals and cuts among them."""
     cases: list[Any] = [[("cap", ("lake", "mill"), turn % 5)] for turn in range(300)]

@@ -1,10 +1,9 @@
 """What is tried out and taken back, arcs that are opened, histories that are bounded, arcs that tell of themselves, and notebooks."""
 
 import contextlib
-import shutil
 
 import pytest
-from client_shared import PIPES, dmf, ends, needs, pipes
+from client_shared import PIPES, dmf, ends, pipes
 
 
 def test_it_is_taken_back() -> None:
@@ -248,7 +247,6 @@ def test_a_large_network_is_a_table() -> None:
         assert "and 380 more" in network._repr_html_()
 
 
-@needs(shutil.which("dot"), "graphviz", "no network was drawn in a notebook")
 def test_pictures() -> None:
     with pipes() as network:
         network.solve()

@@ -2,10 +2,9 @@
 
 import os
 import re
-import shutil
 import subprocess
 
-from client_shared import CLIENT, ROOT, needs
+from client_shared import CLIENT, ROOT
 from conftest import Types
 
 USER = f"{ROOT}/tests/client/typed_user.py"
@@ -29,12 +28,10 @@ def judge(types: Types, *words: str) -> str:
     return ran.stdout + ran.stderr
 
 
-@needs(shutil.which("mypy"), "mypy", "the types of the client in Python were not checked")
 def test_the_package_and_a_caller(types: Types) -> None:
     assert judge(types, f"{CLIENT}/dmf", f"{CLIENT}/build_wheel.py", USER) == ""
 
 
-@needs(shutil.which("mypy"), "mypy", "the types of the client in Python were not checked")
 def test_mistakes(types: Types) -> None:
     """mypy reports each mistake in its line, and nothing else."""
     said = judge(types, "-c", "\n".join(["import dmf", *MISTAKES]))

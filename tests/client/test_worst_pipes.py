@@ -11,10 +11,11 @@ import sys
 import tempfile
 from pathlib import Path
 
-from client_shared import CLIENT, ROOT, needs, there
+from client_shared import CLIENT, ROOT
 from oracle.network import Arc, State, solved
+from packages import load
 
-pandas = there("pandas")
+pandas = load("pandas")
 FOLDER = f"{ROOT}/examples/water"
 
 
@@ -34,7 +35,6 @@ def value(pipes: list[dict[str, str]], changed: str = "", more: int | None = Non
     return int(solved(state).value())
 
 
-@needs(pandas, "python3-pandas", "examples/water/worst.py was not run")
 def test_the_worst_pipes() -> None:
     with open(f"{FOLDER}/pipes.csv", newline="") as file:
         pipes = list(csv.DictReader(file))

@@ -9,10 +9,11 @@ from random import Random
 from typing import Any
 
 import pytest
-from client_shared import dmf, needs, there
+from client_shared import dmf
 from conftest import ROOT
+from packages import load
 
-nx, igraph, sparse, csgraph = map(there, ("networkx", "igraph", "scipy.sparse", "scipy.sparse.csgraph"))
+nx, igraph, sparse, csgraph = map(load, ("networkx", "igraph", "scipy.sparse", "scipy.sparse.csgraph"))
 ROWS = [line for line in (ROOT / "docs/PYTHON.md").read_text().split("| There | Here |\n|---|---|\n")[1].split("\n\n")[0].splitlines()]
 SEEDS = range(20)
 
@@ -64,7 +65,6 @@ def judge(edges: list[tuple[Any, Any, int]], flows: list[int], value: int, s: An
     assert {node: amount for node, amount in excess.items() if amount} == ({s: -value, t: value} if value else {})
 
 
-@needs(nx, "python3-networkx", "the calls of networkx on the page were not tried")
 @pytest.mark.parametrize("kind", ["DiGraph", "Graph"])
 @pytest.mark.parametrize("seed", SEEDS)
 def test_networkx(seed: int, kind: str) -> None:
@@ -82,7 +82,6 @@ def test_networkx(seed: int, kind: str) -> None:
     assert [*run(cells.there, dict(names)), *run(cells.here, dict(names))] == [wanted] * 3
 
 
-@needs(nx, "python3-networkx", "the calls of networkx on the page were not tried")
 @pytest.mark.parametrize("seed", SEEDS)
 def test_what_ifs(seed: int) -> None:
     """An edge more, and then without it again: each time as networkx finds it anew."""
@@ -98,7 +97,6 @@ def test_what_ifs(seed: int) -> None:
         assert plan.value == nx.maximum_flow_value(graph, 0, 7)
 
 
-@needs(csgraph, "python3-scipy", "the calls of scipy on the page were not tried")
 @pytest.mark.parametrize("seed", SEEDS)
 def test_scipy(seed: int) -> None:
     random = Random(f"coming {seed}")
@@ -116,7 +114,6 @@ def test_scipy(seed: int) -> None:
     assert network.solve().value == wanted.flow_value
 
 
-@needs(igraph, "python3-igraph", "the calls of igraph on the page were not tried")
 @pytest.mark.parametrize("is_directed", [True, False])
 @pytest.mark.parametrize("seed", SEEDS)
 def test_igraph(seed: int, is_directed: bool) -> None:

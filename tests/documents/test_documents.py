@@ -12,7 +12,6 @@
 from __future__ import annotations
 
 import re
-import shutil
 import subprocess
 from collections.abc import Iterator
 from itertools import takewhile
@@ -156,8 +155,6 @@ def test_readers() -> None:
 @pytest.mark.parametrize("source", sorted(Path(__file__).parents[2].glob("docs/pictures/*.dot")), ids=lambda source: str(source.stem))
 def test_picture(source: Path) -> None:
     """A picture says what its source says. Versions of Graphviz place things differently."""
-    if not shutil.which("dot"):
-        pytest.skip("dot is not there (graphviz), so no picture was drawn")
     drawn = subprocess.run(["dot", "-Tsvg", source], capture_output=True, text=True, check=True).stdout
     texts = re.compile("<text[^>]*>(.*?)</text>")
     assert texts.findall(source.with_suffix(".svg").read_text()) == texts.findall(drawn)

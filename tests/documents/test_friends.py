@@ -1,16 +1,14 @@
 """Tests that other solvers read what dmf prints and find the same values, and that `dmf check` judges the flows that they found. The
-command lines of docs/FRIENDS.md are run, and build the solvers' drivers. What is not there is skipped."""
+command lines of docs/FRIENDS.md are run, and build the solvers' drivers."""
 
 from __future__ import annotations
 
 import os
 import re
-import shutil
 import subprocess
 import sys
 from pathlib import Path
 from random import Random
-from typing import NamedTuple
 
 import pytest
 from conftest import BUILT, ROOT
@@ -27,46 +25,20 @@ RANDOM = 10
 LEVELS = 64, 16, 3, 100, 1990
 
 
-class Friend(NamedTuple):
-    """A solver: its package, and what reads the problem in the file $P and writes a solution, if it is there."""
-
-    package: str
-    command: str | None
-
-
 def run(command: str, folder: Path, text: str | None = None, **environment: str) -> subprocess.CompletedProcess[str]:
     return subprocess.run(
         command, shell=True, cwd=folder, input=text, env={**os.environ, **environment}, capture_output=True, text=True, timeout=SECONDS
     )
 
 
-def python_with(module: str) -> str | None:
-    """The Python that has a module: the caller's, or the system's."""
-    return next((it for it in ("python3", "/usr/bin/python3") if run(f"{it} -c 'import {module}'", ROOT).returncode == 0), None)
-
-
-def driver(package: str, header: str, command: str) -> Friend:
-    """A solver in C++ whose driver docs/FRIENDS.md builds."""
-    return Friend(package, command if shutil.which("g++") and os.path.exists(f"/usr/include/{header}") else None)
-
-
-def in_python(module: str) -> Friend:
-    python = python_with(module)
-    return Friend(f"python3-{module}", f"{python} tools/friends/{module} <$P" if python else None)
-
-
-# The solvers by their names, which are the titles in docs/FRIENDS.md.
-NAMES = ["glpsol", "LEMON", "libmaxflow", "igraph", "networkx"]
-
-
-def friend_of(name: str) -> Friend:
-    if name == "glpsol":
-        return Friend("glpk-utils", "tools/friends/glpsol $P" if shutil.which("glpsol") else None)
-    if name == "LEMON":
-        return driver("liblemon-dev", "lemon/dimacs.h", "./lemon <$P")
-    if name == "libmaxflow":
-        return driver("libmaxflow-dev", "maxflow-3.0/maxflow.h", "./libmaxflow <$P")
-    return in_python(name)
+# What reads the problem in the file $P and writes a solution, by the solver's name, which is its title in docs/FRIENDS.md.
+FRIENDS = {
+    "glpsol": "tools/friends/glpsol $P",
+    "LEMON": "./lemon <$P",
+    "libmaxflow": "./libmaxflow <$P",
+    "igraph": "python3 tools/friends/igraph <$P",
+    "networkx": "python3 tools/friends/networkx <$P",
+}
 
 
 def printed(folder: Path, name: str, text: bytes, commands: str = "") -> None:
@@ -93,26 +65,16 @@ def folder(tmp_path_factory: pytest.TempPathFactory) -> Path:
     return folder
 
 
-@pytest.fixture(scope="module", params=NAMES)
-def friend(request: pytest.FixtureRequest, folder: Path) -> tuple[str, str]:
-    """A solver's name, and the command that calls it. The command lines of its page are run before, and build its driver."""
-    name = request.param
-    found = friend_of(name)
-    if not found.command:
-        pytest.skip(f"{name} is not there ({found.package}), so it read no problem of dmf")
-    return name, found.command
-
-
 @pytest.mark.seconds(15)
-def test_friend(folder: Path, friend: tuple[str, str]) -> None:
-    """The command lines of the page write what stands there, and on each problem the solver finds the value that dmf finds, with a
-    flow that `dmf check` finds greatest."""
-    name, command = friend
+@pytest.mark.parametrize("name, command", FRIENDS.items(), ids=FRIENDS)
+def test_friend(folder: Path, name: str, command: str) -> None:
+    """The command lines of the page, which build a solver's driver, write what stands there, and on each problem the solver finds the
+    value that dmf finds, with a flow that `dmf check` finds greatest."""
     section = (ROOT / "docs/FRIENDS.md").read_text().partition(f"\n## {name}\n")[2].partition("\n## ")[0]
     lines = re.findall(r"^    \$ (.*)\n((?:    [^$].*\n)*)", section, re.MULTILINE)
     assert lines, f"docs/FRIENDS.md has no command line below {name}"
     for line, wanted in lines:
-        ran = run(re.sub("^python3", command.partition(" ")[0], line), folder)
+        ran = run(line, folder)
         assert ran.stdout == wanted.replace("    ", ""), f"{line}: {ran.stderr}"
     problems = sorted(it.name for it in folder.glob("*.problem"))
     assert len(problems) > len(EXAMPLES)

@@ -323,14 +323,14 @@ call "a file of somebody else" 1 "" "install: $prefix/bin/dmf is there, and was 
 same "it stays as it is" "$(tree "$prefix")" "$before"
 call "a folder that is a file" 1 "" "install: cannot write in $prefix/bin/dmf; nothing was put (another place: --prefix DIR)
 " --prefix "$prefix/bin/dmf"
-if [ "$(id -u)" -eq 0 ] && command -v setpriv >/dev/null; then
-    mkdir -p "$work/closed"
-    setpriv --reuid=65534 --regid=65534 --clear-groups "$root/install" --prefix "$work/closed" >"$work/out" 2>"$work/err"
-    judge "a folder of somebody else" "$?" 1 "" \
-        "install: cannot write in $work/closed; nothing was put (another place: --prefix DIR)"$'\n'
-else
-    echo "skipped: not root with setpriv, so nobody else was tried as who installs"
-fi
+# Nobody else installs below a folder of root's, and the caller does not where he is not root.
+mkdir -p "$work/closed"
+chmod 555 "$work/closed"
+somebody=()
+[ "$(id -u)" -ne 0 ] || somebody=(setpriv --reuid=65534 --regid=65534 --clear-groups)
+"${somebody[@]}" "$root/install" --prefix "$work/closed" >"$work/out" 2>"$work/err"
+judge "a folder that the caller cannot write" "$?" 1 "" \
+    "install: cannot write in $work/closed; nothing was put (another place: --prefix DIR)"$'\n'
 for words in wash "--prefix" "--prefix="; do
     status=0
     "$root/install" $words >"$work/out" 2>"$work/err" || status=$?
@@ -381,7 +381,11 @@ if [ "$(stat -c %W "$work")" -gt 0 ]; then
     same "the folders there stay" "$(cd "$work/theirs" && find .)" $'.\n./empty'
     rm -r "$work/made"
 else
-    echo "skipped: this file system does not tell when a folder was made, so folders above a prefix stay"
+    # A file system that does not tell when a folder was made.
+    made=$work/made/by/it
+    quiet --prefix "$made"
+    call_in "removing, where folders have no time of birth" "left, since it was not made with $made: $work/made/by" "$made"
+    rm -r "$work/made"
 fi
 mkdir -p "$work/theirs/empty"
 quiet --prefix "$work/new"
@@ -412,19 +416,15 @@ for file in bin/dmf lib/libdmf.so.0; do
 done
 
 # Programs in C and C++ that find the library as their field does: by pkg-config's file, here read by hand, and by the loader.
-if command -v gcc >/dev/null && command -v g++ >/dev/null; then
-    flags="$(sed -n "s|^prefix=.*||; s|\${includedir}|$work/real/include|; s|\${libdir}|$work/real/lib|; s/^\(Libs\|Cflags\): //p" "$work/real/lib/pkgconfig/dmf.pc")"
-    # shellcheck disable=SC2086 # It has a word for each flag.
-    gcc examples/c/limit.c -o "$work/limit" $flags "-Wl,-rpath,$work/real/lib" >"$work/out" 2>"$work/err"
-    same "a C program is linked" "$? $(cat "$work/err")" "0 "
-    same "it runs" "$("$work/limit" | tail -n 2)" $'without arc 1: 2\nagain: 5'
-    # shellcheck disable=SC2086
-    g++ -std=c++17 examples/c/limit.cpp -o "$work/limit" $flags >"$work/out" 2>"$work/err"
-    same "a C++ program is linked" "$? $(cat "$work/err")" "0 "
-    same "that runs" "$(LD_LIBRARY_PATH="$work/real/lib" "$work/limit")" $'3\n2\n1\n2\n3\non the source\'s side: 1'
-else
-    echo "skipped: no gcc or no g++, so no program in C or C++ was linked with the installed library"
-fi
+flags="$(sed -n "s|^prefix=.*||; s|\${includedir}|$work/real/include|; s|\${libdir}|$work/real/lib|; s/^\(Libs\|Cflags\): //p" "$work/real/lib/pkgconfig/dmf.pc")"
+# shellcheck disable=SC2086 # It has a word for each flag.
+gcc examples/c/limit.c -o "$work/limit" $flags "-Wl,-rpath,$work/real/lib" >"$work/out" 2>"$work/err"
+same "a C program is linked" "$? $(cat "$work/err")" "0 "
+same "it runs" "$("$work/limit" | tail -n 2)" $'without arc 1: 2\nagain: 5'
+# shellcheck disable=SC2086
+g++ -std=c++17 examples/c/limit.cpp -o "$work/limit" $flags >"$work/out" 2>"$work/err"
+same "a C++ program is linked" "$? $(cat "$work/err")" "0 "
+same "that runs" "$(LD_LIBRARY_PATH="$work/real/lib" "$work/limit")" $'3\n2\n1\n2\n3\non the source\'s side: 1'
 same "the example of ctypes runs" "$(python3 examples/c/limit.py "$work/real/lib/libdmf.so.0")" "5 [3, 2, 1, 2, 3]"
 
 # The tools, from elsewhere and by a link, and the package.

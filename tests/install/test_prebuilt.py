@@ -190,8 +190,6 @@ def somebody(clone: Clone) -> tuple[str, ...]:
     """The words by which somebody calls who is not root, to whom the home belongs."""
     if os.geteuid():
         return ()
-    if not shutil.which("setpriv"):
-        pytest.skip("setpriv is not there, so nobody else was tried as who calls ./dmf")
     os.chown(clone.home, NOBODY, NOBODY)
     return (shutil.which("setpriv") or "", f"--reuid={NOBODY}", f"--regid={NOBODY}", "--clear-groups")
 

@@ -3,7 +3,6 @@
 from __future__ import annotations
 
 import re
-import shutil
 import subprocess
 import sys
 from pathlib import Path
@@ -32,8 +31,6 @@ def test_the_example_in_c(folder: Path, tmp_path: Path, standard: str) -> None:
 
 
 def test_the_example_in_cpp(folder: Path, tmp_path: Path) -> None:
-    if not shutil.which("g++"):
-        pytest.skip("g++ is not in PATH")
     program = compiled(["g++", "-std=c++17"], EXAMPLES / "limit.cpp", folder, tmp_path)
     assert output_of(program) == "3\n2\n1\n2\n3\non the source's side: 1\n"
 
@@ -44,8 +41,6 @@ def test_the_example_in_python(folder: Path) -> None:
 
 def test_no_access_is_bad(folder: Path, tmp_path: Path) -> None:
     """All that the example lends and gets is used as it may be, and all is freed."""
-    if not shutil.which("valgrind"):
-        pytest.skip("valgrind is not in PATH")
     program = compiled(["gcc"], EXAMPLES / "limit.c", folder, tmp_path)
     words = ["valgrind", "-q", "--leak-check=full", "--show-leak-kinds=all", "--error-exitcode=9", str(program)]
     assert output_of(*words) == SOLVED

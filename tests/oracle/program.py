@@ -5,6 +5,7 @@ from __future__ import annotations
 import re
 from collections.abc import Callable, Sequence
 from dataclasses import replace
+from pathlib import Path
 from typing import NamedTuple, Protocol
 
 from .network import State, is_greatest, solved
@@ -90,7 +91,9 @@ def told(text: object) -> bytes:
 READ_FAILED = Ended(STREAM_FAULT, told("read failed"))
 TOO_MUCH = told("too much input")
 OUT_OF_MEMORY = Outcome(NO_MEMORY, b"", told("no memory"))
-VERSION = Outcome(WELL, b"dmf 0.1.0\n")
+RELEASE = (Path(__file__).parents[2] / "VERSION").read_text().strip()
+VERSION_LINE = f"dmf {RELEASE}\n".encode()
+VERSION = Outcome(WELL, VERSION_LINE)
 REFUSED_WORDS = Outcome(USAGE, b"", re.compile(rb"error: .*\nUsage: dmf.*\n", re.DOTALL))
 REFUSED_VALUE = Outcome(USAGE, b"", re.compile(rb"error: .*\n", re.DOTALL))
 NO_TEXT = Outcome(USAGE, b"", told("a word is not UTF-8"))

@@ -5,7 +5,6 @@ through all links again for each arc would take ten times the budget and more, a
 from __future__ import annotations
 
 import re
-import shutil
 import subprocess
 from collections.abc import Callable
 from pathlib import Path
@@ -133,17 +132,11 @@ def shut_instructions(folder: Path, network: Network) -> float:
 @pytest.fixture(scope="module")
 def maker(tmp_path_factory: pytest.TempPathFactory) -> Path:
     """The program that makes the families of the benchmark."""
-    if not shutil.which("g++"):
-        pytest.skip("the families of the benchmark, since g++ is not there")
     made = tmp_path_factory.mktemp("maker") / "generate"
     subprocess.run(["g++", "-O1", "-std=c++17", "-o", made, ROOT / "bench" / "generate.cpp"], check=True)
     return made
 
 
-needs_valgrind = pytest.mark.skipif(not shutil.which("valgrind"), reason="counts of instructions, since valgrind is not there")
-
-
-@needs_valgrind
 @pytest.mark.seconds(6)
 @pytest.mark.parametrize("name", MADE)
 def test_shuts(name: str, tmp_path: Path) -> None:
@@ -151,7 +144,6 @@ def test_shuts(name: str, tmp_path: Path) -> None:
     assert 0 < shut_instructions(tmp_path, network) < network.budget
 
 
-@needs_valgrind
 @pytest.mark.seconds(6)
 @pytest.mark.parametrize("family", FAMILIES)
 @pytest.mark.parametrize("end", "st")
@@ -162,7 +154,6 @@ def test_ends_of_families(end: str, family: str, maker: Path, tmp_path: Path) ->
     assert 0 < shut_instructions(tmp_path, Network(text, int(node))) < BUDGET
 
 
-@needs_valgrind
 @pytest.mark.seconds(3)
 @pytest.mark.parametrize("family", ["grid", "random"])
 def test_nothing_to_do(family: str, maker: Path, tmp_path: Path) -> None:
@@ -176,7 +167,6 @@ def test_nothing_to_do(family: str, maker: Path, tmp_path: Path) -> None:
     assert (after - before) / len(others) < IDLE_BUDGET
 
 
-@needs_valgrind
 @pytest.mark.seconds(4)
 @pytest.mark.parametrize("family", ["grid", "random"])
 def test_added_arcs(family: str, maker: Path, tmp_path: Path) -> None:
@@ -187,7 +177,6 @@ def test_added_arcs(family: str, maker: Path, tmp_path: Path) -> None:
     assert (after - before) / len(others) < ADD_BUDGET
 
 
-@needs_valgrind
 @pytest.mark.seconds(4)
 @pytest.mark.parametrize("family", ["grid", "random"])
 def test_added_self_loops(family: str, maker: Path, tmp_path: Path) -> None:
@@ -200,7 +189,6 @@ def test_added_self_loops(family: str, maker: Path, tmp_path: Path) -> None:
     assert (after - before) / len(loops) < 1.5 * ADD_BUDGET
 
 
-@needs_valgrind
 @pytest.mark.seconds(4)
 @pytest.mark.parametrize("family", ["bip", "grid"])
 def test_idle_nodes(family: str, maker: Path, tmp_path: Path) -> None:
@@ -215,7 +203,6 @@ def test_idle_nodes(family: str, maker: Path, tmp_path: Path) -> None:
     assert 0 < (after - before) / len(others) < LIST_BUDGET
 
 
-@needs_valgrind
 @pytest.mark.seconds(3)
 @pytest.mark.parametrize("family", ["bip", "grid"])
 def test_numbered(family: str, maker: Path, tmp_path: Path) -> None:

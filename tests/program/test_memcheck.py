@@ -4,7 +4,6 @@ answers is as ever."""
 from __future__ import annotations
 
 import os
-import shutil
 import subprocess
 from pathlib import Path
 
@@ -72,12 +71,6 @@ def judge(case: Case, **environment: str) -> built.Run:
     ran = subprocess.run(words, input=case.input, capture_output=True, timeout=built.SECONDS, env={**os.environ, **environment})
     assert ran.returncode != FOUND and b"==" not in ran.stderr, ran.stderr.decode()
     return built.Run(ran.returncode, ran.stdout, ran.stderr)
-
-
-@pytest.fixture(autouse=True)
-def valgrind() -> None:
-    if not shutil.which("valgrind"):
-        pytest.skip("valgrind is not there, so no access to memory was checked")
 
 
 @pytest.fixture

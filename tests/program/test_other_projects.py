@@ -4,12 +4,12 @@ its flows; scipy's run as they are, and dmf beside them. Both are read from Debi
 
 from __future__ import annotations
 
-import importlib
 from collections.abc import Iterable
 from pathlib import Path
 from typing import Any
 
 import pytest
+from packages import load
 from program.test_quick_solves import difference, solved
 from worked_forms import text
 
@@ -120,20 +120,13 @@ class Stand:
         return residual
 
 
-def module(name: str, package: str) -> Any:
-    try:
-        return importlib.import_module(name)
-    except ImportError:
-        pytest.skip(f"{package} has no {name}, so dmf was not tried on its networks")
-
-
 @pytest.mark.seconds(20)
 @pytest.mark.parametrize(
     "place, name", [pytest.param(place, name, id=name.removeprefix("test_")) for place, tests in NETWORKX.items() for name in tests]
 )
 def test_networkx(place: str, name: str, monkeypatch: pytest.MonkeyPatch) -> None:
     file, _, group = place.partition(":")
-    theirs = module(file, "python3-networkx")
+    theirs = load(file)
     stand = Stand(theirs.nx)
 
     def by_dmf(*given: Any, **options: Any) -> Any:
@@ -152,7 +145,7 @@ def test_networkx(place: str, name: str, monkeypatch: pytest.MonkeyPatch) -> Non
 @pytest.mark.seconds(2)
 @pytest.mark.parametrize("name", SCIPYS)
 def test_scipy(name: str, monkeypatch: pytest.MonkeyPatch) -> None:
-    theirs = module(SCIPY, "python3-scipy")
+    theirs = load(SCIPY)
     maximum_flow, values = theirs.maximum_flow, []
 
     def beside_dmf(graph: Any, source: int, sink: int, **options: Any) -> Any:
@@ -173,7 +166,7 @@ def test_scipy(name: str, monkeypatch: pytest.MonkeyPatch) -> None:
 def test_netgen() -> None:
     """The network of networkx's test of least costs: a flow meets every demand, so the greatest flow from what sends to what wants is the
     whole demand."""
-    theirs = module(NETGEN, "python3-networkx")
+    theirs = load(NETGEN)
     graph = theirs.nx.read_gpickle(Path(theirs.__file__).with_name("netgen-2.gpickle.bz2"))
     number = {node: at for at, node in enumerate(graph, 1)}
     source, sink = len(graph) + 1, len(graph) + 2

@@ -11,6 +11,7 @@ from typing import NamedTuple
 
 import pytest
 from conftest import BUILT, ROOT
+from oracle.program import VERSION_LINE
 
 SECONDS = 60
 A = "examples/a.max"
@@ -82,7 +83,7 @@ def test_help(words: str) -> None:
 @pytest.mark.parametrize(
     ("words", "given", "file", "ended"),
     [
-        pytest.param(["--version"], b"", None, (0, b"dmf 0.1.0\n", b""), id="the version"),
+        pytest.param(["--version"], b"", None, (0, VERSION_LINE, b""), id="the version"),
         pytest.param(["session", A, "--cut"], b"solve\n", None, (0, SOLUTION + CUT, b""), id="a cut after the problem"),
         pytest.param(["session", b"\xff"], b"", None, (2, b"", b"dmf: a word is not UTF-8\n"), id="words that are not UTF-8"),
         pytest.param([], b"", A, (0, SOLUTION, b""), id="no words"),

@@ -4,7 +4,6 @@ random networks. An interrupt in the engine's work ends a run with nothing writt
 
 from __future__ import annotations
 
-import shutil
 import signal
 import subprocess
 import time
@@ -63,8 +62,6 @@ def difference(problem: bytes) -> str | None:
 @pytest.fixture(scope="module")
 def generate(tmp_path_factory: pytest.TempPathFactory) -> Generate:
     """What makes a network of a family with so many arcs."""
-    if not shutil.which("g++"):
-        pytest.skip("the families of the benchmark, since g++ is not there")
     maker = tmp_path_factory.mktemp("families") / "generate"
     subprocess.run(["g++", "-O1", "-std=c++17", "-o", maker, ROOT / "bench" / "generate.cpp"], check=True)
     return lambda family, arcs: subprocess.run([maker, family, str(arcs), "1990"], capture_output=True, check=True).stdout

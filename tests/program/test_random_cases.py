@@ -23,6 +23,7 @@ from found import FOUND
 from hypothesis import given
 from hypothesis import strategies as st
 from kept import Found, shown_cases, with_cases
+from oracle.program import RELEASE
 from random_cases import random_case
 from reduced import reduced
 from refused import REFUSED, ways_of
@@ -35,10 +36,10 @@ TEXTS = """problem line expected, second problem line, unknown line, not a max p
     capacities past 64 bits, no such arc, over capacity, second value line, value line missing,
     flow not conserved at node, value differs, line too long, unknown command, arc is closed, nothing to undo,
     nothing to redo, flow is not greatest, cannot open the problem, read failed, a word is not UTF-8, Usage: dmf,
-    c greatest, c flow, c cut, c side, c solve value, p max, dmf 0.1.0"""
+    c greatest, c flow, c cut, c side, c solve value, p max"""
 NO_MEMORY = "no memory"
 REPLIES = {re.split(" [A-Z]", it.reply)[0] for it in COMMANDS.values() if it.reply.startswith("c ")}
-ALL_TEXTS = {*re.split(r",\s+", TEXTS), *REPLIES}
+ALL_TEXTS = {*re.split(r",\s+", TEXTS), f"dmf {RELEASE}", *REPLIES}
 ALL = ALL_TEXTS | TRAITS | {NO_MEMORY}
 
 

@@ -12,6 +12,7 @@ from pathlib import Path
 import built
 import pytest
 from conftest import BUILT, ROOT
+from oracle.program import VERSION_LINE
 from worked import WORKED
 
 SECONDS = 120
@@ -62,7 +63,7 @@ CLOSED: dict[str, tuple[set[int], str, bytes, tuple[int, bytes, bytes]]] = {
         b"",
         (4, b"", b"dmf: cannot open the problem\n"),
     ),
-    "no input to the version": ({INPUT}, "--version", b"", (0, b"dmf 0.1.0\n", b"")),
+    "no input to the version": ({INPUT}, "--version", b"", (0, VERSION_LINE, b"")),
     # What was to be written is told as lost.
     "no output of a solution": ({OUTPUT}, "solve", A, (4, b"", WRITE_FAILED)),
     "no output of a session": ({OUTPUT}, "session problem.max", b"print problem\n", (4, b"", WRITE_FAILED)),
@@ -82,7 +83,7 @@ CLOSED: dict[str, tuple[set[int], str, bytes, tuple[int, bytes, bytes]]] = {
     ),
     "no error stream of a session on a faulty problem": ({ERROR}, "session fault.max", b"", (3, b"", b"")),
     "no error stream of a check": ({ERROR}, "check problem.max", NO_FLOW, (1, b"c flow 0\n", b"")),
-    "no error stream of the version": ({ERROR}, "--version", b"", (0, b"dmf 0.1.0\n", b"")),
+    "no error stream of the version": ({ERROR}, "--version", b"", (0, VERSION_LINE, b"")),
     "no error stream of an unknown word": ({ERROR}, "wash", b"", (2, b"", b"")),
     # More of them are closed.
     "neither input nor output of a session": ({INPUT, OUTPUT}, "session problem.max", b"", (4, b"", READ_FAILED)),

@@ -15,7 +15,6 @@ from xml.etree import ElementTree
 
 import dmf
 import pytest
-from client_shared import needs
 from desk_shared import ODD, PIPES, ROOT, STORY, desk_of, run, swept, water, water_problem, without
 from dmf.desk import Desk
 from dmf.desk_steps import DeskFault
@@ -23,8 +22,8 @@ from dmf.project import findings as project_findings
 from dmf.project.findings import checked, findings
 from dmf.project.report import report
 from project_shared import named, new_project, supply_project, water_project
+from packages import load
 
-DRAWS = needs(shutil.which("dot"), "graphviz", "no picture of a report was looked at")
 
 
 class Page(HTMLParser):
@@ -59,7 +58,6 @@ class Page(HTMLParser):
             self._into[-1] += data
 
 
-@DRAWS
 def test_water(tmp_path: Path) -> None:
     """The values of the story, the limits that its page names, and the losses and gains of trying all sets of places."""
     desk = water_project(tmp_path)
@@ -192,10 +190,8 @@ def test_from_the_terminal_and_from_python(tmp_path: Path) -> None:
 
 @pytest.fixture(scope="module")
 def driver() -> Iterator[Any]:
-    if not shutil.which("chromium") or not shutil.which("chromedriver"):
-        pytest.skip("chromium is not there, so no report was shown by a browser")
-    webdriver = pytest.importorskip("selenium.webdriver", reason="python3-selenium is not there, so no report was shown by a browser")
-    service = pytest.importorskip("selenium.webdriver.chrome.service")
+    webdriver = load("selenium.webdriver")
+    service = load("selenium.webdriver.chrome.service")
     options: Any = webdriver.ChromeOptions()
     for word in ("--headless=new", "--no-sandbox", "--disable-gpu", "--disable-dev-shm-usage", "--hide-scrollbars"):
         options.add_argument(word)
@@ -212,7 +208,6 @@ def shown(driver: Any, path: Path, width: int, scheme: str = "light", height: in
     driver.get(path.as_uri())
 
 
-@DRAWS
 def test_it_fits(tmp_path: Path, driver: Any) -> None:
     """On a wide screen, on a phone, in light and dark, with long names: nothing is wider than the page; and printed, it has pages of A4."""
     desk = water_project(tmp_path)
@@ -233,7 +228,6 @@ def test_it_fits(tmp_path: Path, driver: Any) -> None:
     assert boxes and all((round(float(width)), round(float(height))) == (595, 842) for width, height in boxes)
 
 
-@DRAWS
 def test_the_picture_of_the_story(tmp_path: Path, driver: Any, writes: bool) -> None:
     """The pictures of the water story, on a wide screen and on a phone in the dark, which are made at least, and with --write put."""
     shutil.copy(ROOT / "examples/water/pipes.csv", tmp_path)

@@ -16,6 +16,7 @@ from dmf.project.file import versions_of
 from dmf.project.opening import keep_project, project_desk
 from dmf.tables.subject import read_subject
 from project_shared import named, new_project, supply_project, water_project, words
+from packages import load
 
 GERMAN = """Von;Nach;Kapazit\u00e4t (l/s);Leitung
 Mill;Weir;47,3;Main
@@ -177,7 +178,7 @@ def test_a_table_that_changes_while_it_is_kept(tmp_path: Path) -> None:
 
 def test_problems_and_sheets(tmp_path: Path) -> None:
     """A problem's file, and a sheet of a workbook, are kept and opened again; a change in them is told."""
-    openpyxl = pytest.importorskip("openpyxl", reason="python3-openpyxl is not there, so no project of a workbook was tried")
+    openpyxl = load("openpyxl")
     (tmp_path / "w.max").write_bytes(water_problem())
     desk = new_project(tmp_path, f"{tmp_path}/w.max", name="problem.dmf.json")
     desk.close(10)

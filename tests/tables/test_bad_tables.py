@@ -13,8 +13,9 @@ import pytest
 import town_table as town
 from client_shared import dmf
 from dmf.tables.opening import Wanted, plan_of
+from packages import load
 
-openpyxl: Any = pytest.importorskip("openpyxl")
+openpyxl: Any = load("openpyxl")
 NO_NUMBER = "is no number; a number is digits, perhaps with a decimal sign, as 47.3 or 47,3"
 
 
@@ -165,12 +166,12 @@ def test_workbooks() -> None:
 
 
 def test_missing_packages(tmp_path: Path, monkeypatch: pytest.MonkeyPatch) -> None:
-    there = importlib.import_module
+    load_module = importlib.import_module
 
     def missing(name: str, package: Optional[str] = None) -> Any:
         if name.startswith("odf"):
             raise ImportError(name=name)
-        return there(name, package)
+        return load_module(name, package)
 
     monkeypatch.setattr("dmf.tables.workbook.importlib.import_module", missing)
     town.save_ods(tmp_path / "net.ods")

@@ -183,7 +183,6 @@ def test_more_places(saved: Path) -> None:
 
 def test_a_matrix(saved: Path) -> None:
     """Row and column by the places: what flows out of each, and into it."""
-    pytest.importorskip("scipy")
     with opened(saved) as network:
         solution = network.solve()
         matrix = solution.flow_matrix()

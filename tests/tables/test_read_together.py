@@ -26,6 +26,7 @@ from dmf.tables.spans import Spans, first_alike, spans_of
 from dmf.tables.warnings import _alike, _equal
 from hypothesis import given
 from hypothesis import strategies as some
+from packages import load
 
 LINES = some.lists(some.text("ab;,\u00e9 '\t", max_size=6), max_size=12)
 
@@ -37,7 +38,7 @@ def pieces_of(size: int, *, by_numpy: bool) -> Iterator[None]:
         patch.setattr(file, "PIECE_BYTES", size)
         patch.setattr(file, "LARGE_PIECE_BYTES", 3 * size)
         patch.setattr(file, "LEAST_LINES", 0)
-        patch.setattr(arrays, "numpy_for", lambda _: pytest.importorskip("numpy") if by_numpy else None)
+        patch.setattr(arrays, "numpy_for", lambda _: load("numpy") if by_numpy else None)
         yield
 
 
@@ -60,7 +61,7 @@ def block_of(text: str, encoding: str = "utf-8") -> Block:
 
 def spanned(rows: list[list[str]], end: str = "\n", encoding: str = "utf-8") -> Spans:
     """Rows, read by numpy."""
-    found = spans_of(pytest.importorskip("numpy"), block_of(end.join(map(";".join, rows)) + end, encoding))
+    found = spans_of(load("numpy"), block_of(end.join(map(";".join, rows)) + end, encoding))
     assert found
     return found
 
@@ -71,7 +72,7 @@ def spanned(rows: list[list[str]], end: str = "\n", encoding: str = "utf-8") -> 
 )  # fmt: skip
 def test_columns_by_numpy(rows: list[list[str]], end: str, is_ended: bool, encoding: str) -> None:
     """Columns as texts, and the places that two of them name; also of the rows but the first."""
-    np = pytest.importorskip("numpy")
+    np = load("numpy")
     whole = spans_of(np, block_of(end.join(map(";".join, rows)) + end * is_ended, encoding))
     for begin, read in (0, whole), (1, whole and whole.after_first()):
         assert read is not None and read.cells == rows[begin:] and [*read.lines] == [*range(begin + 1, len(rows) + 1)]
@@ -113,7 +114,7 @@ def test_numbers_of_pieces(pieces: list[list[list[str]]], rounds: int) -> None:
 @given(some.lists(some.tuples(some.integers(0, 3), some.integers(0, 2)), min_size=1, max_size=40), some.booleans())
 def test_first_alike(rows: list[tuple[int, int]], is_mixed: bool) -> None:
     """By a good hash each row has the first one that is the same; by a bad one too, or there is no answer."""
-    np = pytest.importorskip("numpy")
+    np = load("numpy")
     with pytest.MonkeyPatch.context() as patch:
         patch.setattr(spans, "_ODD", spans._ODD if is_mixed else 0)
         found = first_alike(np, [np.array(column, np.uint64) for column in zip(*rows)])
@@ -141,7 +142,7 @@ def test_plain_names(cells: list[str], longest: int) -> None:
 @pytest.mark.parametrize("text", ["a", "a\nb\n", "a;b\nc\n", "a;b\n\nc;d", "a;b\nc;d;e\nf\n", ";;\n;\n", "a;b;c\nd\ne;f\n"])
 def test_no_columns(text: str) -> None:
     """Rows of several widths, blank ones, and those of one column are read by themselves."""
-    assert spans_of(pytest.importorskip("numpy"), block_of(text)) is None
+    assert spans_of(load("numpy"), block_of(text)) is None
 
 
 NAMES = some.sampled_from(["A", "B", "\u00c4rger", "a  b", " A", "'=x", "", "D" * 70, "\u00a0", "7", "E\x07"])
@@ -245,8 +246,6 @@ def test_ends_and_rows(rows: list[tuple[int, int, int]], by_numpy: bool) -> None
     """By numpy, where it is there, and without."""
     tails, heads, numbers = (array(code, [row[place] for row in rows]) for place, code in enumerate("IIQ"))
     before, arrays.numpy_for = arrays.numpy_for, lambda _: arrays.package("numpy", "this test") if by_numpy else None
-    if by_numpy:
-        pytest.importorskip("numpy")
     try:
         alone, alike, loops = ends_alone(tails, heads), set(_alike(tails, heads, numbers)), _equal(tails, heads)
     finally:

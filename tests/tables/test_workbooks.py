@@ -20,8 +20,9 @@ from dmf.tables.workbook import cell_text, workbook_sheets
 from dmf.tables.xlsx import Workbook, is_date, unescaped
 from hypothesis import given
 from hypothesis import strategies as some
+from packages import load
 
-openpyxl: Any = pytest.importorskip("openpyxl")
+openpyxl: Any = load("openpyxl")
 MAIN = "http://schemas.openxmlformats.org/spreadsheetml/2006/main"
 TEXTS = some.text(some.characters(blacklist_categories=["Cs", "Cc"]), max_size=5).filter(lambda text: "_x" not in text)
 NUMBERS = some.one_of(some.integers(-(10**20), 10**20), some.floats(allow_nan=False, allow_infinity=False, width=32), some.floats(-1e9, 1e9))

@@ -6,7 +6,6 @@ from __future__ import annotations
 import html
 import os
 import re
-import shutil
 import signal
 import subprocess
 from collections.abc import Sequence
@@ -31,7 +30,6 @@ PICTURES = {
         "$(grep -v 'East Depot' examples/supply/stock.csv)\nEND"
     ),
 }
-with_graphviz = pytest.mark.skipif(not shutil.which("dot"), reason="Graphviz is not there, so no picture was made")
 
 
 def draw(
@@ -137,7 +135,6 @@ def texts(picture: str) -> list[str]:
     return sorted(re.findall(r"<text[^>]*>([^<]*)</text>", picture))
 
 
-@with_graphviz
 @pytest.mark.parametrize("name", LITERAL)
 def test_literal(tools: Tools, tmp_path: Path, name: str) -> None:
     """Graphviz shows each name as it is."""
@@ -146,7 +143,6 @@ def test_literal(tools: Tools, tmp_path: Path, name: str) -> None:
     assert shown.count(LITERAL[name]) == 2, shown
 
 
-@with_graphviz
 @pytest.mark.parametrize("name", PICTURES)
 def test_pictures(tmp_path: Path, writes: bool, name: str) -> None:
     page = ROOT / "docs" / "pictures" / f"{name}.svg"

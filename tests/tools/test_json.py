@@ -13,8 +13,9 @@ import pytest
 from built import BUILT
 from desk_shared import ODD, PIPES, ROOT, SCRIPT, SECONDS, STORY, run, swept, water_problem
 from dmf.text import display
+from packages import load
 
-jsonschema = pytest.importorskip("jsonschema", reason="python3-jsonschema is not there, so no line of JSON was judged by its schema")
+jsonschema = load("jsonschema")
 SCHEMA = json.loads((ROOT / "docs/events.schema.json").read_text())
 # All commands, some of them refused.
 COMMANDS = """cut

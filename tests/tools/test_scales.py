@@ -5,11 +5,10 @@ from __future__ import annotations
 
 import csv
 import io
-import shutil
 from pathlib import Path
 
 import pytest
-from client_shared import dmf, needs
+from client_shared import dmf
 from desk_shared import run
 from dmf.board.picture import Picture
 from dmf.desk import Desk
@@ -133,7 +132,6 @@ def test_dmf_plan(tmp_path: Path, is_table: bool) -> None:
     assert f'  label="{LEGEND}"\n' in drawn
 
 
-@needs(shutil.which("dot"), "graphviz", "no picture of a board was drawn")
 @pytest.mark.parametrize("problem", [PLAIN, IN_LITRES])
 def test_pictures_of_a_desk(problem: str) -> None:
     """Those of a board, too."""
