@@ -108,7 +108,7 @@ def pytest_collection_modifyitems(config: pytest.Config, items: list[pytest.Item
     items[:] = dealt([item for item in items if item not in out], int(os.environ.get("PYTEST_XDIST_WORKER_COUNT", "1")))
 
 
-@pytest.hookimpl(hookwrapper=True, tryfirst=True)
+@pytest.hookimpl(hookwrapper=True, tryfirst=True)  # type: ignore[misc]
 def pytest_sessionfinish(session: pytest.Session) -> Iterator[None]:
     """Keeps the shortest cases that failed, and ends with the line 'N passed, M failed', in which a script counts for each of its cases, and a
     skipped test as one that failed. A worker of pytest-xdist, which knows its own tests alone, does none of this."""

@@ -10,10 +10,11 @@ import shutil
 import signal
 import subprocess
 import sys
+from collections.abc import Callable
 from pathlib import Path
 
 import pytest
-from client_shared import BUILT, CLIENT, ROOT, dmf, pipes, script
+from client_shared import BUILT, CLIENT, PIPES, ROOT, dmf, pipes, script
 
 SECONDS = 20
 REAL = f'#!/bin/sh\nexec {BUILT} "$@"\n'
@@ -153,6 +154,7 @@ def test_another_libc(tmp_path: Path) -> None:
     assert refused(other) == "cannot be run: the loader that it names is not here, as on a system without glibc"
 
 
+NEEDS = f"this package is dmf {dmf.__version__}, and needs {dmf.__version__.rpartition('.')[0]}.x"
 OLDER = """case $1 in
 --version) echo dmf 0.0.9 ;;
 *) echo "dmf: unexpected argument '--brief' found" >&2; exit 2 ;;
@@ -160,19 +162,47 @@ esac"""
 
 
 def test_an_older_program(tmp_path: Path) -> None:
-    needs = f"this package needs dmf {dmf.__version__}"
     with script(OLDER) as program:
-        assert refused(program) == f"is dmf 0.0.9, and {needs}"
+        assert refused(program) == f"is dmf 0.0.9; {NEEDS}"
         put_package(tmp_path / "dmf")
         said = told(tmp_path / "dmf", PATH=os.path.dirname(program))
-        assert said == f"dmf.NoProgram: {program} is dmf 0.0.9, and {needs}; {OTHER}"
+        assert said == f"dmf.NoProgram: {program} is dmf 0.0.9; {NEEDS}; {OTHER}"
     # One that answers, but something else.
     with script('[ "$1" = --version ] && echo dmf 0.0.9 || sed -u "s/^undo/c took/"') as program:
-        assert refused(program) == f"is dmf 0.0.9, and {needs}"
+        assert refused(program) == f"is dmf 0.0.9; {NEEDS}"
+
+
+@pytest.mark.parametrize("version, is_fit", [("0.1.0", False), ("0.3.0", False), ("1.2.4", False), ("0.2.0", True), ("0.2.11", True)])
+def test_other_versions(monkeypatch: pytest.MonkeyPatch, tmp_path: Path, version: str, is_fit: bool) -> None:
+    """A program of another minor version is refused before it is asked anything else, in sessions and in calls that need none, though it would
+    answer well; one of another patch is not."""
+    monkeypatch.setattr(dmf, "__version__", "0.2.4")
+    (tmp_path / "net.max").write_text("p max 2 1\nn 1 s\nn 2 t\na 1 2 3\n")
+    with script(f'[ "$1" = --version ] && echo dmf {version} || exec {BUILT} "$@"') as program:
+        calls: list[Callable[[], object]] = [
+            lambda: pipes(program=program).solve().value,
+            lambda: dmf.value(PIPES, "lake", "sea", program=program),
+            lambda: dmf.minimum_cut(PIPES, "lake", "sea", program=program)[0],
+        ]
+        for call in calls:
+            if is_fit:
+                assert call() == 5
+            else:
+                with pytest.raises(dmf.NoProgram) as caught:
+                    call()
+                assert str(caught.value) == f"{program} is dmf {version}; this package is dmf 0.2.4, and needs 0.2.x; {OTHER}"
+
+
+def test_a_program_that_is_replaced() -> None:
+    """What a file answered holds as long as it stays the same file."""
+    with script(f'[ "$1" = --version ] && echo dmf {dmf.__version__} || exec {BUILT} "$@"') as program:
+        assert pipes(program=program).solve().value == 5
+        put(Path(program), f'#!/bin/sh\n[ "$1" = --version ] && echo dmf 99.0.0 || exec {BUILT} "$@"\n')
+        assert refused(program) == f"is dmf 99.0.0; {NEEDS}"
 
 
 def test_another_program() -> None:
-    needs = f"is not dmf, and this package needs dmf {dmf.__version__}"
+    needs = f"is not dmf; {NEEDS}"
     assert refused(shutil.which("false")) == f"{needs}: dmf ended with status 1"
     with script("cat") as program:
         assert refused(program).startswith(f"{needs}: the session was ended, since what dmf answered to `undo 0` was not understood")

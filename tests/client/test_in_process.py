@@ -294,10 +294,10 @@ def test_ctrl_c(how: str) -> None:
 def test_large_networks_are_solved_by_the_program(monkeypatch: pytest.MonkeyPatch) -> None:
     """Of one call, since it has the words that find a value sooner."""
     monkeypatch.setattr(once, "MOST_IN_PROCESS", 4)
-    with script('echo >>"$0.calls"; exec ' + f'{BUILT} "$@"') as program:
+    with script('echo "$1" >>"$0.calls"; exec ' + f'{BUILT} "$@"') as program:
         monkeypatch.setenv("DMF", program)
         assert [dmf.value(PIPES[:4], "lake", "sea"), dmf.value(PIPES, "lake", "sea")] == [2, 5]
-        assert Path(f"{program}.calls").read_text() == "\n"
+        assert Path(f"{program}.calls").read_text() == "--version\nsolve\n"
 
 
 def short(monkeypatch: pytest.MonkeyPatch, word: str, arc: int) -> None:

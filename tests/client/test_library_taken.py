@@ -54,9 +54,10 @@ def test_one_that_cannot_be_used(monkeypatch: pytest.MonkeyPatch, tmp_path: Path
         with pytest.raises(dmf.NoProgram):
             dmf.library()
     monkeypatch.setenv("DMF_LIBRARY", library_file())
-    monkeypatch.setattr(dmf, "__version__", "0.1.7")
+    release = dmf.__version__
+    monkeypatch.setattr(dmf, "__version__", "7.8.9")
     loaded.load.cache_clear()
-    with pytest.raises(dmf.NoProgram, match=r" is dmf 0\.1\.0, and this package needs dmf 0\.1\.7$"):
+    with pytest.raises(dmf.NoProgram, match=rf" is dmf {re.escape(release)}; this package is dmf 7\.8\.9, and needs 7\.8\.x$"):
         pipes()
 
 

@@ -154,13 +154,13 @@ def test_another_system(clone: Clone) -> None:
     (clone.bin / "uname").unlink()
     (clone.bin / "uname").write_text("#!/bin/sh\necho Linux aarch64\n")
     (clone.bin / "uname").chmod(0o755)
-    assert refused(clone.call(), "dmf: prebuilt/ has no executable for Linux aarch64")
+    assert refused(clone.call(), "dmf: prebuilt/ is for Linux on x86-64, and this is Linux aarch64; on Windows use WSL 2, elsewhere a Linux container .see Containerfile.")
 
 
 def test_does_not_run_here(clone: Clone) -> None:
     """As an executable of a newer C library would not."""
     clone.renew("#!/bin/sh\necho 'no such C library' >&2\necho or so >&2\nexit 1\n")
-    assert refused(clone.call(), "dmf: the executable in prebuilt/ does not run here: no such C library")
+    assert refused(clone.call(), "dmf: the executable in prebuilt/ does not run here: no such C library; it needs glibc 2.34 or later, or a Linux container .see Containerfile.")
     assert clone.left() == []
 
 

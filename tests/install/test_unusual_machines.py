@@ -79,6 +79,11 @@ def own(place: Place, user: int) -> None:
         subprocess.run(["chown", "-R", f"{user}:{user}", place.clone], check=True)
 
 
+def own_and_lack(place: Place) -> None:
+    own(place, NOBODY)
+    lack(place)
+
+
 def close(place: Place) -> None:
     place.clone.chmod(0o555)
     for folder in "crates/dmf", "crates/dmf/out":
@@ -88,7 +93,7 @@ def close(place: Place) -> None:
 CASES = [
     Case("the usual"),
     Case("not root", set_up=lambda place: own(place, NOBODY), by_nobody=True),
-    Case("not root, and a package is missing", set_up=lambda place: (own(place, NOBODY), lack(place)), by_nobody=True, test=(2, "", f"{LACKS}\n")),
+    Case("not root, and a package is missing", set_up=own_and_lack, by_nobody=True, test=(2, "", f"{LACKS}\n")),
     Case("no network", set_up=lack, test=(2, "", f"{LACKS} (E: Unable to fetch some archives)\n")),
     Case(
         "a read-only clone", set_up=close, by_nobody=True,

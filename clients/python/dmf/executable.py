@@ -13,6 +13,7 @@ import subprocess
 
 from .errors import NoProgram, SessionEnded
 from .lexical import display
+from .versions import fits, needed, other_version
 
 PACKAGE = os.path.dirname(os.path.realpath(__file__))
 # Where pip puts the executable, below this package.
@@ -101,18 +102,32 @@ def refuse_unrun(path: str | bytes, error: OSError) -> None:
 
 def refuse_unfit(path: str | bytes, error: SessionEnded) -> None:
     """Raises `NoProgram` if a session did not begin because the program is not the one that this package needs, or lacks a library."""
-    from . import __version__
-
     lacking = _LACKING.findall(str(error))
     if lacking:
         name, _ = max(lacking, key=lambda it: [*map(int, it[1].split("."))])
         raise NoProgram(f"{_shown(path)} cannot be run: it needs {name}, and this system's libc is older; {OTHER}")
     version = _version(path)
-    needs = f"this package needs dmf {__version__}; {OTHER}"
     if not version:
-        raise NoProgram(f"{_shown(path)} is not dmf, and {needs}: {error}")
-    if version != __version__:
-        raise NoProgram(f"{_shown(path)} is dmf {display(version)}, and {needs}")
+        raise NoProgram(f"{_shown(path)} is not dmf; {needed()}; {OTHER}: {error}")
+    if not fits(version):
+        raise other_version(_shown(path), display(version), f"; {OTHER}")
+
+
+def refuse_other_version(path: str | bytes) -> None:
+    """Raise `NoProgram` if a program prints a version that this package does not work with. A program is asked once, as long as its file stays
+    the same. One that prints no version, or cannot be run, is judged by what comes of its first session."""
+    found = shutil.which(os.fsdecode(path))
+    if found:
+        file = os.stat(found)
+        version = _printed(found, file.st_dev, file.st_ino, file.st_mtime_ns, file.st_size)
+        if version and not fits(version):
+            raise other_version(_shown(path), display(version), f"; {OTHER}")
+
+
+@functools.lru_cache(maxsize=16)
+def _printed(path: str, *_: int) -> str | None:
+    """The version that a program prints; its file's place, time and size tell when to ask again."""
+    return _version(path)
 
 
 def _shown(path: str | bytes) -> str:

@@ -18,6 +18,7 @@ from .errors import NoProgram, Refused
 from .lexical import display
 from .numbering import AMOUNTS
 from .session import Command, Problem, Session, judged, line_of, refused, refused_line
+from .versions import fits, other_version
 
 # The largest network of which all calls run in the thread of their caller, in arcs. There Ctrl-C waits for the call to end, which takes
 # milliseconds. The calls of a larger one run in a thread beside, which Ctrl-C leaves alone, but for steps over so many states at most,
@@ -69,12 +70,11 @@ Given = TypeVar("Given")
 class Library:
     """The loaded library."""
 
-    def __init__(self, path: str) -> None:
-        """Raises an OSError if it cannot be loaded, and an AttributeError if it lacks a call."""
+    def __init__(self, path: str, loaded: ctypes.CDLL) -> None:
+        """Raises an AttributeError if it lacks a call."""
         self.path = path
-        self._loaded = ctypes.CDLL(path)
+        self._loaded = loaded
         ends = [_WORD, _WORD, _WORD, *[_POINTER, _SIZE] * 3, _WORD, _POINTER, _POINTER]
-        self.version = self._call("dmf_version", [])
         self.new = self._call("dmf_session_new", ends)
         self.read = self._call("dmf_session_read", [_POINTER, _SIZE, _WORD, _POINTER, _POINTER, _POINTER])
         self.free = self._call("dmf_session_free", [_POINTER], None)
@@ -120,17 +120,20 @@ class Library:
 @functools.cache
 def load(path: str) -> Library:
     """The library at this path. Raises `NoProgram` if it cannot be loaded, or is of another version than this package needs."""
-    from . import __version__
-
     try:
-        library = Library(path)
+        loaded = ctypes.CDLL(path)
+        refuse_other(path, loaded.dmf_version())
+        return Library(path, loaded)
     except (OSError, AttributeError) as error:
         raise NoProgram(f"{display(path)} cannot be loaded: {display(str(error))}") from error
-    major, rest = divmod(library.version(), 10_000)
+
+
+def refuse_other(path: str, number: int) -> None:
+    """Raise `NoProgram` for a library of a version that this package does not work with. The library gives its version as a number."""
+    major, rest = divmod(number, 10_000)
     version = f"{major}.{rest // 100}.{rest % 100}"
-    if version != __version__:
-        raise NoProgram(f"{display(path)} is dmf {version}, and this package needs dmf {__version__}")
-    return library
+    if not fits(version):
+        raise other_version(display(path), version)
 
 
 class _Held:

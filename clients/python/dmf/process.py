@@ -259,6 +259,7 @@ def answer_to(file: IO[bytes], program: FilePath, words: list[str], begun: Begun
     """What the program answers to a problem's file, from its present place on. `begun` is told its process. Raises what `start`
     raises."""
     used = os.fspath(program)
+    executable.refuse_other_version(used)
     pipe = subprocess.PIPE
     try:
         # In a session of its own: Ctrl-C at a terminal is for the caller alone, who then ends the program.
@@ -312,6 +313,7 @@ def start(path: str, program: FilePath, words: list[str | bytes]) -> Child:
     """A session with these words, on the problem's file, once it has read the problem. Raises a `Refused` if the problem has a fault,
     `SessionEnded` if the program fails, and `NoProgram` if this package cannot use it."""
     used = os.fspath(program)
+    executable.refuse_other_version(used)
     try:
         child = Child([used, *words], path)
     except OSError as error:
