@@ -61,12 +61,16 @@ in_bare_debian() {
     ' bash "$root" "$package_cache" "$@"
 }
 
-# Types README's commands in a clean clone in this Debian, with shared/ beside it if there is one, and tells what was installed.
+# Puts a clean clone into this Debian, with shared/ beside it if there is one.
+put_clean_clone() {
+    mkdir "$1/work"
+    git clone --quiet --no-hardlinks . "$1/work/dmf" || return
+    [ ! -d ../shared ] || cp -r ../shared "$1/work/"
+}
+
+# Types README's commands in the clone in this Debian, and tells what was installed.
 type_in_bare_debian() {
     local root=$1 before status
-    mkdir "$root/work"
-    git clone --quiet --no-hardlinks . "$root/work/dmf" || return
-    [ ! -d ../shared ] || cp -r ../shared "$root/work/"
     before=$(megabytes "$root")
     SECONDS=0
     in_bare_debian "$root" /work/dmf/.ci/typed
@@ -77,4 +81,18 @@ type_in_bare_debian() {
 
 megabytes() {
     du -sm --one-file-system "$1" | cut -f 1
+}
+
+# Builds the image of the Containerfile over this Debian, without a fetch, and has it solve a problem. The files of podman lie in a folder.
+# The status is 2 where podman cannot build here.
+try_containerfile() {
+    local root=$1 said solve='FROM localhost/dmf\nCOPY a.max .\nRUN /opt/dmf/dmf solve --brief <a.max\n'
+    local podman=(env STORAGE_DRIVER=vfs podman --root "$2/storage" --runroot "$2/run")
+    (want_packages gate podman) || return 2
+    tar -C "$root" --one-file-system -c ./bin ./etc ./lib ./lib64 ./sbin ./tmp ./usr ./var |
+        "${podman[@]}" import --quiet - localhost/debian || return 2
+    "${podman[@]}" build --quiet --isolation=chroot --from localhost/debian --tag dmf "$root/work/dmf" || return 1
+    printf '%b' "$solve" >"$2/Containerfile"
+    said=$("${podman[@]}" build --isolation=chroot --file "$2/Containerfile" "$root/work/dmf/examples") || return 1
+    grep -qx 'c solve value 5' <<<"$said"
 }
