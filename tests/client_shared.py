@@ -10,7 +10,7 @@ from collections.abc import Iterable, Iterator
 from typing import Any
 
 import dmf as dmf
-from dmf.process import Child
+from dmf.session.process import Child
 
 ROOT = os.path.dirname(os.path.dirname(os.path.abspath(__file__)))
 CLIENT = f"{ROOT}/clients/python"

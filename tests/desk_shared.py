@@ -14,7 +14,7 @@ from itertools import product
 from pathlib import Path
 from typing import NamedTuple
 
-from dmf.desk import Desk
+from dmf.desk.workspace import Desk
 from dmf.tables.subject import Subject
 
 ROOT = Path(__file__).resolve().parents[1]

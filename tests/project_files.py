@@ -6,8 +6,8 @@ import os
 from pathlib import Path
 
 import pytest
-from dmf.project.file import ProjectFile, created, opened
-from dmf.project.form import File, KeptStep, KeptTable, Project, ProjectFault, Scenario, said_scenario, said_step
+from dmf.desk.project.storage import ProjectFile, created, opened
+from dmf.desk.project.schema import File, KeptStep, KeptTable, Project, ProjectFault, Scenario, said_scenario, said_step
 
 ARC = ("Mill", "Town", 'Main "pipe"\n2')
 STEP = KeptStep('close "it"\nnow', "47.3", (("close", ARC), ("cap", (*ARC, 2), "0.25"), ("shut", "Mill"), ("add", ("Mill", 7, ""), "12")))

@@ -8,8 +8,8 @@ from pathlib import Path
 from typing import NamedTuple
 
 from desk_shared import ROOT, SECONDS
-from dmf.project.comparison import OPEN, ArcState
-from dmf.text import read_problem
+from dmf.desk.project.comparison import OPEN, ArcState
+from dmf.text.problem_text import read_problem
 
 
 class Played(NamedTuple):

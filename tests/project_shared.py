@@ -7,9 +7,9 @@ import shutil
 from pathlib import Path
 
 from desk_shared import ROOT
-from dmf.desk import Desk
-from dmf.project.desk import ProjectDesk
-from dmf.project.opening import add_project_words, keep_project
+from dmf.desk.workspace import Desk
+from dmf.desk.project.scenarios import ProjectDesk
+from dmf.desk.project.opener import add_project_words, keep_project
 from dmf.tables.subject import add_words, read_subject, words_of
 
 SUPPLY_WORDS = ["routes.csv", "--sources", "stock.csv", "--sinks", "orders.csv"]

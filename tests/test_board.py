@@ -22,10 +22,11 @@ import pytest
 from board_running import Board, board
 from built import BUILT
 from desk_shared import ODD, PIPES, SECONDS, run, stop_session, wait_until_asked, without
-from dmf import Network, desk_sweep
-from dmf.board import Answer
-from dmf.board import Board as InBoard
-from dmf.desk import Desk
+from dmf.desk import desk_sweep
+from dmf import Network
+from dmf.desk.board import Answer
+from dmf.desk.board import Board as InBoard
+from dmf.desk.workspace import Desk
 from dmf.tables.subject import Subject
 
 # Requests of a wrong form: the path, the body or None, and what is said.

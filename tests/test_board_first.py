@@ -12,10 +12,10 @@ import pytest
 from board_running import Board as Running
 from built import BUILT
 from desk_shared import SECONDS
-from dmf import desk_first
-from dmf.board.answers import Answer
-from dmf.board.board import Board
-from dmf.desk import Desk
+from dmf.desk import answers as desk_first
+from dmf.desk.board.responses import Answer
+from dmf.desk.board.routes import Board
+from dmf.desk.workspace import Desk
 from dmf.errors import NoProgram
 from dmf.tables.subject import Subject
 from test_board_nearby import square
@@ -107,7 +107,7 @@ def test_no_program(monkeypatch: pytest.MonkeyPatch) -> None:
     def none(*_: object) -> None:
         raise NoProgram("there is none")
 
-    monkeypatch.setattr("dmf.desk_first.solved", none)
+    monkeypatch.setattr("dmf.desk.answers.solved", none)
     board, usual = board_of(3), board_of(3, may_follow=False)
     assert not board.desk.flows_follow and board.desk.flows() == usual.desk.flows()
     end(board, usual)
@@ -119,7 +119,7 @@ def test_a_program_that_fails(tmp_path: Path, monkeypatch: pytest.MonkeyPatch, a
     program = tmp_path / "dmf"
     program.write_text(f'#!/bin/sh\n[ "$1" != session ] || exec {BUILT} "$@"\n{answer}\n')
     program.chmod(0o755)
-    monkeypatch.setattr("dmf.executable.program", lambda: str(program))
+    monkeypatch.setattr("dmf.session.executable.program", lambda: str(program))
     board, usual = board_of(3), board_of(3, may_follow=False)
     told, wanted = (json.loads(asked(it, *ASKED[0]).body) for it in (board, usual))
     assert told["rows"] == wanted["rows"] and told["told"].startswith("the session came to the value") == (answer == "echo s 1")

@@ -10,7 +10,7 @@ from collections.abc import Iterator
 import pytest
 from board_running import JSON, board
 from desk_shared import PIPES, SECONDS
-from dmf.board.guests import AFTER_BREAK, AFTER_PAGE, AFTER_REQUEST, Guests
+from dmf.desk.board.guests import AFTER_BREAK, AFTER_PAGE, AFTER_REQUEST, Guests
 
 
 class Room:

@@ -7,9 +7,9 @@ from collections.abc import Callable
 
 import pytest
 from desk_shared import desk_of
-from dmf.board.nearby import Nearby
-from dmf.desk import Desk
-from dmf.desk_steps import DeskFault
+from dmf.desk.board.nearby import Nearby
+from dmf.desk.workspace import Desk
+from dmf.desk.steps import DeskFault
 
 # So many arcs are shown.
 MOST = 25

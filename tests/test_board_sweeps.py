@@ -14,7 +14,7 @@ from typing import Any
 from board_pages import Page
 from board_running import Board, board
 from desk_shared import PIPES, SECONDS, swept
-from dmf.board.sweeps import PATIENCE
+from dmf.desk.board.actions import PATIENCE
 
 
 def test_sweep() -> None:

@@ -11,8 +11,9 @@ from command_pages import PAGES
 from command_words import WORDS
 from commands import COMMANDS, GENERATED, LISTED, LISTED_PRINTS, OF_FORM, PRINTED, REFUSALS, Command
 from conftest import BUILT, ROOT
-from dmf import Network, errors
-from dmf import commands as client
+from dmf import errors
+from dmf import Network
+from dmf.text import commands as client
 from oracle import session
 from oracle.network import Arc, State
 from oracle.session import Session, SolveReply, command_of

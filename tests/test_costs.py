@@ -11,9 +11,9 @@ from typing import Any
 import dmf
 import pytest
 from desk_shared import run
-from dmf.costs import Bought, cheapest, prices, priced
-from dmf.desk import Desk
-from dmf.desk_steps import DeskFault
+from dmf.desk.analysis import Bought, cheapest, prices, priced
+from dmf.desk.workspace import Desk
+from dmf.desk.steps import DeskFault
 from project_shared import words
 from dmf.tables.subject import read_subject
 

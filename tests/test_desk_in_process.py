@@ -13,7 +13,7 @@ import pytest
 from board_running import Board, board
 from c_library import library_folder
 from desk_shared import PIPES, SCRIPT, SECONDS, STORY, desk_of, run, swept, water_problem
-from dmf import loaded
+from dmf.session import library as loaded
 
 WAYS = {"library": str(library_folder() / "libdmf.so.0"), "pipe": ""}
 

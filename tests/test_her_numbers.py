@@ -21,10 +21,10 @@ import pytest
 from board_running import Board, board
 from built import BUILT
 from desk_shared import SECONDS, run
-from dmf.desk import Desk
-from dmf.desk_text import problem
+from dmf.desk.workspace import Desk
+from dmf.desk.export import problem
 from dmf.tables.subject import Subject
-from dmf.text import read_problem
+from dmf.text.problem_text import read_problem
 from her_table import (
     CLOSED, DOUBLED, GIVEN, INNER, LET_THROUGH, LIMIT, LIMITS, PIPES, REMARKS, TABLE, VALUE, WORDS, Pipe, greatest, number, told,
 )  # fmt: skip

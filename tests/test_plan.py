@@ -14,11 +14,11 @@ import pytest
 from desk_shared import PIPES, ROOT, Pipe, SECONDS, desk_of, end_session, greatest, run, swept, values, water, water_problem, without
 from built import BUILT
 from dmf import Network
-from dmf.desk_network import Held
-from dmf.desk_steps import DeskFault, Place
+from dmf.desk.live_network import Held
+from dmf.desk.steps import DeskFault, Place
 from dmf.errors import SessionEnded
-from dmf.plan import Plan
-from dmf.plan_meaning import capped
+from dmf.desk.plan.shell import Plan
+from dmf.desk.plan.arguments import capped
 
 WATER = water_problem()
 

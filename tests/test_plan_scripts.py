@@ -10,7 +10,7 @@ from pathlib import Path
 
 import pytest
 from desk_shared import ODD, PIPES, ROOT, SCRIPT, SECONDS, STORY, desk_of, greatest, run, swept, values, water, water_problem, without
-from dmf.plan import Plan
+from dmf.desk.plan.shell import Plan
 
 # Lines that are refused before a solve, and what is said of each.
 LINES = {

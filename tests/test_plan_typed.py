@@ -14,7 +14,7 @@ from pathlib import Path
 import pytest
 from desk_shared import PIPES, ROOT, SECONDS, desk_of, end_session, sessions_of, stop_session, wait_until_asked, water, water_problem, without
 from dmf import Network
-from dmf.plan import Plan
+from dmf.desk.plan.shell import Plan
 from tool_runs import wait_until_asleep
 
 WATER = water_problem()

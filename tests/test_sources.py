@@ -15,7 +15,7 @@ from sources import PYTHON, SHELL
 
 # Where Debian has the modules of its tools in JavaScript, which another build of node does not look for there.
 NODE = {**os.environ, "NODE_PATH": "/usr/share/nodejs"}
-PAGE = ROOT / "clients/python/dmf/board/page"
+PAGE = ROOT / "clients/python/dmf/desk/board/page"
 
 
 def judge(*words: object) -> None:

@@ -20,7 +20,7 @@ from typing import NamedTuple, NoReturn, Union
 ROOT = Path(__file__).resolve().parents[1]
 STREAMS = {"stdin": os.O_RDONLY, "stdout": os.O_WRONLY | os.O_CREAT | os.O_TRUNC, "stderr": os.O_WRONLY | os.O_CREAT | os.O_TRUNC}
 # What the tools import.
-MODULES = "argparse", "csv", "difflib", "dmf.tables.subject", "dmf.picture", "dmf.transcript", "dmf.tool"
+MODULES = "argparse", "csv", "difflib", "dmf.tables.subject", "dmf.text.drawing", "dmf.text.transcript", "dmf.tools.command"
 Text = Union[str, bytes]
 
 
@@ -98,7 +98,7 @@ def run_tool(tool: str, code: CodeType, folder: str, words: list[str]) -> NoRetu
     try:
         exec(code, {"__name__": "__main__", "__file__": tool})
     except SystemExit as end:
-        # The end of a tool that its words end. All others end by `dmf.tool.run`.
+        # The end of a tool that its words end. All others end by `dmf.tools.command.run`.
         sys.stdout.flush()
         sys.stderr.flush()
         os._exit(end.code if isinstance(end.code, int) else 0)

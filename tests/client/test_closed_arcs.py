@@ -9,9 +9,9 @@ from typing import Any
 import pytest
 from client_shared import dmf, pipes
 from desk_shared import run
-from dmf.board import Board
-from dmf.desk import Desk
-from dmf.desk_steps import DeskFault, Trial
+from dmf.desk.board import Board
+from dmf.desk.workspace import Desk
+from dmf.desk.steps import DeskFault, Trial
 from dmf.tables.subject import Subject
 
 HALF, LARGEST = 2**63, 2**64 - 1

@@ -12,7 +12,8 @@ from types import ModuleType
 
 import pytest
 from client_shared import CLIENT, ROOT, dmf
-from dmf import errors, sweeping
+from dmf import errors
+from dmf.sweeps import cases as sweeping
 
 
 @pytest.mark.parametrize("module", [dmf, sweeping], ids=["dmf", "sweeping"])

@@ -21,7 +21,8 @@ from broken_off import CALLS, all_told, prepared
 from built import heed_interrupts
 from c_library import library_file
 from client_shared import BUILT, PIPES, dmf, environment, interrupted_soon, pipes, script
-from dmf import loaded, once
+from dmf.session import library as loaded
+from dmf import graphs as once
 from tool_runs import wait_until_asleep
 
 SECONDS = 60

@@ -16,7 +16,7 @@ from broken_off import CALLS, all_told, prepared, told
 from built import heed_interrupts
 from client_shared import BUILT, CLIENT, dmf, ends, interrupted_soon, is_running, pipes, process_of, script, stop
 from desk_shared import wait_until_asked
-from dmf import running
+from dmf import session_holder as running
 from tool_runs import wait_until_asleep
 
 SECONDS = 20

@@ -11,8 +11,8 @@ from pathlib import Path
 import pytest
 from c_library import library_file
 from client_shared import BUILT, CLIENT, dmf, environment, pipes
-from dmf import loaded
-from dmf.process import Child
+from dmf.session import library as loaded
+from dmf.session.process import Child
 
 SECONDS = 60
 SILENT = """

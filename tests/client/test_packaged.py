@@ -171,11 +171,11 @@ def test_board(folder: Path) -> None:
     try:
         assert board.stdout
         address = board.stdout.readline().strip()
-        files = sorted(file.name for file in (ROOT / "clients/python/dmf/board/page").iterdir())
+        files = sorted(file.name for file in (ROOT / "clients/python/dmf/desk/board/page").iterdir())
         assert {"index.html", "main.js", "style.css"} <= {*files}
         for name in "", *files:
             with urllib.request.urlopen(address + name, timeout=SECONDS) as page:
-                assert (page.status, page.read()) == (200, (ROOT / "clients/python/dmf/board/page" / (name or "index.html")).read_bytes())
+                assert (page.status, page.read()) == (200, (ROOT / "clients/python/dmf/desk/board/page" / (name or "index.html")).read_bytes())
         board.send_signal(signal.SIGINT)
         assert board.wait(SECONDS) == 130
     finally:

@@ -14,7 +14,7 @@ from typing import Any
 
 import pytest
 from client_shared import BUILT, dmf, pipes, script
-from dmf.copies import Answer
+from dmf.sweeps.copies import Answer
 
 SECONDS = 20
 

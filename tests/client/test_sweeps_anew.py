@@ -9,9 +9,9 @@ from typing import Any
 
 import dmf
 import pytest
-from dmf.anew import Anew
-from dmf.session import MOST_COMMANDS
-from dmf.ways import chosen, program_of, started
+from dmf.session.fresh import Anew
+from dmf.session.base import MOST_COMMANDS
+from dmf.session.runners import chosen, program_of, started
 
 NODES = 9
 

@@ -11,11 +11,11 @@ from typing import Any
 
 import pytest
 from client_shared import BUILT, dmf, script
-from dmf.copies import Copy
-from dmf.lexical import LARGEST, MOST_NODES
-from dmf.process import Child
-from dmf.session import MOST_COMMANDS, case_lines
-from dmf.trying import Here
+from dmf.sweeps.copies import Copy
+from dmf.text.lexical import LARGEST, MOST_NODES
+from dmf.session.process import Child
+from dmf.session.base import MOST_COMMANDS, case_lines
+from dmf.sweeps.pool import Here
 
 ARCS = 24
 CLOSED: list[Any] = [[("close", number)] for number in range(1, ARCS + 1)]

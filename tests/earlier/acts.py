@@ -79,7 +79,8 @@ def answers_of_a_table(table: Path) -> dict[str, Any]:
 
 def answers_of_a_project(project: dmf.OpenProject) -> dict[str, Any]:
     """Return what the project `valley` answers."""
-    return {"comparison": project.compare("Dry", "base"), "project_fault": error_of(lambda: project.close("nothing"))}
+    kept: dict[str, Any] = {"steps": project.steps, "comparison": project.compare("Dry", "base")}
+    return {**kept, "project_fault": error_of(lambda: project.close("nothing"))}
 
 
 def error_of(call: Callable[[], object]) -> dmf.Error:

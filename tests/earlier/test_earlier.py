@@ -6,6 +6,7 @@ from __future__ import annotations
 
 import pickle
 import shutil
+from importlib import import_module
 from pathlib import Path
 from typing import Any
 
@@ -14,6 +15,26 @@ import pytest
 from earlier.acts import PROJECTS, answers, answers_of_a_project, play
 
 HERE = Path(__file__).parent
+
+
+# The modules in which a program could import public names then.
+MODULES = {
+    "arcs": ["Arc"],
+    "errors": ["Error", "NoSuchArc", "Refused"],
+    "executable": ["program"],
+    "network": ["Network", "Row"],
+    "once": ["MatrixFlow", "maximum_flow", "minimum_cut", "value"],
+    "project.comparison": ["Comparison"],
+    "project.form": ["ProjectFault"],
+    "project.live": ["OpenProject", "new_project", "open_project"],
+    "solution": ["Cut", "Solution"],
+    "sources": ["from_networkx", "from_scipy", "read"],
+    "sweeping": ["SweepResult", "each_arc_closed", "each_capacity_raised", "each_node_shut", "each_pair_added", "sweep"],
+    "tables.faults": ["TableFault"],
+    "tables.live": ["TableNetwork"],
+    "tables.opened": ["read_table"],
+    "ways": ["library"],
+}
 
 
 def project_path(name: str, folder: Path) -> Path:
@@ -83,6 +104,20 @@ def shown(answer: Any) -> object:
         parts = answer.capacity, answer.side, answer.other_side, repr(answer.arcs), getattr(answer, "terms", ())
         return type(answer), parts, answer._repr_svg_(), answer._repr_html_()
     return type(answer), str(answer), repr(answer), getattr(answer, "__dict__", None) and sorted(vars(answer))
+
+
+@pytest.mark.parametrize("module", MODULES)
+def test_imports(module: str) -> None:
+    found = import_module(f"dmf.{module}")
+    for name in MODULES[module]:
+        assert getattr(found, name) is getattr(dmf, name)
+    with pytest.raises(AttributeError, match=f"^module 'dmf.{module}' has no attribute 'nothing'$"):
+        found.nothing
+
+
+def test_other_modules() -> None:
+    with pytest.raises(ModuleNotFoundError, match=r"^No module named 'dmf\.nothing'$"):
+        import_module("dmf.nothing")
 
 
 def test_pickles(tmp_path: Path, monkeypatch: pytest.MonkeyPatch) -> None:

@@ -42,7 +42,7 @@ prefix="$work/a place"
 mkdir -p "$root/bin" "$root/crates/dmf/src" "$root/docs" "$root/clients/python/dmf" "$root/prebuilt"
 cp -r install dmf completions tools include "$root"
 cp docs/*.[13] "$root/docs"
-(cd clients/python && cp --parents dmf/*.* dmf/*/*.py dmf/board/page/*.* "$root/clients/python")
+git ls-files -z --cached --others --exclude-standard clients/python/dmf | xargs -0 cp --parents -t "$root"
 printf 'dmf:\n' >"$root/crates.txt"
 echo 1 >"$root/crates/dmf/src/version"
 
@@ -98,7 +98,7 @@ lines() {
     echo "$1 $2/lib/libdmf.so"
     echo "$1 $2/lib/pkgconfig/dmf.pc"
     echo "$1 $2/include/dmf.h"
-    for file in clients/python/dmf/*.* clients/python/dmf/*/*.py clients/python/dmf/board/page/*.*; do
+    for file in $(git ls-files --cached --others --exclude-standard clients/python/dmf); do
         echo "$1 $2/share/dmf/python/${file#clients/python/}"
     done
     for name in dmf dmf-problem dmf-names dmf-dot dmf-sweep dmf-plan dmf-board; do
@@ -218,9 +218,10 @@ call "a file that was changed" 1 "" \
     "install: $prefix/bin/dmf was changed since this script put it; nothing was put (move it away first)
 " --prefix "$prefix"
 same "all stays as it is" "$(tree "$prefix")" "$before"
-mkdir "$prefix/share/dmf/python/dmf/__pycache__" "$prefix/share/dmf/python/dmf/tables/__pycache__"
-: >"$prefix/share/dmf/python/dmf/__pycache__/text.cpython-311.pyc"
-: >"$prefix/share/dmf/python/dmf/tables/__pycache__/file.cpython-311.pyc"
+for made in __pycache__/arcs tables/__pycache__/xlsx desk/plan/__pycache__/shell; do
+    mkdir -p "$prefix/share/dmf/python/dmf/${made%/*}"
+    : >"$prefix/share/dmf/python/dmf/$made.cpython-311.pyc"
+done
 call "removing, where a file was changed" 0 "$(
     lines removed "$prefix" | LC_ALL=C sort -r | sed "s|^removed \($prefix/bin/dmf\)\$|left, since it was changed: \1|"
     echo "removed $prefix/share/dmf/installed"

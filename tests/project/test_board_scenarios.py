@@ -16,9 +16,9 @@ import pytest
 from board_pages import Page
 from board_running import Board, board
 from desk_shared import ROOT, run, without
-from dmf.project.comparison import ArcState
-from dmf.project.desk import ProjectDesk
-from dmf.project.opening import project_desk
+from dmf.desk.project.comparison import ArcState
+from dmf.desk.project.scenarios import ProjectDesk
+from dmf.desk.project.opener import project_desk
 from project_played import played, state
 from project_shared import named, supply_project, water_project
 

@@ -10,14 +10,14 @@ from typing import Any
 import dmf
 import pytest
 from desk_shared import run
-from dmf.desk_network import Held
-from dmf.desk_steps import Change, Step
-from dmf.desk_text import problem
-from dmf.project.comparison import CLOSED, compare
-from dmf.project.desk import ProjectDesk
-from dmf.project.form import project_of
-from dmf.project.opening import project_desk
-from dmf.text import read_problem
+from dmf.desk.live_network import Held
+from dmf.desk.steps import Change, Step
+from dmf.desk.export import problem
+from dmf.desk.project.comparison import CLOSED, compare
+from dmf.desk.project.scenarios import ProjectDesk
+from dmf.desk.project.schema import project_of
+from dmf.desk.project.opener import project_desk
+from dmf.text.problem_text import read_problem
 from project_played import played, state
 from project_shared import arc_states, named, supply_project, water_project
 

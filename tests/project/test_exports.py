@@ -20,11 +20,11 @@ from xml.etree import ElementTree
 import pytest
 from desk_shared import ROOT, run
 from client_shared import dmf
-from dmf.board.board import Board
-from dmf.board.picture import Picture
-from dmf.desk_text import drawn, problem, table, taken
-from dmf.project.desk import ProjectDesk
-from dmf.project.report import report
+from dmf.desk.board.routes import Board
+from dmf.desk.board.picture import Picture
+from dmf.desk.export import drawn, problem, table, taken
+from dmf.desk.project.scenarios import ProjectDesk
+from dmf.desk.project.report_project import report
 from dmf.quantity import plain_text
 from oracle import program
 from project_shared import named, new_project, supply_project, water_project

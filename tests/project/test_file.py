@@ -11,10 +11,10 @@ from pathlib import Path
 from typing import Any
 
 import pytest
-from dmf.project import file as project_file
-from dmf.project.file import MOST_VERSIONS, created, journal_of, opened, versions_of
-from dmf.project.form import ProjectFault, Scenario, project_of, said_scenario, said_step, text_of
-from dmf.tool import write_file
+from dmf.desk.project import storage as project_file
+from dmf.desk.project.storage import MOST_VERSIONS, created, journal_of, opened, versions_of
+from dmf.desk.project.schema import ProjectFault, Scenario, project_of, said_scenario, said_step, text_of
+from dmf.tools.command import write_file
 from project_files import STEP, a_project, begun, left, made_project, refused
 
 

@@ -11,9 +11,9 @@ from typing import Any
 
 import pytest
 from desk_shared import ROOT
-from dmf.project import acts
-from dmf.project.file import opened
-from dmf.project.form import REQUESTS, project_of, text_of
+from dmf.desk.project import acts
+from dmf.desk.project.storage import opened
+from dmf.desk.project.schema import REQUESTS, project_of, text_of
 from project_files import a_project, made_project, refused
 
 

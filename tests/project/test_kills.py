@@ -11,10 +11,10 @@ from pathlib import Path
 
 import pytest
 from desk_shared import greatest, water
-from dmf.plan import Plan
-from dmf.project.file import opened
-from dmf.project.form import Project
-from dmf.project.opening import project_desk
+from dmf.desk.plan.shell import Plan
+from dmf.desk.project.storage import opened
+from dmf.desk.project.schema import Project
+from dmf.desk.project.opener import project_desk
 from project_shared import water_project
 
 KILLS = 200

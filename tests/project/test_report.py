@@ -16,11 +16,11 @@ from xml.etree import ElementTree
 import dmf
 import pytest
 from desk_shared import ODD, PIPES, ROOT, STORY, desk_of, run, swept, water, water_problem, without
-from dmf.desk import Desk
-from dmf.desk_steps import DeskFault
-from dmf.project import findings as project_findings
-from dmf.project.findings import checked, findings
-from dmf.project.report import report
+from dmf.desk.workspace import Desk
+from dmf.desk.steps import DeskFault
+from dmf.desk.project import report as project_findings
+from dmf.desk.project.report import checked, findings
+from dmf.desk.project.report_project import report
 from project_shared import named, new_project, supply_project, water_project
 from packages import load
 

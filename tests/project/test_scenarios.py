@@ -13,10 +13,10 @@ from typing import Any
 
 import pytest
 from desk_shared import ODD, end_session, greatest, water, without
-from dmf.desk_steps import DeskFault
+from dmf.desk.steps import DeskFault
 from dmf.network import Network
-from dmf.project.desk import ProjectDesk
-from dmf.project.opening import project_desk
+from dmf.desk.project.scenarios import ProjectDesk
+from dmf.desk.project.opener import project_desk
 from project_shared import arc_states, named, new_project, supply_project, water_project
 
 

@@ -9,11 +9,11 @@ from pathlib import Path
 
 import pytest
 from desk_shared import ROOT, SECONDS, greatest, run, water, water_problem
-from dmf.desk import Desk
-from dmf.desk_steps import DeskFault
-from dmf.project.desk import ProjectDesk
-from dmf.project.file import versions_of
-from dmf.project.opening import keep_project, project_desk
+from dmf.desk.workspace import Desk
+from dmf.desk.steps import DeskFault
+from dmf.desk.project.scenarios import ProjectDesk
+from dmf.desk.project.storage import versions_of
+from dmf.desk.project.opener import keep_project, project_desk
 from dmf.tables.subject import read_subject
 from project_shared import named, new_project, supply_project, water_project, words
 from packages import load

@@ -12,7 +12,7 @@ from typing import Any, Optional
 import pytest
 import town_table as town
 from client_shared import dmf
-from dmf.tables.opening import Wanted, plan_of
+from dmf.tables.loader import Wanted, plan_of
 from packages import load
 
 openpyxl: Any = load("openpyxl")

@@ -13,10 +13,10 @@ from typing import Any
 import pytest
 from client_shared import dmf
 from desk_shared import run
-from dmf.desk import Desk
-from dmf.desk_text import problem, table
-from dmf.tables import extra
-from dmf.tables.extra import Extra, extra_in, left_out
+from dmf.desk.workspace import Desk
+from dmf.desk.export import problem, table
+from dmf.tables import other_columns as extra
+from dmf.tables.other_columns import Extra, extra_in, left_out
 from dmf.tables.subject import Subject, add_words, read_subject, words_of
 from hypothesis import given
 from hypothesis import strategies as some

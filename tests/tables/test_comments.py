@@ -6,8 +6,8 @@ from decimal import Decimal
 
 import pytest
 from dmf.quantity import Measure
-from dmf.tables.comments import Described, Role, comments, described
-from dmf.text import read_problem
+from dmf.text.table_comments import Described, Role, comments, described
+from dmf.text.problem_text import read_problem
 
 TEXT = """c capacities are those of the table times 10
 c unit l/s

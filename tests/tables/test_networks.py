@@ -16,7 +16,7 @@ import pytest
 import town_table as town
 from client_shared import dmf
 from desk_shared import run
-from dmf.text import read_problem
+from dmf.text.problem_text import read_problem
 from made_tables import Made, Row, made
 
 

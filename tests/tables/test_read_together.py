@@ -14,15 +14,17 @@ from fractions import Fraction
 
 import pytest
 from dmf import arrays
-from dmf.tables import file, numbered, spans
+from dmf.tables import csv_file as file
+from dmf.tables import numbered
+from dmf.tables import numpy_rows as spans
 from dmf.tables.ends import ends_alone
 from dmf.tables.faults import TableFault
-from dmf.tables.file import Block
+from dmf.tables.csv_file import Block
 from dmf.tables.numbered import Numbers, are_plain, name_of
-from dmf.tables.quantities import Plain, _plain
-from dmf.tables.rows import Reading, read_arcs
-from dmf.tables.sheet import Rows
-from dmf.tables.spans import Spans, first_alike, spans_of
+from dmf.tables.amount_columns import Plain, _plain
+from dmf.tables.readers import Reading, read_arcs
+from dmf.tables.sheet_tables import Rows
+from dmf.tables.numpy_rows import Spans, first_alike, spans_of
 from dmf.tables.warnings import _alike, _equal
 from hypothesis import given
 from hypothesis import strategies as some

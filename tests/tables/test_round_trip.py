@@ -17,8 +17,8 @@ import town_table as town
 from built import BUILT
 from client_shared import dmf
 from desk_shared import run
-from dmf.desk import Desk
-from dmf.desk_text import table
+from dmf.desk.workspace import Desk
+from dmf.desk.export import table
 from dmf.tables.subject import Subject, add_words, read_subject, words_of
 from made_tables import Row, made
 from oracle import program

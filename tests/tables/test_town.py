@@ -12,7 +12,7 @@ import pytest
 import town_table as town
 from client_shared import dmf
 from desk_shared import run
-from dmf.text import read_problem
+from dmf.text.problem_text import read_problem
 from oracle import program
 
 WORDS = ["--source", "Quelle Nord", "--source", "Quelle Süd=61,7", "--sink", "Hafen Größe=96,35"]

@@ -19,8 +19,8 @@ from typing import IO
 import pytest
 from built import heed_interrupts
 from conftest import BUILT, ROOT
-from dmf.desk import Desk
-from dmf.desk_text import table
+from dmf.desk.workspace import Desk
+from dmf.desk.export import table
 from dmf.tables.subject import Subject
 from names_rows import FAULTS, LATER, NO_TABLES, ROADS, TABLES, TITLES, TOLD_OF, TOWN_CHANGES, TOWN_DRAWN, TOWN_PLAN, TOWN_TOLD, UNKNOWN, WARNED
 from tool_runs import Ran, Text, Tools, put, text, wait_until_asleep

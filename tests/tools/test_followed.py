@@ -10,9 +10,9 @@ from typing import Any
 
 import pytest
 import random_cases
-from dmf.replies import Cut, Event, Printed, Solution
-from dmf.text import Fault, display, fields, lines, number, read_names, read_problem
-from dmf.transcript import Follower, TranscriptFault
+from dmf.text.session_replies import Cut, Event, Printed, Solution
+from dmf.text.problem_text import Fault, display, fields, lines, number, read_names, read_problem
+from dmf.text.transcript import Follower, TranscriptFault
 from oracle import problem as oracle_problem
 from oracle import session, texts
 from oracle.network import State, smallest_side

@@ -10,11 +10,11 @@ from pathlib import Path
 import pytest
 from client_shared import dmf
 from desk_shared import run
-from dmf.board.picture import Picture
-from dmf.desk import Desk
-from dmf.desk_text import picture_text
+from dmf.desk.board.picture import Picture
+from dmf.desk.workspace import Desk
+from dmf.desk.export import picture_text
 from dmf.tables.subject import Subject
-from dmf.text import read_problem
+from dmf.text.problem_text import read_problem
 from tool_runs import Tools
 
 TABLE = "from,to,litres,name\nA,B,14.7,pipe\nA,B,0.06,\n"

@@ -9,12 +9,12 @@ from pathlib import Path
 
 import pytest
 from desk_shared import run
-from dmf.desk import Desk
-from dmf.desk_text import table
+from dmf.desk.workspace import Desk
+from dmf.desk.export import table
 from dmf.quantity import Measure
-from dmf.spreadsheet import ArcRow, cell_of, line, name_in, plan_table
-from dmf.tables.file import csv_sheet
-from dmf.tables.rows import Reading, read_arcs
+from dmf.tables.sheet import ArcRow, cell_of, line, name_in, plan_table
+from dmf.tables.csv_file import csv_sheet
+from dmf.tables.readers import Reading, read_arcs
 from dmf.tables.subject import Subject
 from hypothesis import given
 from hypothesis import strategies as some

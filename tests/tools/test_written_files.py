@@ -18,13 +18,13 @@ from pathlib import Path
 import pytest
 from client_shared import CLIENT, dmf
 from desk_shared import run
-from dmf.board import Board
-from dmf.desk import Desk
-from dmf.desk_text import problem, table
-from dmf.plan import Plan
+from dmf.desk.board import Board
+from dmf.desk.workspace import Desk
+from dmf.desk.export import problem, table
+from dmf.desk.plan.shell import Plan
 from dmf.tables.subject import Subject
-from dmf.text import read_names
-from dmf.tool import write_file
+from dmf.text.problem_text import read_names
+from dmf.tools.command import write_file
 
 LARGE = b"x" * 100_000
 PROBLEM = "c node 1 lake\nc node 2 sea\nc arc 1 canal\np max 2 1\nn 1 s\nn 2 t\na 1 2 3\n"
@@ -105,7 +105,7 @@ def test_what_can_have_no_file_beside_it(tmp_path: Path) -> None:
     write_file("/dev/null", LARGE)
     with pytest.raises(OSError, match="No space left on device"):
         write_file("/dev/full", LARGE)
-    script = "import sys; sys.path.insert(0, sys.argv[1])\nfrom dmf.tool import write, write_file\n"
+    script = "import sys; sys.path.insert(0, sys.argv[1])\nfrom dmf.tools.command import write, write_file\n"
     script += "write('before\\n'); write_file(sys.argv[2], b'here\\n'); write('after\\n')"
     for path in "/dev/stdout", "/dev/fd/1", "/proc/self/fd/1":
         command = [sys.executable, "-c", script, CLIENT, path]

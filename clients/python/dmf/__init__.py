@@ -24,12 +24,16 @@ docs/PYTHON.md says what calls cost, and how to come from networkx, scipy and ig
 
 from __future__ import annotations
 
+import sys
+
 # The version of the program that this package comes with.
 __version__ = "0.1.0"
 
 # A type checker reads these imports. Python loads a module when one of its names is first asked for, as the table below says.
 TYPE_CHECKING = False
 if TYPE_CHECKING:
+    from importlib.machinery import ModuleSpec
+
     from .arcs import Arc as Arc
     from .errors import (
         AmbiguousArc as AmbiguousArc,
@@ -72,15 +76,15 @@ if TYPE_CHECKING:
         UsedByTwoThreads as UsedByTwoThreads,
         WrongNumberOfFields as WrongNumberOfFields,
     )
-    from .executable import program as program
+    from .session.executable import program as program
     from .network import Network as Network, Row as Row
-    from .once import MatrixFlow as MatrixFlow, maximum_flow as maximum_flow, minimum_cut as minimum_cut, value as value
-    from .project.comparison import Comparison as Comparison
-    from .project.form import ProjectFault as ProjectFault
-    from .project.live import OpenProject as OpenProject, new_project as new_project, open_project as open_project
+    from .graphs import MatrixFlow as MatrixFlow, maximum_flow as maximum_flow, minimum_cut as minimum_cut, value as value
+    from .desk.project.comparison import Comparison as Comparison
+    from .desk.project.schema import ProjectFault as ProjectFault
+    from .desk.project.open_project import OpenProject as OpenProject, new_project as new_project, open_project as open_project
     from .solution import Cut as Cut, Solution as Solution
-    from .sources import from_networkx as from_networkx, from_scipy as from_scipy, read as read
-    from .sweeping import (
+    from .tables.problem_networks import from_networkx as from_networkx, from_scipy as from_scipy, read as read
+    from .sweeps.cases import (
         SweepResult as SweepResult,
         each_arc_closed as each_arc_closed,
         each_capacity_raised as each_capacity_raised,
@@ -89,31 +93,47 @@ if TYPE_CHECKING:
         sweep as sweep,
     )
     from .tables.faults import TableFault as TableFault
-    from .tables.live import TableNetwork as TableNetwork
-    from .tables.opened import read_table as read_table
-    from .ways import library as library
+    from .tables.table_network import TableNetwork as TableNetwork
+    from .tables.network_loader import read_table as read_table
+    from .session.runners import library as library
 
 # The public names of each module, but for those of the exceptions, which the module `errors` knows itself.
 _NAMES = {
     "arcs": ["Arc"],
-    "executable": ["program"],
+    "session.executable": ["program"],
     "network": ["Network", "Row"],
-    "once": ["MatrixFlow", "maximum_flow", "minimum_cut", "value"],
-    "project.comparison": ["Comparison"],
-    "project.form": ["ProjectFault"],
-    "project.live": ["OpenProject", "new_project", "open_project"],
+    "graphs": ["MatrixFlow", "maximum_flow", "minimum_cut", "value"],
+    "desk.project.comparison": ["Comparison"],
+    "desk.project.schema": ["ProjectFault"],
+    "desk.project.open_project": ["OpenProject", "new_project", "open_project"],
     "solution": ["Cut", "Solution"],
-    "sources": ["from_networkx", "from_scipy", "read"],
+    "tables.problem_networks": ["from_networkx", "from_scipy", "read"],
     "tables.faults": ["TableFault"],
-    "tables.live": ["TableNetwork"],
-    "tables.opened": ["read_table"],
-    "sweeping": ["SweepResult", "each_arc_closed", "each_capacity_raised", "each_node_shut", "each_pair_added", "sweep"],
-    "ways": ["library"],
+    "tables.table_network": ["TableNetwork"],
+    "tables.network_loader": ["read_table"],
+    "sweeps.cases": ["SweepResult", "each_arc_closed", "each_capacity_raised", "each_node_shut", "each_pair_added", "sweep"],
+    "session.runners": ["library"],
 }
 _HOMES = {name: module for module, names in _NAMES.items() for name in names}
 if not TYPE_CHECKING:
     # `help(dmf)` prints whatever stands here in full, which would be thousands of lines. `dir(dmf)` has all names.
     __all__ = []
+
+
+class _EarlierModules:
+    """Finds the modules of version 0.1.0, which pickles of then name."""
+
+    @staticmethod
+    def find_spec(name: str, path: object = None, target: object = None) -> ModuleSpec | None:
+        if not name.startswith(f"{__name__}."):
+            return None
+        from .earlier import spec_of
+
+        return spec_of(name)
+
+
+# The last of all: it is asked for a module of this package only if there is none of its name.
+sys.meta_path.append(_EarlierModules)
 
 
 def __getattr__(name: str) -> object:

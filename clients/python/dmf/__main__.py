@@ -8,9 +8,9 @@ import signal
 import sys
 from typing import Any, NoReturn
 
-from . import executable
+from .session import executable
 from .errors import NoProgram, Refused
-from .tool import ToolFault, cannot, run, write
+from .tools.command import ToolFault, cannot, run, write
 
 # The status of `./dmf` where there is no program, where a file cannot be read, and where a problem has a fault.
 MISSING, UNREAD, FAULTY = 70, 4, 3
@@ -29,7 +29,7 @@ def become(path: str) -> NoReturn:
 
 def told(network: Any) -> list[str]:
     """The value of a network, and what its smallest minimum cut has, with what each carries: in the numbers of its table, if it has one."""
-    from .folding import DOES, listed
+    from .text.folding import DOES, listed
     from .quantity import plain_text
 
     flow, cut, measure = network.solve(), network.cut(), network._measure
@@ -44,8 +44,8 @@ def told(network: Any) -> list[str]:
 
 def tell(path: str) -> int:
     """Writes what a problem comes to."""
-    from .lexical import display
-    from .sources import read
+    from .text.lexical import display
+    from .tables.problem_networks import read
 
     # A program that refuses the problem may have ended before it is asked.
     by_default = signal.signal(signal.SIGPIPE, signal.SIG_IGN)

@@ -14,10 +14,10 @@ from typing import Any
 
 from .arcs import Columns, Node, OpenArcs
 from .errors import NoCapacity, NotAnArc, NumberTooLarge, shown
-from .lexical import MOST_NODES
+from .text.lexical import MOST_NODES
 from .numbering import AMOUNTS, NO_NODE, NODES, NUMBERS, WholeNodes
 from .rows import LARGEST_NODE, columns_of, is_missing, is_unordered, refuse_node, whole
-from .session import Problem
+from .session.base import Problem
 
 # How many lines of a text are made or read at once, and how many are made without numpy, with an object for each number.
 PIECE, PLAIN_PIECE = 1 << 14, 1 << 11

@@ -15,7 +15,7 @@ from .errors import NoSuchArc, shown
 from .numbering import NODES, WholeNodes
 
 if TYPE_CHECKING:
-    from .tables.comments import Described
+    from .text.table_comments import Described
 
 Node = TypeVar("Node", bound=Hashable)
 # How many questions about the arcs at a node look at all arcs, before an index of them is made.
@@ -109,7 +109,7 @@ class Columns(Generic[Node]):
         """The number of a node. Raises `NoSuchNode`, also for a value that cannot be hashed."""
         with contextlib.suppress(KeyError, TypeError):
             return self.numbers[node]
-        from .hints import no_such_node
+        from .text.hints import no_such_node
 
         raise no_such_node(node, self.numbers)
 
@@ -119,7 +119,7 @@ class Columns(Generic[Node]):
 
     def no_such_arc(self, key: Hashable) -> NoSuchArc:
         """The refusal of a key, or of a pair of ends, that no arc has."""
-        from .hints import no_such_arc
+        from .text.hints import no_such_arc
 
         return no_such_arc(key, self.numbers, self.keys, self.named)
 

@@ -10,15 +10,15 @@ from typing import Any, NoReturn, Tuple, Union
 
 from . import arrays
 from .arcs import Arc, Columns, Node
-from .changes import Change
+from .history import Change
 from .errors import ArcIsOpen, Refused, SessionEnded
-from .kept import Kept
+from .state import Kept
 from .rows import Whole, columns_of, whole
-from .running import alone
-from .session import Program, Way, bound, where
-from .showing import Showing
+from .session_holder import alone
+from .session.base import Program, Way, bound, where
+from .presentation import Showing
 from .solution import Solution
-from .ways import chosen, started
+from .session.runners import chosen, started
 
 # An arc as the caller gives it: its tail, its head, its capacity and, if it has one, its key.
 Row = Union[Tuple[Node, Node, Whole], Tuple[Node, Node, Whole, Hashable]]

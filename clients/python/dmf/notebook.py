@@ -12,15 +12,15 @@ from typing import Any
 
 from .arcs import OpenArcs
 from .arrays import package
-from .graphviz import graphviz
-from .lexical import display
-from .names import picture_names
-from .picture import CUT, UNUSED, Drawing, nearest, picture
-from .showing import MOST_DRAWN
-from .tables.comments import Described
-from .text import Problem
-from .timeline import Arc
-from .tool import write_file
+from .text.graphviz import graphviz
+from .text.lexical import display
+from .text.spelling import picture_names
+from .text.drawing import CUT, UNUSED, Drawing, nearest, picture
+from .presentation import MOST_DRAWN
+from .text.table_comments import Described
+from .text.problem_text import Problem
+from .text.session_commands import Arc
+from .tools.command import write_file
 
 # How many rows of a table are shown.
 MOST_ROWS = 20

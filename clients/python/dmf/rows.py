@@ -12,7 +12,7 @@ from typing import Any, NoReturn, SupportsIndex, Union
 
 from .arcs import Columns, Node
 from .errors import NotAnArc, NotANumber, NumberTooLarge, shown
-from .lexical import LARGEST
+from .text.lexical import LARGEST
 from .numbering import AMOUNTS, NODES, WholeNodes
 
 # A whole number, which may also come as a float without a fraction.

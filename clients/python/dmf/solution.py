@@ -9,7 +9,7 @@ from typing import TYPE_CHECKING, Any, Generic, TypeVar, overload
 from . import arrays
 from .arcs import Arc, Node, OpenArcs
 from .errors import NoSuchArc, SessionEnded
-from .session import Told
+from .session.base import Told
 
 if TYPE_CHECKING:
     from .notebook import Look

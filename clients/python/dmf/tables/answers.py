@@ -12,8 +12,8 @@ from ..errors import NotANumber, shown
 from ..quantity import Measure, QuantityFault, number_in
 from ..rows import whole
 from ..solution import Cut, Solution
-from .folded import FoldedColumns
-from .places import Term
+from .table_answers import FoldedColumns
+from .arcs_and_places import Term
 
 
 class TableCut(Cut[str]):

@@ -8,8 +8,8 @@ from collections import defaultdict
 from itertools import count, islice
 from typing import Any
 
-from ..spreadsheet import name_in
-from .cells import cleaned
+from .sheet import name_in
+from ..text.cells import cleaned
 
 # The most characters of a cell. A longer one mostly has a quote that is not closed.
 LONGEST_CELL = 131_072

@@ -5,9 +5,9 @@ from __future__ import annotations
 from collections.abc import Iterator
 from itertools import chain
 
-from .comments import comments
-from .extra import Extra
-from .network import Net
+from ..text.table_comments import comments
+from .other_columns import Extra
+from .problem_builder import Net
 
 # How many lines are made at once.
 PIECE = 1 << 11

@@ -8,21 +8,21 @@ from dataclasses import dataclass, field, replace
 from functools import cached_property, partial
 from typing import Any, Optional
 
-from ..carried import problem_in
+from ..text.carried import problem_in
 from ..quantity import Measure
-from ..text import display, fields, lines
-from ..tool import ToolFault, read_file
-from .cells import MOST_TOLD, shown
-from .columns import DEMAND, NAME, PLACE_COLUMNS, SUPPLY, spoken
-from .comments import Described, described
+from ..text.problem_text import display, fields, lines
+from ..tools.command import ToolFault, read_file
+from ..text.cells import MOST_TOLD, shown
+from .headings import DEMAND, NAME, PLACE_COLUMNS, SUPPLY, spoken
+from ..text.table_comments import Described, described
 from .ends import ends_alone
-from .extra import Extra, extra_in, extra_of, left_out
+from .other_columns import Extra, extra_in, extra_of, left_out
 from .faults import TableFault
-from .network import KINDS, Plan, net_of
-from .opening import Wanted, data_of, plan_of, split_path
-from .options import add_options, parsed, says_table, wanted_of
+from .problem_builder import KINDS, Plan, net_of
+from .loader import Wanted, data_of, plan_of, split_path
+from ..tools.options import add_options, parsed, says_table, wanted_of
 from .problem import problem_text
-from .places import Term
+from .arcs_and_places import Term
 from .warnings import warnings
 from .workbook import is_workbook
 

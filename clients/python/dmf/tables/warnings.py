@@ -13,10 +13,10 @@ from operator import eq, not_
 from typing import Any
 
 from .. import arrays
-from .cells import MOST_TOLD, cleaned, near, shown
-from .columns import ARCS, DEMAND, SUPPLY
+from ..text.cells import MOST_TOLD, cleaned, near, shown
+from .headings import ARCS, DEMAND, SUPPLY
 from .ends import ends_alone
-from .network import Net, Plan
+from .problem_builder import Net, Plan
 
 # Among how many places a near name is looked for, and among how many arcs a way.
 MOST_PLACES, MOST_WALKED = 2_000, 200_000

@@ -14,7 +14,7 @@ from decimal import Context, Decimal
 from typing import Any
 
 from .faults import TableFault
-from .sheet import PIECE, Exact, Rows, Sheet, is_blank, shown_number
+from .sheet_tables import PIECE, Exact, Rows, Sheet, is_blank, shown_number
 from .xlsx import Workbook
 
 # The most bytes that a workbook may unpack to.

@@ -19,7 +19,7 @@ from typing import Any
 from xml.parsers import expat
 
 from .faults import TableFault
-from .sheet import PIECE, Exact, Rows, shown_number
+from .sheet_tables import PIECE, Exact, Rows, shown_number
 
 # How many bytes are parsed at once.
 CHUNK = 1 << 16

@@ -1,0 +1,164 @@
+"""What it costs to send more: what a column of the table says each unit more costs at an arc, or a second arc beside it, and a cheap way to a
+greater value, found greedily.
+
+The way goes from limit to limit: it widens the cheapest arc of the present one, and where the value does not grow for another limit behind it,
+the cheapest arc of that too. Each value on it is a greatest one, but a cheaper way may exist: least-cost flows and exact budgets are the
+business of other solvers."""
+
+from __future__ import annotations
+
+from collections.abc import Iterator, Mapping
+from dataclasses import dataclass
+from decimal import Decimal
+
+from .workspace import Desk
+from .steps import DeskFault
+from ..quantity import EXACT, Quantity, QuantityFault, number_in, plain_text
+from ..text.cells import shown
+from ..tables.headings import title_of
+
+TITLES = set("cost costs kosten cout coste price preis".split())
+# How many purchases a way has at most.
+MOST_BOUGHT = 100
+
+
+@dataclass(frozen=True)
+class Prices:
+    """What the column of this title says: by the numbers of the table's arcs what one unit more costs there, or, `is_second`, a second arc
+    beside it."""
+
+    title: str
+    of: Mapping[int, Decimal]
+    is_second: bool = False
+
+
+@dataclass(frozen=True)
+class Bought:
+    """What is bought at once: by how much each arc is widened, what that costs, what all costs so far, and the greatest value then."""
+
+    wider: tuple[tuple[int, Quantity], ...]
+    cost: Decimal
+    total: Decimal
+    value: Quantity
+
+
+@dataclass
+class Way:
+    """A way to a greater value, and why it goes no further."""
+
+    bought: list[Bought]
+    end: str = ""
+
+
+def prices(desk: Desk, column: str = "", *, is_second: bool = False) -> Prices:
+    """The prices in a column of the table, by its title; without one that of the only column called cost, or alike. Raises a `DeskFault` if
+    there is no such column, or if a cell in it is no number from 0 on. An arc of an empty cell has no price."""
+    extra = desk.subject.extra
+    words = [title_of(title).word for title in extra.titles]
+    found = [at for at, word in enumerate(words) if (word == title_of(column).word if column else word in TITLES)]
+    if len(found) != 1:
+        listed = ", ".join(map(shown, extra.titles)) or "none"
+        why = f"no column is called {shown(column)}" if column and not found else f"{'several columns' if found else 'no column'} can be the cost"
+        raise DeskFault(f"{why}; the columns beside places and capacities are: {listed}")
+    title = extra.titles[found[0]]
+    of = {}
+    for number in range(1, desk.first_count + 1):
+        cell = "" if desk.role(number) else extra.of(number)[found[0]].strip()
+        if cell:
+            of[number] = _price(cell, desk, title, number)
+    return Prices(title, of, is_second)
+
+
+def _price(cell: str, desk: Desk, title: str, number: int) -> Decimal:
+    try:
+        found = Decimal(number_in(cell, desk.measure.sign))
+    except QuantityFault as fault:
+        raise DeskFault(f"{desk.names.arc(number)}: {shown(cell)} in the column {shown(title)} {fault}") from None
+    if found < 0:
+        raise DeskFault(f"{desk.names.arc(number)}: {shown(cell)} in the column {shown(title)} is below 0")
+    return found
+
+
+def priced(desk: Desk, given: Prices) -> dict[int, Decimal | None]:
+    """The arcs of the limit, each with its price if it has one. An arc that was opened again has that of the one that it was."""
+    return {number: given.of.get(desk.lines[number - 1].first or number) for number in desk.cut_arcs()}
+
+
+def cheapest(desk: Desk, given: Prices, to: Quantity | None = None) -> Way:
+    """A cheap way to a value, by default to twice the present one, found greedily; the desk is as it was then. Takes a few solves for each
+    purchase, and where second arcs are bought a trial of each arc of the limit. Raises a `DeskFault` if the flow is not greatest."""
+    if not desk.is_greatest:
+        raise DeskFault("the flow is not greatest, so there is no limit to widen; `solve` first")
+    wanted = EXACT.multiply(desk.value, 2) if to is None else to
+    if wanted < desk.value:
+        raise DeskFault(f"{plain_text(wanted)} is less than the present value, {plain_text(desk.value)}")
+    way = Way([])
+    with desk.aside():
+        buy = _seconds if given.is_second else _units
+        for it in buy(desk, given, wanted, way):
+            way.bought.append(it)
+            if len(way.bought) == MOST_BOUGHT:
+                way.end = f"these are the first {MOST_BOUGHT} purchases"
+                break
+    return way
+
+
+def _units(desk: Desk, given: Prices, wanted: Quantity, way: Way) -> Iterator[Bought]:
+    """Units more, as many as make the value grow before another limit holds it."""
+    total = Decimal(0)
+    while desk.value < wanted:
+        before, at, left = desk.value, desk.at, EXACT.subtract(wanted, desk.value)
+        chosen: dict[int, Quantity] = {}
+        while desk.value == before:
+            offers = {number: price for number, price in priced(desk, given).items() if price is not None and number not in chosen}
+            if not offers:
+                way.end = "no arc of the limit then has a price" if not chosen else "no arc of a limit behind it has a price"
+                return
+            number = min(offers, key=lambda it: (offers[it], it))
+            chosen[number] = desk.lines[number - 1].capacity
+            desk.cap(number, EXACT.add(chosen[number], left))
+            desk.solve()
+        # As much as flows there is enough.
+        needed = {number: flow for number, most in chosen.items() if (flow := desk.flow(number)) > most}
+        wider = {number: EXACT.subtract(flow, chosen[number]) for number, flow in needed.items()}
+        desk.undo(desk.at - at)
+        desk.cap_each(needed)
+        desk.solve()
+        cost = sum((EXACT.multiply(by, given.of[_row(desk, number)]) for number, by in wider.items()), Decimal(0))
+        total = EXACT.add(total, cost)
+        yield Bought(tuple(wider.items()), cost, total, desk.value)
+
+
+def _seconds(desk: Desk, given: Prices, wanted: Quantity, way: Way) -> Iterator[Bought]:
+    """Second arcs beside those of the limit, of which each brings the most for its money."""
+    total = Decimal(0)
+    while desk.value < wanted:
+        offers = {number: price for number, price in priced(desk, given).items() if price is not None}
+        gains = {it.arc: EXACT.subtract(it.doubled, desk.value) for it in desk.sweep(offers) if it.doubled is not None and it.doubled > desk.value}
+        if not gains:
+            way.end = "no second one beside any arc of the limit alone brings more" if offers else "no arc of the limit then has a price"
+            return
+        number = min(gains, key=lambda it: (Decimal(offers[it]) / Decimal(gains[it]), it))
+        wider = (number, desk.lines[number - 1].capacity)
+        desk.double(number)
+        desk.solve()
+        total = EXACT.add(total, offers[number])
+        yield Bought((wider,), offers[number], total, desk.value)
+
+
+def _row(desk: Desk, number: int) -> int:
+    return desk.lines[number - 1].first or number
+
+
+def told(desk: Desk, given: Prices, way: Way) -> Iterator[str]:
+    """What each arc of the limit costs, and a way to a greater value, in words."""
+    each = "a second one" if given.is_second else f"one more ({desk.measure.told_unit})" if desk.measure.told_unit else "one more"
+    yield f"what {each} costs at each arc of the limit, by the column {shown(given.title)}:"
+    for number, price in priced(desk, given).items():
+        yield f"  #{number} {desk.names.arc(number)}: {'no price' if price is None else plain_text(price)}"
+    yield f"a cheap way, found greedily, so a cheaper one may exist; money and value, {plain_text(desk.value)} at first:"
+    for it in way.bought:
+        what = [f"a second {desk.names.short(number)}" if given.is_second else f"{desk.names.short(number)} {plain_text(by)} wider" for number, by in it.wider]
+        yield f"  {plain_text(it.total)}: {plain_text(it.value)} ({' and '.join(what)}: {plain_text(it.cost)})"
+    if way.end:
+        yield f"  there it ends: {way.end}"

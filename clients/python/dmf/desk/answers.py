@@ -1,0 +1,40 @@
+"""The first answer about a large network: its greatest value and its limit, before its flows are known."""
+
+from __future__ import annotations
+
+import contextlib
+import threading
+
+from ..errors import Error
+from ..session.quick import CUT, Solved, solved
+from ..session.base import Program
+from ..session.runners import program_of
+
+# How many arcs a network has at least whose flows may follow.
+LARGE = 100_001
+
+
+class FirstAnswer:
+    """A program that finds the greatest value of a problem, and the side of its limit, while its caller does other things."""
+
+    def __init__(self, text: bytes, program: Program) -> None:
+        self._text = text
+        self._program = program
+        self._found: Solved | None = None
+        self._thread = threading.Thread(target=self._find, daemon=True)
+        self._thread.start()
+
+    @classmethod
+    def of(cls, text: bytes, program: Program) -> FirstAnswer | None:
+        """One for the text of a large problem."""
+        return cls(text, program) if text.count(b"\na ") >= LARGE else None
+
+    def _find(self) -> None:
+        # Where none comes, whoever asks for it solves instead, and says what is wrong.
+        with contextlib.suppress(Error, OSError):
+            self._found = solved([self._text], CUT, program_of(self._program))
+
+    def wait(self) -> Solved | None:
+        """The answer, or None if none comes."""
+        self._thread.join()
+        return self._found

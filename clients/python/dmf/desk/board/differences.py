@@ -1,0 +1,191 @@
+"""The picture of two scenarios beside each other: each arc coloured by what is other in the second one."""
+
+from __future__ import annotations
+
+import os
+import time
+from collections.abc import Iterable
+from dataclasses import dataclass
+from typing import NamedTuple
+from xml.etree import ElementTree
+
+from ..workspace import Desk
+from ..export import MOST_DRAWN
+from ...text.folding import AT_PLACE
+from ..project.comparison import OPEN, ArcDifference, ArcState, Comparison, Known, known_arcs
+from ...quantity import EXACT, Quantity, moved, plain_text
+from ...text.problem_text import display
+from .picture import SVG, DrawnArc, DrawnNode, Picture, Shape, marked, written
+from .layout import Places
+
+MORE, LESS, SAME = "#0b5394", "#a84300", "#767676"
+STYLE = f"""
+text {{ font-family: Helvetica, Arial, sans-serif; }}
+.same path, .same polygon {{ stroke: {SAME}; }}
+.same polygon {{ fill: {SAME}; }}
+.more path, .more polygon, .come path, .come polygon {{ stroke: {MORE}; }}
+.more polygon, .come polygon, .arc.more text, .arc.come text, text.more, text.come {{ fill: {MORE}; }}
+.less path, .less polygon, .gone path, .gone polygon {{ stroke: {LESS}; }}
+.less polygon, .gone polygon, .arc.less text, .arc.gone text, text.less, text.gone {{ fill: {LESS}; }}
+.more path, .less path, .else path {{ stroke-width: 2.5; }}
+.come path {{ stroke-width: 4; }}
+.gone path {{ stroke-width: 2.5; stroke-dasharray: 5 3; }}
+.arc text {{ paint-order: stroke; stroke: #ffffff; stroke-width: 3; }}
+"""
+LEGEND = "30 → 45: flow in the first and in the second; blue: more, thick if only there; brown: less, dashed if gone; grey: the same"
+
+
+class _Found(NamedTuple):
+    """An arc of either scenario: its number in the picture, its ends and its name, by what it is known, and in what it differs, if it
+    does."""
+
+    number: int
+    tail: int
+    head: int
+    name: str
+    known: Known
+    differs: ArcDifference | None
+
+
+@dataclass(frozen=True)
+class _Drawn:
+    """What a picture of a comparison has: the arcs, and by their places the roles that differ; and how many arcs there are, and differ."""
+
+    arcs: list[_Found]
+    roles: dict[int, list[_Found]]
+    count: int
+    differing: int
+
+    @property
+    def reason(self) -> str:
+        """Why not all arcs are drawn, if so."""
+        shown = len(self.arcs)
+        if shown == self.count:
+            return ""
+        some = f"those of the {self.differing} that differ whose flow differs most" if self.differing > shown else "those that differ, and others beside them"
+        return f"{shown} of {self.count} arcs are drawn: {some}"
+
+
+class DifferencePicture(Picture):
+    """The pictures of comparisons, with the places where the other pictures of a desk have them."""
+
+    def __init__(self, desk: Desk, places: Places) -> None:
+        super().__init__(desk)
+        # Places have other sizes here, so arcs are led anew.
+        self.places = Places(places.spots)
+
+    def of(self, found: Comparison, *, to_take: bool = False) -> tuple[str, str]:
+        """The picture of a comparison, and why it has not all arcs, if so. Raises `NoPicture`."""
+        drawn = self._drawn(found)
+        root = self.laid_out(self._shape_between(drawn))
+        groups = {group.get("id") or "": group for group in root.iter(f"{{{SVG}}}g")}
+        for name, group in groups.items():
+            kind, _, digits = name.partition("-")
+            for title in group.findall(f"{{{SVG}}}title"):
+                group.remove(title)
+            if kind == "node":
+                _fill_place(group, self._desk.names.node(int(digits)), drawn.roles.get(int(digits), []))
+            # The page has another picture, with these names.
+            group.set("id", f"two-{name}")
+        present = dict(known_arcs(self._desk))
+        for arc in drawn.arcs:
+            _fill_arc(groups[f"arc-{arc.number}"], arc, self._label(arc), present.get(arc.known, 0))
+        return written(root, STYLE, self._below(found, drawn)) if to_take else written(root), drawn.reason
+
+    def _below(self, found: Comparison, drawn: _Drawn) -> list[str]:
+        """What stands below a picture that is taken along."""
+        one, two, unit = found.first, found.second, found.measure.told_unit
+        values = f"{plain_text(one.value)} and {plain_text(two.value)} {unit}".rstrip()
+        names = f"scenarios {display(one.name)} and {display(two.name)}"
+        said = f"{display(os.path.basename(self._desk.subject.path))}, {names}: {values}, {moved(one.value, two.value)}"
+        return [said, time.strftime("%Y-%m-%d"), LEGEND, *[drawn.reason] * bool(drawn.reason)]
+
+    def _drawn(self, found: Comparison) -> _Drawn:
+        desk = self._desk
+        differing: list[_Found] = []
+        roles: dict[int, list[_Found]] = {}
+        for it in found.arcs:
+            arc = self._found(it.known, it, len(differing))
+            role = desk.role(it.known) if isinstance(it.known, int) else None
+            if role:
+                roles.setdefault(role.node, []).append(arc)
+            else:
+                differing.append(arc)
+        alike = [known for known in found.alike if isinstance(known, tuple) or not desk.role(known)]
+        most = sorted(differing, key=_by, reverse=True)[:MOST_DRAWN] if len(differing) > MOST_DRAWN else differing
+        others = (self._found(known, None, len(differing) + at) for at, known in enumerate(alike))
+        if len(differing) + len(alike) > MOST_DRAWN:
+            nodes = {node for arc in most for node in (arc.tail, arc.head)} | set(roles)
+            others = (arc for arc in others if arc.tail in nodes or arc.head in nodes)
+        arcs = [*most, *(arc for _, arc in zip(range(MOST_DRAWN - len(most)), others))]
+        return _Drawn(sorted(arcs, key=lambda arc: arc.number), roles, len(differing) + len(alike), len(differing))
+
+    def _found(self, known: Known, differs: ArcDifference | None, at: int) -> _Found:
+        desk, place = self._desk, self._desk.folding.place
+        if isinstance(known, int):
+            line = desk.lines[known - 1]
+            return _Found(known, place(line.tail), place(line.head), desk.names.arc_name(known), known, differs)
+        return _Found(desk.first_count + 1 + at, place(known[0]), place(known[1]), known[2], known, differs)
+
+    def _shape_between(self, drawn: _Drawn) -> Shape:
+        desk = self._desk
+        nodes = {node for arc in drawn.arcs for node in (arc.tail, arc.head)} | set(drawn.roles)
+        if len(drawn.arcs) == drawn.count:
+            nodes |= {*desk.sources, *desk.sinks}
+
+        def roles(node: int) -> tuple[tuple[int, str, str], ...]:
+            return tuple((arc.number, self._role_words(arc), _amounts(arc.differs)) for arc in drawn.roles.get(node, ()))
+
+        return Shape(
+            tuple(DrawnArc(arc.number, arc.tail, arc.head, arc.name if arc.differs else "", _amounts(arc.differs)) for arc in drawn.arcs),
+            tuple(DrawnNode(node, desk.names.node(node), roles(node), True, False) for node in sorted(nodes)),
+        )
+
+    def _role_words(self, arc: _Found) -> str:
+        role = self._desk.role(arc.number)
+        return AT_PLACE[role.kind] if role else ""
+
+    def _label(self, arc: _Found) -> str:
+        return arc.differs.arc if arc.differs else arc.name
+
+
+def _by(arc: _Found) -> Quantity:
+    """By how much the flow on an arc differs."""
+    return abs(EXACT.subtract(arc.differs.second.flow, arc.differs.first.flow)) if arc.differs else 0
+
+
+def _amounts(differs: ArcDifference | None) -> str:
+    """What an arc was, and what it is, in short: `30 → 45`; with its capacity, and whether it is one of the limit, where these differ."""
+    if differs is None:
+        return ""
+    one, two = differs.first, differs.second
+    has_capacity, has_limit = one.capacity != two.capacity, differs.kind == "else" and one.is_limit != two.is_limit
+
+    def told(it: ArcState) -> str:
+        if it.state != OPEN:
+            return it.state
+        capacity = "" if it.is_unlimited or not has_capacity else f"/{plain_text(it.capacity)}"
+        return plain_text(it.flow) + capacity + ", limit" * (has_limit and it.is_limit)
+
+    return f"{told(one)} → {told(two)}"
+
+
+def _fill_arc(group: ElementTree.Element, arc: _Found, label: str, number: int) -> None:
+    """Says of an arc in a layout what it is, and which arc of the present scenario, if it is one."""
+    differs = arc.differs
+    if number:
+        group.set("data-arc", str(number))
+    if differs is None:
+        marked(group, ["arc", "same"], label)
+        return
+    group.findall(f"{{{SVG}}}text")[-1].text = _amounts(differs)
+    marked(group, ["arc", differs.kind], f"{label}: {differs.first.told()}, then {differs.second.told()}")
+
+
+def _fill_place(group: ElementTree.Element, name: str, roles: Iterable[_Found]) -> None:
+    label = name
+    for text, arc in zip(group.findall(f"{{{SVG}}}text")[1:], roles):
+        if arc.differs:
+            text.set("class", arc.differs.kind)
+            label += f", {arc.differs.first.told()}, then {arc.differs.second.told()}"
+    marked(group, ["node"], label)

@@ -1,0 +1,295 @@
+"""The picture on a board: drawn by Graphviz once for what it shows, with each place where it was before, and filled with the flows and the
+cut at each step."""
+
+from __future__ import annotations
+
+import re
+from collections import Counter
+from collections.abc import Iterable, Iterator, Sequence
+from dataclasses import dataclass
+from typing import NamedTuple
+from xml.etree import ElementTree
+
+from ..workspace import Desk
+from ..steps import Line
+from ..export import LEGEND, said_of
+from ...text.folding import AT_PLACE
+from ...text.drawing import CUT, SIDE, UNUSED, drawn_line, quoted
+from ...quantity import POINT, plain_text
+from .layout import NoPicture, Places, Way, run
+
+__all__ = ["NoPicture", "Picture"]
+
+SVG = "http://www.w3.org/2000/svg"
+# Among how many places new arcs are led around others: that takes a second for 50 of them.
+MOST_ROUTED = 20
+# How many layouts are kept.
+MOST_KEPT = 8
+# A text as wide as any digit of a number, and what stands in place of the numbers of a closed arc.
+WIDEST, CLOSED = "8", "closed"
+# How large the letters below a picture are that is taken along, and how wide a letter and how high a line is for that size.
+CAPTION, WIDE, LINE = 11.0, 0.6, 1.4
+STYLE = f"""
+text {{ font-family: Helvetica, Arial, sans-serif; }}
+.full path {{ stroke-width: 2.5; }}
+.unused path, .unused polygon, .closed path, .closed polygon {{ stroke: {UNUSED}; }}
+.unused polygon, .closed polygon {{ fill: {UNUSED}; }}
+.node.cut ellipse {{ stroke: {CUT}; stroke-width: 2.5; }}
+.unused text, .closed text, .shut text {{ fill: {UNUSED}; }}
+.closed path {{ stroke-dasharray: 5 2; }}
+.cut path, .cut polygon {{ stroke: {CUT}; }}
+.cut polygon, .arc.cut text, text.cut {{ fill: {CUT}; }}
+.side ellipse.inner {{ fill: {SIDE}; }}
+.shut ellipse {{ stroke: {UNUSED}; }}
+.part ellipse {{ stroke-dasharray: 5 2; }}
+"""
+# Characters that XML does not allow, and that `display` leaves as they are.
+_NO_XML = re.compile("[\ufffe\uffff]")
+
+
+class DrawnArc(NamedTuple):
+    """What a layout depends on of an arc; `widest` is the widest text that its numbers may have."""
+
+    number: int
+    tail: int
+    head: int
+    name: str
+    widest: str
+
+
+class DrawnNode(NamedTuple):
+    """What a layout depends on of a place. Its roles are the arcs that stand for what it gives, takes or lets through, each with its
+    words there and the widest text of its numbers."""
+
+    node: int
+    label: str
+    roles: tuple[tuple[int, str, str], ...]
+    is_whole: bool
+    is_shut: bool
+
+
+@dataclass(frozen=True)
+class Shape:
+    """What a layout depends on: the arcs, and the places."""
+
+    arcs: tuple[DrawnArc, ...]
+    nodes: tuple[DrawnNode, ...]
+
+    def ways(self) -> dict[int, Way]:
+        """The way of each arc, by its number."""
+        ranks: Counter[tuple[int, int]] = Counter()
+        found: dict[int, Way] = {}
+        for arc in self.arcs:
+            ranks[arc.tail, arc.head] += 1
+            found[arc.number] = arc.tail, arc.head, ranks[arc.tail, arc.head]
+        return found
+
+
+def _text(lines: Iterator[str]) -> str:
+    return "".join(f"{line}\n" for line in lines)
+
+
+def _label(text: str) -> str:
+    return _NO_XML.sub("\ufffd", text)
+
+
+class Picture:
+    """The pictures of a desk, and where its places lie in all of them."""
+
+    def __init__(self, desk: Desk) -> None:
+        self._desk = desk
+        self.places = Places()
+        self._given: Counter[int] | None = None
+        # The layouts of the last shapes. No place moves, so that a step back finds its own.
+        self._layouts: dict[Shape, str] = {}
+
+    def svg(self, nodes: tuple[int, ...], arcs: list[int], *, to_take: bool = False) -> str:
+        """The picture of these arcs, and of these nodes even if they have none. A picture to take along has its style in it. Raises
+        `NoPicture`."""
+        shape = self._shape_of(arcs, nodes)
+        root = self.laid_out(shape)
+        self._fill(root, shape)
+        return written(root, STYLE, caption(self._desk, LEGEND)) if to_take else written(root)
+
+    def laid_out(self, shape: Shape) -> ElementTree.Element:
+        """The layout of a shape, without numbers. Raises `NoPicture`."""
+        layout = self._layouts.pop(shape, "") or self._lay_out(shape)
+        self._layouts = dict([*self._layouts.items()][1 - MOST_KEPT :])
+        self._layouts[shape] = layout
+        root = ElementTree.fromstring(layout)
+        _seen(root)
+        return root
+
+    def _lay_out(self, shape: Shape) -> str:
+        ways = shape.ways()
+        drawn = self.places.put((it.node for it in shape.nodes), ways.values(), _text(self._lines(shape, ways)))
+        return drawn or run(_text(self._lines(shape, ways, is_put=True)), "neato", "-n2", "-Tsvg")
+
+    def _ends(self, line: Line) -> tuple[int, int]:
+        """The places at the ends of an arc."""
+        return self._desk.folding.place(line.tail), self._desk.folding.place(line.head)
+
+    def _degrees(self) -> Counter[int]:
+        """How many arcs each place has, open or closed, of those that a picture can show. The arcs of the file are counted once."""
+        desk = self._desk
+        given = desk.first_count
+        if self._given is None:
+            numbers = (number for number in range(1, given + 1) if not desk.folding.has_roles or not desk.role(number))
+            self._given = Counter(node for number in numbers for node in self._ends(desk.lines[number - 1]))
+        degrees = self._given.copy()
+        degrees.update(node for line in desk.lines[given:] for node in self._ends(line))
+        degrees.subtract(node for line in desk.lines if line.is_replaced for node in self._ends(line))
+        return degrees
+
+    def _shape_of(self, arcs: list[int], chosen: tuple[int, ...]) -> Shape:
+        desk, names, place = self._desk, self._desk.names, self._desk.folding.place
+
+        def ends(number: int) -> tuple[int, int]:
+            return self._ends(desk.lines[number - 1])
+
+        drawn = Counter(node for number in arcs for node in ends(number))
+        drawn.update(dict.fromkeys(map(place, chosen), 0))
+        is_whole = len(arcs) == len(desk.pictured())
+        if is_whole:
+            drawn.update(dict.fromkeys((*desk.sources, *desk.sinks), 0))
+        degrees = drawn if is_whole else self._degrees()
+        roles = desk.roles()
+
+        def told(node: int) -> tuple[tuple[int, str, str], ...]:
+            at_node = () if node in desk.shut_nodes else roles.get(node, ())
+            return tuple((number, AT_PLACE[kind], _widest(desk, number)) for number, kind in at_node)
+
+        return Shape(
+            tuple(DrawnArc(number, *ends(number), names.arc_name(number), _widest(desk, number)) for number in arcs),
+            tuple(
+                DrawnNode(node, names.node(node), told(node), drawn[node] == degrees[node], node in desk.shut_nodes)
+                for node in sorted(drawn)
+            ),
+        )
+
+    def _lines(self, shape: Shape, ways: dict[int, Way], *, is_put: bool = False) -> Iterator[str]:
+        """A picture for Graphviz, with the spots and routes that are known if it is put."""
+        splines = "line" if is_put and len(shape.nodes) > MOST_ROUTED else "true"
+        yield f"digraph dmf {{\n  rankdir=LR; bgcolor=transparent; ranksep=0.2; splines={splines}; notranslate=true"
+        yield '  node [fontname="Helvetica"]\n  edge [fontname="Helvetica", fontsize=11]'
+        if self._desk.measure.legend:
+            yield f'  fontname="Helvetica"; fontsize=11; label={quoted(self._desk.measure.legend)}'
+        for it in shape.nodes:
+            roles = [f"{words} {widest}" for _, words, widest in it.roles]
+            looks = {"id": quoted(f"node-{it.node}"), "label": quoted(_label(it.label), *roles, *["shut"] * it.is_shut)}
+            if it.node in (*self._desk.sources, *self._desk.sinks):
+                looks["peripheries"] = "2"
+            if is_put:
+                looks["pos"] = '"{:.2f},{:.2f}"'.format(*self.places.spots[it.node])
+            yield drawn_line(str(it.node), looks)
+        for arc in shape.arcs:
+            label = quoted(_label(arc.name), arc.widest) if arc.name else quoted(arc.widest)
+            way = ways[arc.number]
+            looks = {"id": quoted(f"arc-{arc.number}"), "label": label, "class": '"{} {} {}"'.format(*way)}
+            if is_put and way in self.places.routes:
+                looks.update({name: quoted(text) for name, text in zip(("pos", "lp"), self.places.routes[way]) if text})
+            yield drawn_line(f"{arc.tail} -> {arc.head}", looks)
+        yield "}"
+
+    def _fill(self, root: ElementTree.Element, shape: Shape) -> None:
+        """Puts numbers and classes into a layout."""
+        desk = self._desk
+        cut = desk.cut_arcs() if desk.is_greatest else {}
+        side = desk.side() if desk.is_greatest else set()
+        groups = {group.get("id"): group for group in root.iter(f"{{{SVG}}}g")}
+        for group in groups.values():
+            for title in group.findall(f"{{{SVG}}}title"):
+                group.remove(title)
+        for number, *_ in shape.arcs:
+            group = groups[f"arc-{number}"]
+            line, flow = desk.lines[number - 1], desk.flow(number)
+            is_full = flow > 0 and flow == line.capacity
+            looks = {"closed": line.is_closed, "cut": number in cut, "full": is_full, "unused": not flow and not line.is_closed}
+            group.findall(f"{{{SVG}}}text")[-1].text = _amounts(desk, number)
+            _mark(group, "arc", looks, f"{desk.names.arc(number)}: {spoken(desk, number)}{', limit' * (number in cut)}")
+        for it in shape.nodes:
+            group = groups[f"node-{it.node}"]
+            for ellipse in group.findall(f"{{{SVG}}}ellipse")[:1]:
+                ellipse.set("class", "inner")
+            label = it.label + ", shut" * it.is_shut
+            # The first text is the name.
+            for text, (number, words, _) in zip(group.findall(f"{{{SVG}}}text")[1:], it.roles):
+                text.text = f"{words} {_amounts(desk, number)}"
+                text.set("class", "cut" if number in cut else "")
+                label += f", {words} {spoken(desk, number)}{', limit' * (number in cut)}"
+            is_cut = any(number in cut for number, *_ in it.roles)
+            _mark(group, "node", {"side": it.node in side, "shut": it.is_shut, "part": not it.is_whole, "cut": is_cut}, label)
+
+
+def _widest(desk: Desk, number: int) -> str:
+    """The widest text that the numbers of an arc may have, while its capacity has so many digits."""
+    capacity = re.sub("[0-9]", WIDEST, plain_text(desk.lines[number - 1].capacity))
+    decimals = desk.measure.decimals
+    flow = capacity.partition(POINT)[0] + bool(decimals) * (POINT + WIDEST * decimals)
+    return max(f"{flow}/{capacity}", CLOSED, key=len)
+
+
+def _amounts(desk: Desk, number: int) -> str:
+    """The flow on an arc and its capacity, in short."""
+    line, flow = desk.lines[number - 1], plain_text(desk.flow(number))
+    return CLOSED if line.is_closed else flow if line.is_unlimited else f"{flow}/{plain_text(line.capacity)}"
+
+
+def spoken(desk: Desk, number: int) -> str:
+    """The flow on an arc, in words."""
+    line, flow = desk.line(number), desk.flow(number)
+    if line.is_closed:
+        return CLOSED
+    if line.is_unlimited:
+        return desk.told(flow)
+    return f"{plain_text(flow)} of {desk.told(line.capacity)}{', full' if flow and flow == line.capacity else ''}"
+
+
+def _mark(group: ElementTree.Element, kind: str, looks: dict[str, bool], label: str) -> None:
+    marked(group, [kind, *(name for name, is_so in looks.items() if is_so)], label)
+
+
+def marked(group: ElementTree.Element, classes: Iterable[str], label: str) -> None:
+    """Gives a part of a picture its classes and its title."""
+    group.set("class", " ".join(classes))
+    title = ElementTree.Element(f"{{{SVG}}}title")
+    title.text = _label(label)
+    group.insert(0, title)
+
+
+def caption(desk: Desk, legend: str) -> list[str]:
+    """What a picture to take along says below it: of what it is, of which day, and how it is read. The unit stands in it."""
+    return [*said_of(desk), legend]
+
+
+def written(root: ElementTree.Element, style: str = "", below: Sequence[str] = ()) -> str:
+    """The text of a picture, with a style in it, and lines below it."""
+    if style:
+        left, top, width, height = map(float, (root.get("viewBox") or "0 0 1 1").split())
+        wide = max([width, *(len(line) * CAPTION * WIDE for line in below)])
+        root.set("viewBox", f"{left:.2f} {top:.2f} {wide:.2f} {height + len(below) * CAPTION * LINE + CAPTION:.2f}")
+        for name in "width", "height":
+            root.attrib.pop(name, None)
+        made = ElementTree.Element(f"{{{SVG}}}style")
+        made.text = style
+        root.insert(0, ElementTree.Element(f"{{{SVG}}}rect", x=f"{left:.2f}", y=f"{top:.2f}", width="100%", height="100%", fill="#ffffff"))
+        root.insert(0, made)
+        for at, line in enumerate(below, 1):
+            text = ElementTree.SubElement(root, f"{{{SVG}}}text", x=f"{left + CAPTION:.2f}", y=f"{top + height + at * CAPTION * LINE:.2f}")
+            text.set("font-size", f"{CAPTION:.2f}")
+            text.set("class", "caption")
+            text.text = _label(line)
+    return ElementTree.tostring(root, encoding="unicode")
+
+
+def _seen(root: ElementTree.Element) -> None:
+    """Has a picture go by the spots of places alone, so that a place has the same coordinates in each picture."""
+    graph = next(group for group in root.iter(f"{{{SVG}}}g") if group.get("class") == "graph")
+    moved = re.search(r"translate\(([-0-9.e]+)[ ,]+([-0-9.e]+)\)", graph.attrib.pop("transform", ""))
+    _, _, width, height = map(float, (root.get("viewBox") or "0 0 1 1").split())
+    left, up = (float(moved[1]), float(moved[2])) if moved else (0.0, 0.0)
+    root.set("viewBox", f"{-left:.2f} {-up:.2f} {width:.2f} {height:.2f}")
+
+
+ElementTree.register_namespace("", SVG)
+ElementTree.register_namespace("xlink", "http://www.w3.org/1999/xlink")

@@ -1,0 +1,245 @@
+"""The names of a desk's places and arcs, and what a planner means by a text."""
+
+from __future__ import annotations
+
+import unicodedata
+from collections.abc import Hashable, Iterable, Iterator, Mapping, Sequence
+from functools import cached_property
+
+from .steps import DeskFault, Line, Node, Place
+from ..text.folding import Folding, listed, role_phrase, role_words
+from ..text.cells import cleaned, near, shown
+from ..text.problem_text import display
+
+MOST_LISTED = 6
+# What stands between the ends of an arc that is named by them, the longest first.
+ARROWS = (" -> ", "->", " - ", "-")
+
+
+def folded(text: str) -> str:
+    """A text by which it is found: without case and accents."""
+    if text.isascii():
+        return text.casefold()
+    return "".join(sign for sign in unicodedata.normalize("NFKD", text.casefold()) if not unicodedata.combining(sign))
+
+
+class Names:
+    """The names of places and arcs, and which of them a text means. What is not of the table goes by what it means there: a place with
+    a limit is one, and the arc that has its limit is `what Mill lets through`."""
+
+    def __init__(
+        self, node_names: dict[int, str], lines: Sequence[Line], keys: Mapping[int, Hashable], nodes: Sequence[Node], folding: Folding
+    ) -> None:
+        """`lines` are the arcs by their numbers, and `keys` the names that were given to some; both may grow."""
+        self._lines = lines
+        self._keys = keys
+        self._folding = folding
+        # Whether a name that is only one without regard to case and accents means that one.
+        self.is_any_case = False
+        self._node_names = [node_names.get(number, str(number)) for number in range(1, len(nodes) + 1)]
+        self._labels = [*map(display, self._node_names)]
+        self.nodes = {node: number for number, node in enumerate(nodes, 1)}
+        self.places: dict[str, Place] = {}
+        self._several: dict[str, list[int]] = {}
+        called: dict[str, list[int]] = {}
+        for number in folding.places(range(1, len(self._labels) + 1)):
+            called.setdefault(cleaned(self._labels[number - 1]), []).append(number)
+        for label, numbers in called.items():
+            if len(numbers) == 1:
+                self.places[label] = Place(numbers[0], folding.second(numbers[0]))
+            else:
+                self._several[label] = numbers
+
+    @cached_property
+    def _between(self) -> dict[tuple[int, int], list[int]]:
+        """The arcs by their ends, but for those that were opened again as other ones."""
+        found: dict[tuple[int, int], list[int]] = {}
+        for number, line in enumerate(self._lines, 1):
+            if not line.is_replaced:
+                found.setdefault(line[:2], []).append(number)
+        return found
+
+    @cached_property
+    def _arcs(self) -> dict[str, list[int]]:
+        """The arcs by the names by which they can be typed."""
+        found: dict[str, list[int]] = {}
+        for numbers in self._between.values():
+            for number in numbers:
+                for name in self._typed(number):
+                    found.setdefault(name, []).append(number)
+        return found
+
+    def put(self, number: int) -> None:
+        """Takes in an arc."""
+        if "_arcs" in vars(self):
+            for name in self._typed(number):
+                self._arcs.setdefault(name, []).append(number)
+        if "_between" in vars(self):
+            self._between.setdefault(self._ends(number), []).append(number)
+
+    def drop(self, number: int) -> None:
+        """Takes out an arc that was taken in."""
+        if "_arcs" in vars(self):
+            for name in self._typed(number):
+                self._arcs[name].remove(number)
+        if "_between" in vars(self):
+            self._between[self._ends(number)].remove(number)
+
+    def _typed(self, number: int) -> set[str]:
+        """The names by which an arc can be typed: how it is called, and its name in the problem."""
+        return {cleaned(name) for name in (self.arc_name(number), display(self.given_arc(number))) if name}
+
+    def _ends(self, number: int) -> tuple[int, int]:
+        return self._lines[number - 1][:2]
+
+    def node(self, number: int) -> str:
+        """How a node's place is called."""
+        return self._labels[self._folding.place(number) - 1]
+
+    def terminal(self, node: int) -> str:
+        """How the source of the network is called, or its sink: where it joins several places, by these."""
+        return listed(map(self.node, self._folding.ends(node)))
+
+    def side(self, nodes: Iterable[int]) -> list[str]:
+        """The places that have these nodes, by their names."""
+        return [*map(self.node, self._folding.places(sorted(nodes)))]
+
+    def phrase(self, number: int) -> str:
+        """The beginning of a sentence about the capacity of an arc: `Mill Lane carries`."""
+        role = self._folding.role(*self._ends(number))
+        return role_phrase(role, self.node) if role else f"{self.short(number)} carries"
+
+    def is_role(self, number: int) -> bool:
+        """Whether an arc is none of the table, but stands for what a place gives, takes or lets through."""
+        return self._folding.role(*self._ends(number)) is not None
+
+    def arc_name(self, number: int) -> str:
+        """The name of an arc, or nothing."""
+        role = self._folding.role(*self._ends(number))
+        return role_words(role, self.node) if role else display(self.given_arc(number))
+
+    def given_node(self, number: int) -> str:
+        """The name of a node as it was given, which may have what nobody can see."""
+        return self._node_names[number - 1]
+
+    def given_arc(self, number: int) -> str:
+        """The name of an arc as it was given, or nothing."""
+        key = self._keys.get(number)
+        return key if isinstance(key, str) else ""
+
+    def ends(self, number: int) -> str:
+        tail, head = self._ends(number)
+        return f"{self.node(tail)} -> {self.node(head)}"
+
+    def arc(self, number: int) -> str:
+        """An arc by its name and its ends."""
+        name = self.arc_name(number)
+        return self.ends(number) if not name else name if self.is_role(number) else f"{name}, {self.ends(number)}"
+
+    def short(self, number: int) -> str:
+        """An arc by its name, or else by its ends."""
+        return self.arc_name(number) or self.ends(number)
+
+    def place(self, text: str) -> Place:
+        """The place with this name. Raises a `DeskFault`."""
+        name = self._place_name(cleaned(text))
+        if name in self.places:
+            return self.places[name]
+        if name in self._several:
+            listed = ", ".join(f"#{number}" for number in self._several[name][:MOST_LISTED])
+            raise DeskFault(f"several nodes are called {shown(name)}: {listed}; say one by its number")
+        number = self._numbered(name)
+        if number:
+            return self.place_of(number)
+        raise DeskFault(f"no place is called {shown(name)}{near(name, self.places)}")
+
+    def place_of(self, node: int) -> Place:
+        """The place of a node. Raises a `DeskFault` if no place has a node of this number."""
+        if not 1 <= node <= len(self._labels) or self._folding.is_joint(node):
+            raise DeskFault(f"there is no place #{node}")
+        first = self._folding.place(node)
+        return Place(first, self._folding.second(first))
+
+    def spoken_place(self, node: int) -> str:
+        """How the place of a node is typed."""
+        return cleaned(self.node(node))
+
+    def alike(self, number: int) -> list[int]:
+        """The arcs with the ends and the name of one, in their order; none that was opened again as another one."""
+        return self.alike_between(*self._ends(number), self.arc_name(number))
+
+    def alike_between(self, tail: int, head: int, name: str) -> list[int]:
+        """The arcs of a name, which may be empty, between two nodes, in their order."""
+        return sorted(number for number in self._between.get((tail, head), ()) if self.arc_name(number) == name)
+
+    def is_place(self, text: str) -> bool:
+        return self._place_name(cleaned(text)) in self.places
+
+    def _place_name(self, name: str) -> str:
+        """The name of the place that a text names, if it may be in any case, or else the text."""
+        found = self._folded_places.get(folded(name), []) if self.is_any_case and name not in self.places else []
+        return found[0] if len(found) == 1 else name
+
+    @cached_property
+    def _folded_places(self) -> dict[str, list[str]]:
+        """The names of places, by what they are without case and accents."""
+        found: dict[str, list[str]] = {}
+        for name in (*self.places, *self._several):
+            found.setdefault(folded(name), []).append(name)
+        return found
+
+    def _arc_name(self, name: str) -> str:
+        """The name of the arcs that a text names, if it may be in any case, or else the text."""
+        if not self.is_any_case or name in self._arcs:
+            return name
+        sought = folded(name)
+        found = [other for other, numbers in self._arcs.items() if numbers and folded(other) == sought]
+        return found[0] if len(found) == 1 else name
+
+    @staticmethod
+    def _numbered(name: str) -> int:
+        """The number of a text like `#7`, or 0."""
+        digits = name[1:]
+        return int(digits) if name[:1] == "#" and digits.isascii() and digits.isdigit() and len(digits) < 12 else 0
+
+    def arcs(self, text: str) -> list[int]:
+        """The arcs, open or closed, that a text names: by their name, by their ends, as in `Mill-Town` or `Mill Town`, or by their
+        number, as in `#7`. Raises a `DeskFault` if there are none."""
+        name = cleaned(text)
+        number = self._numbered(name)
+        found = {number: None} if 1 <= number <= len(self._lines) else {}
+        found.update(dict.fromkeys(self._arcs.get(self._arc_name(name), ())))
+        for tail, head in self._splits(name):
+            found.update(dict.fromkeys(self._between.get((self.places[tail].exit, self.places[head].entry), ())))
+        if not found:
+            raise DeskFault(self._unknown_arc(name))
+        return sorted(found)
+
+    def _splits(self, name: str) -> Iterator[tuple[str, str]]:
+        """The pairs of places whose names, with an arrow or a space between them, are this text."""
+        for arrow in (*ARROWS, " "):
+            at = name.find(arrow)
+            while at >= 0:
+                tail, head = (self._place_name(part.strip()) for part in (name[:at], name[at + len(arrow) :]))
+                if tail in self.places and head in self.places:
+                    yield tail, head
+                at = name.find(arrow, at + 1)
+
+    def _unknown_arc(self, name: str) -> str:
+        for tail, head in self._splits(name):
+            return f"no arc leads from {shown(tail)} to {shown(head)}"
+        if name.isascii() and name.isdigit() and 1 <= int(name) <= len(self._lines):
+            return f"no arc is called {shown(name)}; is it #{name}, {self.arc(int(name))}?"
+        return f"no arc is called {shown(name)}{near(name, self.spoken())}"
+
+    def spoken(self) -> Iterator[str]:
+        """For each arc a text that means it."""
+        return map(self.called, range(1, len(self._lines) + 1))
+
+    def called(self, number: int) -> str:
+        """A text that means an arc: its name, or else its ends."""
+        return self.arc_name(number) or "-".join(map(self.node, self._ends(number)))
+
+    def list(self, numbers: Sequence[int]) -> str:
+        listed = ", ".join(f"#{number} ({self.arc(number)})" for number in numbers[:MOST_LISTED])
+        return listed + ", .." * (len(numbers) > MOST_LISTED)

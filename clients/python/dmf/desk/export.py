@@ -1,0 +1,141 @@
+"""Texts of a desk to take along: its plan as a table, its problem, and its picture for Graphviz."""
+
+from __future__ import annotations
+
+import os
+import time
+from dataclasses import dataclass
+from pathlib import Path
+from typing import cast
+
+from ..text import session_commands as timeline
+from ..text.carried import carrying
+from .workspace import Desk
+from .steps import DeskFault, Line
+from ..text.folding import renumbered
+from ..text.graphviz import graphviz
+from ..text.spelling import written
+from ..text.drawing import Drawing, picture
+from ..tables.table_writer import Carried, Told, plan_text
+from ..text.table_comments import comments
+from ..tables.other_columns import Extra
+from ..text.problem_text import ARC, NODE, Problem, display
+
+MOST_DRAWN = 300
+# How long Graphviz may take, in seconds.
+PATIENCE = 60
+DRAWN = {".svg": "svg", ".png": "png", ".pdf": "pdf"}
+# How a picture is read, and the title of the column that says of which plan a table is.
+LEGEND = "45/60: 45 flow where 60 fit; thick: full; red: the limit; grey: nothing flows; dashed: closed; blue places: before the limit"
+SAID = "said of the plan"
+
+
+def said_of(desk: Desk) -> list[str]:
+    """What is said of a plan that is taken along: of which network it is, its value, its scenario, and the day."""
+    ends = f"from {desk.names.terminal(desk.source)} to {desk.names.terminal(desk.sink)}"
+    most = "at most " * desk.is_greatest
+    said = f"{display(os.path.basename(desk.subject.path))}: {most}{desk.told(desk.value)} {ends}"
+    return [said, f"{f'scenario {display(desk.scenario_name)}, ' * bool(desk.scenario_name)}{time.strftime('%Y-%m-%d')}"]
+
+
+@dataclass(frozen=True)
+class _Said(Extra):
+    """Columns of a table that are kept, and one more that says of which plan it is, in the row of this arc."""
+
+    text: str = ""
+    row: int = 0
+
+    def of(self, number: int) -> list[str]:
+        return [*super().of(number), self.text * (number == self.row)]
+
+
+def _columns(desk: Desk, row: int) -> Extra:
+    """The other columns of a plan's table. One of a project has one more, in place of that which an older plan had."""
+    extra = desk.subject.extra
+    if not desk.scenario_name:
+        return extra
+    kept = [at for at, title in enumerate(extra.titles) if title != SAID]
+    titles = [*(extra.titles[at] for at in kept), SAID]
+    return _Said(titles, [extra.columns[at] for at in kept], extra.ways, "; ".join(said_of(desk)), row)
+
+
+def table(desk: Desk) -> str:
+    """The open arcs as the table that `dmf-names --csv` writes; that of a project says in one more column of which plan it is. If the flow is
+    not greatest, the column of the cut is empty."""
+    crossing = desk.cut_arcs() if desk.is_greatest else None
+    arcs = [
+        Carried(number, line.tail, line.head, line.capacity, desk.flow(number), None if crossing is None else number in crossing)
+        for number, line in enumerate(desk.lines, 1) if not line.is_closed
+    ]  # fmt: skip
+    ends = desk.source, desk.sink
+    names = desk.names
+    first = next((arc.number for arc in arcs if not desk.role(arc.number)), 0)
+    extra = _columns(desk, row_of(desk, first) if first else 0)
+    told = Told(desk.folding, names.node, names.arc_name, ends, extra, lambda number: row_of(desk, number), desk.limited())
+    return plan_text(arcs, told, desk.measure, raw_names=desk.subject.raw_names)
+
+
+def row_of(desk: Desk, number: int) -> int:
+    """The number that an arc had before it was opened again, by which its row has other columns."""
+    return desk.line(number).first or number
+
+
+def problem(desk: Desk) -> str:
+    """The problem of the open arcs, with what comments say of its table and its columns and the names of places and arcs; what cannot be
+    written of a name is escaped. It needs no session, so that it can be had where that has ended."""
+    names = desk.names
+    opened = {number: line for number, line in enumerate(desk.lines, 1) if not line.is_closed}
+    labels = ((number, names.given_node(number)) for number in range(1, len(names.nodes) + 1))
+    nodes = "".join(f"c node {number} {written(NODE, number, label)}\n" for number, label in labels if label != str(number))
+    keys = ((place, names.given_arc(number)) for place, number in enumerate(opened, 1))
+    arcs = "".join(f"c arc {place} {written(ARC, place, key)}\n" for place, key in keys if key.strip(" \t"))
+    head = f"p max {len(names.nodes)} {len(opened)}\nn {desk.source} s\nn {desk.sink} t\n"
+    whole = desk.measure.whole
+    lines = "".join(f"a {line.tail} {line.head} {whole(line.capacity)}\n" for line in opened.values())
+    said = renumbered(desk.subject.described, ((line.tail, line.head) for line in opened.values()), desk.limited())
+    columns = desk.subject.extra.comments(row_of(desk, number) for number in opened)
+    plan = "".join(f"c plan {line}\n" for line in said_of(desk)) if desk.scenario_name else ""
+    return comments(said) + plan + nodes + arcs + columns + head + lines
+
+
+def drawing(desk: Desk) -> Drawing:
+    """What a picture of the desk shows. An arc that was opened again is drawn once."""
+    numbers = [number for number, line in enumerate(desk.lines, 1) if not line.is_replaced]
+    names = desk.names
+    labels = {number: names.node(number) for number in range(1, len(names.nodes) + 1)}
+    arc_names = {place: names.arc_name(number) for place, number in enumerate(numbers, 1) if names.arc_name(number)}
+    drawn = Problem(len(labels), desk.source, desk.sink, [], labels, arc_names, desk.subject.described)
+    flows = [None if desk.lines[number - 1].is_closed else desk.flow(number) for number in numbers]
+    side = desk.side() if desk.is_greatest else set()
+    lines = arcs_of([desk.lines[number - 1] for number in numbers])
+    notes = [*said_of(desk), LEGEND] if desk.scenario_name else []
+    return Drawing(drawn, lines, flows, side, set(desk.shut_nodes), notes, has_quantities=True, limited=desk.limited())
+
+
+def arcs_of(lines: list[Line]) -> list[timeline.Arc]:
+    """Lines as arcs of a drawing: a line has all that a drawing reads of an arc."""
+    return cast("list[timeline.Arc]", lines)
+
+
+def picture_text(desk: Desk) -> str:
+    """The text of the picture that `dmf-dot` draws."""
+    return "".join(f"{line}\n" for line in picture(drawing(desk), MOST_DRAWN))
+
+
+def taken(desk: Desk, data: bytes) -> bytes:
+    """A picture or a page of a desk to take along, which carries the problem."""
+    return carrying(data, problem(desk))
+
+
+def drawn(desk: Desk, path: str) -> bytes:
+    """The picture of a desk, as the end of a file's name says. Raises a `DeskFault`."""
+    text = picture_text(desk)
+    kind = DRAWN.get(Path(path).suffix)
+    if kind is None:
+        return text.encode()
+    try:
+        return graphviz(text.encode(), "dot", f"-T{kind}", patience=PATIENCE)
+    except FileNotFoundError:
+        raise DeskFault("Graphviz is not there, which draws; its program is called dot. A FILE.dot can be had") from None
+    except RuntimeError as error:
+        raise DeskFault(str(error)) from None

@@ -1,0 +1,164 @@
+"""The words of dmf-plan: its commands, how a line is parted into words, and what one word may be."""
+
+from __future__ import annotations
+
+from typing import NamedTuple
+
+from ..steps import DeskFault
+from ...quantity import readings
+from ...text.cells import cleaned, shown
+
+LONGEST_COUNT = 12
+FLOW, PLACE, ARC, CLOSED, COMMAND, EACH, SCENARIO = "flow", "place", "arc", "closed", "command", "each", "scenario"
+
+
+class Help(NamedTuple):
+    """How a command is written, what it does, which names may stand after it, and how it is written in a list where that is shorter."""
+
+    form: str
+    says: str
+    takes: str = ""
+    short: str = ""
+
+
+ARCS_SAID = (
+    'An arc goes by its name, by its ends as in Mill-Town or "Mill Town", or by its number as in #7. A name with spaces stands in quotes, '
+    "or as it is where that can mean one thing alone."
+)
+MANY_SAID = (
+    'In place of ARC, where and conditions name all arcs of which these are so, in one step: close where name ~ DN200, '
+    "cap where capacity < 60 and full +10 %, open where to ~ Mill."
+)
+COMMANDS = {
+    "solve": Help("solve", "Finds the greatest value that can be sent, going on from the present flow."),
+    "cut": Help("cut", "Shows the limit: the arcs that hold the value where it is, and the places on the source's side of them."),
+    "flow": Help("flow [ARC|PLACE]", "Shows what flows on each arc, or on one, or on those at a place.", FLOW),
+    "pipes": Help("pipes [where CONDITIONS]", "Lists the arcs of the table, or those of which conditions are so: pipes where limit."),
+    "places": Help("places", "Lists the places, with what comes in and goes out."),
+    "from": Help("from PLACE", "Shows what flows on each arc out of a place.", PLACE),
+    "close": Help("close ARC", f"Closes an arc. {ARCS_SAID} {MANY_SAID}", ARC),
+    "open": Help("open [ARC|PLACE]", "Opens an arc that is closed, or a place that is shut; alone, what was closed or shut last.", CLOSED),
+    "cap": Help("cap ARC NUMBER", f"Gives an arc another capacity: 47.3, or +10 % or -5 of what it has. {ARCS_SAID} {MANY_SAID}", ARC),
+    "add": Help("add PLACE PLACE NUMBER [NAME]", "Adds an arc from the first place to the second, with a capacity.", PLACE),
+    "shut": Help("shut PLACE", "Closes each arc at a place.", PLACE),
+    "undo": Help("undo [NUMBER]", "Takes back the last step, or so many."),
+    "redo": Help("redo [NUMBER]", "Makes again the step that `undo` took back last, or so many."),
+    "steps": Help("steps", "Lists the steps with the value after each."),
+    "try": Help("try", "Begins a trial: `drop` takes back all that is done from here on, and `keep` keeps it."),
+    "keep": Help("keep [FILE]", "Ends the trial, and keeps its steps; or keeps what is done in a new project, whose name ends with .dmf.json."),
+    "drop": Help("drop", "Ends the trial, and takes its steps back."),
+    "what-if": Help(
+        "what-if each arc [of the cut | at PLACE]  or  what-if COMMAND",
+        "Lists for each arc the greatest value if it alone is closed, and if a second one lies beside it; or shows what a command and a "
+        "solve would bring. Nothing changes.",
+        EACH,
+        "what-if each arc ..",
+    ),
+    "cost": Help(
+        "cost [COLUMN] [of seconds] [to NUMBER]",
+        "Tells what each unit more costs at each arc of the limit, by the column of the table called cost or by another one, and a cheap way to "
+        "twice the value or to NUMBER. The way is found greedily: a cheaper one may exist. With `of seconds` the column is what a second arc "
+        "costs. Nothing changes.",
+        "",
+        "cost ..",
+    ),
+    "worst": Help("worst [NUMBER]", "Tries each arc, and lists those that are worst to lose, the first ten or so many. Nothing changes."),
+    "draw": Help("draw FILE", "Draws the network: FILE ends with .svg, .png or .pdf, or with .dot for the text alone."),
+    "save": Help("save FILE", "Writes the plan as a table where FILE ends with .csv, or the problem where it ends with .max."),
+    "scenario": Help(
+        "scenario [new NAME [from OTHER] | go NAME | copy NAME | name NAME | delete NAME | note TEXT]",
+        "Lists the scenarios of a project, or begins one, goes to one, copies, names, deletes or notes one. A new one begins from the network of "
+        "the table, or with the steps that another one has now; copies, names and notes are of the present one. NAME in the midst of a line "
+        "stands in quotes if it has spaces.",
+        SCENARIO,
+        "scenario ..",
+    ),
+    "compare": Help("compare [SCENARIO] SCENARIO", "Shows in what two scenarios differ: value, limit and arcs; base is the table's network.", SCENARIO),
+    "report": Help("report FILE", "Writes a page to hand on, whose name ends with .html: values, limits, steps, pictures, and what is worst to lose."),
+    "notes": Help("notes [TEXT]", "Shows the notes of a project, or puts others in their place. Its report begins with them: with the question."),
+    "help": Help("help [COMMAND]", "Lists the commands, or says what one does.", COMMAND),
+    "quit": Help("quit", "Ends; only a project keeps what was done."),
+}
+CHANGES = ("close", "open", "cap", "add", "shut")
+# These need no session.
+ALWAYS = ("save", "steps", "help", "quit")
+
+
+class Word(NamedTuple):
+    """A word of a line, the place where it begins, and whether its quote was left open."""
+
+    text: str
+    start: int
+    is_open: bool = False
+
+
+def split(line: str) -> list[Word]:
+    """The words of a line. A word that begins with a double quote goes on to the next, and two quotes in it stand for one."""
+    words = []
+    at = 0
+    while at < len(line):
+        if line[at] in " \t":
+            at += 1
+        elif line[at] == '"':
+            word = _quoted(line, at)
+            words.append(word[0])
+            at = word[1]
+        else:
+            end = next((place for place in range(at, len(line)) if line[place] in " \t"), len(line))
+            words.append(Word(line[at:end], at))
+            at = end
+    return words
+
+
+def _quoted(line: str, start: int) -> tuple[Word, int]:
+    """The word whose quote opens at a place, and the place after it."""
+    text, at = "", start + 1
+    while True:
+        end = line.find('"', at)
+        if end < 0:
+            return Word(text + line[at:], start, True), len(line)
+        text += line[at:end]
+        at = end + 1
+        if line[at : at + 1] != '"':
+            return Word(text, start), at
+        text += '"'
+        at += 1
+
+
+def quoted(name: str) -> str:
+    """A name as it is typed as one word."""
+    if name and not any(letter in name for letter in ' \t"'):
+        return name
+    return '"' + name.replace('"', '""') + '"'
+
+
+def typed_form(name: str, is_open: bool) -> str:
+    whole = quoted(name)
+    return whole if whole != name or not is_open else f'"{name}"'
+
+
+def no_words(words: list[str], command: str) -> None:
+    if words:
+        raise DeskFault(f"wanted is: {COMMANDS[command].form}")
+
+
+def one_name(words: list[str], command: str) -> str:
+    """The rest of the line after a command, which is one name."""
+    name = cleaned(" ".join(words))
+    if not name:
+        raise DeskFault(f"wanted is: {COMMANDS[command].form}")
+    return name
+
+
+def is_number(word: str) -> bool:
+    """Whether a word can be a number."""
+    return bool(readings(word))
+
+
+def count_of(words: list[str], command: str) -> int:
+    """How many steps a command is about."""
+    if len(words) > 1:
+        raise DeskFault(f"wanted is: {COMMANDS[command].form}")
+    if words and not (words[0].isascii() and words[0].isdigit() and len(words[0]) < LONGEST_COUNT):
+        raise DeskFault(f"{shown(words[0])} is no number of steps")
+    return int(words[0]) if words else 1

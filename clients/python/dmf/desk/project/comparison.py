@@ -1,0 +1,160 @@
+"""In what two scenarios differ: the value, the limit, and each arc whose flow, capacity or state is another one."""
+
+from __future__ import annotations
+
+from collections import Counter
+from collections.abc import Iterator
+from dataclasses import dataclass
+from typing import NamedTuple, Union
+
+from ..steps import Line
+from ..desk_view import DeskView
+from ...quantity import Measure, Quantity, moved, plain_text
+from ...text.problem_text import display
+from .scenarios import ProjectDesk
+
+# By what an arc is known in every scenario: its number, if it is one of the table; else its ends, its name and its place among those
+# alike that were added.
+Known = Union[int, tuple[int, int, str, int]]
+OPEN, CLOSED, ABSENT = "open", "closed", "not there"
+
+
+class ArcState(NamedTuple):
+    """An arc in a scenario: `open`, `closed` or `not there`; its capacity, which one that is closed had before, and its flow; whether it is
+    one of the limit; and whether it carries as much as the arcs at its place, so that its capacity says nothing."""
+
+    state: str
+    capacity: Quantity
+    flow: Quantity
+    is_limit: bool
+    is_unlimited: bool = False
+
+    def told(self) -> str:
+        """It in words: `45 of 45, limit`."""
+        if self.state != OPEN:
+            return self.state
+        amounts = f"{plain_text(self.flow)}, no limit" if self.is_unlimited else f"{plain_text(self.flow)} of {plain_text(self.capacity)}"
+        return amounts + ", limit" * self.is_limit
+
+
+_ABSENT = ArcState(ABSENT, 0, 0, False)
+
+
+@dataclass(frozen=True)
+class Standing:
+    """A scenario as it stands: its value, the places on the source's side of its limit, and the arcs of the limit, by their names."""
+
+    name: str
+    value: Quantity
+    side: tuple[str, ...]
+    limit: tuple[str, ...]
+
+
+@dataclass(frozen=True)
+class ArcDifference:
+    """An arc that differs: its name with its ends, and what it is in each scenario. `known` tells it from others alike."""
+
+    arc: str
+    first: ArcState
+    second: ArcState
+    known: Known
+
+    @property
+    def kind(self) -> str:
+        """What is other in the second scenario: the arc has `come` or `gone`, `more` or `less` flows on it, or something `else`."""
+        was, now = self.first.state == OPEN, self.second.state == OPEN
+        if was != now:
+            return "come" if now else "gone"
+        return "more" if self.second.flow > self.first.flow else "less" if self.second.flow < self.first.flow else "else"
+
+
+@dataclass(frozen=True)
+class Comparison:
+    """Two scenarios beside each other, and the arcs that differ, in the order of the table. Numbers are the table's. `alike` are the arcs that
+    do not differ."""
+
+    first: Standing
+    second: Standing
+    arcs: tuple[ArcDifference, ...]
+    measure: Measure
+    alike: tuple[Known, ...] = ()
+
+    def lines(self) -> Iterator[str]:
+        """It in words, a line for each thing that differs."""
+        names = [display(it.name) for it in (self.first, self.second)]
+        for name, standing in zip(names, (self.first, self.second)):
+            yield f"{name}: value {plain_text(standing.value)} {self.measure.told_unit}".rstrip()
+        yield f"  {moved(self.first.value, self.second.value)}"
+        if self.first.limit == self.second.limit:
+            yield f"  the limit is the same: {'; '.join(self.first.limit) or 'nothing'}"
+        else:
+            for name, standing in zip(names, (self.first, self.second)):
+                yield f"  limit of {name}: {'; '.join(standing.limit) or 'nothing'}"
+        yield f"  arcs that differ, {' | '.join(names)}:" if self.arcs else "  no arc differs"
+        yield from (f"  {it.arc}: {it.first.told()} | {it.second.told()}" for it in self.arcs)
+
+
+class _Seen:
+    """What is seen of a scenario that a desk shows: itself and its arcs, all before the desk shows another one."""
+
+    def __init__(self, desk: ProjectDesk, name: str) -> None:
+        cut, names = desk.cut_arcs(), desk.names
+        limit = tuple(names.arc(number) for number in cut)
+        self.standing = Standing(name, desk.value, tuple(names.side(desk.side())), limit)
+        flows, lines = desk.flows(), desk.lines
+        self._cut = frozenset(cut)
+        self._flows = flows
+        self._lines: list[Line] = list(lines)
+        self._measure = desk.measure
+        self.numbers = dict(known_arcs(desk))
+        # What can differ of each arc, as it can be compared at once.
+        self.bare = {
+            known: (line.is_closed, line.capacity, flows.get(number, 0), number in cut, line.is_unlimited)
+            for known, number in self.numbers.items() for line in (lines[number - 1],)
+        }  # fmt: skip
+        # An arc that was added is not there in another scenario, and goes by other numbers in it.
+        self._label = names.arc
+        self._added = {known: names.arc(number) for known, number in self.numbers.items() if isinstance(known, tuple)}
+
+    def state(self, known: Known) -> ArcState:
+        number = self.numbers.get(known)
+        if number is None:
+            return _ABSENT
+        line = self._lines[number - 1]
+        flow = self._measure.quantity(self._flows.get(number, 0))
+        return ArcState(CLOSED if line.is_closed else OPEN, line.capacity, flow, number in self._cut, line.is_unlimited)
+
+    def label(self, known: Known) -> str:
+        """How an arc is called; nothing if it was added in another scenario."""
+        return self._added.get(known, "") if isinstance(known, tuple) else self._label(known)
+
+
+def known_arcs(desk: DeskView) -> Iterator[tuple[Known, int]]:
+    """The arcs of a desk by what they are known by. One that was closed and opened again is the one that it was."""
+    count = Counter[tuple[int, int, str]]()
+    given = desk.first_count
+    yield from ((number, number) for number, line in enumerate(desk.lines[:given], 1) if not line.is_replaced)
+    known: dict[int, Known] = {}
+    for number, line in enumerate(desk.lines[given:], given + 1):
+        alike = line.tail, line.head, desk.names.arc_name(number)
+        if line.first:
+            known[number] = known.get(line.first, line.first)
+        else:
+            count[alike] += 1
+            known[number] = (*alike, count[alike])
+        if not line.is_replaced:
+            yield known[number], number
+
+
+def compare(desk: ProjectDesk, first: str, second: str) -> Comparison:
+    """Two scenarios of a desk's project, of which one may be `base`, beside each other. The desk shows the present one again then.
+    Raises a `DeskFault` if there is no such scenario. Takes as long as those steps take in which the three are not the same from the first
+    on."""
+    with desk.visiting(first):
+        one = _Seen(desk, first)
+    with desk.visiting(second):
+        two = _Seen(desk, second)
+    every = dict.fromkeys([*one.numbers, *two.numbers])
+    found = {known for known in every if one.bare.get(known) != two.bare.get(known)}
+    rows = tuple(ArcDifference(one.label(it) or two.label(it), one.state(it), two.state(it), it) for it in every if it in found)
+    return Comparison(one.standing, two.standing, rows, desk.measure, tuple(it for it in every if it not in found))

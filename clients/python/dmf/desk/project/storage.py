@@ -1,0 +1,247 @@
+"""A project in its file. What is done to it is kept at once as a line of a journal beside the file, which takes the same time whatever
+the project has; when a desk ends, the file is written anew, beside the old one at first, and the last versions stay beside it.
+
+The journal names the project and how many acts came before it, and each of its lines has its number. So a file and a journal that do not
+belong together are refused, and a line that the file has already is not done twice. A last line without its end is the act that was in
+hand when the desk was killed."""
+
+from __future__ import annotations
+
+import contextlib
+import errno
+import json
+import os
+import re
+import shutil
+import signal
+from collections.abc import Iterator
+from typing import Any
+
+from ...tools.command import write_file
+from .acts import act_of, prepared
+from .schema import Fields, Project, ProjectFault, loaded, project_of, text_of
+from .lock import MARK, VERSION, Journal, Taken
+
+MOST_VERSIONS = 20
+
+
+def journal_of(path: str) -> str:
+    """The path of a project's journal: `water.dmf.journal` for `water.dmf.json`."""
+    return path.removesuffix(".json") + ".journal"
+
+
+def versions_of(path: str) -> list[str]:
+    """The older versions of a project's file, the oldest first: `water.dmf.json.~7~`."""
+    folder, name = os.path.split(path)
+    form = re.compile(re.escape(name) + r"\.~([0-9]{1,9})~")
+    found = [(int(match[1]), match[0]) for match in map(form.fullmatch, os.listdir(folder or ".")) if match]
+    return [os.path.join(folder, version) for _, version in sorted(found)]
+
+
+class ProjectFile:
+    """A project that is open. `why_not` says why this desk may only read it, and is empty if it writes it; `news` are what is
+    to be said: what a kill has cost, and what somebody else has written meanwhile."""
+
+    def __init__(self, path: str, project: Project, journal: Journal | None, why_not: str = "", filed: int = 0) -> None:
+        self.path = path
+        self.project = project
+        self.why_not = why_not
+        self.news: list[str] = []
+        self._seen = _stamp(path)
+        self._journal = journal
+        # How many acts the file has; the journal has those after them.
+        self._filed = filed
+
+    def keep(self, word: str, content: Any) -> None:
+        """Does this to the project, once it is on the disk. Raises an OSError if that fails, and a `ProjectFault` if it cannot be done, and
+        leaves all as it was."""
+        if self._journal is None:
+            raise OSError(errno.EROFS, self.why_not)
+        with _uninterrupted():
+            if self.project.serial == self._filed:
+                self._journal.begin(self.project.identity, self._filed)
+            line = json.dumps({"serial": self.project.serial + 1, word: content}).encode()
+            # What is done is what the line says.
+            make = prepared(self.project, word, loaded(line)[word], word)
+            self._journal.append(line)
+            make()
+
+    def write(self) -> None:
+        """Writes the file anew, and keeps the one before it as a version. Raises an OSError if that fails; nothing is lost then."""
+        if self._journal is None:
+            raise OSError(errno.EROFS, self.why_not)
+        text, is_theirs = text_of(self.project), _stamp(self.path) != self._seen
+        version = self._version()
+        try:
+            write_file(self.path, text)
+        except BaseException:
+            if version:
+                os.remove(version)
+            raise
+        if is_theirs and version:
+            self.news.append(f"somebody else has written {self.path} meanwhile: that is {version} now")
+        self._seen = _stamp(self.path)
+        self._filed = self.project.serial
+        for old in versions_of(self.path)[:-MOST_VERSIONS]:
+            with contextlib.suppress(OSError):
+                os.remove(old)
+
+    def _version(self) -> str:
+        """The path of a version with the file as it is, if there is one."""
+        if not os.path.exists(self.path):
+            return ""
+        before = versions_of(self.path)
+        number = int(before[-1].rpartition(".~")[2][:-1]) + 1 if before else 1
+        version = f"{self.path}.~{number}~"
+        try:
+            os.link(self.path, version)
+        except OSError:
+            shutil.copy2(self.path, version)
+        return version
+
+    def end(self) -> None:
+        """Writes the file if something was done, and lets others write it. If it cannot be written, raises an OSError; the journal has
+        all then."""
+        if self._journal is None:
+            return
+        journal = self._journal
+        try:
+            if self.project.serial > self._filed and not self.why_not:
+                self.write()
+        finally:
+            self._journal, self.why_not = None, self.why_not or "it was closed"
+            journal.end(is_folded=self.project.serial == self._filed)
+
+    def discard(self) -> None:
+        """Removes a project that was just made."""
+        if self._journal:
+            self._journal.end(is_folded=True)
+            self._journal, self.why_not = None, "it was closed"
+            os.remove(self.path)
+
+
+def _stamp(path: str) -> tuple[int, ...]:
+    """What tells the file at a path from another one there, or from itself with other content."""
+    with contextlib.suppress(FileNotFoundError):
+        found = os.stat(path)
+        return found.st_ino, found.st_size, found.st_mtime_ns
+    return ()
+
+
+@contextlib.contextmanager
+def _uninterrupted() -> Iterator[None]:
+    """Lets Ctrl-C wait for the end of the block."""
+    before = signal.pthread_sigmask(signal.SIG_BLOCK, [signal.SIGINT])
+    try:
+        yield
+    finally:
+        signal.pthread_sigmask(signal.SIG_SETMASK, before)
+
+
+def created(path: str, project: Project) -> ProjectFile:
+    """A new project, in a file that is not there yet. Raises an OSError."""
+    if os.path.lexists(path):
+        raise FileExistsError(errno.EEXIST, "it is there already")
+    if os.path.exists(journal_of(path)) and os.path.getsize(journal_of(path)):
+        raise FileExistsError(errno.EEXIST, f"the journal of another one is there, {journal_of(path)}")
+    try:
+        journal = Journal(journal_of(path))
+    except Taken:
+        raise FileExistsError(errno.EEXIST, "another desk is making it") from None
+    made = ProjectFile(path, project, journal)
+    try:
+        write_file(path, text_of(project), is_new=True)
+    except BaseException:
+        journal.end(is_folded=True)
+        raise
+    made._seen = _stamp(path)
+    return made
+
+
+def opened(path: str) -> ProjectFile:
+    """The project in a file. Raises a `ProjectFault` that names the file and the place in it, and an OSError if it cannot be read."""
+    path = os.path.realpath(path)
+    os.stat(path)
+    journal, why_not = None, ""
+    is_new = not os.path.exists(journal_of(path))
+    try:
+        journal = Journal(journal_of(path))
+    except Taken:
+        why_not = "another desk has it open"
+    except OSError as error:
+        why_not = f"it cannot be written: {error.strerror}"
+    try:
+        project, filed, has_rest = _read(path)
+    except BaseException:
+        if journal:
+            journal.end(is_folded=is_new)
+        raise
+    made = ProjectFile(path, project, journal, why_not, filed)
+    if journal and (project.serial > filed or has_rest):
+        made.news += [f"the last line of {journal_of(path)} has no end: what was in hand then is lost"] * has_rest
+        try:
+            made.write()
+        except OSError as error:
+            made.why_not = f"it cannot be written: {error.strerror}"
+            made.end()
+    return made
+
+
+def _read(path: str) -> tuple[Project, int, bool]:
+    """The project of a file and its journal, how many acts the file has, and whether the journal ends with half a line. The journal is read
+    first: if another desk writes the file between, the file has all of that journal."""
+    try:
+        with open(journal_of(path), "rb") as file:
+            journal = file.read()
+    except FileNotFoundError:
+        journal = b""
+    with open(path, "rb") as file:
+        text = file.read()
+    try:
+        project = project_of(text)
+    except ProjectFault as fault:
+        versions = versions_of(path)
+        hint = f"; the version before it is {versions[-1]}" if versions else ""
+        raise ProjectFault(f"{path}: {fault}{hint}") from None
+    filed = project.serial
+    *lines, rest = journal.split(b"\n")
+    count = 0
+    for at, line in enumerate(lines, 1):
+        place = f"{journal_of(path)}: line {at}"
+        with _placed(place):
+            content = loaded(line)
+            if at == 1:
+                count = _begin_of(content, project)
+                continue
+            serial, word, given = act_of(content)
+            count += 1
+            if serial != count:
+                raise ProjectFault(f"the act has the number {serial}, and {count} comes next")
+            if serial > filed:
+                prepared(project, word, given, word)()
+    return project, filed, bool(rest)
+
+
+@contextlib.contextmanager
+def _placed(place: str) -> Iterator[None]:
+    """Names this place in a fault."""
+    try:
+        yield
+    except ProjectFault as fault:
+        raise ProjectFault(f"{place}: {fault}") from None
+
+
+def _begin_of(content: Any, project: Project) -> int:
+    """After how many acts a journal begins. Raises a `ProjectFault` if it is not one of this project, as its file is."""
+    fields = Fields(content, "")
+    version = fields.take(MARK, int)
+    if version != VERSION:
+        raise ProjectFault(f"it is a journal of version {version}, and this dmf reads version {VERSION}")
+    identity, after = fields.take("id", str), fields.count("after")
+    fields.end()
+    if identity != project.identity:
+        raise ProjectFault("it is the journal of another project; move it away to open this one as its file is")
+    if after > project.serial:
+        told = f"it goes on from act {after}, and the file has {project.serial}, so the file is an older version"
+        raise ProjectFault(f"{told}; move the journal away to open the file as it is")
+    return after

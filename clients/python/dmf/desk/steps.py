@@ -1,0 +1,129 @@
+"""What a desk's steps are made of: places and arcs, changes, steps, trials, and why the desk refuses a request. All amounts are
+quantities, as the table has them."""
+
+from __future__ import annotations
+
+from dataclasses import dataclass
+from typing import NamedTuple, Union
+
+from ..errors import Error
+from ..quantity import Quantity
+
+Node = Union[int, str]
+
+
+class DeskFault(Exception):
+    """Why the desk refuses a request. It changes nothing."""
+
+
+class Place(NamedTuple):
+    """A place: arcs into it enter the node `entry`, and arcs out of it leave the node `exit`. The two differ if the place has a
+    limit."""
+
+    entry: int
+    exit: int
+
+
+class Line(NamedTuple):
+    """An arc as it is: its ends by their numbers, and its capacity, which one that is closed had before. `was_shut` says that it was
+    closed when a place was shut, and `is_replaced` that it was closed and then opened again, as another arc. `is_unlimited` says that it
+    is what a source gives, or a sink takes, as much as the arcs there carry. `first` is the number of the arc that one was before it was
+    opened again, if it was."""
+
+    tail: int
+    head: int
+    capacity: Quantity
+    is_closed: bool = False
+    was_shut: bool = False
+    is_replaced: bool = False
+    is_unlimited: bool = False
+    first: int = 0
+
+    @property
+    def is_shut(self) -> bool:
+        """Whether it is closed since a place was shut."""
+        return self.was_shut and not self.is_replaced
+
+
+class Marks(NamedTuple):
+    """What the network does not know of what was done: the nodes that are shut, and the unlimited sources and sinks that got a limit, by the
+    first numbers of their arcs."""
+
+    shut: frozenset[int] = frozenset()
+    limited: frozenset[int] = frozenset()
+
+
+@dataclass(frozen=True)
+class Solve:
+    pass
+
+
+@dataclass(frozen=True)
+class ArcChange:
+    """A change of one arc, by its number."""
+
+    arc: int
+
+
+@dataclass(frozen=True)
+class Cap(ArcChange):
+    capacity: Quantity
+
+
+class Follow(Cap):
+    """An unlimited source or sink follows the arcs there."""
+
+
+class Close(ArcChange):
+    """The arc is closed."""
+
+
+class Reopen(ArcChange):
+    """The arc is added again, as it was before it was closed."""
+
+
+@dataclass(frozen=True)
+class Add:
+    tail: int
+    head: int
+    capacity: Quantity
+    name: str | None = None
+
+
+@dataclass(frozen=True)
+class Shut:
+    node: int
+
+
+Change = Union[Solve, Close, Cap, Add, Reopen, Shut]
+
+
+@dataclass(frozen=True)
+class Step:
+    """What was done, in words, the changes that it made, the value of the flow that they left, and the marks before it."""
+
+    text: str
+    changes: tuple[Change, ...]
+    value: Quantity
+    marks: Marks
+
+    @property
+    def is_solved(self) -> bool:
+        return isinstance(self.changes[-1], Solve)
+
+
+@dataclass(frozen=True)
+class Trial:
+    """The greatest values if an arc is closed, and if a second one of its capacity lies beside it. The second is None if the sum of
+    the capacities would exceed 64 bits."""
+
+    arc: int
+    closed: Quantity
+    doubled: Quantity | None
+
+
+def unforeseen(error: BaseException) -> str:
+    """Why something came to no end, also for an error that nothing foresaw."""
+    if isinstance(error, (Error, DeskFault, OSError)):
+        return str(error)
+    return f"that came to no end ({type(error).__name__}{f': {error}' if str(error) else ''})"

@@ -1,0 +1,184 @@
+"""The changes that led to the present state of a network, and those that were undone: what each did, and the command that makes it again."""
+
+from __future__ import annotations
+
+from collections.abc import Callable, Sequence
+from typing import Any
+
+from .arcs import Arc
+from .errors import HistoryOutOfRange, NothingToRedo, NothingToUndo
+from .session.base import Command
+
+
+class Change:
+    """A change: its command; the number of each arc whose capacity it changed, with its capacity before and after; and the arc that it
+    added, with its capacity and the number of the closed arc that it replaces, if it does. A closed arc has no capacity. `value` is that of
+    the flow after it."""
+
+    __slots__ = "command", "capacities", "added", "value"
+
+    def __init__(
+        self, command: Command, capacities: Sequence[tuple[int, int | None, int | None]] = (), added: tuple[Any, int, int | None] | None = None
+    ) -> None:
+        self.command = command
+        self.capacities = capacities
+        self.added = added
+        self.value = 0
+
+
+class _Now:
+    """The present state: how many changes led to it, forgotten ones counted; the value of its flow; and the way back from it to the
+    state before the present call, if that has changed anything. It is never changed, but another one takes its place."""
+
+    __slots__ = "place", "value", "back"
+
+    def __init__(self, place: int = 0, value: int = 0, back: _Back | None = None) -> None:
+        self.place = place
+        self.value = value
+        self.back = back
+
+
+class _Back:
+    """The state before a call, and what the call may have done since: changes that it made, those that it undid, and undone changes that
+    it dropped. An error that broke the call off may have left each of these half done."""
+
+    __slots__ = "now", "made", "unmade", "dropped"
+
+    def __init__(
+        self, now: _Now, made: Sequence[Change] = (), unmade: Sequence[Change] = (), dropped: Sequence[Change | Command] | None = None
+    ) -> None:
+        self.now = now
+        self.made = made
+        self.unmade = unmade
+        self.dropped = dropped
+
+
+class Changes:
+    """A list of changes, of which some are made, and the ones after them undone. At most `most` can be undone; of an older one the command
+    alone is kept. `_make` and `_unmake` carry out what a change does here, and may do so again after an error broke them off: the present
+    state is the old one until all is done."""
+
+    def __init__(self, most: int) -> None:
+        self.most = most
+        # How many changes led to the beginning of each trial that is open, the outermost first.
+        self.floors: tuple[int, ...] = ()
+        self.begin_with(0)
+
+    def begin_with(self, value: int) -> None:
+        """Takes the present state, with a flow of this value, as the first one."""
+        self._changes: list[Change | Command] = []
+        self._now = self._start = _Now(0, value)
+
+    def value_at(self, place: int) -> int:
+        """The value of the flow after so many changes, of which the last one is not forgotten."""
+        change = self._changes[place - 1] if place else self._start
+        assert isinstance(change, (Change, _Now))
+        return change.value
+
+    @property
+    def place(self) -> int:
+        """How many changes led to the present state, forgotten ones counted."""
+        return self._now.place
+
+    @property
+    def value(self) -> int:
+        """The value of the present flow."""
+        return self._now.value
+
+    def commands(self) -> list[Command]:
+        """The commands that lead from the first state to the present one, by way of all that was undone."""
+        commands = [change.command if isinstance(change, Change) else change for change in self._changes]
+        undone = len(commands) - self.place
+        return [*commands, ("undo", undone)] if undone else commands
+
+    def begin_call(self) -> None:
+        """Takes the present state as that to which `roll_back` leads, and forgets what the change past the bound did."""
+        place = self._now.place
+        if self._now.back is not None:
+            self._now = _Now(place, self._now.value)
+        oldest = self._changes[place - self.most - 1] if place > self.most else None
+        if isinstance(oldest, Change):
+            self._changes[place - self.most - 1] = oldest.command
+
+    def note(self, change: Change, value: int) -> None:
+        """Notes a change that the session made, makes it here, and drops what was undone. The flow has this value then."""
+        now = self._now
+        back = _Back(now, made=[change], dropped=self._changes[now.place :])
+        self._now = _Now(now.place, now.value, back)
+        change.value = value
+        self._changes[now.place :] = [change]
+        self._make(change)
+        self._now = _Now(now.place + 1, value, back)
+
+    def redo(self, count: int, value: int) -> None:
+        """Redoes so many changes, which exist. The flow has this value then."""
+        now = self._now
+        changes = [change for change in self._changes[now.place : now.place + count] if isinstance(change, Change)]
+        back = _Back(now, made=changes)
+        self._now = _Now(now.place, now.value, back)
+        for change in changes:
+            self._make(change)
+        self._now = _Now(now.place + count, value, back)
+
+    def undo(self, count: int, value: int) -> None:
+        """Undoes so many changes, which exist. The flow has this value then."""
+        now = self._now
+        changes = [change for change in self._changes[now.place - count : now.place] if isinstance(change, Change)]
+        back = _Back(now, unmade=changes)
+        self._now = _Now(now.place, now.value, back)
+        for change in reversed(changes):
+            self._unmake(change)
+        self._now = _Now(now.place - count, value, back)
+
+    def roll_back(self) -> None:
+        """Goes back to the state before the present call, whatever of the call was done."""
+        back = self._now.back
+        if back is not None:
+            for change in reversed(back.made):
+                self._unmake(change)
+            for change in back.unmade:
+                self._make(change)
+            if back.dropped is not None:
+                self._changes[back.now.place :] = back.dropped
+            self._now = back.now
+
+    def _make(self, change: Change) -> None:
+        raise NotImplementedError
+
+    def _unmake(self, change: Change) -> None:
+        raise NotImplementedError
+
+    def take_changes(self, other: Changes, again: Callable[[Arc[Any]], Arc[Any]]) -> None:
+        """Takes the changes of another one, which it has made already, with handles of its own for the added arcs."""
+        self._changes = [_with_own_arc(change, again) if isinstance(change, Change) else change for change in other._changes]
+        self._now = _Now(other.place, other.value)
+
+    def forget_undone(self) -> None:
+        """Forgets what was undone, so that nothing of it can be made again."""
+        del self._changes[self.place :]
+
+    def judge_change(self) -> None:
+        """Raise `HistoryOutOfRange` if the outermost trial could not be undone after one more change."""
+        if self.floors and self.place - self.floors[0] >= self.most:
+            why = f"history out of range: of what is tried out, {self.most} changes can be taken back, and not one more"
+            raise HistoryOutOfRange(why)
+
+    def judge_undo(self, count: int) -> None:
+        """Raise `NothingToUndo` if that would undo a change from before the innermost trial."""
+        if self.floors and self.place - count < self.floors[-1]:
+            made = self.place - self.floors[-1]
+            raise NothingToUndo(f"undo {count}, of {made} changes that are tried out")
+
+    def judge_redo(self, count: int) -> None:
+        """Raises `NothingToRedo` if fewer changes can be made again."""
+        if count > len(self._changes) - self.place:
+            raise NothingToRedo(f"redo {count}")
+
+
+def _with_own_arc(change: Change, again: Callable[[Arc[Any]], Arc[Any]]) -> Change:
+    if change.added is None:
+        return change
+    arc, capacity, replaced = change.added
+    copy = Change(change.command, change.capacities, (again(arc), capacity, replaced))
+    copy.value = change.value
+    return copy

@@ -1,0 +1,166 @@
+"""How a network is written and shown: as a text, a file, a graph, a table and a picture."""
+
+from __future__ import annotations
+
+import functools
+import os
+from array import array
+from collections.abc import Callable, Sequence
+from typing import TYPE_CHECKING, Any
+
+from . import arrays
+from .arcs import Node, OpenArcs
+from .errors import FlowIsNotGreatest
+from .session_holder import Running, alone
+from .session.base import FilePath
+from .solution import Cut, Solution
+
+if TYPE_CHECKING:
+    from .notebook import Look
+    from .text.table_comments import Described
+
+# A network with more arcs than these is shown as a table, since nobody would find an arc in a picture of it.
+MOST_DRAWN = 300
+
+
+class Showing(Running[Node]):
+    """What a network has to show itself. Each call leaves the network as it is."""
+
+    @property
+    def source(self) -> Node:
+        """The source."""
+        return self._kept.source
+
+    @property
+    def sink(self) -> Node:
+        """The sink."""
+        return self._kept.sink
+
+    def _ends(self) -> set[Node]:
+        """The source and the sink."""
+        return {self.source, self.sink}
+
+    @property
+    def scale(self) -> str:
+        """What the numbers of a table were multiplied by, as the problem that was read tells it; empty if it tells none."""
+        from .text.problem_text import told_scale
+
+        return told_scale(self._kept.described)
+
+    @property
+    def nodes(self) -> list[Node]:
+        """All nodes: those in `nodes`, and then the ends of the arcs, in their order."""
+        return list(self._kept.columns.numbers)
+
+    @alone
+    def flow(self) -> Solution[Node]:
+        """The present flow."""
+        if not self._session.end.alive:
+            raise self._session.ended()
+        return Solution(self._flows())
+
+    @alone
+    def cut(self) -> Cut[Node]:
+        """The smallest minimum cut. Raises `FlowIsNotGreatest` if some flow has a larger value than the present one, as before
+        `solve`."""
+        return self._cut()
+
+    def _cut(self) -> Cut[Node]:
+        return self._cut_of(*self._session.cut())
+
+    def _cut_of(self, capacity: int, side: Sequence[int]) -> Cut[Node]:
+        """The minimum cut that has these nodes, by their numbers, on the side of the source."""
+        names = self._kept.columns.names
+        look = self._look(set(side)) if self._kept.open_count <= MOST_DRAWN else None
+        return Cut(capacity, frozenset(names[node - 1] for node in side), tuple(self._kept.leaving(list(side))), names, look)
+
+    @alone
+    def problem(self, *, names: bool = True, escapes: bool = False) -> str:
+        """The problem of the open arcs as a text in the DIMACS format. With `names`, comments before it name nodes and arcs: each
+        node whose name is not its own number, and each key, as `str` writes it. `dmf.read` reads the same names again, as texts,
+        except blank ones. If the network was read of a problem that tells the scale and the unit of its numbers, so do the first
+        comments.
+
+        Raises `NameNotWritable` if `dmf.read` would read a name as another one: if it has a line feed or blanks around it, or if two
+        nodes have the same name. With `escapes` what cannot be written of a name, such as a line feed, is written as `\\x0a`."""
+        from .text.spelling import comments
+        from .text.table_comments import Described, comments as table_comments
+
+        opened = self._kept.opened()
+        before = table_comments(Described(self._kept.described.measure))
+        if names:
+            keys = {place: key for place, key in enumerate(opened.keys(), 1) if key is not None}
+            before += comments(dict(enumerate(self._kept.columns.names, 1)), keys, escapes=escapes)
+        return before + self._session.problem().decode()
+
+    def to_networkx(self) -> Any:
+        """A MultiDiGraph of networkx with an edge for each open arc. Its key is the arc's number, and its attributes are `capacity`,
+        `flow`, and `name` if the arc has a key. Raises an ImportError if networkx is not installed."""
+        graph = arrays.package("networkx", "a graph")
+        flow = self.flow()
+        made = graph.MultiDiGraph()
+        made.add_nodes_from(self.nodes)
+        for (arc, carried), capacity in zip(flow.items(), flow._flows.capacities()):
+            given = {} if arc.given_key is None else {"name": arc.given_key}
+            made.add_edge(arc.tail, arc.head, key=arc.number, capacity=capacity, flow=carried, **given)
+        return made
+
+    def write(self, path: FilePath, *, names: bool = True, escapes: bool = False) -> None:
+        """Writes the text of `problem` to a file, whole or not at all: `dmf.read` and the program read it. Raises an OSError if it cannot
+        be written, and what `problem` raises."""
+        from .tools.command import write_file
+
+        write_file(os.fsdecode(path), self.problem(names=names, escapes=escapes).encode())
+
+    def plot(self, path: FilePath | None = None) -> Any:
+        """Draws the network with its flow, and with the smallest minimum cut if the flow is greatest; of more than 300 arcs those nearest
+        the cut. With a path, Graphviz writes a picture of the form of its ending, such as `.svg`, `.png` or `.pdf`; an ending `.dot`
+        needs no Graphviz. Without one it returns axes of matplotlib, which show the picture of Graphviz, or the nodes on a circle where
+        that is not there. Raises an ImportError without matplotlib, a FileNotFoundError without Graphviz where a path needs it, a
+        RuntimeError for what Graphviz says, and an OSError."""
+        from .notebook import draw, plot
+
+        look = self._look_with_cut()()
+        return plot(look) if path is None else draw(look, os.fsdecode(path))
+
+    @alone
+    def _look_with_cut(self) -> Callable[[], Look]:
+        try:
+            side = set(self._session.cut()[1])
+        except FlowIsNotGreatest:
+            side = set()
+        return self._look(side)
+
+    def _repr_svg_(self) -> str | None:
+        if self._kept.open_count > MOST_DRAWN:
+            return None
+        return self._look_now().svg()
+
+    def _repr_html_(self) -> str:
+        from .notebook import table
+
+        flow = self.flow()
+        rows = ((*row, capacity) for row, capacity in zip(flow._rows(), flow._flows.capacities()))
+        return table(repr(self)[1:-1], ("arc", "tail", "head", "flow", "capacity"), len(flow), rows)
+
+    @alone
+    def _look_now(self) -> Look:
+        return self._look(set())()
+
+    def _look(self, side: set[int]) -> Callable[[], Look]:
+        """What makes the picture of the network as it is now."""
+        flows = self._flows()
+        flows.settle(self._asked_flow)
+        kept = self._kept
+        ends = kept.number(kept.source), kept.number(kept.sink)
+        return functools.partial(_look_of, kept._described, flows.arcs, ends, flows.numbers(), flows.capacities()[:], side)
+
+
+def _look_of(
+    described: Described | None, arcs: OpenArcs[Any], ends: tuple[int, int], flows: array[int], capacities: array[int], side: set[int]
+) -> Look:
+    """How a network looks. Whoever looks at it needs more modules."""
+    from .notebook import Look
+    from .text.table_comments import Described
+
+    return Look(arcs, ends, flows, capacities, side, described or Described())

@@ -1,0 +1,387 @@
+"""The C library in this process: its calls, and a session by them. include/dmf.h says what each call does."""
+
+from __future__ import annotations
+
+import _thread
+import contextlib
+import ctypes
+import functools
+import os
+import weakref
+from array import array
+from collections.abc import Callable, Sequence
+from itertools import compress, count
+from typing import Any, Generic, TypeVar
+
+from ..arrays import problem_pieces
+from ..errors import NoProgram, Refused
+from ..text.lexical import display
+from ..numbering import AMOUNTS
+from .base import Command, Problem, Session, judged, line_of, refused, refused_line
+from .versions import fits, other_version
+
+# The largest network of which all calls run in the thread of their caller, in arcs. There Ctrl-C waits for the call to end, which takes
+# milliseconds. The calls of a larger one run in a thread beside, which Ctrl-C leaves alone, but for steps over so many states at most,
+# each of which looks at each arc a few times at most.
+MOST_AT_ONCE, MOST_STEPS = 20_000, 4
+# How many threads that run calls are kept for later ones.
+MOST_THREADS = 8
+OK, NO_MEMORY, NOT_GREATEST, BAD_LENGTH, BAD_TEXT = 0, 1, 9, 10, 12
+# The reasons of a session, by their numbers in dmf.h, in the program's words.
+REASONS = {
+    NO_MEMORY: "no memory",
+    2: "no such node",
+    3: "no such arc",
+    4: "arc is closed",
+    5: "too many arcs",
+    6: "capacities past 64 bits",
+    7: "nothing to undo",
+    8: "nothing to redo",
+    NOT_GREATEST: "flow is not greatest",
+}
+# The faults of a problem text in the order of their numbers, from 1 on.
+FAULTS = (
+    "problem line expected",
+    "second problem line",
+    "unknown line",
+    "not a max problem",
+    "wrong number of fields",
+    "not a number",
+    "number too large",
+    "count out of range",
+    "no such node",
+    "neither source nor sink",
+    "terminal named twice",
+    "source and sink are the same",
+    "arc before source and sink",
+    "too many arcs",
+    "too few arcs",
+    "source or sink missing",
+    "capacities past 64 bits",
+    "no memory",
+)
+# The calls by which a session takes a command, by its word, with how many numbers follow that.
+COMMANDS = {"cap": 2, "add": 3, "close": 1, "shut": 1, "solve": 0, "undo": 1, "redo": 1}
+STEPS = "undo", "redo"
+_POINTER, _WORD, _LONG, _SIZE = ctypes.c_void_p, ctypes.c_uint32, ctypes.c_uint64, ctypes.c_size_t
+Given = TypeVar("Given")
+
+
+class Library:
+    """The loaded library."""
+
+    def __init__(self, path: str, loaded: ctypes.CDLL) -> None:
+        """Raises an AttributeError if it lacks a call."""
+        self.path = path
+        self._loaded = loaded
+        ends = [_WORD, _WORD, _WORD, *[_POINTER, _SIZE] * 3, _WORD, _POINTER, _POINTER]
+        self.new = self._call("dmf_session_new", ends)
+        self.read = self._call("dmf_session_read", [_POINTER, _SIZE, _WORD, _POINTER, _POINTER, _POINTER])
+        self.free = self._call("dmf_session_free", [_POINTER], None)
+        self.commands = {word: self._call(f"dmf_session_{word}", [_POINTER, *[_LONG] * many]) for word, many in COMMANDS.items()}
+        self.value = self._call("dmf_session_value", [_POINTER], _LONG)
+        self.nodes = self._call("dmf_session_nodes", [_POINTER])
+        self.arcs = self._call("dmf_session_arcs", [_POINTER], _SIZE)
+        self.flows = self._call("dmf_session_flows", [_POINTER, _POINTER, _SIZE])
+        self.side = self._call("dmf_session_side", [_POINTER, _POINTER, _SIZE])
+        self.problem = self._call("dmf_session_problem", [_POINTER, _POINTER, _SIZE, _POINTER])
+
+    def _call(self, name: str, arguments: list[Any], result: Any = _WORD) -> Callable[..., int]:
+        call: Any = getattr(self._loaded, name)
+        call.argtypes, call.restype = arguments, result
+        return call  # type: ignore[no-any-return]
+
+    def begin(self, problem: Problem, most: int) -> InProcess:
+        """A session on a problem, in which so many changes can be undone. Raises a `Refused` as the program does for its text."""
+        address, bad_arc = _POINTER(), _SIZE()
+        columns = [part for column in problem.columns() for part in (_place(column), len(problem.tails))]
+        places = ctypes.byref(address), ctypes.byref(bad_arc)
+        status = self.new(problem.nodes, problem.source, problem.sink, *columns, most, *places)
+        if status == OK:
+            return InProcess(self, address.value or 0, len(problem.tails))
+        if status == NO_MEMORY:
+            raise refused_line(REASONS[NO_MEMORY], None)
+        # Which fault of its text the program tells, the library knows by that text.
+        return self.begin_text(b"".join(problem_pieces(problem)), most)
+
+    def begin_text(self, text: bytes, most: int) -> InProcess:
+        """A session on the text of a problem. Raises a `Refused` as the program does."""
+        address, line, fault = _POINTER(), _LONG(), _WORD()
+        places = ctypes.byref(address), ctypes.byref(line), ctypes.byref(fault)
+        status = self.read(text, len(text), most, *places)
+        if status == BAD_TEXT:
+            reason = FAULTS[fault.value - 1]
+            raise refused_line(reason, None if reason == REASONS[NO_MEMORY] else line.value)
+        if status != OK:
+            raise refused_line(REASONS[NO_MEMORY], None)
+        return InProcess(self, address.value or 0, self.arcs(address))
+
+
+@functools.cache
+def load(path: str) -> Library:
+    """The library at this path. Raises `NoProgram` if it cannot be loaded, or is of another version than this package needs."""
+    try:
+        loaded = ctypes.CDLL(path)
+        refuse_other(path, loaded.dmf_version())
+        return Library(path, loaded)
+    except (OSError, AttributeError) as error:
+        raise NoProgram(f"{display(path)} cannot be loaded: {display(str(error))}") from error
+
+
+def refuse_other(path: str, number: int) -> None:
+    """Raise `NoProgram` for a library of a version that this package does not work with. The library gives its version as a number."""
+    major, rest = divmod(number, 10_000)
+    version = f"{major}.{rest // 100}.{rest % 100}"
+    if not fits(version):
+        raise other_version(display(path), version)
+
+
+class _Held:
+    """The address of a session of the library, which is freed when nothing refers to this any more. A call at it does, so that it is never
+    freed while a call goes on; no lock is needed, in whose middle Ctrl-C might come."""
+
+    def __init__(self, free: Callable[[int], int], address: int) -> None:
+        self.address = address
+        # The system frees all at once when the interpreter ends, also where a call goes on.
+        weakref.finalize(self, _free, free, address, os.getpid()).atexit = False
+
+
+def _free(free: Callable[[int], int], address: int, owner: int) -> None:
+    """Frees a session, in the process that began it."""
+    if os.getpid() == owner:
+        free(address)
+
+
+class _Threads:
+    """The threads that run calls beside those of their callers. Each takes one call after another."""
+
+    def __init__(self) -> None:
+        # Only large networks need it.
+        from queue import SimpleQueue
+
+        self._jobs: SimpleQueue[_Job[Any]] = SimpleQueue()
+        # One entry for each thread that waits for a job, or is about to. Ctrl-C may leave one too few, and then one thread more begins.
+        self._waiting: list[None] = []
+
+    def begin(self, job: _Job[Any]) -> None:
+        """Begins a job at once."""
+        if not self._take_one():
+            _thread.start_new_thread(self._run, ())
+        self._jobs.put(job)
+
+    def _take_one(self) -> bool:
+        """Takes a thread that waits out of those. Returns whether there was one."""
+        try:
+            self._waiting.pop()
+        except IndexError:
+            return False
+        return True
+
+    def _run(self) -> None:
+        is_kept = True
+        while is_kept:
+            job = self._jobs.get()
+            job.run()
+            self._waiting.append(None)
+            job.leave()
+            # Nothing of it is held while the thread waits.
+            del job
+            is_kept = len(self._waiting) <= MOST_THREADS or not self._take_one()
+
+
+@functools.cache
+def _threads() -> _Threads:
+    return _Threads()
+
+
+# A process that was forked off has none of them.
+os.register_at_fork(after_in_child=_threads.cache_clear)
+
+
+class _Job(Generic[Given]):
+    """Calls at a session in a thread beside that of their caller, which waits for what they give, and may cease to wait."""
+
+    def __init__(self, work: Callable[..., Given], held: _Held, words: tuple[Any, ...]) -> None:
+        self._work = work
+        self._held = held
+        self._words = words
+        self._given: list[Given] = []
+        self._error: BaseException | None = None
+        # Who waits for this lock waits for the work.
+        self._is_going_on = _thread.allocate_lock()
+        self._is_going_on.acquire()
+
+    def wait(self) -> None:
+        """Begins the work, and waits until it is done, or until `leave` is called. Ctrl-C breaks off the waiting alone."""
+        _threads().begin(self)
+        self._is_going_on.acquire()
+
+    def leave(self) -> None:
+        """Has whoever waits wait no more."""
+        with contextlib.suppress(RuntimeError):
+            self._is_going_on.release()
+
+    def run(self) -> None:
+        """Does the work."""
+        try:
+            self._given.append(self._work(self._held, *self._words))
+        except BaseException as error:
+            self._error = error
+
+    def given(self) -> Given:
+        """What the work gave. Raises what it raised."""
+        if self._error is not None:
+            raise self._error
+        return self._given[0]
+
+
+class InProcess(Session):
+    """A session of the library."""
+
+    def __init__(self, library: Library, address: int, arc_count: int) -> None:
+        self._library = library
+        self._held = [_Held(library.free, address)]
+        super().__init__(self._held.clear)
+        self._arc_count = arc_count
+        self._job: _Job[Any] | None = None
+
+    @property
+    def way(self) -> Library:
+        return self._library
+
+    def break_off(self, why: str) -> None:
+        """Where a call waits for a thread beside it, it waits no more. Another one ends by itself before it raises `SessionEnded`."""
+        if self.end.alive:
+            self._why_broken = why
+            job = self._job
+            if job is not None:
+                job.leave()
+
+    def kill(self, why: str) -> None:
+        """What a thread beside has begun goes on, and is freed at its end."""
+        if self.end.alive:
+            self.why_ended = why
+            self.end()
+
+    def _do(self, work: Callable[..., Given], *words: Any, is_short: bool = False) -> Given:
+        """What calls at the session's address give. `is_short` says that they end soon, however large the network is."""
+        if self._why_broken:
+            self.kill(self._why_broken)
+        held = next(iter(self._held), None)
+        if held is None:
+            raise self.ended()
+        self.asked_count += 1
+        try:
+            is_beside = self._arc_count > MOST_AT_ONCE and not is_short
+            given = self._do_beside(work, held, words) if is_beside else work(held, *words)
+        except ValueError as error:
+            self.kill("the session was ended, since what dmf answered was not understood")
+            raise self.ended() from error
+        finally:
+            if self._why_broken:
+                self.kill(self._why_broken)
+        if self._why_broken:
+            raise self.ended()
+        return given
+
+    def _do_beside(self, work: Callable[..., Given], held: _Held, words: tuple[Any, ...]) -> Given:
+        job = _Job(work, held, words)
+        self._job = job
+        try:
+            if not self._why_broken:
+                job.wait()
+            if self._why_broken:
+                self.kill(self._why_broken)
+                raise self.ended()
+            return job.given()
+        finally:
+            self._job = None
+
+    def _carried_out(self, held: _Held, command: Command, at: object = None) -> int:
+        word, *numbers = command
+        status = self._library.commands[word](held.address, *numbers)
+        if status != OK:
+            raise refused(REASONS[status], line_of(command), at)
+        return self._library.value(held.address)
+
+    def step(self, command: Command, at: object = None) -> int:
+        is_short = command[0] in STEPS and command[1] <= MOST_STEPS
+        return self._do(self._carried_out, command, at, is_short=is_short)
+
+    def carry_out(self, commands: Sequence[Command]) -> int:
+        return self._do(self._carried_on, commands) if commands else 0
+
+    def _carried_on(self, held: _Held, commands: Sequence[Command]) -> int:
+        value = 0
+        for command in commands:
+            if self._why_broken:
+                break
+            try:
+                value = self._carried_out(held, command)
+            except Refused as error:
+                self._why_broken = f"the session could not begin anew: `{line_of(command)}` was refused: {error.text}"
+        return value
+
+    def flows(self, value: int, open_count: int) -> array[int]:
+        return self._do(self._flows, value, is_short=True)
+
+    def _flows(self, held: _Held, value: int) -> array[int]:
+        judged(self._library.value(held.address), value)
+        flows = array(AMOUNTS, [0]) * self._library.arcs(held.address)
+        judged(self._library.flows(held.address, _place(flows), len(flows)), OK)
+        return flows
+
+    def cut(self) -> tuple[int, list[int]]:
+        return self._do(self._cut)
+
+    def _cut(self, held: _Held) -> tuple[int, list[int]]:
+        marks = array("B", bytes(self._library.nodes(held.address)))
+        status = self._library.side(held.address, _place(marks), len(marks))
+        if status != OK:
+            raise refused(REASONS[status], "print cut", None)
+        # It has the capacity of the value, as each minimum cut.
+        return self._library.value(held.address), list(compress(count(1), marks))
+
+    def problem(self) -> bytes:
+        return self._do(self._problem)
+
+    def _problem(self, held: _Held) -> bytes:
+        length = _SIZE()
+        text = array("B", [0])
+        while True:
+            status = self._library.problem(held.address, _place(text), len(text), ctypes.byref(length))
+            if status == OK:
+                return text.tobytes()
+            if status != BAD_LENGTH or len(text) == length.value:
+                raise refused(REASONS[status], "print problem", None)
+            text = array("B", bytes(length.value))
+
+    def try_cases(self, cases: Sequence[Sequence[Command]], value: int, found: list[int]) -> None:
+        self._do(self._tried, cases, value, found)
+
+    def _tried(self, held: _Held, cases: Sequence[Sequence[Command]], value: int, found: list[int]) -> None:
+        """Raises a ValueError if something in a case is refused, or if all together leave another value: then none of theirs counts. Objects
+        of ctypes take less time than numbers, which it has to convert."""
+        address, calls, value_of = _POINTER(held.address), self._library.commands, self._library.value
+        solve, undo = calls["solve"], calls["undo"]
+        back = [_LONG(steps) for steps in range(2 + max(map(len, cases), default=0))]
+        begin = len(found)
+        for commands in cases:
+            if self._why_broken:
+                break
+            refusals = OK
+            for word, *numbers in commands:
+                refusals |= calls[word](address, *numbers)
+            refusals |= solve(address)
+            solved = value_of(address)
+            if refusals | undo(address, back[len(commands) + 1]):
+                raise ValueError
+            found.append(solved)
+        if value_of(address) != value:
+            del found[begin:]
+            raise ValueError
+
+
+def _place(column: array[int]) -> int:
+    """The address of what an array has. The library wants one that is not 0 of an empty array too."""
+    return column.buffer_info()[0] or 8

@@ -1,0 +1,166 @@
+"""The two ways in which a session runs, by the C library in this process or by the program behind a pipe: which one is taken, and how a
+session begins by it."""
+
+from __future__ import annotations
+
+import contextlib
+import functools
+import os
+import sys
+from array import array
+from collections.abc import Iterator
+from typing import TYPE_CHECKING, Any
+
+from .. import arrays
+from ..errors import NoProgram
+from ..state import Kept
+from ..numbering import NODES
+from ..files import path_of, scratch
+from .base import PROGRAM, FilePath, Problem, Program, Session, Way
+
+if TYPE_CHECKING:
+    from .library import Library
+
+PACKAGE = os.path.dirname(os.path.dirname(os.path.realpath(__file__)))
+NAME = "libdmf.so.0"
+# Where pip puts the library, below this package.
+OWN = f"bin/{NAME}"
+REPOSITORY = ("clients", "python", "dmf")
+# Where this package lies where `./install` and Debian put it, with the place of the library above that.
+PLACES = {
+    ("share", "dmf", "python", "dmf"): f"lib/{NAME}",
+    ("lib", "python3", "dist-packages", "dmf"): f"lib/{getattr(sys.implementation, '_multiarch', '')}/{NAME}",
+}
+
+
+def library() -> str | None:
+    """The path of the C library by which networks run in this process if their caller names no program; None if they run a program. It is
+    what the environment variable DMF_LIBRARY names; or, unless DMF names a program, what pip installed inside this package, or what lies in
+    the repository or install in which the package lies. An empty DMF_LIBRARY means none. Raises `NoProgram` if DMF_LIBRARY names one that
+    cannot be used."""
+    found = _library()
+    return None if found is None else found.path
+
+
+def chosen(program: Program) -> Way:
+    """What runs a session: the program that the caller names; or the library; or the program that is found without it. Raises
+    `NoProgram`."""
+    found = _library() if program is None else None
+    return program_of(program) if found is None else found
+
+
+def program_of(program: Program) -> FilePath:
+    """The program that the caller names, or the one that is found. Raises `NoProgram`."""
+    if program is not None:
+        return os.fspath(program)
+    from .executable import program as found_program
+
+    return found_program()
+
+
+def _library() -> Library | None:
+    named = os.environ.get("DMF_LIBRARY")
+    path = named if named is not None else None if os.environ.get("DMF") else _found()
+    if not path:
+        return None
+    from .library import load
+
+    if named:
+        return load(path)
+    with contextlib.suppress(NoProgram):
+        # One that this machine cannot load is left alone, and the program is asked.
+        return load(path)
+    return None
+
+
+@functools.cache
+def _found() -> str | None:
+    """The path of the library that lies inside this package or beside it."""
+    own = os.path.join(PACKAGE, OWN)
+    if os.path.isfile(own):
+        return own
+    parts = PACKAGE.split(os.sep)
+    for place, name in PLACES.items():
+        path = os.path.join(os.sep.join(parts[: -len(place)]), name)
+        if tuple(parts[-len(place) :]) == place and os.path.isfile(path):
+            return path
+    return _of_repository(os.sep.join(parts[: -len(REPOSITORY)])) if tuple(parts[-len(REPOSITORY) :]) == REPOSITORY else None
+
+
+def _of_repository(root: str) -> str | None:
+    """The library of a repository, which is of the present sources."""
+    path, take = os.path.join(root, "crates/dmf_c/out", NAME), os.path.join(root, "tools/prebuilt")
+    if os.path.isfile(path) and not _is_older(path, root):
+        return path
+    if not os.access(take, os.X_OK):
+        return None
+    import subprocess
+
+    ran = subprocess.run([take, "library"], stdin=subprocess.DEVNULL, stdout=subprocess.PIPE, stderr=subprocess.DEVNULL, text=True)
+    return ran.stdout.rstrip("\n") if ran.returncode == 0 else None
+
+
+def _is_older(path: str, root: str) -> bool:
+    """Whether a source, or a folder of sources, has changed since the library was put there."""
+    put, crates = os.stat(path).st_mtime_ns, os.path.join(root, "crates")
+    places = [os.path.join(root, name) for name in ("crates.txt", "tools/library", "tools/dmf.map")]
+    places += [os.path.join(crates, crate, part) for crate in os.listdir(crates) for part in ("src", "specs", "proofs")]
+    there = filter(os.path.exists, places)
+    return any(os.stat(place).st_mtime_ns > put or os.path.isdir(place) and _has_newer(place, put) for place in there)
+
+
+def _has_newer(folder: str, than: int) -> bool:
+    """Whether something in a folder has changed since a time."""
+    with os.scandir(folder) as entries:
+        return any(it.stat().st_mtime_ns > than or it.is_dir() and _has_newer(it.path, than) for it in entries)
+
+
+def problem_of(kept: Kept[Any]) -> Problem:
+    """The first problem of what is kept."""
+    added = kept.added[: kept.first_count - len(kept.columns)]
+    tails, heads = kept.columns.tails, kept.columns.heads
+    if added:
+        tails = tails + array(NODES, [kept.columns.outlet(arc.tail) for arc in added])
+        heads = heads + array(NODES, [kept.number(arc.head) for arc in added])
+    ends = kept.number(kept.source), kept.number(kept.sink)
+    return Problem(len(kept.columns.numbers), *ends, tails, heads, kept.first_capacities())
+
+
+@contextlib.contextmanager
+def problem_file(kept: Kept[Any]) -> Iterator[str]:
+    """The path of a file with the first problem of what is kept, for as long as the block takes."""
+    with scratch() as file:
+        file.writelines(arrays.problem_pieces(problem_of(kept)))
+        file.flush()
+        yield path_of(file)
+
+
+def started(kept: Kept[Any], way: Way, path: str | None = None) -> Session:
+    """A session that is in the state of what is kept, whose first problem is in the file at this path, if that is given. Raises a
+    `Refused` if the problem has a fault, `NoProgram` if the program cannot be used, and `SessionEnded` if it fails, or comes to another
+    value."""
+    session: Session
+    if isinstance(way, PROGRAM):
+        from .process import session_words, start
+
+        with problem_file(kept) if path is None else contextlib.nullcontext(path) as path:
+            session = start(path, way, session_words(kept.most))
+    else:
+        session = way.begin(problem_of(kept), kept.most)
+    value = session.carry_out(kept.commands())
+    if value != kept.value:
+        session.kill(f"the session was ended: begun anew, it came to the value {value}, and not to {kept.value}")
+        raise session.ended()
+    return session
+
+
+def started_on(text: bytes, way: Way, most: int) -> Session:
+    """A session on the text of a problem, in which so many changes can be undone. Raises what `started` raises."""
+    if not isinstance(way, PROGRAM):
+        return way.begin_text(text, most)
+    from .process import session_words, start
+
+    with scratch() as file:
+        file.write(text)
+        file.flush()
+        return start(path_of(file), way, session_words(most))

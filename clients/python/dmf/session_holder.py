@@ -1,0 +1,255 @@
+"""A network and its running session: calls that ask it, one at a time, and how it begins anew where one was broken off."""
+
+from __future__ import annotations
+
+import functools
+import os
+import sys
+import weakref
+from _thread import get_ident
+from array import array
+from collections.abc import Callable, Sequence
+from types import CodeType, FrameType
+from typing import TYPE_CHECKING, Any, Generic, TypeVar, cast
+
+from .arcs import Arc, Node, Owner
+from .errors import Error, NoSuchArc, SessionEnded, UsedByTwoProcesses, UsedByTwoThreads
+from .state import Kept
+from .rows import whole
+from .session.base import Command, Session, Told
+from .solution import Flows, Solution
+from .session.runners import started
+
+if TYPE_CHECKING:
+    from .quantity import Measure
+
+# A session of the program takes 1,000,000 lines, so another one takes its place before.
+MOST_LINES = 900_000
+TWICE = "the session was ended for good: it was broken off, and again"
+
+Method = TypeVar("Method", bound=Callable[..., Any])
+
+
+def alone(method: Method) -> Method:
+    """A method that has the session, and what is kept beside it, for itself. Raises `UsedByTwoThreads` if another call has it, and
+    `UsedByTwoProcesses` in a forked process. If an error such as Ctrl-C breaks the call off, the network is as it was before, and the next
+    call begins a new session."""
+
+    @functools.wraps(method)
+    def called(self: Running[Any], *words: Any, **named: Any) -> Any:
+        if self._session.owner != os.getpid():
+            raise UsedByTwoProcesses("used by two processes at once: a process that was forked off needs a network of its own")
+        user = [get_ident()]
+        if self._taken.setdefault(0, user) is not user:
+            self._judge_use(called.__code__)
+        try:
+            self._begin_call()
+            sent, present = self._session.asked_count, self._present
+            try:
+                return method(self, *words, **named)
+            except BaseException as error:
+                is_touched = self._session.asked_count != sent or not self._session.end.alive
+                if is_touched and not isinstance(error, Error):
+                    self._break_off(present)
+                raise
+        finally:
+            self._taken.pop(0, None)
+
+    return cast(Method, called)
+
+
+class Running(Generic[Node]):
+    """What a network is below its calls: a session, and what is kept of the network outside of it. Whatever breaks a call off ends the
+    session, and leaves what is kept as it was before the call. From that the next call begins a new session in the same state."""
+
+    # How whole numbers stand for those of callers, if they do.
+    _measure: Measure | None = None
+
+    def _begin(self, session: Session, kept: Kept[Node]) -> None:
+        self._session = session
+        self._kept = kept
+        # The thread that makes a call, while it makes it.
+        self._taken: dict[int, list[int]] = {}
+        # Whether a call was broken off, so that the next one begins anew; and why none can be asked any more.
+        self._is_broken = False
+        self._why_over = ""
+        # The same, from another thread.
+        self._why_stopped = ""
+        # The present flow, while somebody has it or it was read.
+        self._present: weakref.ref[Flows[Node]] | None = None
+        self._told: Flows[Node] | None = None
+        owner: weakref.ref[Owner] = weakref.ref(self)
+        kept.handles.owner = owner
+        for arc in kept.added:
+            arc._owner = owner
+
+    @property
+    def value(self) -> int:
+        """The value of the present flow, from the source to the sink."""
+        return self._kept.value
+
+    def _whole(self, amount: Any, at: object) -> int:
+        """The whole number that stands for what a caller gives. Raises `NotANumber` and `NumberTooLarge`."""
+        return whole(amount, at)
+
+    def _quantity(self, number: Any) -> Any:
+        """What a caller sees of a whole number."""
+        return number
+
+    def _judge_use(self, call: CodeType) -> None:
+        """Raises `UsedByTwoThreads`, unless this thread has the session and is in no call: before Python 3.11 an error may come just when a
+        call begins or ends, and it does not give the session back."""
+        frame: FrameType | None = sys._getframe(2)
+        is_in_call = self._taken.get(0) != [get_ident()]
+        while frame and not is_in_call:
+            is_in_call = frame.f_code is call and frame.f_locals.get("self") is self
+            frame = frame.f_back
+        if is_in_call:
+            raise UsedByTwoThreads("used by two threads at once: each needs a network of its own, or a lock around its calls") from None
+        self._is_broken = self._is_broken or not self._session.end.alive
+
+    @alone
+    def _ready(self) -> None:
+        """Raises what each call raises where the session cannot be asked."""
+
+    @alone
+    def _try_cases(self, cases: Sequence[Sequence[Command]], found: list[int]) -> None:
+        """Carries out cases, each of commands, and adds the greatest value of each to what is found. The network is as it was then."""
+        self._session.try_cases(cases, self._kept.value, found)
+
+    @alone
+    def _leaving_cut(self) -> list[Arc[Node]]:
+        """The open arcs out of the side of the smallest minimum cut, those that are not of a table too. Raises `FlowIsNotGreatest`."""
+        return self._kept.leaving(self._session.cut()[1])
+
+    def _begin_call(self) -> None:
+        if self._why_stopped or self._why_over:
+            raise SessionEnded(self._why_stopped or self._why_over)
+        if self._is_broken or self._has_sent_much():
+            self._begin_anew()
+        self._kept.begin_call()
+
+    def _break_off(self, present: weakref.ref[Flows[Node]] | None) -> None:
+        """Goes back to the state before the present call, which the session may have left. `present` was the present flow then."""
+        self._why_over = f"{TWICE} at once"
+        self._session.kill("the session was ended when a call was broken off")
+        self._kept.roll_back()
+        self._present, self._told = present, None
+        self._is_broken, self._why_over = True, ""
+
+    def _take_back(self, place: int, value: int) -> None:
+        """Takes back all changes but the first so many without the session. If that still goes on, it is ended, since something broke off
+        its `undo`."""
+        self._lose_flows()
+        if self._is_running:
+            self._session.kill("the session was ended when a call was broken off")
+            self._is_broken = True
+        self._kept.undo(self._kept.place - place, value)
+
+    def _has_sent_much(self) -> bool:
+        """Whether the session will soon have taken all the lines that it takes, and a new one would take fewer to get here."""
+        return self._session.is_full_after(MOST_LINES) and self._kept.place < MOST_LINES // 2
+
+    def _begin_anew(self) -> None:
+        """Has a new session carry out the commands that stand."""
+        self._why_over = f"{TWICE} while it began anew"
+        try:
+            session = started(self._kept, self._session.way)
+        except Exception as error:
+            self._why_over = str(error) if isinstance(error, SessionEnded) else ""
+            raise
+        session.program = self._session.program
+        self._session.end()
+        self._session = session
+        if self._why_stopped:
+            session.break_off(self._why_stopped)
+        self._is_broken, self._why_over = False, ""
+
+    def _stop(self, why: str) -> None:
+        """Ends the session at once and for good, for a thread that waits for an answer, or may ask later."""
+        self._why_stopped = why
+        self._session.break_off(why)
+
+    @property
+    def _is_free(self) -> bool:
+        """Whether nobody else has the session."""
+        return not self._taken and self._session.is_owned
+
+    @property
+    def _is_running(self) -> bool:
+        """Whether the session is there, in the state that is kept."""
+        return self._session.end.alive and not self._is_broken
+
+    def _stepped(self, command: Command, at: object = None) -> int:
+        """The value in the reply to a command that changes the network. Reads the flows that somebody has before the change."""
+        self._part()
+        value = self._session.step(command, at)
+        self._present = self._told = None
+        return value
+
+    def _changed(self, command: Command, at: object = None) -> int:
+        """As `_stepped`, for a new change."""
+        self._kept.judge_change()
+        return self._stepped(command, at)
+
+    def _asked_flow(self) -> Told:
+        """The present flow: its text, or the flow on each open arc."""
+        told = self._session.flows(self._kept.value, self._kept.open_count)
+        return self._kept.opened().chosen(told) if isinstance(told, array) else told
+
+    def _flows(self) -> Flows[Node]:
+        """The present flow. If nobody has looked at it, only its value is known so far."""
+        flows = None if self._present is None else self._present()
+        if flows is None:
+            flows = Flows(self._kept.value, self._kept.opened(), self._kept.capacities, self._ask_flow)
+            self._present = weakref.ref(flows)
+        return flows
+
+    @alone
+    def _ask_flow(self) -> Told:
+        """The present flow, for a caller who looks at it later than it was returned."""
+        return self._asked_flow()
+
+    def _lose_flows(self) -> None:
+        """Notes that nobody can tell the present flow any more, if it was not asked for."""
+        flows = None if self._present is None else self._present()
+        if flows is not None:
+            flows.lose(self._session.ended())
+        self._present = self._told = None
+
+    @alone
+    def _settle(self) -> None:
+        self._part()
+
+    def _part(self) -> None:
+        """Makes the present flow take its text before a change, if somebody still has the flow."""
+        flows = None if self._present is None else self._present()
+        if flows is not None:
+            flows.part(self._asked_flow)
+
+    def capacity_now(self, arc: Arc[Any]) -> int:
+        """The capacity of an open arc, for its handle."""
+        self._judge_arc(arc)
+        return self._kept.capacity(arc)
+
+    def is_open_now(self, arc: Arc[Any]) -> bool:
+        """Whether an arc is open, for its handle."""
+        return self._kept.has(arc) and arc.number not in self._kept.closed
+
+    def flow_now(self, arc: Arc[Any]) -> int:
+        """The flow on an arc, for its handle."""
+        self._judge_arc(arc)
+        if arc.number in self._kept.closed:
+            return 0
+        return Solution(self._tell_flows())[arc]
+
+    @alone
+    def _tell_flows(self) -> Flows[Node]:
+        """The present flow, with its text. It is kept until the next change, for the next arc."""
+        self._told = self._flows()
+        self._told.settle(self._asked_flow)
+        return self._told
+
+    def _judge_arc(self, arc: Arc[Any]) -> None:
+        if not self._kept.has(arc):
+            raise NoSuchArc(repr(arc))

@@ -1,0 +1,266 @@
+"""What is kept of a network outside its session, which knows only numbers: names, which arcs are open, and the changes."""
+
+from __future__ import annotations
+
+from array import array
+from collections.abc import Callable, Hashable, Iterable
+from typing import TYPE_CHECKING, Any, Generic
+
+from .arcs import Added, Arc, Columns, Handles, Node, OpenArcs, one_of
+from .history import Change, Changes
+from .errors import ArcIsClosed, CountOutOfRange, NoSuchArc, NotAnArc, shown
+from .text.lexical import MOST_NODES
+from .numbering import AMOUNTS
+from .rows import is_missing
+from .session.base import Command
+
+if TYPE_CHECKING:
+    from .text.table_comments import Described
+
+
+class Kept(Changes, Generic[Node]):
+    """The arcs of a network with the capacities that they have, or had when they were closed; which arcs are closed; the added arcs;
+    and the changes that can be undone or redone, of which there are at most `most`. With its commands and the first capacities, a session
+    can begin anew."""
+
+    # Who is told of each change, when it was made or unmade.
+    watcher: Callable[[Change, bool], None] | None = None
+
+    def __init__(self, columns: Columns[Node], capacities: array[int], source: Node, sink: Node, most: int) -> None:
+        """Raises `NoSuchNode` if the source or the sink is no node."""
+        super().__init__(most)
+        self.columns = columns
+        self.handles = Handles(columns)
+        self.capacities = capacities
+        self.closed: set[int] = set()
+        self.added: list[Arc[Node]] = []
+        # For each of these the number of the closed arc that it replaces.
+        self.replaced: list[int | None] = []
+        # The arcs of the network from which this one was copied. Their handles name the arcs here too.
+        self.origin: OpenArcs[Node] | None = None
+        # What the problem tells of its table.
+        self._described: Described | None = columns.described
+        self._added_index: Added[Node] | None = None
+        self._opened: OpenArcs[Node] | None = None
+        self.begin_here()
+        for node in source, sink:
+            self.number(node)
+        self.source, self.sink = source, sink
+
+    def begin_here(self) -> None:
+        """Takes the present state as the first one."""
+        self.first_count = len(self.capacities)
+        self._first_closed = frozenset(self.closed)
+        # The first capacities of those arcs that have another one now.
+        self._first: dict[int, int] = {}
+
+    @property
+    def described(self) -> Described:
+        """What the problem tells of its table."""
+        if self._described is None:
+            from .text.table_comments import Described
+
+            self._described = Described()
+        return self._described
+
+    @described.setter
+    def described(self, described: Described) -> None:
+        self._described = described
+
+    def number(self, node: Node) -> int:
+        """The number of a node. Raises `NoSuchNode`."""
+        return self.columns.number(node)
+
+    @property
+    def arc_count(self) -> int:
+        """How many arcs there are, closed ones counted."""
+        return len(self.capacities)
+
+    @property
+    def open_count(self) -> int:
+        return len(self.capacities) - len(self.closed)
+
+    def add_node(self, node: Node) -> bool:
+        """Adds a node, and returns whether it was not there. Arcs keep their handles."""
+        if node in self.columns.numbers:
+            return False
+        if is_missing(node):
+            raise NotAnArc(f"not an arc: the node {shown(node)} is no name")
+        if len(self.columns.numbers) >= MOST_NODES:
+            raise CountOutOfRange(shown(node))
+        columns = self.columns.with_node(node)
+        self.columns, self.handles, self._opened = columns, self.handles.with_columns(columns), None
+        return True
+
+    def first_capacity(self, number: int) -> int:
+        """The capacity that an arc had at first."""
+        return self._first.get(number, self.capacities[number - 1])
+
+    def first_capacities(self) -> array[int]:
+        """The capacities by which the first arcs stand in the problem of a session that begins anew. Those that were closed already stand
+        there too, with 0. The array may have more entries than that."""
+        if not self._first and not self._first_closed:
+            return self.capacities
+        capacities = self.capacities[:]
+        for number, capacity in self._first.items():
+            capacities[number - 1] = capacity
+        for number in self._first_closed:
+            capacities[number - 1] = 0
+        return capacities
+
+    def commands(self) -> list[Command]:
+        """The commands that lead from the problem of the first capacities to the present state."""
+        return [*(("close", number) for number in sorted(self._first_closed)), *super().commands()]
+
+    def opened(self) -> OpenArcs[Node]:
+        """The open arcs as they are now."""
+        if self._opened is None:
+            self._opened = OpenArcs(self.handles, tuple(self.added), self.closed)
+        return self._opened
+
+    def handle(self, number: int) -> Arc[Node]:
+        """The handle of an existing arc's number."""
+        return self.handles.of(number) if number <= len(self.columns) else self.added[number - len(self.columns) - 1]
+
+    def arc(self, key: Hashable) -> Arc[Node]:
+        """The arc of a handle, a key or a pair of ends. Raises `NoSuchArc` and `AmbiguousArc`."""
+        if isinstance(key, Arc):
+            if self.has(key):
+                return key
+            if self.origin is not None and self.origin.has(key) and key.number <= self.arc_count:
+                return self.handle(key.number)
+            raise NoSuchArc(repr(key))
+        numbers = [*self.columns.named(key), *(arc.number for arc in self._added_named(key))]
+        opened = [number for number in numbers if number not in self.closed]
+        if not numbers:
+            raise self.columns.no_such_arc(key)
+        if opened:
+            return one_of(list(map(self.handle, opened)), key)
+        return one_of([self.handle(number) for number in numbers if number not in self.replaced], key, "closed")
+
+    def _added_named(self, key: Hashable) -> list[Arc[Node]]:
+        if self._added_index is None:
+            self._added_index = Added(self.added)
+        return self._added_index.named(key)
+
+    def has(self, arc: Arc[Any]) -> bool:
+        """Whether a handle names an arc here, open or closed."""
+        if arc.number <= len(self.columns):
+            return self.handles.has(arc)
+        place = arc.number - len(self.columns) - 1
+        return self.added[place : place + 1] == [arc]
+
+    def at(self, node: Node) -> list[Arc[Node]]:
+        """The open arcs at a node, in their order."""
+        numbers = [number for number in self.columns.at(self.columns.numbers[node]) if number not in self.closed]
+        added = (arc for arc in self.added if node in (arc.tail, arc.head) and arc.number not in self.closed)
+        return [*map(self.handles.of, numbers), *added]
+
+    def leaving(self, side: list[int]) -> list[Arc[Node]]:
+        """The open arcs that lead out of a set of nodes, in their order."""
+        numbers = [number for number in self.columns.leaving(side) if number not in self.closed]
+        if not self.added:
+            return list(map(self.handles.of, numbers))
+        inside = set(side)
+        leaving = (arc for arc in self.added if self.columns.outlet(arc.tail) in inside and self.number(arc.head) not in inside)
+        added = (arc for arc in leaving if arc.number not in self.closed)
+        return [*map(self.handles.of, numbers), *added]
+
+    def capacity(self, arc: Arc[Node]) -> int:
+        """The capacity of an open arc. Raises `ArcIsClosed`."""
+        if arc.number in self.closed:
+            raise ArcIsClosed(repr(arc))
+        return self.capacities[arc.number - 1]
+
+    def note_capacities(self, command: Command, arcs: Iterable[Arc[Node]], after: int | None, value: int) -> None:
+        """Notes a change that gave these open arcs this capacity, or closed them. The flow has this value then."""
+        self.note(Change(command, [(arc.number, self.capacities[arc.number - 1], after) for arc in arcs]), value)
+
+    def _make(self, change: Change) -> None:
+        self._opened = None
+        if change.added:
+            arc, capacity, replaced = change.added
+            place = arc.number - len(self.columns) - 1
+            self._drop_added(place)
+            self.added[place:], self.replaced[place:] = [arc], [replaced]
+            self.capacities[arc.number - 1 :] = array(AMOUNTS, [capacity])
+            if self._added_index is not None:
+                self._added_index.put(arc)
+        for number, _, after in change.capacities:
+            self._put(number, after)
+        self._opened = None
+        if self.watcher:
+            self.watcher(change, True)
+
+    def _unmake(self, change: Change) -> None:
+        if change.added:
+            number = change.added[0].number
+            self._drop_added(number - len(self.columns) - 1)
+            del self.capacities[number - 1 :]
+        for number, before, _ in change.capacities:
+            self._put(number, before)
+        self._opened = None
+        if self.watcher:
+            self.watcher(change, False)
+
+    def _drop_added(self, place: int) -> None:
+        """Drops the added arcs from this one on, where there are some."""
+        for arc in self.added[place:]:
+            if self._added_index is not None:
+                self._added_index.drop(arc)
+        del self.added[place:], self.replaced[place:]
+
+    def _put(self, number: int, capacity: int | None) -> None:
+        """Gives an arc a capacity, or closes it."""
+        if capacity is None:
+            self.closed.add(number)
+            return
+        self.closed.discard(number)
+        # Where a call was broken off before the arc was added, it has none.
+        if number > len(self.capacities) or self.capacities[number - 1] == capacity:
+            return
+        if number <= self.first_count:
+            self._first.setdefault(number, self.capacities[number - 1])
+        self.capacities[number - 1] = capacity
+        if self._first.get(number) == capacity:
+            del self._first[number]
+
+    def roll_back(self) -> None:
+        """Goes back to the state before the present call, whatever of the call was done."""
+        self._added_index = self._opened = None
+        super().roll_back()
+
+    def copy(self) -> Kept[Node]:
+        """The same arcs as they are now, without changes and without flow. The handles of these arcs name the arcs of the copy too."""
+        copy = self._copy(Arc.again)
+        copy.begin_here()
+        return copy
+
+    def twin(self) -> Kept[Node]:
+        """The same arcs, with the same changes, made and undone, and the same flow. The handles of the arcs here name those there too."""
+        made: dict[Arc[Node], Arc[Node]] = {}
+
+        def again(arc: Arc[Node]) -> Arc[Node]:
+            made[arc] = made.get(arc) or arc.again()
+            return made[arc]
+
+        twin = self._copy(again)
+        twin.first_count, twin._first_closed, twin._first = self.first_count, self._first_closed, dict(self._first)
+        twin.take_changes(self, again)
+        return twin
+
+    def _copy(self, again: Callable[[Arc[Node]], Arc[Node]]) -> Kept[Node]:
+        """The same arcs, with handles of their own for the added ones."""
+        copy = Kept(self.columns, self.capacities[:], self.source, self.sink, self.most)
+        copy.closed = set(self.closed)
+        copy._described = self._described
+        copy.origin = self.opened() if self.origin is None else self.origin
+        for arc, replaced in zip(self.added, self.replaced):
+            copy.put_added(again(arc), replaced)
+        return copy
+
+    def put_added(self, arc: Arc[Node], replaced: int | None) -> None:
+        """Takes in an arc that was added before. It replaces this closed one, if there is one; its capacity is there."""
+        self.added.append(arc)
+        self.replaced.append(replaced)
+        self._added_index = None

@@ -1,0 +1,181 @@
+"""Solved copies of a network, on which the cases of a sweep are tried and taken back."""
+
+from __future__ import annotations
+
+import threading
+import time
+from collections.abc import Callable
+from itertools import takewhile
+from typing import Any, NamedTuple, Tuple, Union
+
+from ..session.fresh import Anew
+from ..arcs import Arc
+from ..errors import Error, NoProgram, SessionEnded
+from ..state import Kept
+from ..network import Network
+from ..text.lexical import LARGEST, MOST_ARCS
+from ..rows import whole
+from ..session.base import MOST_COMMANDS, FilePath, Way
+from ..session.base import Command as Numbered
+
+# A command of a case: ("cap", arc, capacity), ("close", arc), ("open", arc), ("shut", node) or ("add", tail, head, capacity).
+Command = Tuple[Any, ...]
+# A case as a copy takes it: commands with the numbers of arcs, or a function.
+Plain = Union["list[Command]", Callable[[Network[Any]], object]]
+# How often a case is tried.
+TRIES = 2
+
+
+class Answer(NamedTuple):
+    """What a copy tells of a case: its value and the arcs of its cut, by their numbers or, where they were added, as they are."""
+
+    value: int = 0
+    cut: tuple[int | Arc[Any], ...] | None = None
+    refusal: Error | None = None
+
+
+def _try(network: Network[Any], case: Plain, want_cut: bool) -> Answer:
+    """What comes of a case on a solved network, which is then as it was."""
+    known = network._kept.arc_count
+    with network.try_out():
+        if callable(case):
+            # A case makes nothing again that another one has undone.
+            network._kept.forget_undone()
+            case(network)
+        else:
+            for word, *rest in case:
+                if word in ("cap", "close", "open"):
+                    rest[0] = network._kept.handle(rest[0])
+                if word in ("cap", "add"):
+                    rest[-1] = network._quantity(rest[-1])
+                getattr(network, word)(*rest)
+        network.solve()
+        value = network._kept.value
+        if not want_cut:
+            return Answer(value)
+        return Answer(value, tuple(arc.number if arc.number <= known else arc for arc in network._leaving_cut()))
+
+
+def _try_together(network: Network[Any], cases: list[list[Numbered]], answers: list[Answer]) -> None:
+    """Tries cases at once, and adds what comes of each. Raises `SessionEnded` if one is refused."""
+    values: list[int] = []
+    try:
+        network._try_cases(cases, values)
+    finally:
+        answers.extend(map(Answer, values))
+
+
+class Copy:
+    """A solved copy of a network, which is begun when a case comes, and anew where its session ends. Its problem may be in a file that
+    several programs read. With `anew` it is not solved, and each case is, from nothing, by this program."""
+
+    def __init__(self, kept: Kept[Any], way: Way, path: str | None = None, anew: FilePath | None = None) -> None:
+        self._kept = kept
+        self._anew = anew
+        self._way = way
+        self._path = path
+        # How long it took to begin, in seconds, each time counted.
+        self.begin_seconds = 0.0
+        self._is_over = False
+        self._lock = threading.Lock()
+        # What may be added to the capacities.
+        self._room = LARGEST - sum(kept.first_capacities())
+        self.network: Network[Any] | None = None
+        self.used = time.monotonic()
+
+    def answers(self, cases: list[Plain | Error], want_cut: bool) -> list[Answer]:
+        """What comes of cases. Sends those together that no session refuses, so that a program need not wait for the next one. If
+        it ends at one of these, tries that once more."""
+        answers: list[Answer] = []
+        while len(answers) < len(cases):
+            together: list[list[Numbered]] = []
+            if not want_cut:
+                together.extend(takewhile(bool, map(self._commands, cases[len(answers) :])))
+            tries = TRIES
+            if len(together) > 1:
+                try:
+                    _try_together(self._solved(), together, answers)
+                    continue
+                except Error:
+                    self.end()
+                    tries = 1
+            answers.append(self._answer(cases[len(answers)], want_cut, tries))
+        return answers
+
+    def _answer(self, case: Plain | Error, want_cut: bool, tries: int) -> Answer:
+        """What comes of a case. If the session ends, tries it once more, if a try is left."""
+        if isinstance(case, Error):
+            return Answer(refusal=case)
+        for left in reversed(range(tries)):
+            try:
+                return _try(self._solved(), case, want_cut)
+            except SessionEnded as error:
+                self.end()
+                if not left or self._is_over:
+                    return Answer(refusal=error)
+            except NoProgram:
+                raise
+            except Error as error:
+                return Answer(refusal=error)
+        raise AssertionError
+
+    def _commands(self, case: Plain | Error) -> list[Numbered]:
+        """The commands of a case that a session can refuse for want of memory alone, and none for another case."""
+        if not isinstance(case, list) or len(case) > MOST_COMMANDS:
+            return []
+        changed: set[int] = set()
+        amount = added = 0
+        try:
+            commands = [command if command[0] == "close" else self._in_numbers(*command) for command in case]
+        except Error:
+            return []
+        for word, number, *rest in commands:
+            if word in ("close", "cap"):
+                if number in changed or number in self._kept.closed:
+                    return []
+                changed.add(number)
+            elif word != "add" and (word != "shut" or len(commands) > 1):
+                return []
+            else:
+                added += word == "add"
+            amount += rest[-1] if rest else 0
+        return commands if amount <= self._room and self._kept.arc_count + added <= MOST_ARCS else []
+
+    def _in_numbers(self, word: str, *rest: Any) -> Numbered:
+        """A command with its nodes by number, too. Raises a `Refused` if something in it is no node or no capacity."""
+        if word == "add":
+            tail, head, capacity = rest
+            return word, self._kept.columns.outlet(tail), self._kept.number(head), whole(capacity, rest)
+        if word == "cap":
+            return word, rest[0], whole(rest[1], rest)
+        return word, self._kept.number(rest[0]) if word == "shut" else rest[0]
+
+    def _solved(self) -> Network[Any]:
+        if self._is_over:
+            raise SessionEnded("the sweep was ended")
+        if self.network is None:
+            began = time.monotonic()
+            network: Network[Any] = self._kept.columns.network_class()._of(self._kept.copy(), self._way, self._path)
+            with self._lock:
+                self.network = network
+                if self._anew is not None:
+                    network._session = Anew(network._session, self._anew)
+                if self._is_over:
+                    network._stop("the sweep was ended")
+            if self._anew is None:
+                network.solve()
+            self.begin_seconds += time.monotonic() - began
+        return self.network
+
+    def end(self) -> None:
+        """Ends the session."""
+        network, self.network = self.network, None
+        if network:
+            network._session.end()
+
+    def break_off(self) -> None:
+        """Ends the session for another thread that waits for it, and lets it begin no more."""
+        with self._lock:
+            self._is_over = True
+            if self.network:
+                self.network._stop("the sweep was ended")

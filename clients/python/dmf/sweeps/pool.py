@@ -1,0 +1,322 @@
+"""How the cases of a sweep are tried: by sessions of this process, or in the processes of an executor, which may be elsewhere."""
+
+from __future__ import annotations
+
+import contextlib
+import functools
+import os
+import pickle
+import threading
+import time
+from collections.abc import Callable
+from dataclasses import dataclass
+from typing import TYPE_CHECKING, Any
+
+from ..arcs import Arc
+from .copies import Answer, Copy, Plain
+from ..errors import Error
+from ..state import Kept
+from ..session.base import MOST_KEPT, PROGRAM, FilePath, Program, Way
+from ..session.runners import chosen, problem_file, program_of
+
+if TYPE_CHECKING:
+    from concurrent.futures import Executor, Future
+
+# How many cases an executor is given at first, and how many such pieces wait for each of its workers.
+PIECE, WAITING = 16, 2
+# Later as many cases are given at once as are tried in so many seconds, but no more than this.
+SOON, MOST_AT_ONCE = 0.1, 256
+# How long a copy waits in the process of an executor for the next cases before it is ended, in seconds.
+PATIENCE = 30.0
+
+
+class Tries:
+    """How cases are tried: `size` of them at once, and `most` such pieces before the first is waited for. The size begins with `first`,
+    and follows the time that cases take. After these, the pieces that wait never have more cases than were answered before."""
+
+    first = 1
+
+    def __init__(self, most: int) -> None:
+        self.most = most
+        self.size = self.first
+        self._answered = 0
+
+    def learn(self, count: int, seconds: float) -> None:
+        """Notes how long so many cases took."""
+        self._answered += count
+        soon = int(SOON * count / max(seconds, 1e-9))
+        self.size = max(1, min(soon, max(self.first, self._answered // self.most), MOST_AT_ONCE))
+
+    def begin(self, cases: list[Plain | Error]) -> Pending:
+        """Begins cases; what is returned waits for their answers."""
+        raise NotImplementedError
+
+    def close(self) -> None:
+        """Ends all that was begun."""
+        raise NotImplementedError
+
+
+Pending = Callable[[], "list[Answer]"]
+
+
+class Here(Tries):
+    """Sessions of this process, each with a thread that waits for it. Programs read one file. The first tries the cases alone, and another one
+    begins when those that are there have tried cases for as long as it took them to begin, and will for as long again, if it is known
+    how many cases there are. So all sessions together take about half as long again as one would, at most. The first cases of a session
+    count to its beginning, since it makes then what all cases use."""
+
+    def __init__(
+        self, kept: Kept[Any], way: Way, want_cut: bool, jobs: int, count: int | None = None, anew: FilePath | None = None
+    ) -> None:
+        """`count` is how many cases there are, if that is known. `anew` is the program that solves each from nothing, if one does."""
+        # It takes 1 MB, and nothing else needs it.
+        from concurrent.futures import ThreadPoolExecutor
+
+        super().__init__(4 * jobs)
+        self._count = count
+        self._begin_copy = functools.partial(Copy, kept, way, anew=anew)
+        self._want_cut = want_cut
+        self._jobs = jobs
+        self._stack = contextlib.ExitStack()
+        self._file = problem_file(kept) if isinstance(way, PROGRAM) else contextlib.nullcontext(None)
+        self._path: str | None = None
+        self._copies: list[Copy] = []
+        # The copies that no thread has. Whoever waits for a copy waits for a change.
+        self._free: list[Copy] = []
+        # How many copies have begun, and in how many seconds; how many cases were tried so far, and in how many seconds; and how long each
+        # of the last ones took.
+        self._begun_count, self._begun = 0, 0.0
+        self._tried_count, self._tried = 0, 0.0
+        self._pace = 0.0
+        self._is_over = False
+        self._changed = threading.Condition()
+        self._threads = ThreadPoolExecutor(jobs, "dmf-sweep")
+
+    def begin(self, cases: list[Plain | Error]) -> Pending:
+        return self._threads.submit(self._answers, cases).result
+
+    def _answers(self, cases: list[Plain | Error]) -> list[Answer]:
+        copy = self._take()
+        began, before = time.monotonic(), copy.begin_seconds
+        try:
+            return copy.answers(cases, self._want_cut)
+        finally:
+            seconds = time.monotonic() - began - (copy.begin_seconds - before)
+            with self._changed:
+                self._free.append(copy)
+                self._note(len(cases), seconds, copy.begin_seconds - before, is_first=not before)
+                self._changed.notify_all()
+            self.learn(len(cases), seconds)
+
+    def _note(self, count: int, seconds: float, begin_seconds: float, is_first: bool) -> None:
+        """Notes how long so many cases took, and how long their copy took to begin before them."""
+        self._tried_count += count
+        self._tried += seconds
+        self._begun += begin_seconds + (seconds if is_first else 0)
+        self._begun_count += is_first
+        self._pace = seconds / count
+
+    def _take(self) -> Copy:
+        """A copy that no other thread has: one that has begun, or another one if that is worth it."""
+        with self._changed:
+            self._changed.wait_for(lambda: self._free or self._is_worth_another())
+            if self._free:
+                return self._free.pop()
+            self._path = self._path or self._stack.enter_context(self._file)
+            copy = self._begin_copy(self._path)
+            if self._is_over:
+                copy.break_off()
+            self._copies.append(copy)
+            return copy
+
+    def _is_worth_another(self) -> bool:
+        if self._is_over or not self._copies:
+            return True
+        if len(self._copies) >= self._jobs or self._begun_count < len(self._copies) or self._tried < self._begun:
+            return False
+        return self._count is None or (self._count - self._tried_count) * self._pace >= self._begun
+
+    def close(self) -> None:
+        with self._changed:
+            self._is_over = True
+            self._changed.notify_all()
+        for copy in self._copies:
+            copy.break_off()
+        self._threads.shutdown(cancel_futures=True)
+        for copy in self._copies:
+            copy.end()
+        self._stack.close()
+
+
+def _workers(executor: Any) -> int:
+    """How many processes or threads an executor has, as far as it says; the client of dask.distributed says it."""
+    workers = getattr(executor, "_max_workers", None)
+    if isinstance(workers, int):
+        return workers
+    threads = getattr(getattr(executor, "_client", None), "nthreads", None)
+    return (sum(threads().values()) if callable(threads) else 0) or os.cpu_count() or 1
+
+
+@dataclass(eq=False)
+class _Piece:
+    """Cases that an executor was given, what it promises of them, and the error for which it takes them no more."""
+
+    asked: Any
+    future: Future[Any]
+    error: Exception | None = None
+
+
+class There(Tries):
+    """Processes of an executor, which may be on other machines."""
+
+    first = PIECE
+
+    def __init__(self, sent: Sent, executor: Executor, want_cut: bool) -> None:
+        # It takes 4 MB, and nothing else needs it.
+        import hashlib
+
+        self._executor = executor
+        self._want_cut = want_cut
+        self._sent = pickle.dumps(sent)
+        self._name = hashlib.sha256(self._sent).hexdigest()
+        # At first one piece for each of the workers, with which the network is sent.
+        self._workers = _workers(executor)
+        super().__init__(self._workers)
+        self._futures: list[Future[Any]] = []
+        # The pieces that go out again, with the network, if their process has it not yet.
+        self._first: list[_Piece] = []
+
+    def begin(self, cases: list[Plain | Error]) -> Pending:
+        asked = pickle.dumps((cases, self._want_cut)) if not any(map(callable, cases)) else (cases, self._want_cut)
+        piece = _Piece(asked, self._submit(None, asked))
+        self._first.append(piece)
+        return lambda: self._answers(piece)
+
+    def _answers(self, piece: _Piece) -> list[Answer]:
+        """The answers of a piece. While it waits for them, it sends the network with every piece whose process lacks it, so that all
+        processes begin at once."""
+        from concurrent.futures import FIRST_COMPLETED, wait
+
+        while piece in self._first:
+            wait([first.future for first in self._first], return_when=FIRST_COMPLETED)
+            for first in [first for first in self._first if first.future.done()]:
+                self._first.remove(first)
+                self._send_again(first)
+        if piece.error is not None:
+            raise piece.error
+        answers: list[Answer]
+        answers, seconds = piece.future.result()
+        self._futures.remove(piece.future)
+        self.most = WAITING * self._workers
+        self.learn(len(answers), seconds)
+        return answers
+
+    def _send_again(self, piece: _Piece) -> None:
+        """Sends a piece once more, with the network, if its process had that not yet, or died."""
+        try:
+            error = piece.future.exception()
+            if _is_lost(error) if error is not None else piece.future.result() is None:
+                self._futures.remove(piece.future)
+                piece.future = self._submit(self._sent, piece.asked)
+        except Exception as error:
+            # It is told in its turn.
+            piece.error = error
+
+    def _submit(self, sent: bytes | None, asked: Any) -> Future[Any]:
+        future = self._executor.submit(_answers_there, self._name, sent, asked)
+        self._futures.append(future)
+        return future
+
+    def close(self) -> None:
+        for future in self._futures:
+            future.cancel()
+
+
+def _is_lost(error: BaseException) -> bool:
+    """Whether an executor says that the process of a task died, and no error of the task's own."""
+    return type(error).__name__ in ("KilledWorker", "BrokenProcessPool", "CommClosedError", "BrokenExecutor")
+
+
+@dataclass
+class Sent:
+    """A network as it is sent to another process, the program, where the caller named it, and whether its cases are solved anew."""
+
+    columns: Any
+    capacities: Any
+    added: list[tuple[Any, ...]]
+    closed: set[int]
+    ends: tuple[Any, Any]
+    program: Program
+    is_anew: bool
+
+    @staticmethod
+    def of(kept: Kept[Any], program: Program, is_anew: bool = False) -> Sent:
+        rows = zip(kept.added, kept.replaced)
+        added: list[tuple[Any, ...]] = [((arc.number, arc.tail, arc.head, arc.given_key), replaced) for arc, replaced in rows]
+        return Sent(kept.columns, kept.capacities, added, kept.closed, (kept.source, kept.sink), program, is_anew)
+
+    def kept(self) -> Kept[Any]:
+        kept = Kept(self.columns, self.capacities, *self.ends, MOST_KEPT)
+        for row, replaced in self.added:
+            kept.put_added(Arc(*row), replaced)
+        kept.closed = self.closed
+        kept.begin_here()
+        return kept
+
+
+# The copies in this process that no case uses now, and how another one is made, by the name of what was sent.
+_free: dict[str, list[Copy]] = {}
+_known: dict[str, Callable[[], Copy]] = {}
+_free_lock = threading.Lock()
+
+
+def _forget_copies() -> None:
+    """In a process that was forked off: the copies are those of the process before it."""
+    global _free_lock
+    _free.clear()
+    _free_lock = threading.Lock()
+
+
+os.register_at_fork(after_in_child=_forget_copies)
+
+
+def _answers_there(name: str, sent: bytes | None, asked: Any) -> tuple[list[Answer], float] | None:
+    """What comes of cases in the process of an executor, and how many seconds that takes; None if it needs the network first."""
+    with _free_lock:
+        copies = _free.get(name, [])
+        copy = copies.pop() if copies else None
+        if copy is None and name in _known:
+            copy = _known[name]()
+    if copy is None:
+        if sent is None:
+            return None
+        network: Sent = pickle.loads(sent)
+        anew = program_of(network.program) if network.is_anew else None
+        another = functools.partial(Copy, network.kept(), chosen(network.program), anew=anew)
+        with _free_lock:
+            _known.clear()
+            _known[name] = another
+        copy = another()
+    cases, want_cut = pickle.loads(asked) if isinstance(asked, bytes) else asked
+    try:
+        began = time.monotonic()
+        return copy.answers(cases, want_cut), time.monotonic() - began
+    finally:
+        copy.used = time.monotonic()
+        with _free_lock:
+            _free.setdefault(name, []).append(copy)
+        timer = threading.Timer(PATIENCE, _end_idle)
+        timer.daemon = True
+        timer.start()
+
+
+def _end_idle() -> None:
+    """Ends the copies that no case has used for a while."""
+    now = time.monotonic()
+    with _free_lock:
+        for name, copies in list(_free.items()):
+            for copy in [copy for copy in copies if now - copy.used >= PATIENCE]:
+                copies.remove(copy)
+                copy.end()
+            if not copies:
+                del _free[name]

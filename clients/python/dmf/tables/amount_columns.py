@@ -1,0 +1,343 @@
+"""A column of numbers as people write them: `47,3`, `1.200,5`, `1 200`, `1e3`, `12 l/s`. How they are read is settled for the whole
+column: the decimal sign is the one that every cell admits, and the unit the one that every cell has.
+"""
+
+from __future__ import annotations
+
+import re
+import unicodedata
+from array import array
+from collections.abc import Callable, Iterator, Sequence
+from dataclasses import dataclass
+from decimal import Decimal
+from itertools import repeat
+from math import gcd
+from operator import mul
+from typing import Optional
+
+from ..numbering import AMOUNTS
+from ..quantity import COMMA, EXACT, LARGEST, LONGEST_NUMBER, POINT, SIGNS, Measure, decimals, plain_text, readings
+from ..text.cells import shown
+from .faults import Faults
+from .sheet_tables import PIECE, Exact
+
+# The most characters of a number that is read together with others.
+PLAIN_LENGTH = 18
+# Up to where floats have each whole number and a bit more.
+LARGEST_EXACT = 1 << 50
+# A cell of digits and one kind of sign in which that sign does not stand between thousands.
+_UNGROUPED = {sign: re.compile(rf"^(?![1-9][0-9]{{0,2}}(?:{re.escape(sign)}[0-9]{{3}})+$)[0-9{sign}]*{re.escape(sign)}", re.MULTILINE) for sign in SIGNS}
+_WITH_UNIT = re.compile(r"(.*?[0-9.,])\s+([^\s\d.,'+-][^\d]*(?:[23\xb2\xb3][^\d]*)?)", re.DOTALL)
+_DATE = re.compile(r"[0-9]{1,4}[./-](?:[0-9]{1,2}|[^\W\d]{3,9})[./-][0-9]{2,4}(?:[ T][0-9:.]+)?|[0-9]{4}-[0-9]{2}-[0-9]{2}.*|[0-9]{1,2}\.? [^\W\d]{3,9}\.?,? [0-9]{2,4}")
+_ENDLESS = re.compile(r"[+-]?(?:nan|inf(?:inity)?|\u221e|unlimited|unendlich|unbegrenzt)", re.IGNORECASE)
+# Cells without a digit, or with two signs, among cells of digits and signs.
+_NO_NUMBER = {sign: re.compile(rf"^{re.escape(sign)}?$|{re.escape(sign)}[0-9]*{re.escape(sign)}", re.MULTILINE) for sign in SIGNS}
+# Cells of at least 1 decimal, 2 and so on.
+_DECIMALS = {sign: [re.compile(rf"{re.escape(sign)}[0-9]{{{count}}}") for count in range(1, PLAIN_LENGTH + 1)] for sign in SIGNS}
+OTHER = {POINT: COMMA, COMMA: POINT}
+NAMES = {POINT: "point", COMMA: "comma"}
+
+
+def no_number(text: str) -> str:
+    """Why a text is no number, and what would do."""
+    if _DATE.fullmatch(text):
+        return "is a date, and no number"
+    if _ENDLESS.fullmatch(text):
+        return "is no number; where there is no limit, write a number that is large enough"
+    if text[:1] == "=" or text[:1] == "#" and text[1:2].isalpha():
+        return "is no number, but a formula or its fault"
+    return "is no number; a number is digits, perhaps with a decimal sign, as 47.3 or 47,3"
+
+
+def read_cell(cell: str) -> tuple[dict[str, Decimal], str]:
+    """The readings of a cell by the decimal sign, as `readings` gives them, and its unit."""
+    if isinstance(cell, Exact):
+        number = Decimal(cell)
+        return {POINT: number, COMMA: number}, ""
+    text = cell.strip()
+    found = readings(text)
+    if not found and (parts := _WITH_UNIT.fullmatch(text)):
+        return readings(parts[1]), " ".join(parts[2].split())
+    return found, ""
+
+
+@dataclass
+class Plain:
+    """Cells with nothing but digits and at most one decimal sign, which is the same in all: their numbers, over ten to the power of
+    `decimals`. `telling` is one of those with the sign, and its place: one that admits no other, if there is one."""
+
+    numbers: Sequence[int]
+    decimals: int = 0
+    sign: str = ""
+    telling: tuple[int, str] = (0, "")
+
+
+@dataclass
+class _Piece:
+    """Some cells of a column, and what they are if they are plain. `first` is the place of the first one in the column."""
+
+    first: int
+    cells: Callable[[], list[str]]
+    plain: Optional[Plain] = None
+
+
+class Amounts:
+    """A column of numbers. `what` is what messages call one, and `column` its number, from 1 on. `unit` is that of the title, and `named` says
+    that the title names it as one, and is not just a word for what is counted."""
+
+    def __init__(self, what: str, column: int = 0, path: str = "", unit: str = "", *, named: bool = True) -> None:
+        self.what = what
+        self.column = column
+        self.path = path
+        # The unit of the title, and then of all cells.
+        self.unit = unit
+        self._word = "" if named else unit
+        self.sign = ""
+        self.lines: Sequence[int] = []
+        # The numbers, over ten to the power of this.
+        self.decimals = 0
+        self.numbers: Sequence[int] = []
+        self._count = 0
+        self._pieces: list[_Piece] = []
+        self._read: dict[str, tuple[dict[str, Decimal], str]] = {}
+
+    def add(self, cells: list[str]) -> None:
+        """Takes in cells below those that are there."""
+        cells = [it if isinstance(it, Exact) else it.strip() for it in cells]
+        self._put(len(cells), lambda: cells, _plain(cells))
+
+    def add_plain(self, plain: Plain, count: int, cells: Callable[[], list[str]]) -> None:
+        """The same of so many cells that are plain."""
+        self._put(count, cells, plain)
+
+    def _put(self, count: int, cells: Callable[[], list[str]], plain: Optional[Plain]) -> None:
+        self._pieces.append(_Piece(self._count, cells, plain))
+        self._count += count
+
+    @property
+    def named_unit(self) -> str:
+        """The unit, if the title or the cells name one."""
+        return self.unit if self.unit != self._word else ""
+
+    def judge_beside(self, other: Amounts, faults: Faults) -> None:
+        """Sees to it that this column has no other unit than another one."""
+        mine, theirs = self.named_unit, other.named_unit
+        if self.lines and mine and theirs and _folded(mine) != _folded(theirs):
+            faults.add(f"the {self.what} has the unit {shown(mine)}, and the {other.what} has {shown(theirs)}", self.lines[0], self.column)
+
+    def reading(self, cell: str) -> tuple[dict[str, Decimal], str]:
+        found = self._read.get(cell)
+        if found is None or isinstance(cell, Exact):
+            found = read_cell(cell)
+            if len(self._read) < 100_000 and not isinstance(cell, Exact):
+                self._read[cell] = found
+        return found
+
+    def settle(self, lines: Sequence[int], faults: Faults, given: str = "", usual: str = "") -> None:
+        """Reads all cells, which stand in these lines: with the decimal sign that was given, or else the one that all admit; where both
+        are left, with the usual one of the table, if it has one. What cannot be read goes to the faults."""
+        self.lines = lines
+        self.sign = given or self._settled_sign(faults, usual)
+        self._judge_units(faults)
+        read = [self._read_piece(piece, faults) for piece in self._pieces]
+        most = max((plain.decimals - _zeros(plain) for plain in read), default=0)
+        numbers = array(AMOUNTS)
+        rest: list[int] = []
+        for plain in read:
+            over = _over(plain, most)
+            try:
+                if rest:
+                    raise OverflowError
+                numbers.extend(array(AMOUNTS, over))
+            except OverflowError:
+                rest += over
+        self.numbers = [*numbers, *rest] if rest else numbers
+        self._pieces.clear()
+        self._read.clear()
+        self.decimals = most
+        self._judge_negative(faults)
+
+    def _settled_sign(self, faults: Faults, usual: str) -> str:
+        """The sign that all cells admit; none if the sign makes no difference."""
+        # For each sign the first cell that admits no other, and the first that is another number with it.
+        only: dict[str, tuple[int, str]] = {}
+        open_cell: tuple[int, str] | None = None
+        for place, cell, found in self._telling():
+            numbers = set(found.values())
+            if len(found) == 1:
+                only.setdefault(next(iter(found)), (place, cell))
+            elif len(numbers) == 2 and open_cell is None:
+                open_cell = place, cell
+        if len(only) == 2:
+            (first, one), (second, other) = sorted(only.values())
+            told = f"the {self.what} {shown(other)} has another decimal sign than {shown(one)} in line {self.lines[first]}"
+            faults.add(f"{told}; change one, or name the sign: --decimal . or --decimal ,", self.lines[second], self.column)
+            return ""
+        if only:
+            return next(iter(only))
+        if open_cell and not usual:
+            place, cell = open_cell
+            found, unit = self.reading(cell)
+            both = " or ".join(f"{plain_text(found[sign])} with a decimal {NAMES[sign]}" for sign in SIGNS)
+            faults.add(f"the {self.what} {shown(cell.strip())} may be {both}: --decimal . or --decimal ,", self.lines[place], self.column)
+        return usual if open_cell else ""
+
+    def _telling(self) -> Iterator[tuple[int, str, dict[str, Decimal]]]:
+        """The cells that tell something of the sign, with their readings: enough of them."""
+        for piece in self._pieces:
+            if piece.plain:
+                place, cell = piece.plain.telling
+                if piece.plain.sign:
+                    yield piece.first + place, cell, readings(cell)
+                continue
+            for place, cell in enumerate(piece.cells(), piece.first):
+                found = self.reading(cell)[0]
+                if found and (len(found) == 1 or found[POINT] != found[COMMA]):
+                    yield place, cell, found
+
+    def _judge_units(self, faults: Faults) -> None:
+        """Sees to it that all cells have one unit, or that of the title."""
+        units: dict[str, int] = {}
+        for piece in self._pieces:
+            if piece.plain:
+                units.setdefault("", piece.first)
+                continue
+            for place, cell in enumerate(piece.cells(), piece.first):
+                found, unit = self.reading(cell)
+                if found and (unit or any(found.values())):
+                    units.setdefault(unit, place)
+        named = {unit: place for unit, place in units.items() if unit}
+        # A word in the title that need be no unit gives way to the unit of the cells.
+        of_title = self.unit if self.named_unit or _folded(self.unit) in map(_folded, named) else ""
+        wanted = of_title or next(iter(named), self.unit)
+        for unit, place in named.items():
+            if _folded(unit) != _folded(wanted):
+                where = "the title" if of_title else f"line {self.lines[named[wanted]]}"
+                faults.add(f"a {self.what} has the unit {shown(unit)}, and {where} has {shown(wanted)}", self.lines[place], self.column)
+        if named and "" in units and not of_title:
+            told = f"a {self.what} has no unit, and line {self.lines[named[wanted]]} has {shown(wanted)}"
+            faults.add(told, self.lines[units[""]], self.column)
+        self.unit = wanted
+
+    def _read_piece(self, piece: _Piece, faults: Faults) -> Plain:
+        """The numbers of a piece with the sign that was settled. If that is another one, or cells are not plain, each is read by itself."""
+        if piece.plain and piece.plain.sign in ("", self.sign):
+            return piece.plain
+        numbers = [self._number(place, cell, faults) for place, cell in enumerate(piece.cells(), piece.first)]
+        most = max(map(decimals, numbers))
+        return Plain([int(EXACT.scaleb(number, most)) for number in numbers], most)
+
+    def _number(self, place: int, cell: str, faults: Faults) -> Decimal:
+        found = self.reading(cell)[0]
+        if found and (not self.sign or self.sign in found):
+            # Without a sign it makes no difference, or a fault was told.
+            return found[self.sign or next(iter(found))]
+        text = cell.strip()
+        if not text:
+            reason = f"no {self.what}"
+        elif len(text) > LONGEST_NUMBER and text.isdigit():
+            reason = f"the {self.what} {shown(text)} is past {LARGEST}"
+        elif found:
+            reason = f"the {self.what} {shown(text)} is no number with a decimal {NAMES[self.sign]}"
+        else:
+            reason = f"the {self.what} {shown(text)} {no_number(text)}"
+        faults.add(reason, self.lines[place], self.column)
+        return Decimal(0)
+
+    def _judge_negative(self, faults: Faults) -> None:
+        if isinstance(self.numbers, list) and min(self.numbers) < 0:
+            for place, number in enumerate(self.numbers):
+                if number < 0:
+                    faults.add(f"the {self.what} {self._shown(place)} is below 0", self.lines[place], self.column)
+
+    def wholes(self, measure: Measure, faults: Faults) -> Sequence[int]:
+        """The whole numbers by which these numbers stand in a problem. One past 64 bits, or no whole number, goes to the faults."""
+        scale, over = measure.scale.as_integer_ratio()
+        over *= 10**self.decimals
+        common = gcd(scale, over)
+        scale, over = scale // common, over // common
+        wholes = self.numbers if scale == 1 else [number * scale for number in self.numbers]
+        if over != 1:
+            self._judge_whole(wholes, over, measure, faults)
+            wholes = [number // over for number in wholes]
+        if isinstance(wholes, list) and max(wholes, default=0) > LARGEST:
+            for place, number in enumerate(wholes):
+                if number > LARGEST:
+                    faults.add(f"the {self.what} {self._shown(place)} is past {measure.text(LARGEST)}", self.lines[place], self.column)
+        return wholes
+
+    def _judge_whole(self, numbers: Sequence[int], over: int, measure: Measure, faults: Faults) -> None:
+        for place, number in enumerate(numbers):
+            if number % over:
+                quantity = self.quantity(place)
+                hint = f"; --scale {10 ** decimals(quantity)}?"
+                told = f"the {self.what} {self._shown(place)} times {measure.scale:f} is no whole number{hint}"
+                faults.add(told, self.lines[place], self.column)
+
+    def _shown(self, place: int) -> str:
+        """A number as messages show it: with the decimal sign of the column."""
+        return shown(plain_text(self.quantity(place)).replace(POINT, self.sign or POINT))
+
+    def quantity(self, place: int) -> Decimal:
+        """The number at a place."""
+        return EXACT.scaleb(Decimal(self.numbers[place]), -self.decimals)
+
+
+def _folded(unit: str) -> str:
+    """A unit without what is only another way to write it: `m3/h` for `m\xb3 / h` and for `m^3/h`."""
+    return "".join(unicodedata.normalize("NFKC", unit).replace("^", "").split())
+
+
+def _plain(cells: list[str]) -> Plain | None:
+    """These cells, if they are plain and not too long."""
+    if set(map(type, cells)) != {str} or not 0 < min(map(len, cells)) <= max(map(len, cells)) <= PLAIN_LENGTH:
+        return None
+    text = "\n".join(cells)
+    digits = "".join(cells)
+    if not text.isascii() or digits.isdigit():
+        return Plain([*map(int, cells)]) if text.isascii() else None
+    for sign in SIGNS:
+        if digits.replace(sign, "").isdigit():
+            return None if _NO_NUMBER[sign].search(text) else _plain_decimals(cells, text, sign)
+    return None
+
+
+def _plain_decimals(cells: list[str], text: str, sign: str) -> Plain:
+    found = _UNGROUPED[sign].search(text)
+    at = found.start() if found else text.rfind("\n", 0, text.index(sign)) + 1
+    telling = text.count("\n", 0, at), text[at:].partition("\n")[0]
+    most = 0
+    while _DECIMALS[sign][most].search(text):
+        most += 1
+    numbers = _scaled(cells if sign == POINT else text.replace(sign, POINT).split("\n"), most)
+    return Plain(numbers, most, sign, telling)
+
+
+def _scaled(cells: list[str], most: int) -> list[int]:
+    """Decimal numbers, times ten to this power."""
+    # A number whose digits are below 2^50 is exact: each step is off by less than its 2^52nd part.
+    numbers: list[int] = list(map(round, map(mul, map(float, cells), repeat(10.0**most))))
+    if max(numbers) >= LARGEST_EXACT:
+        numbers = list(map(int, map(mul, map(Decimal, cells), repeat(Decimal(10) ** most))))
+    return numbers
+
+
+def _zeros(plain: Plain) -> int:
+    """How many of the decimals of all numbers are zeros at the end."""
+    common = 10**plain.decimals
+    for begin in range(0, len(plain.numbers), PIECE):
+        common = gcd(common, *plain.numbers[begin : begin + PIECE])
+        if common % 10:
+            return 0
+    return next(zeros for zeros in range(plain.decimals, -1, -1) if common % 10**zeros == 0)
+
+
+def _over(plain: Plain, most: int) -> Sequence[int]:
+    """The numbers, over ten to this power."""
+    if plain.decimals == most:
+        return plain.numbers
+    if plain.decimals > most:
+        rest = 10 ** (plain.decimals - most)
+        return [number // rest for number in plain.numbers]
+    more = 10 ** (most - plain.decimals)
+    return [number * more for number in plain.numbers]

@@ -1,0 +1,134 @@
+"""Opens tables in Python: `dmf.read_table`."""
+
+from __future__ import annotations
+
+import os
+from collections.abc import Iterable, Iterator, Mapping
+from decimal import Decimal
+from functools import partial
+from typing import Any, Optional, Union, cast
+
+from ..state import Kept
+from ..quantity import number_in
+from ..session.base import Program, bound
+from ..session.runners import chosen
+from .headings import DEMAND, LIMIT, SUPPLY
+from .other_columns import extra_of
+from .faults import TableFault, naming
+from .table_answers import FoldedColumns, Inner, with_room
+from .table_network import TableNetwork
+from .problem_builder import Plan, net_of
+from .loader import Wanted, plan_of, plan_of_sheet, split_path
+from .arcs_and_places import Term
+from .readers import Reading
+from .sheet_tables import Rows, Sheet
+from .subject import complete
+from .warnings import warnings
+from .workbook import cell_text
+
+# A place, several, or how much each gives or takes at most, which is None if that has no limit.
+Path = Union[str, "os.PathLike[str]"]
+Terminals = Union[str, Iterable[str], Mapping[str, Any], None]
+
+
+def network_of_plan(plan: Plan, program: Program, history: Optional[int]) -> TableNetwork:
+    """The network of a plan. Raises a `TableFault`, and what `Network` raises."""
+    notes = [*plan.notes, *complete(plan)]
+    net = net_of(plan)
+    notes += warnings(plan, net)
+    numbers: dict[Any, int] = dict(plan.arcs.places)
+    numbers.update((Inner(number, net.node_names[number - 1]), number) for number in range(len(numbers) + 1, len(net.node_names) + 1))
+    columns = FoldedColumns(numbers, net.tails, net.heads, net.row_names, net.described, net.inner_names)
+    nodes = list(numbers)
+    kept: Kept[Any] = Kept(columns, with_room(net.capacities, net.described), nodes[net.source - 1], nodes[net.sink - 1], bound(history))
+    made = cast(TableNetwork, TableNetwork._of(kept, chosen(program)))
+    made._session.program = program
+    made.notes, made._load, made._rows = notes, lambda: extra_of(plan.arcs, net.ways), range(1, net.row_count + 1, net.ways)
+    return made
+
+
+def read_table(
+    table: Any,
+    *,
+    source: Terminals = None,
+    sink: Terminals = None,
+    limits: Mapping[str, Any] = {},
+    sources: Optional[Path] = None,
+    sinks: Optional[Path] = None,
+    node_limits: Optional[Path] = None,
+    places: Optional[Path] = None,
+    columns: Mapping[str, str] = {},
+    decimal: str = "",
+    scale: Union[Decimal, int, None] = None,
+    both_ways: bool = False,
+    encoding: Optional[str] = None,
+    raw_names: bool = False,
+    program: Program = None,
+    history: Optional[int] = None,
+) -> TableNetwork:
+    """The network of a table: of a CSV file or a workbook by its path, with a sheet as in `net.xlsx#Rohre`, or of a frame of pandas or
+    anything else that gives columns by their names. The file is read as `tools/dmf-problem` reads it (`man dmf-problem`).
+
+    `source` and `sink` are a place, several, or a mapping to what each gives or takes at most, with None for no limit. Without them they
+    are those of the table, or the only place that nothing leads to, or leads away from. `limits` has the most that may pass through
+    places. `sources`, `sinks`, `node_limits` and `places` are paths of tables that say so. `columns` has titles by `tail`, `head`,
+    `capacity` and `name`, if they are not usual ones. `decimal` is the decimal sign, if the table leaves it open, and `scale` what
+    numbers are multiplied by, if not the least power of ten that makes them whole. The other arguments are those of `Network`.
+
+    Raises a `TableFault` that names all rows that cannot be read; an OSError if a file cannot be; and what `Network` raises.
+    """
+    given = {"sources": sources, "sinks": sinks, "node_limits": node_limits, "place_table": places}
+    paths = {option: _path(option, path) for option, path in given.items() if path is not None}
+    reading = Reading(dict(columns), decimal, raw_names)
+    wanted = Wanted(reading, encoding, None if scale is None else Decimal(scale), both_ways, (), (), paths, _read)
+    if isinstance(table, (str, os.PathLike)):
+        path = os.fspath(table)
+        plan = plan_of(wanted, path, _read(split_path(path)[0]))
+    else:
+        plan = plan_of_sheet(wanted, _sheet_of_frame(table), [])
+    for kind, ends in (SUPPLY, source), (DEMAND, sink):
+        plan.terms += _terms_of(kind, ends, plan)
+    plan.terms += _terms_of(LIMIT, limits, plan)
+    with naming(plan.arcs.path):
+        return network_of_plan(plan, program, history)
+
+
+def _path(option: str, given: Any) -> str:
+    if not isinstance(given, (str, os.PathLike)):
+        instead = {"sources": "source", "sinks": "sink", "node_limits": "limits"}.get(option, "limits")
+        raise TypeError(f"the path of a table of places is wanted, and not {given!r}: `{instead}` takes the places themselves")
+    return os.fspath(given)
+
+
+def _read(path: str) -> bytes:
+    with open(path, "rb") as file:
+        return file.read()
+
+
+def _terms_of(kind: str, ends: Terminals, plan: Plan) -> Iterator[Term]:
+    if isinstance(ends, str):
+        ends = [ends]
+    most = ends if isinstance(ends, Mapping) else dict.fromkeys(ends or ())
+    for place, quantity in most.items():
+        yield Term(kind, place, None if quantity is None else _quantity(quantity, plan))
+
+
+def _quantity(given: Any, plan: Plan) -> Decimal:
+    if isinstance(given, str):
+        return number_in(given, plan.arcs.amounts.sign)
+    return Decimal(repr(given)) if isinstance(given, float) else Decimal(given)
+
+
+def _sheet_of_frame(frame: Any) -> Sheet:
+    """A frame as a sheet whose first row has the titles."""
+    titles = list(frame.keys()) if hasattr(frame, "keys") else list(frame.columns)
+    columns = [frame[title] for title in titles]
+    cells = [[cell_text(value) for value in (column.tolist() if hasattr(column, "tolist") else column)] for column in columns]
+    if len({len(column) for column in cells}) > 1:
+        raise TableFault(f"the columns have several lengths: {', '.join(sorted({str(len(column)) for column in cells}))}")
+    rows = [list(map(str, titles)), *map(list, zip(*cells))]
+    return Sheet("", partial(_rows, rows))
+
+
+def _rows(rows: list[list[str]]) -> Iterator[Rows]:
+    yield Rows(range(1, len(rows) + 1), rows)

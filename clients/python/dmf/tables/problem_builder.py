@@ -1,0 +1,292 @@
+"""From tables to a network: nodes by the names of places, several sources and sinks, and limits of places.
+
+Nodes are numbered in the order in which their places come in the table, and arcs in the order of their rows. After them stand inner
+nodes and arcs, which are not of the table:
+
+- the second half of each place with a limit, which has the same name. Arcs into the place enter its first half, arcs out of it leave
+its second half, and the arc between them, `limit of Depot`, carries the limit;
+- a node before several sources, `all sources`, with an arc to each, `supply of Mill`; one after several sinks, `all sinks`,
+  with an arc from each, `demand of Town`. These carry as much as the arcs at the place, or the limit of the source or the sink.
+"""
+
+from __future__ import annotations
+
+from array import array
+from collections.abc import Sequence
+from dataclasses import dataclass, field
+from decimal import Decimal
+from itertools import chain
+from typing import Optional
+
+from ..numbering import AMOUNTS, NODES
+from ..quantity import COMMA, LARGEST, Measure, QuantityFault, decimals, number_in, plain_text
+from ..text.cells import cleaned, near, shown
+from .headings import ARCS, DEMAND, LIMIT, PLACE_COLUMNS, SUPPLY
+from ..text.table_comments import SINKS, SOURCES, Described, Role
+from .faults import Faults, TableFault
+from .arcs_and_places import Heading, Term
+from .readers import Table
+
+MOST_NODES = 16_777_216
+MOST_ARCS = 134_217_728
+KINDS = {SUPPLY: "source", DEMAND: "sink"}
+
+
+@dataclass
+class Plan:
+    """What a network is made of: the arcs of a table, and what is said of its places. `both_ways` makes two opposite arcs of each row.
+    `scale` is what numbers are multiplied by; without one it is the least power of ten that makes all of them whole. `headings` are the
+    first rows of tables of places that were read as titles. `notes` say what was taken for
+    granted."""
+
+    arcs: Table
+    terms: list[Term] = field(default_factory=list)
+    both_ways: bool = False
+    scale: Optional[Decimal] = None
+    headings: list[Heading] = field(default_factory=list)
+    notes: list[str] = field(default_factory=list)
+
+    def of_kind(self, kind: str) -> list[Term]:
+        """What is said of places of this kind, and counts."""
+        found = [term for term in self.terms if term.kind == kind]
+        return [term for term in found if not term.is_idle] or found
+
+    @property
+    def counted(self) -> list[Term]:
+        """All of it that counts, in its order."""
+        kept = {id(term) for kind in PLACE_COLUMNS for term in self.of_kind(kind)}
+        return [term for term in self.terms if id(term) in kept]
+
+    @property
+    def measure(self) -> Measure:
+        """How whole numbers stand for the table's."""
+        amounts = self.arcs.amounts
+        most = max([amounts.decimals, *(decimals(term.quantity) for term in self.terms if term.quantity is not None)])
+        scale = Decimal(10) ** most if self.scale is None else self.scale
+        table = "" if self.arcs.path.startswith("/dev/") else self.arcs.path.rpartition("/")[2]
+        return Measure(scale, amounts.unit, table, amounts.sign if amounts.sign == COMMA else "")
+
+
+@dataclass
+class Net:
+    """A network of a table, by numbers from 1 on: the names of the nodes, of which `place_count` are places; the ends and capacities of
+    the arcs, of which `row_count` are of rows, `ways` of each; the names of the rows, if they have any, and of the other arcs; and what is
+    said of it."""
+
+    node_names: list[str]
+    tails: array[int]
+    heads: array[int]
+    capacities: array[int]
+    labels: Sequence[str]
+    ways: int
+    inner_names: dict[int, str]
+    described: Described
+    source: int = 0
+    sink: int = 0
+    place_count: int = 0
+    row_count: int = 0
+
+    def row_names(self) -> dict[int, str]:
+        """The names of the arcs of rows that have one, by number."""
+        ways = range(1, self.ways + 1)
+        return {self.ways * row + way: name for row, name in enumerate(self.labels) if name for way in ways}
+
+
+def too_much(measure: Measure) -> str:
+    return f"the capacities are together past {measure.text(LARGEST)}"
+
+
+def check(plan: Plan) -> None:
+    """Raises a `TableFault` with all that is said of what is no place, twice, or of a source that is a sink too; and if a first row that
+    was read as titles has the name of a place."""
+    _refuse_dropped(plan)
+    places = plan.arcs.places
+    faults: list[TableFault] = []
+    known: dict[tuple[str, str], Term] = {}
+    for term in plan.counted:
+        kind = KINDS.get(term.kind, "")
+        said = f"the {kind} {shown(term.place)}"
+        if term.place not in places:
+            told = f"{said} is in no row of arcs" if kind else f"no arc has the place {shown(term.place)}"
+            faults.append(TableFault(told + near(term.place, places), term.line, term.path))
+        elif first := known.get((term.kind, term.place)):
+            told = f"{said} is named twice" if kind else f"{shown(term.place)} has a limit in line {first.line} already"
+            faults.append(TableFault(told, term.line, term.path))
+        elif term.kind == DEMAND and (SUPPLY, term.place) in known:
+            faults.append(TableFault(f"source and sink are the same: {shown(term.place)}", term.line, term.path))
+        known.setdefault((term.kind, term.place), term)
+    if faults:
+        first_fault, *others = faults
+        first_fault.others, first_fault.untold = others[:19], max(0, len(others) - 19)
+        raise first_fault
+
+
+def _refuse_dropped(plan: Plan) -> None:
+    """Refuses a first row that was read as titles, if it has the name of a place."""
+    table = plan.arcs
+    at = table.layout.at
+    if table.heading and any(table.heading[at[column]] in table.places for column in ("tail", "head")):
+        cell = table.heading[at["capacity"]]
+        raise table.fault(f"the capacity {shown(cell)} is no number{ARCS.hint}", table.layout.line)
+    for heading in plan.headings:
+        if heading.place in table.places:
+            raise TableFault(f"the {heading.kind} {shown(heading.amount)} is no number", heading.line, heading.path)
+
+
+class _Maker:
+    """The nodes and arcs that the network has so far."""
+
+    def __init__(self, plan: Plan, measure: Measure) -> None:
+        self.plan = plan
+        self.measure = measure
+        table = plan.arcs
+        self.node_names = list(table.places)
+        self.tails, self.heads, self.capacities = array(NODES), array(NODES), array(AMOUNTS)
+        self.inner_names: dict[int, str] = {}
+        self.halves: dict[int, int] = {}
+        self.joints: dict[int, str] = {}
+        self.roles: dict[int, Role] = {}
+        # By the number of a place: the node that arcs out of it leave, if it is another one.
+        self.exits: dict[int, int] = {}
+        self.total = 0
+
+    def place(self, term: Term) -> int:
+        return self.plan.arcs.places[term.place]
+
+    def exit(self, node: int) -> int:
+        return self.exits.get(node, node)
+
+    def add_node(self, name: str) -> int:
+        self.node_names.append(name)
+        return len(self.node_names)
+
+    def add_arc(self, tail: int, head: int, capacity: int, name: str, role: Role) -> None:
+        self.tails.append(tail)
+        self.heads.append(head)
+        self.capacities.append(capacity)
+        self.inner_names[len(self.tails)] = name
+        self.roles[len(self.tails)] = role
+        self.total += capacity
+
+    def whole(self, term: Term, quantity: Decimal) -> int:
+        try:
+            return self.measure.whole(quantity) if self.plan.scale is None else _whole(quantity, self.plan.scale)
+        except QuantityFault as fault:
+            raise TableFault(f"the {term.kind} {plain_text(quantity)!r} of {shown(term.place)} {fault}", term.line, term.path) from None
+
+    def split(self) -> None:
+        """Splits the nodes of the places with limits."""
+        for term in self.plan.of_kind(LIMIT):
+            first = self.place(term)
+            self.exits[first] = self.add_node(term.place)
+            self.halves[self.exits[first]] = first
+
+    def add_rows(self) -> None:
+        """Adds the arcs of the rows."""
+        table = self.plan.arcs
+        faults = Faults(table.path)
+        wholes = table.amounts.wholes(self.measure, faults)
+        faults.judge()
+        tails: Sequence[int] = table.tails
+        if self.exits:
+            tails = array(NODES, map(self.exit, table.tails))
+        self.tails.extend(tails)
+        self.heads.extend(table.heads)
+        self.capacities.extend(wholes)
+        if self.plan.both_ways:
+            backs = array(NODES, map(self.exit, table.heads))
+            self.tails = array(NODES, chain.from_iterable(zip(tails, backs)))
+            self.heads = array(NODES, chain.from_iterable(zip(table.heads, table.tails)))
+            self.capacities = array(AMOUNTS, chain.from_iterable(zip(wholes, wholes)))
+        ways = 1 + self.plan.both_ways
+        self.total = sum(self.capacities)
+        if self.total > LARGEST:
+            left = LARGEST
+            for place, capacity in enumerate(wholes):
+                left -= capacity * ways
+                if left < 0:
+                    raise table.fault(too_much(self.measure), table.lines[place])
+
+    def add_limits(self) -> None:
+        """Adds the arcs between the halves of places."""
+        for term in self.plan.of_kind(LIMIT):
+            first = self.place(term)
+            limit = self.whole(term, term.quantity or Decimal(0))
+            self.add_arc(first, self.exits[first], limit, f"limit of {term.place}", Role(LIMIT, first))
+            if self.total > LARGEST:
+                raise TableFault(too_much(self.measure), term.line, term.path)
+
+    def unused_name(self, name: str) -> str:
+        """A name for a node that no other has."""
+        names = set(self.node_names)
+        return next(it for it in (name, *(f"{name} {count}" for count in range(2, len(names) + 3))) if it not in names)
+
+    def join(self, kind: str) -> int:
+        """The source of the problem, or its sink: its only node, or a node that is joined to each of several."""
+        terms, is_source = self.plan.of_kind(kind), kind == SUPPLY
+        if len(terms) == 1 and terms[0].quantity is None:
+            place = self.place(terms[0])
+            return place if is_source else self.exit(place)
+        unlimited = {self.exit(self.place(term)) if is_source else self.place(term): 0 for term in terms if term.quantity is None}
+        if unlimited:
+            for end, capacity in zip(self.tails if is_source else self.heads, self.capacities):
+                if end in unlimited:
+                    unlimited[end] += capacity
+        joint = self.add_node(self.unused_name("all sources" if is_source else "all sinks"))
+        self.joints[joint] = SOURCES if is_source else SINKS
+        for term in terms:
+            place = self.place(term)
+            inner, outer = (self.exit(place), place) if is_source else (place, self.exit(place))
+            most = unlimited[inner] if term.quantity is None else self.whole(term, term.quantity)
+            ends = (joint, outer) if is_source else (outer, joint)
+            self.add_arc(*ends, most, f"{kind} of {term.place}", Role(kind, place, term.quantity is None))
+        return joint
+
+    def net(self) -> Net:
+        """The network."""
+        self.split()
+        self.add_rows()
+        row_count = len(self.tails)
+        self.add_limits()
+        source, sink = self.join(SUPPLY), self.join(DEMAND)
+        if self.total > LARGEST:
+            raise TableFault(f"with the arcs at the sources and the sinks {too_much(self.measure)}; --source NAME=LIMIT limits one")
+        if len(self.node_names) > MOST_NODES or len(self.tails) > MOST_ARCS:
+            raise TableFault(f"more than {MOST_NODES} nodes or {MOST_ARCS} arcs")
+        described = Described(self.measure, self.joints, self.halves, self.roles)
+        place_count = len(self.plan.arcs.places)
+        columns = self.tails, self.heads, self.capacities
+        names = self.plan.arcs.labels, 1 + self.plan.both_ways, self.inner_names
+        return Net(self.node_names, *columns, *names, described, source, sink, place_count, row_count)
+
+
+def _whole(quantity: Decimal, scale: Decimal) -> int:
+    """The whole number of a quantity under a scale that was given. Raises a `QuantityFault`."""
+    (number, over), (scaled, under) = quantity.as_integer_ratio(), scale.as_integer_ratio()
+    whole, rest = divmod(number * scaled, over * under)
+    if rest:
+        raise QuantityFault(f"times {scale:f} is no whole number; --scale {10 ** decimals(quantity)}?")
+    if whole > LARGEST:
+        raise QuantityFault(f"times {scale:f} is past {LARGEST}")
+    return whole
+
+
+def net_of(plan: Plan) -> Net:
+    """The network of a plan. Raises a `TableFault`."""
+    check(plan)
+    return _Maker(plan, plan.measure).net()
+
+
+def term_of(kind: str, word: str, table: Table) -> Term:
+    """The source or the sink that a word names: a place, or a place, `=` and its limit. Raises a `TableFault`."""
+    name = cleaned(word)
+    place, equals, limit = name.rpartition("=")
+    if name in table.places or not equals or place.rstrip() not in table.places:
+        return Term(kind, name, None)
+    try:
+        quantity = number_in(limit.strip(), table.amounts.sign)
+        if quantity < 0:
+            raise QuantityFault("is below 0")
+        return Term(kind, place.rstrip(), quantity)
+    except QuantityFault as fault:
+        raise TableFault(f"the limit {shown(limit.strip())} of {shown(place.rstrip())} {fault}") from None

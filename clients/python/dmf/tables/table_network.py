@@ -1,0 +1,286 @@
+"""Networks of tables in Python. Numbers are those of the table, and nodes its places."""
+
+from __future__ import annotations
+
+from collections.abc import Callable, Hashable, Mapping, Sequence
+from dataclasses import replace
+from functools import cached_property
+from typing import Any, Optional, cast
+
+from .. import arrays
+from ..arcs import Arc
+from ..errors import CapacitiesPast64Bits, shown
+from ..state import Kept
+from ..text.spelling import written
+from ..network import Network
+from ..notebook import table as html_table
+from ..quantity import Measure, Quantity
+from ..session_holder import alone
+from ..session.base import Session
+from ..solution import Solution
+from ..text.problem_text import ARC, NODE
+from .answers import TableCut, TableSolution, whole_of
+from .headings import DEMAND, LIMIT, SUPPLY
+from ..text.table_comments import Role, comments
+from .other_columns import Extra
+from .table_answers import FoldedColumns, Inner
+from .arcs_and_places import Term
+
+
+class TableNetwork(Network[str]):
+    """A network of a table. `read_table` makes it. It is a `Network` of the table's places, whose numbers are those of the table: ints if
+    all are whole, else Decimals. Calls take numbers of any kind, and texts as the table has them (`cap("Main", "47,3")`), with no more
+    decimals than the table's.
+
+    `unit` is the unit of the numbers, `notes` what was taken for granted and what looks like a mistake, `extra` has the other columns of
+    the table, by their titles. `sources` and `sinks` have what each gives or takes at most, `limits` what places let through; None stands
+    for no limit. A place with a limit is shut by shutting what enters it."""
+
+    notes: list[str] = []
+    # What reads the other columns, when somebody asks for them; and the first arc of each row of the table.
+    _load: Callable[[], Extra] = Extra
+    _rows: Sequence[int] = ()
+
+    def _begin(self, session: Session, kept: Kept[Any]) -> None:
+        self._measure = kept.described.measure
+        super()._begin(session, kept)
+
+    @property
+    def _columns(self) -> FoldedColumns:
+        return cast(FoldedColumns, self._kept.columns)
+
+    @property
+    def _roles(self) -> Mapping[int, Role]:
+        """By their numbers, what the arcs carry that are not of the table."""
+        return self._columns.described.roles
+
+    @property
+    def measure(self) -> Measure:
+        """How the program's whole numbers stand for the table's."""
+        return self._columns.described.measure
+
+    @property
+    def unit(self) -> str:
+        """The unit of the numbers; empty if the table names none."""
+        return self.measure.unit
+
+    def _quantity(self, number: int) -> Any:
+        return self.measure.quantity(number)
+
+    def _whole(self, amount: Any, at: object) -> int:
+        return whole_of(self.measure, amount, at)
+
+    def begin_again(self) -> Any:
+        """As `Network.begin_again`, in the table's numbers."""
+        super().begin_again()
+        return self.value
+
+    def _terms(self, kind: str) -> dict[str, Optional[Quantity]]:
+        """The places that give, take or let through, each with how much that is at most."""
+        named, capacities = self._columns.names, self._kept.capacities
+        found: dict[str, Optional[Quantity]] = {
+            named[role.node - 1]: None if role.is_unlimited else self._quantity(capacities[number - 1])
+            for number, role in self._roles.items() if role.kind == kind
+        }  # fmt: skip
+        end = self._kept.source if kind == SUPPLY else self._kept.sink
+        if kind != LIMIT and not found:
+            found[named[self._kept.number(end) - 1]] = None
+        return found
+
+    @property
+    def sources(self) -> dict[str, Optional[Quantity]]:
+        """The sources, with what each gives at most, if that is limited."""
+        return self._terms(SUPPLY)
+
+    @property
+    def sinks(self) -> dict[str, Optional[Quantity]]:
+        """The sinks, with what each takes at most, if that is limited."""
+        return self._terms(DEMAND)
+
+    def _ends(self) -> set[str]:
+        return {*self.sources, *self.sinks}
+
+    @property
+    def limits(self) -> dict[str, Optional[Quantity]]:
+        """The places with limits, and the most that may pass through each."""
+        return self._terms(LIMIT)
+
+    @property
+    def source(self) -> Any:
+        """The source, or a tuple of several."""
+        return _one(self.sources)
+
+    @property
+    def sink(self) -> Any:
+        """The sink, or a tuple of several."""
+        return _one(self.sinks)
+
+    @property
+    def value(self) -> Any:
+        """The value of the present flow."""
+        return self._quantity(self._kept.value)
+
+    @property
+    def nodes(self) -> list[str]:
+        """The places, in their order."""
+        return self._columns.places()
+
+    @property
+    def arcs(self) -> list[Arc[str]]:
+        """The open arcs of the table, in their order, and those that were added."""
+        return [arc for arc in self._kept.opened() if arc.number not in self._roles]
+
+    @cached_property
+    def _extra(self) -> Extra:
+        return self._load()
+
+    @cached_property
+    def extra(self) -> dict[str, list[str]]:
+        """The columns of the table that were read for nothing: by their titles a cell for each row of an arc."""
+        return self._extra.by_title(self._rows)
+
+    def capacity(self, arc: Any) -> Any:
+        """The capacity of an open arc."""
+        return self._quantity(super().capacity(arc))
+
+    def capacity_now(self, arc: Arc[Any]) -> Any:
+        return self._quantity(super().capacity_now(arc))
+
+    def flow_now(self, arc: Arc[Any]) -> Any:
+        return self._quantity(super().flow_now(arc))
+
+    def cap(self, arc: Any, capacity: Any) -> Any:
+        """As `Network.cap`, in the table's numbers."""
+        found = self.arc(arc)
+        if found.number not in self._kept.closed:
+            self._judge_room(found.tail, found.head, self._whole(capacity, found) - self._kept.capacity(found))
+        return self._quantity(super().cap(found, capacity))
+
+    def _add(self, tail: str, head: str, room: int, key: Hashable, replaced: int | None) -> Arc[str]:
+        self._judge_room(tail, head, room)
+        return super()._add(tail, head, room, key, replaced)
+
+    def close(self, arc: Any) -> Any:
+        """As `Network.close`, in the table's numbers."""
+        return self._quantity(super().close(arc))
+
+    def shut(self, node: str) -> Any:
+        """As `Network.shut`, in the table's numbers."""
+        return self._quantity(super().shut(node))
+
+    def undo(self, count: int = 1) -> Any:
+        """As `Network.undo`, in the table's numbers."""
+        return self._quantity(super().undo(count))
+
+    def redo(self, count: int = 1) -> Any:
+        """As `Network.redo`, in the table's numbers."""
+        return self._quantity(super().redo(count))
+
+    @alone
+    def solve(self) -> TableSolution:
+        """As `Network.solve`, in the table's numbers."""
+        return self._told_solution(super().solve.__wrapped__(self))  # type: ignore[attr-defined]
+
+    @alone
+    def flow(self) -> TableSolution:
+        """As `Network.flow`, in the table's numbers."""
+        return self._told_solution(super().flow.__wrapped__(self))  # type: ignore[attr-defined]
+
+    def _told_solution(self, solution: Solution[str]) -> TableSolution:
+        return TableSolution(solution._flows, self.measure, self._roles)
+
+    @alone
+    def cut(self) -> TableCut:
+        """As `Network.cut`, in the table's numbers, with the places whose supply, demand or limit is in it."""
+        capacity, side = self._session.cut()
+        names, is_place = self._columns.names, self._columns.is_place
+        places = frozenset(names[node - 1] for node in side if is_place(node))
+        crossing = self._kept.leaving(side)
+        arcs = tuple(arc for arc in crossing if arc.number not in self._roles)
+        roles = [(self._roles[arc.number], arc) for arc in crossing if arc.number in self._roles]
+        terms = tuple(Term(role.kind, names[role.node - 1], self._quantity(self._kept.capacity(arc))) for role, arc in roles)
+        return TableCut(self._quantity(capacity), places, arcs, self.nodes, terms)
+
+    @alone
+    def problem(self, *, names: bool = True, escapes: bool = False) -> str:
+        """The problem as the program has it, with comments that say what its whole numbers stand for and what is not of the table. With
+        `names` they tell the other columns of the table too. A name that no comment can have is escaped."""
+        opened, columns = self._kept.opened(), self._columns
+        places = {number: place for place, number in enumerate(opened.numbers(), 1)}
+        roles = {places[number]: role for number, role in self._roles.items() if number in places}
+        before = comments(replace(columns.described, roles=roles))
+        if names:
+            labels = enumerate((node.name if isinstance(node, Inner) else node for node in columns.numbers), 1)
+            before += "".join(f"c node {number} {written(NODE, number, str(name))}\n" for number, name in labels if name != number)
+            keys = {place: self._name(number) for number, place in places.items()}
+            before += "".join(f"c arc {place} {written(ARC, place, key)}\n" for place, key in keys.items() if key.strip(" \t"))
+            before += self._extra.comments(map(self._row, places))
+        return before + self._without_room(self._session.problem().decode(), places)
+
+    def _row(self, number: int) -> int:
+        """The number that an arc had before it was closed and opened again, by which its row is found."""
+        kept, at = self._kept, number - len(self._columns.tails) - 1
+        while at >= 0 and (first := kept.replaced[at]):
+            number, at = first, first - len(self._columns.tails) - 1
+        return number
+
+    def _name(self, number: int) -> str:
+        """The name of an arc, as a problem has it."""
+        if number in self._roles:
+            return self._columns.inner_names.get(number, "")
+        key = self._kept.handle(number).given_key
+        return "" if key is None else str(key)
+
+    def _without_room(self, text: str, places: Mapping[int, int]) -> str:
+        """A problem in which a source or a sink without a limit carries as much as the arcs there, and no more: those of the program can
+        carry what they may come to carry. `places` has the places of the open arcs, by number."""
+        unlimited = {number: role for number, role in self._roles.items() if role.is_unlimited and number in places}
+        lines = text.split("\n") if unlimited else []
+        for number, role in unlimited.items():
+            # The problem line and those of the source and the sink come first.
+            at = places[number] + 2
+            lines[at] = f"{lines[at].rpartition(' ')[0]} {self._carried(role)}"
+        return "\n".join(lines) if unlimited else text
+
+    def _carried(self, role: Role) -> int:
+        """What the open arcs of a source or a sink carry together."""
+        kept, place = self._kept, self._columns.names[role.node - 1]
+        numbers = [*self._columns.beside(role), *(arc.number for arc in kept.added if (arc.tail if role.kind == SUPPLY else arc.head) == place)]
+        return sum(kept.capacities[number - 1] for number in numbers if number not in kept.closed)
+
+    def _judge_room(self, tail: str, head: str, more: int) -> None:
+        """Raises `CapacitiesPast64Bits` if a source or a sink without a limit cannot carry so much more on an arc."""
+        for number, role in self._roles.items():
+            end = tail if role.kind == SUPPLY else head
+            if role.is_unlimited and end == self._columns.names[role.node - 1] and self._carried(role) + more > self._kept.capacities[number - 1]:
+                raise CapacitiesPast64Bits(shown((tail, head)))
+
+    def to_networkx(self) -> Any:
+        """As `Network.to_networkx`, with the places and arcs of the table, in its numbers."""
+        made = arrays.package("networkx", "a graph").MultiDiGraph()
+        made.add_nodes_from(self.nodes)
+        for arc, carried in self.flow().items():
+            given = {} if arc.given_key is None else {"name": arc.given_key}
+            made.add_edge(arc.tail, arc.head, key=arc.number, capacity=self.capacity(arc), flow=carried, **given)
+        return made
+
+    def copy(self) -> TableNetwork:
+        """As `Network.copy`."""
+        made = cast(TableNetwork, super().copy())
+        made.notes, made._load, made._rows = self.notes, self._load, self._rows
+        return made
+
+    def __enter__(self) -> TableNetwork:
+        return self
+
+    def __repr__(self) -> str:
+        return f"<Network of {len(self.nodes)} places and {len(self.arcs)} arcs, with a flow of {self.measure.told(self._kept.value)}>"
+
+    def _repr_html_(self) -> str:
+        rows = [(*row, self.capacity(row[0])) for row in self.flow().items()]
+        cells = ((arc.key if arc.given_key is not None else arc.number, arc.tail, arc.head, flow, most) for arc, flow, most in rows)
+        return html_table(repr(self)[1:-1], ("arc", "tail", "head", "flow", "capacity"), len(rows), cells)
+
+
+def _one(terms: Mapping[str, object]) -> Any:
+    return next(iter(terms)) if len(terms) == 1 else tuple(terms)

@@ -1,0 +1,195 @@
+"""Draws a network, its flow and its cut as a text for Graphviz."""
+
+from __future__ import annotations
+
+from collections import Counter, defaultdict
+from collections.abc import Callable, Collection, Iterable, Iterator, Sequence
+from dataclasses import dataclass, field
+from functools import cached_property
+
+from .folding import AT_PLACE, Folding
+from ..quantity import Quantity, plain_text
+from .problem_text import Problem, display
+from .session_commands import Arc
+
+FULL, UNUSED, CUT, SIDE = "2.5", "#8f8f8f", "#c62828", "#d3e4f5"
+
+
+@dataclass
+class Drawing:
+    """The contents of a picture: the arcs as they are, the flow on each if it is known, the nodes on the source's side of the cut
+    (none if there is no cut), the nodes that are shut, and notes. Arcs have the problem's whole numbers, unless `has_quantities` says
+    that capacities and flows are quantities. What is not of the problem's table is drawn at the places that it is about."""
+
+    problem: Problem
+    arcs: Sequence[Arc]
+    flows: Sequence[Quantity | None]
+    side: set[int]
+    shut: set[int] = field(default_factory=set)
+    notes: list[str] = field(default_factory=list)
+    has_quantities: bool = False
+    # The places of sources and sinks to which a limit was given that had none.
+    limited: Collection[int] = ()
+
+    def __post_init__(self) -> None:
+        opened = (arc[:3] for arc in self.arcs if not arc.is_closed)
+        self.side = self.folding.told_side(self.side, opened, self.limited)
+
+    @cached_property
+    def folding(self) -> Folding:
+        return Folding(self.problem.described)
+
+    @cached_property
+    def drawn(self) -> list[int]:
+        """The places of the arcs that are drawn as arcs."""
+        every = range(len(self.arcs))
+        return [place for place in every if not self.folding.role(*self.arcs[place][:2])] if self.folding.has_roles else list(every)
+
+    @cached_property
+    def roles(self) -> dict[int, list[int]]:
+        """By the node of a place: the places of the arcs that stand for what it gives, takes or lets through."""
+        found: dict[int, list[int]] = defaultdict(list)
+        for place, arc in enumerate(self.arcs) if self.folding.has_roles else ():
+            if role := self.folding.role(*arc[:2]):
+                found[role.node].append(place)
+        return found
+
+    @cached_property
+    def unlimited(self) -> set[int]:
+        """The places of the arcs that are unlimited sources or sinks."""
+        roles = ((place, self.folding.role(*self.arcs[place][:2])) for places in self.roles.values() for place in places)
+        return {place for place, role in roles if role and role.is_unlimited and role.node not in self.limited}
+
+    def ends(self, place: int) -> tuple[int, int]:
+        """The nodes between which an arc is drawn."""
+        arc = self.arcs[place]
+        return self.folding.place(arc.tail), self.folding.place(arc.head)
+
+    def is_cut(self, arc: Arc) -> bool:
+        return arc.tail in self.side and arc.head not in self.side and not arc.is_closed
+
+    def terminals(self) -> set[int]:
+        """The nodes of the sources and the sinks."""
+        return {*self.folding.ends(self.problem.source), *self.folding.ends(self.problem.sink)}
+
+    def nodes(self) -> list[int]:
+        """The nodes that are drawn, if all are."""
+        return self.folding.places(range(1, self.problem.node_count + 1))
+
+    def amount(self, place: int, before: str = "") -> str:
+        """What flows on an arc, and its capacity: `14.7/20`, or the capacity alone if the flow is not known."""
+        arc, flow = self.arcs[place], self.flows[place]
+        if arc.is_closed:
+            return "closed"
+        if flow is not None and place in self.unlimited:
+            return self._text(flow)
+        return f"{before}{self._text(arc.capacity)}" if flow is None else f"{self._text(flow)}/{self._text(arc.capacity)}"
+
+    def _text(self, number: Quantity) -> str:
+        return plain_text(number) if self.has_quantities else self.problem.described.measure.text(int(number))
+
+
+def nearest(drawing: Drawing, most: int) -> list[int]:
+    """The places of the nearest arcs: those of the cut first, and then those that are fewest steps away from them."""
+    at_node: dict[int, list[int]] = defaultdict(list)
+    for place in drawing.drawn:
+        for node in drawing.ends(place):
+            at_node[node].append(place)
+    chosen = [place for place in drawing.drawn if drawing.is_cut(drawing.arcs[place])]
+    # A limit that is at a place is nearest to the arcs there, and a cut without arcs to those at its ends.
+    at_places = {node for node, roles in drawing.roles.items() if any(drawing.is_cut(drawing.arcs[place]) for place in roles)}
+    if at_places or not chosen:
+        beside = {place for node in at_places or drawing.terminals() for place in at_node[node]}
+        chosen += sorted(beside.difference(chosen))
+    return spread(chosen, most, drawing.ends, lambda node: at_node[node])
+
+
+def spread(first: Iterable[int], most: int, ends: Callable[[int], tuple[int, int]], at_node: Callable[[int], Iterable[int]]) -> list[int]:
+    """These arcs, and then those that are fewest steps away from them, in their order."""
+    chosen = list(first)
+    known = set(chosen)
+    for arc in chosen:
+        if len(chosen) >= most:
+            break
+        for node in ends(arc):
+            new = [other for other in at_node(node) if other not in known]
+            known.update(new)
+            chosen += new
+    return sorted(chosen[:most])
+
+
+def quoted(*parts: str) -> str:
+    """A label of these lines, shown as they are: Graphviz would read entities, backslashes and quotation marks otherwise."""
+    shown = (display(part).replace("\\", "\\\\").replace('"', '\\"').replace("&", "&amp;") for part in parts)
+    # A line feed in a label is written as a backslash and an n.
+    return '"' + "\\n".join(shown) + '"'
+
+
+def drawn_line(what: str, looks: dict[str, str]) -> str:
+    return f"  {what} [" + ", ".join(f"{name}={value}" for name, value in looks.items()) + "]"
+
+
+def node_line(drawing: Drawing, node: int, is_whole: bool) -> str:
+    is_shut = node in drawing.shut
+    roles = [] if is_shut else drawing.roles.get(node, [])
+    told = [f"{AT_PLACE[kind]} {amount}" for kind, amount in map(lambda place: _role_of(drawing, place), roles)]
+    looks = {"label": quoted(drawing.problem.node_names.get(node, str(node)), *told, *["shut"] * is_shut)}
+    if node in drawing.terminals():
+        looks["peripheries"] = "2"
+    styles = ["filled"] * (node in drawing.side) + ["dashed"] * (not is_whole)
+    if styles:
+        looks["style"] = quoted(",".join(styles))
+    if node in drawing.side:
+        looks["fillcolor"] = quoted(SIDE)
+    is_cut = any(drawing.is_cut(drawing.arcs[place]) for place in roles)
+    color = UNUSED if is_shut else CUT if is_cut else None
+    if color:
+        looks["color"] = looks["fontcolor"] = quoted(color)
+    return drawn_line(str(node), looks)
+
+
+def _role_of(drawing: Drawing, place: int) -> tuple[str, str]:
+    """The kind of a role, and its amounts."""
+    role = drawing.folding.role(*drawing.arcs[place][:2])
+    assert role
+    return role.kind, drawing.amount(place, "at most ")
+
+
+def arc_line(drawing: Drawing, place: int) -> str:
+    arc, flow = drawing.arcs[place], drawing.flows[place]
+    shown = drawing.amount(place)
+    name = drawing.problem.arc_names.get(place + 1)
+    looks = {"label": quoted(shown) if name is None else quoted(name, shown)}
+    if arc.is_closed:
+        looks["style"] = quoted("dashed")
+    elif flow and flow == arc.capacity:
+        looks["penwidth"] = FULL
+    color = CUT if drawing.is_cut(arc) else UNUSED if flow == 0 or arc.is_closed else None
+    if color:
+        looks["color"] = looks["fontcolor"] = quoted(color)
+    tail, head = drawing.ends(place)
+    return drawn_line(f"{tail} -> {head}", looks)
+
+
+def picture(drawing: Drawing, most: int) -> Iterator[str]:
+    """The lines of the picture's text. If there are more arcs than `most`, it has those nearest the cut."""
+    arcs = drawing.drawn
+    is_whole = len(arcs) <= most
+    places: Sequence[int] = arcs if is_whole else nearest(drawing, most)
+    drawn = Counter(node for place in places for node in drawing.ends(place))
+    all_of = Counter(node for place in arcs for node in drawing.ends(place))
+    yield "digraph dmf {\n  rankdir=LR"
+    yield '  node [fontname="Helvetica"]\n  edge [fontname="Helvetica", fontsize=11]'
+    legend = drawing.problem.described.measure.legend
+    notes = [legend] * bool(legend)
+    notes += [f"{len(places)} of {len(arcs)} arcs: those nearest the cut"] * (not is_whole) + drawing.notes
+    if notes:
+        yield f"  label={quoted(*notes)}"
+    nodes: Iterable[int] = drawn
+    if is_whole:
+        nodes = drawing.nodes() if drawing.problem.node_count <= most else {*drawn, *drawing.terminals()}
+    for node in sorted(nodes):
+        yield node_line(drawing, node, drawn[node] == all_of[node])
+    for place in places:
+        yield arc_line(drawing, place)
+    yield "}"

@@ -1,0 +1,113 @@
+"""Answers of the tools in JSON, an object a line, whose schema is docs/events.schema.json. Amounts have the number of the table and the whole
+number that stands for it in the program: `{"told": "47.3", "raw": 473}`."""
+
+from __future__ import annotations
+
+import json
+from collections.abc import Callable, Iterator, Sequence
+from decimal import Decimal
+from typing import Any, Protocol
+
+from .folding import Folding, role_words
+from .lexical import display
+from ..quantity import Measure, Quantity, plain_text
+from .session_replies import Changed, Cut, Event, Flow, Printed, Solution
+from .table_comments import Role
+from .session_commands import Arc
+from .transcript import Follower
+
+Json = dict[str, Any]
+
+
+def line_of(event: str, said: Json) -> str:
+    """An event as a line."""
+    return json.dumps({"event": event, **said}) + "\n"
+
+
+def number(amount: Quantity, measure: Measure) -> Json:
+    """An amount as the table has it, and as the program has it."""
+    return {"told": plain_text(amount), "raw": measure.whole(amount)}
+
+
+def ends(role: Role | None, tail: int, head: int, node: Callable[[int], str]) -> Json:
+    """The ends of an arc, or what one stands for that is none of the table: who reads this knows no node that is none."""
+    if role:
+        return {"from": None, "to": None, "role": {"kind": role.kind, "place": node(role.node)}}
+    return {"from": node(tail), "to": node(head), "role": None}
+
+
+class Named(Protocol):
+    """How the nodes and arcs of a problem are shown."""
+
+    arcs: dict[int, str]
+    measure: Measure
+    folding: Folding
+
+    def node(self, number: int) -> str: ...
+
+    def cut(self, cut: Cut, arcs: list[Arc]) -> tuple[list[int], list[int]]: ...
+
+
+class JsonTelling:
+    """Tells the events of an answer of the program."""
+
+    def __init__(self, names: Named, follower: Follower) -> None:
+        self.names = names
+        self.follower = follower
+
+    def tell(self, event: Event) -> Iterator[str]:
+        """The line that tells an event, without its end."""
+        kind, said = self._said(event)
+        yield line_of(kind, said)[:-1]
+
+    def _said(self, event: Event) -> tuple[str, Json]:
+        measure = self.names.measure
+        scale = {"unit": measure.told_unit, "scale": plain_text(measure.divisor)}
+        if isinstance(event, Solution):
+            arcs = [self._arc(*row) for row in zip(event.numbers, event.arcs, event.flows)]
+            return "solution", {"value": self._number(event.value), **scale, "arcs": arcs if event.is_told else None}
+        if isinstance(event, Flow):
+            role = self.names.folding.role(event.tail, event.head)
+            return "flows", {**ends(role, event.tail, event.head, self.names.node), "flow": self._number(event.flow), **scale}
+        if isinstance(event, Cut):
+            side, numbers = self.names.cut(event, self.follower.timeline.arcs)
+            told = [*map(self.names.node, self.names.folding.places(side))]
+            arcs = [self._arc(it, self.follower.timeline.arcs[it - 1]) for it in numbers]
+            return "cut", {"capacity": self._number(event.capacity), **scale, "side": told, "arcs": None if event.arcs is None else arcs}
+        if isinstance(event, Printed):
+            return "problem", {"lines": [line.decode(errors="replace") for line in event.lines]}
+        value = self._number(event.value) if isinstance(event, Changed) else None
+        return "reply", {"text": display(event.line.decode(errors="replace")), "value": value, **scale}
+
+    def _number(self, whole: int) -> Json:
+        return {"told": self.names.measure.text(whole), "raw": whole}
+
+    def _arc(self, at: int, arc: Arc, flow: int | None = None) -> Json:
+        role = self.names.folding.role(arc.tail, arc.head)
+        is_numbered = self.follower.is_numbered
+        name = role_words(role, self.names.node) if role else self.names.arcs.get(at, "") if is_numbered else ""
+        return {
+            "number": at if is_numbered else None, "name": name, **ends(role, arc.tail, arc.head, self.names.node),
+            "capacity": self._number(arc.capacity), "flow": None if flow is None else self._number(flow),
+            "unlimited": bool(role and role.is_unlimited),
+        }  # fmt: skip
+
+
+def case_line(row: Sequence[str], measure: Measure) -> str:
+    """A row of a sweep as a line: its number, its commands, the name of its first arc, the value, the difference and why it was refused."""
+
+    def amount(cell: str) -> Json | None:
+        if not cell:
+            return None
+        told = cell.replace(measure.sign, ".") if measure.sign else cell
+        raw = measure.whole(abs(Decimal(told)))
+        return {"told": told, "raw": -raw if told.startswith("-") else raw}
+
+    at, commands, name, value, difference, refused = row
+    return line_of(
+        "case",
+        {
+            "case": int(at), "commands": commands, "name": name, "value": amount(value), "difference": amount(difference), "refused": refused,
+            "unit": measure.told_unit, "scale": plain_text(measure.divisor),
+        },
+    )  # fmt: skip

@@ -1,0 +1,123 @@
+"""The network of a session as its changes leave it, as a transcript tells of them: on the timeline that networks of the client keep too. Flows
+are not kept, only the value of each."""
+
+from __future__ import annotations
+
+import sys
+from typing import NamedTuple
+
+from ..history import Change, Changes
+from .commands import ADD, REDO, SOLVE, UNDO, Command
+from .problem_text import LARGEST, MOST_ARCS, Fault, Problem
+
+
+class Arc(NamedTuple):
+    """An arc from node `tail` to node `head`. A closed arc has capacity 0."""
+
+    tail: int
+    head: int
+    capacity: int
+    is_closed: bool = False
+
+
+class Timeline(Changes):
+    """A network, and the changes that led to it or were undone. `begins_known` says whether the first of them is the first of all: if not,
+    more can be undone than is known here."""
+
+    def __init__(self, problem: Problem, value: int = 0, begins_known: bool = True) -> None:
+        super().__init__(sys.maxsize)
+        self.problem = problem
+        self.begins_known = begins_known
+        self.arcs = [Arc(tail, head, capacity) for tail, head, capacity in problem.arcs]
+        self.capacity_sum = sum(arc.capacity for arc in self.arcs)
+        self.begin_with(value)
+
+    @property
+    def serial(self) -> object:
+        """What tells the present state from others: that of the change that led to it. It comes back after an undo and a redo."""
+        return self._changes[self.place - 1] if self.place else self._start
+
+    def shut_nodes(self) -> set[int]:
+        """The nodes that are shut and that no open arc leaves or enters."""
+        shut = {numbers[0] for word, *numbers in self.commands()[: self.place] if word == "shut"}
+        if shut:
+            shut -= {node for arc in self.arcs if not arc.is_closed for node in (arc.tail, arc.head)}
+        return shut
+
+    def begin_anew(self, value: int) -> None:
+        """Forgets the changes, since something unknown may have been one of them."""
+        self.begin_with(value)
+        self.begins_known = False
+
+    def refusal(self, command: Command) -> str | None:
+        """Why this network refuses a command, if it does; if earlier changes are unknown, an undo or a redo may be accepted."""
+        word, numbers = command
+        if word in ("cap", "close") and not 1 <= numbers[0] <= len(self.arcs):
+            return "no such arc"
+        if word in ("cap", "close") and self.arcs[numbers[0] - 1].is_closed:
+            return "arc is closed"
+        if word in (ADD, "shut") and not all(1 <= node <= self.problem.node_count for node in numbers[:2]):
+            return "no such node"
+        if word == ADD and len(self.arcs) == MOST_ARCS:
+            return "too many arcs"
+        if word in (ADD, "cap") and self.capacity_sum - self._freed(command) + numbers[-1] > LARGEST:
+            return "capacities past 64 bits"
+        if word in (UNDO, REDO) and self.begins_known and not self.knows(command):
+            return f"nothing to {word}"
+        return None
+
+    def _freed(self, command: Command) -> int:
+        return self.arcs[command.numbers[0] - 1].capacity if command.word == "cap" else 0
+
+    def knows(self, command: Command) -> bool:
+        """Whether the changes that an undo or a redo steps over are known; any other command needs none."""
+        known = {UNDO: self.place, REDO: len(self._changes) - self.place}.get(command.word)
+        return known is None or command.numbers[0] <= known
+
+    def carry_out(self, command: Command, value: int) -> None:
+        """Makes a change that is not refused, or steps, after which the flow has this value. Raises a `Fault` if it cannot."""
+        word, numbers = command
+        if word in (UNDO, REDO):
+            step, by = (self.undo, -numbers[0]) if word == UNDO else (self.redo, numbers[0])
+            before = self.value_at(self.place + by)
+            if value != before:
+                raise Fault(f"value differs: it was {before} there")
+            step(numbers[0], value)
+        else:
+            is_possible = {ADD: value == self.value, SOLVE: value >= self.value}.get(word, value <= self.value)
+            if not is_possible:
+                raise Fault(f"value differs: {command} does not make {value} of {self.value}")
+            self.note(self._change(command), value)
+        self.begin_call()
+
+    def _change(self, command: Command) -> Change:
+        word, numbers = command
+        if word == ADD:
+            tail, head, capacity = numbers
+            return Change((word, *numbers), added=(Arc(tail, head, capacity), capacity, None))
+        if word == "shut":
+            node = numbers[0]
+            changed = [number for number, arc in enumerate(self.arcs, 1) if node in (arc.tail, arc.head) and not arc.is_closed]
+        else:
+            changed = [*numbers[:1]]
+        after = numbers[1] if word == "cap" else None
+        return Change((word, *numbers), [(number, self.arcs[number - 1].capacity, after) for number in changed])
+
+    def _make(self, change: Change) -> None:
+        if change.added:
+            self.arcs.append(change.added[0])
+            self.capacity_sum += change.added[1]
+        for number, _, after in change.capacities:
+            self._put(number, after)
+
+    def _unmake(self, change: Change) -> None:
+        if change.added:
+            self.capacity_sum -= self.arcs.pop().capacity
+        for number, before, _ in change.capacities:
+            self._put(number, before)
+
+    def _put(self, number: int, capacity: int | None) -> None:
+        """Gives an arc a capacity, or closes it."""
+        arc = self.arcs[number - 1]
+        self.arcs[number - 1] = arc._replace(capacity=capacity or 0, is_closed=capacity is None)
+        self.capacity_sum += (capacity or 0) - arc.capacity

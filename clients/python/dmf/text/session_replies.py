@@ -1,0 +1,256 @@
+"""The replies of a session, and of `dmf solve`: their kinds, and how they are read line by line."""
+
+from __future__ import annotations
+
+from collections import Counter, defaultdict
+from collections.abc import Sequence
+from dataclasses import dataclass
+from enum import Enum
+from typing import Union
+
+from .commands import CHANGES, FIELD_COUNTS, Command
+from .problem_text import MOST_ARCS, Fault, Problem, TextFault, number, read_problem
+from .session_commands import Arc
+
+
+# The kinds of a line, by its form alone.
+Kind = Enum("Kind", "VALUE FLOW CUT SIDE PROBLEM TERMINAL ARC CHANGED SOLVED REFUSED COMMAND OTHER")
+
+
+_BY_FIRST_FIELD = {b"s": Kind.VALUE, b"f": Kind.FLOW, b"p": Kind.PROBLEM, b"n": Kind.TERMINAL, b"a": Kind.ARC}
+
+
+def kind_of(found: list[bytes]) -> Kind:
+    """The kind of a line of these fields."""
+    if not found:
+        return Kind.OTHER
+    if found[0] in _BY_FIRST_FIELD:
+        return _BY_FIRST_FIELD[found[0]]
+    if found[0] in FIELD_COUNTS:
+        return Kind.COMMAND
+    if found[0] != b"c" or len(found) < 3:
+        return Kind.OTHER
+    if len(found) == 3 and found[1] in (b"cut", b"side"):
+        return Kind.CUT if found[1] == b"cut" else Kind.SIDE
+    if found[1] == b"refused" and len(found) > 3 and found[2].isdigit():
+        return Kind.REFUSED
+    if found[1:3] == [b"solve", b"value"] and len(found) == 4 and found[3].isdigit():
+        return Kind.SOLVED
+    is_change = found[1] in CHANGES and len(found) == 4 + (found[1] == b"add") and found[-2] == b"value"
+    return Kind.CHANGED if is_change and found[2 if found[1] == b"add" else -1].isdigit() else Kind.OTHER
+
+
+@dataclass(frozen=True)
+class OneLine:
+    """What one line says."""
+
+    line: bytes
+
+
+class Other(OneLine):
+    """A line that is no reply and no command."""
+
+
+class Asked(OneLine):
+    """A command line of a transcript."""
+
+
+@dataclass(frozen=True)
+class Changed(OneLine):
+    """A change that was made, and the value after it. The command is None if it is not known."""
+
+    command: Command | None
+    value: int
+
+
+@dataclass(frozen=True)
+class Refused(OneLine):
+    """A command that was refused, and why."""
+
+    reason: str
+
+
+@dataclass(frozen=True)
+class Solution:
+    """The flows on the open arcs, in their order: the arcs' numbers, the arcs as they were, and the flows. If the lines of the flows
+    were left out, as in the brief reply to a solve, or have not come yet, of a network that is not known, the three are empty and
+    `is_told` is false. `serial` tells the state with this flow from others."""
+
+    value: int
+    is_told: bool
+    numbers: Sequence[int] = ()
+    arcs: Sequence[Arc] = ()
+    flows: Sequence[int] = ()
+    serial: object = None
+
+
+@dataclass(frozen=True)
+class Flow:
+    """The flow on an arc, of which only the ends are known."""
+
+    tail: int
+    head: int
+    flow: int
+
+
+@dataclass(frozen=True)
+class Cut:
+    """The smallest minimum cut: its capacity, the nodes on the source's side, and its arcs by their numbers, which are None if the
+    network is not known. `line` is its first line, and `serial` tells the state with this cut from others."""
+
+    capacity: int
+    side: list[int]
+    arcs: list[int] | None
+    line: int
+    serial: object = None
+
+
+@dataclass(frozen=True)
+class Printed:
+    """A printed problem: the lines, and the number that each of its arcs has in the session; None if these are not known."""
+
+    lines: list[bytes]
+    problem: Problem
+    numbers: list[int] | None
+
+
+Event = Union[Other, Asked, Changed, Refused, Solution, Flow, Cut, Printed]
+
+
+class SolutionReading:
+    """The lines of a solution of a known network."""
+
+    GOES_ON = (Kind.FLOW,)
+
+    def __init__(self, value: int, arcs: list[Arc], command: Command | None) -> None:
+        self.value = value
+        self.command = command
+        self.numbers = [at for at, arc in enumerate(arcs, 1) if not arc.is_closed]
+        self.arcs = [arcs[at - 1] for at in self.numbers]
+        self.flows: list[int] = []
+
+    def is_whole_with(self, more: int) -> bool:
+        """Whether no flow is missing after so many more are read."""
+        return len(self.flows) + more == len(self.arcs)
+
+    def is_whole(self) -> bool:
+        return self.is_whole_with(0)
+
+    def take(self, found: list[bytes]) -> None:
+        """Takes in a line of a flow. Raises a `Fault` if it does not belong to the next open arc."""
+        tail, head, flow = flow_of(found)
+        number, arc = self.numbers[len(self.flows)], self.arcs[len(self.flows)]
+        if (tail, head) != (arc.tail, arc.head):
+            if not any((tail, head) == (other.tail, other.head) for other in self.arcs):
+                raise Fault(f"no such arc: {tail} to {head}")
+            raise Fault(f"arc {number} leads from {arc.tail} to {arc.head}, and not from {tail} to {head}")
+        if flow > arc.capacity:
+            raise Fault(f"over capacity: arc {number}, from {tail} to {head}, carries at most {arc.capacity}, and not {flow}")
+        self.flows.append(flow)
+
+    def judge(self, source: int, sink: int) -> None:
+        """Raises a `Fault` if the flows are not a flow of this value from the source to the sink."""
+        excesses: Counter[int] = Counter()
+        for arc, flow in zip(self.arcs, self.flows):
+            if flow:
+                excesses[arc.tail] += flow
+                excesses[arc.head] -= flow
+        unbalanced = {node for node, excess in excesses.items() if excess} - {source, sink}
+        if unbalanced:
+            raise Fault(f"flow not conserved at node {min(unbalanced)}")
+        if excesses[source] != self.value:
+            raise Fault(f"value differs: {excesses[source]} flows out of the source, and not {self.value}")
+
+
+class CutReading:
+    """The lines of a cut. In a known network the end of its side is known at once: the smallest minimum cut has no smaller minimum
+    cut inside it."""
+
+    GOES_ON = (Kind.SIDE,)
+
+    def __init__(self, capacity: int, line: int, problem: Problem, arcs: list[Arc] | None) -> None:
+        self.capacity = capacity
+        self.line = line
+        self.problem = problem
+        self.arcs = arcs
+        self.side: dict[int, None] = {}
+        self.carried = 0
+        # The places of the arcs at each node, made when they are first needed.
+        self.at_node: dict[int, list[int]] = {}
+
+    def is_whole(self) -> bool:
+        is_cut = self.problem.source in self.side and self.problem.sink not in self.side
+        return self.arcs is not None and is_cut and self.carried == self.capacity
+
+    def take(self, found: list[bytes]) -> None:
+        """Takes in a node of the side."""
+        node = number(found[2])
+        if not 1 <= node <= self.problem.node_count:
+            raise Fault(f"no such node: {node}")
+        if node in self.side:
+            raise Fault(f"node {node} is on the side twice")
+        self.side[node] = None
+        if self.arcs is not None:
+            self._carry(node, self.arcs)
+
+    def _carry(self, node: int, arcs: list[Arc]) -> None:
+        """Adds the arcs that leave the side now, and removes those that no longer leave it."""
+        if not self.at_node:
+            self.at_node = defaultdict(list)
+            for place, arc in enumerate(arcs):
+                if arc.capacity and arc.tail != arc.head:
+                    self.at_node[arc.tail].append(place)
+                    self.at_node[arc.head].append(place)
+        for place in self.at_node.get(node, ()):
+            tail, head, capacity, _ = arcs[place]
+            if tail == node and head not in self.side:
+                self.carried += capacity
+            elif head == node and tail in self.side:
+                self.carried -= capacity
+
+    def judge(self) -> None:
+        """Raises a `Fault` if the side is not that of a cut, or if the capacity of its arcs differs from the one in the reply."""
+        if self.problem.source not in self.side or self.problem.sink in self.side:
+            raise Fault("the side of this cut has not the source, or has the sink")
+        if self.arcs is not None and self.carried != self.capacity:
+            raise Fault(f"the arcs of this cut carry {self.carried}, and not {self.capacity}")
+
+    def crossing(self) -> list[int] | None:
+        """The numbers of the open arcs that leave the side."""
+        if self.arcs is None:
+            return None
+        return [
+            at
+            for at, arc in enumerate(self.arcs, 1)
+            if arc.tail in self.side and arc.head not in self.side and not arc.is_closed
+        ]
+
+
+class ProblemReading:
+    """The lines of a printed problem."""
+
+    GOES_ON = (Kind.TERMINAL, Kind.ARC)
+
+    def __init__(self, content: bytes, found: list[bytes], line: int) -> None:
+        self.lines = [content]
+        self.first_line = line
+        if len(found) != 4:
+            raise Fault("wrong number of fields")
+        self.line_count = min(number(found[3]), MOST_ARCS) + 3
+
+    def is_whole(self) -> bool:
+        return len(self.lines) == self.line_count
+
+    def read(self) -> Problem:
+        """The problem. Raises its `TextFault`, with the number of the line in the whole answer."""
+        try:
+            return read_problem(b"\n".join(self.lines))
+        except TextFault as fault:
+            raise TextFault(self.first_line + fault.line - 1, fault.reason, fault.field) from None
+
+
+def flow_of(found: list[bytes]) -> tuple[int, int, int]:
+    """The tail, the head and the flow of a line."""
+    if len(found) != 4:
+        raise Fault("wrong number of fields")
+    return number(found[1]), number(found[2]), number(found[3])

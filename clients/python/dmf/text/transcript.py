@@ -1,0 +1,367 @@
+"""Follows a session by its commands and its replies: the network after each reply, and the contents of each reply.
+
+The commands come beside the replies, or stand among them, as a terminal shows a session. An answer of `dmf solve` is a session
+without commands. If commands and replies do not fit together, a `TranscriptFault` says where: nothing is guessed.
+"""
+
+from __future__ import annotations
+
+from collections import deque
+from collections.abc import Callable, Iterator
+from dataclasses import dataclass
+from typing import Union
+
+from .commands import ADD, PRINT_CUT, PRINT_FLOW, PRINT_PROBLEM, SOLVE, UNDO, Command, ended, read_command
+from .session_replies import (
+    Asked,
+    Changed,
+    Cut,
+    CutReading,
+    Event,
+    Flow,
+    Kind,
+    Other,
+    Printed,
+    ProblemReading,
+    Refused,
+    Solution,
+    SolutionReading,
+    flow_of,
+    kind_of,
+)
+from .problem_text import Fault, Problem, TextFault, display, fields, number
+from .session_commands import Timeline
+
+ANSWER, COMMANDS = "answer", "commands"
+# Why a command may be refused whatever is known about the network: by what the history forgot, and by what no text shows.
+UNFORESEEN = {UNDO: {"nothing to undo"}, PRINT_CUT: {"flow is not greatest"}}
+Reading = Union[SolutionReading, CutReading, ProblemReading]
+
+
+class TranscriptFault(TextFault):
+    """Commands and replies, or a reply and the network, do not fit together. Names the text, `answer` or `commands`, and the line."""
+
+    def __init__(self, text: str, line: int, reason: str, about: bytes = b"") -> None:
+        super().__init__(line, reason, about)
+        self.text = text
+
+
+@dataclass(frozen=True)
+class Pending:
+    """A command without a reply so far: the text that it stands in, its line there, that line's content, and what it asks for, or why
+    its form gets it refused."""
+
+    text: str
+    line: int
+    content: str
+    command: Command | None
+    refusal: str | None
+
+    @staticmethod
+    def of(text: str, line: int, read: bytes) -> Pending | None:
+        """The command of a line, or None if it is a comment or blank."""
+        content = display(ended(read)[:80].decode(errors="replace"))
+        try:
+            command = read_command(read)
+        except Fault as fault:
+            return Pending(text, line, content, None, fault.reason)
+        return Pending(text, line, content, command, None) if command else None
+
+    def __str__(self) -> str:
+        return f"`{self.content}`, line {self.line} of the {self.text}"
+
+
+class Follower:
+    """Takes the lines of an answer one after the other. `timeline` has the present network, unless `is_known` is false: then unknown
+    commands changed it. `is_numbered` is false if only a printed problem is known of the network, in which the arcs may have other
+    numbers. `solution` and `cut` are the last ones. The solution is None if its flows are not known, as after the brief reply to a
+    solve, or do not belong to a known network. `solves_are_brief` says whether the reply to a solve is only its value (`--brief`),
+    and is None if that is not known."""
+
+    def __init__(self, problem: Problem, commands: Iterator[bytes] | None = None) -> None:
+        self.timeline = Timeline(problem)
+        self.is_known = self.is_numbered = True
+        self.solves_are_brief: bool | None = None
+        self.solution: Solution | None = None
+        self.cut: Cut | None = None
+        self.line = 0
+        self._given = commands
+        self._command_line = 0
+        self._waiting: deque[Pending] = deque()
+        self._reading: Reading | None = None
+        # Whether a cut comes with each solve (`--cut`), if that is known; whether the last reply was that of a `solve`, so that its
+        # cut may follow; and whether a cut was read as that of a solve although it may be the reply to `print cut`.
+        self._solves_have_cuts: bool | None = None
+        self._awaits_cut = self._is_in_doubt = False
+
+    def take(self, line: bytes) -> list[Event]:
+        """The contents of a line, which may still have its line feed. Raises a `TranscriptFault`."""
+        self.line += 1
+        reading = self._reading
+        try:
+            if isinstance(reading, SolutionReading) and line.startswith(b"f ") and not reading.is_whole_with(1):
+                # Most lines of a large answer.
+                reading.take(fields(ended(line)))
+                return []
+            return list(self._take(ended(line), line))
+        except Fault as fault:
+            raise self._located(fault) from None
+
+    def end(self) -> list[Event]:
+        """What the end of the answer completes. Raises a `TranscriptFault` if something is missing."""
+        self.line += 1
+        try:
+            return list(self._end())
+        except Fault as fault:
+            raise self._located(fault) from None
+
+    def _located(self, fault: Fault) -> TranscriptFault:
+        if isinstance(fault, TranscriptFault):
+            return fault
+        return TranscriptFault(ANSWER, fault.line if isinstance(fault, TextFault) else self.line, fault.reason, fault.field)
+
+    def _take(self, content: bytes, line: bytes) -> Iterator[Event]:
+        found = fields(content)
+        kind = kind_of(found)
+        if kind is Kind.OTHER or kind is Kind.COMMAND and self._given is not None:
+            yield Other(content)
+        elif kind is Kind.FLOW and not self.is_known:
+            yield Flow(*flow_of(found))
+        elif self._reading and kind in self._reading.GOES_ON:
+            yield from self._go_on(self._reading, content, found)
+        else:
+            yield from self._break_off()
+            yield from self._begin(kind, content, found, line)
+
+    def _begin(self, kind: Kind, content: bytes, found: list[bytes], line: bytes) -> Iterator[Event]:
+        """Begins the reply, or the command, that stands in a line of this kind."""
+        if kind is Kind.COMMAND:
+            pending = Pending.of(ANSWER, self.line, line)
+            self._waiting.extend([pending] if pending else [])
+            yield Asked(content)
+        elif kind is Kind.REFUSED:
+            self._refuse(number(found[2]), b" ".join(found[3:]).decode(errors="replace"))
+            yield Refused(content, b" ".join(found[3:]).decode(errors="replace"))
+        elif kind is Kind.CHANGED:
+            yield self._changed(content, found)
+        elif kind is Kind.VALUE:
+            yield from self._begin_solution(found)
+        elif kind is Kind.SOLVED:
+            yield self._solved(number(found[3]))
+        elif kind is Kind.CUT:
+            yield from self._begin_cut(number(found[2]))
+        elif kind is Kind.PROBLEM:
+            self._asked(PRINT_PROBLEM)
+            self._reading = ProblemReading(content, found, self.line)
+        elif kind is Kind.FLOW:
+            raise Fault("a flow before its value line, or one more than the network has arcs")
+        elif kind is Kind.SIDE:
+            raise Fault("a side before its cut, or one more than the cut has")
+        else:
+            raise Fault(f"unknown line: {found[0].decode()}")
+
+    # Commands and their replies.
+
+    def _head(self) -> Pending | None:
+        """The oldest command without a reply."""
+        while not self._waiting and self._given is not None:
+            line = next(self._given, b"")
+            if not line:
+                return None
+            self._command_line += 1
+            pending = Pending.of(COMMANDS, self._command_line, line)
+            self._waiting.extend([pending] if pending else [])
+        return self._waiting[0] if self._waiting else None
+
+    def _settle(self, is_answered: Callable[[Pending], bool]) -> Pending | None:
+        """The oldest command without a reply, when another reply than a cut has come. It is then known whether solves have cuts: a
+        cut in doubt was the reply to `print cut` if one still waits that this reply does not answer."""
+        if self._awaits_cut and self._solves_have_cuts:
+            raise Fault("the cut of this solve is missing")
+        if self._awaits_cut:
+            self._solves_have_cuts = False
+        head = self._head() if self._is_in_doubt or self._given is not None or self._waiting else None
+        if self._is_in_doubt:
+            waits = head is not None and head.command == Command(PRINT_CUT) and not is_answered(head)
+            self._solves_have_cuts = not waits
+            if waits:
+                self._waiting.popleft()
+                head = self._head()
+        self._awaits_cut = self._is_in_doubt = False
+        return head
+
+    def _asked(self, *words: str) -> Command | None:
+        """The command that a reply answers, one of these words, or None if no commands are known. Raises a `Fault` if the oldest
+        command without a reply is another one, or should be refused."""
+        head = self._settle(lambda head: False) if words != (PRINT_CUT,) else self._head()
+        if head is None:
+            if self._given is not None:
+                raise Fault("no command is left that this answers")
+            return None
+        if head.command is None or head.command.word not in words:
+            raise Fault(f"this does not answer {head}")
+        refusal = self.timeline.refusal(head.command)
+        if refusal and self._is_sure():
+            raise Fault(f"this does not answer {head}: {refusal}")
+        self._waiting.popleft()
+        return head.command
+
+    def _refuse(self, line: int, reason: str) -> None:
+        """Takes a refusal of the command line with this number as the reply to the oldest command without one."""
+        head = self._settle(lambda head: self._may_refuse(head, line, reason))
+        if head is None:
+            if self._given is not None:
+                raise Fault("no command is left that this answers")
+            return
+        if self._may_refuse(head, line, reason):
+            self._waiting.popleft()
+        elif self._given is not None or reason not in ("unknown command", "line too long"):
+            raise Fault(f"this does not answer {head}")
+
+    def _may_refuse(self, head: Pending, line: int, reason: str) -> bool:
+        """Whether this may be the refusal of a command. A transcript may lack lines, so their numbers are uncertain."""
+        if self._given is not None and line != head.line:
+            return False
+        if head.command is None:
+            return reason == head.refusal
+        if not self._is_sure():
+            return True
+        foreseen = self.timeline.refusal(head.command)
+        return reason == foreseen if foreseen else reason in {"no memory", *UNFORESEEN.get(head.command.word, ())}
+
+    def _is_sure(self) -> bool:
+        """Whether the network is known as the commands speak of it."""
+        return self.is_known and self.is_numbered
+
+    def _changed(self, content: bytes, found: list[bytes]) -> Changed:
+        command = self._asked(found[1].decode())
+        value = number(found[-1])
+        if command is None or not self._is_sure() or not self.timeline.knows(command):
+            self.is_known = False
+        else:
+            self.timeline.carry_out(command, value)
+            if command.word == ADD and number(found[2]) != len(self.timeline.arcs):
+                raise Fault(f"the added arc has the number {len(self.timeline.arcs)}")
+        return Changed(content, command, value)
+
+    # Solutions, cuts and printed problems.
+
+    def _answers_solve(self, is_brief: bool) -> None:
+        """Notes the form of the reply to a solve. Raises a `Fault` if an earlier one had the other form."""
+        if self.solves_are_brief not in (None, is_brief):
+            raise Fault("brief and whole replies to solve in one answer")
+        self.solves_are_brief = is_brief
+
+    def _solved(self, value: int) -> Solution:
+        """The brief reply to a solve: its flows are not known until they are printed."""
+        command = self._asked(SOLVE)
+        self._answers_solve(is_brief=True)
+        if command is not None and self.is_known:
+            self.timeline.carry_out(command, value)
+        elif self.is_known:
+            self.timeline.begin_anew(value)
+        self._awaits_cut = True
+        self.solution = None
+        return Solution(value, is_told=False, serial=self.timeline.serial)
+
+    def _begin_solution(self, found: list[bytes]) -> Iterator[Event]:
+        if len(found) != 2:
+            raise Fault("wrong number of fields")
+        value = number(found[1])
+        command = self._asked(SOLVE, PRINT_FLOW)
+        if command == Command(SOLVE):
+            self._answers_solve(is_brief=False)
+        if not self.is_known:
+            self._awaits_cut = command == Command(SOLVE)
+            self.solution = None
+            yield Solution(value, is_told=False)
+            return
+        self._reading = SolutionReading(value, self.timeline.arcs, command)
+        if self._reading.is_whole():
+            yield self._solution(self._reading)
+
+    def _begin_cut(self, capacity: int) -> Iterator[Event]:
+        if self._awaits_cut and self._solves_have_cuts is not False:
+            self._awaits_cut, self._is_in_doubt = False, self._solves_have_cuts is None
+        else:
+            self._awaits_cut = False
+            self._asked(PRINT_CUT)
+        arcs = self.timeline.arcs if self.is_known else None
+        self._reading = CutReading(capacity, self.line, self.timeline.problem, arcs)
+        yield from ()
+
+    def _go_on(self, reading: Reading, content: bytes, found: list[bytes]) -> Iterator[Event]:
+        if isinstance(reading, ProblemReading):
+            reading.lines.append(content)
+        else:
+            reading.take(found)
+        if not reading.is_whole():
+            return
+        if isinstance(reading, SolutionReading):
+            yield self._solution(reading)
+        elif isinstance(reading, CutReading):
+            yield self._cut(reading)
+        else:
+            yield self._printed(reading)
+
+    def _break_off(self) -> Iterator[Event]:
+        """Ends what is being read before a line that does not belong to it. The flows of a solution may have been left out."""
+        reading = self._reading
+        if isinstance(reading, SolutionReading):
+            if reading.flows:
+                raise Fault(f"the solution has {len(reading.flows)} flows, and the network {len(reading.arcs)} arcs")
+            yield self._solution(reading)
+        elif isinstance(reading, CutReading):
+            yield self._cut(reading)
+        elif reading:
+            reading.read()
+
+    def _solution(self, reading: SolutionReading) -> Solution:
+        timeline = self.timeline
+        is_told = reading.is_whole()
+        if is_told:
+            reading.judge(timeline.problem.source, timeline.problem.sink)
+        # If the replies to solves are brief, a solution answers `print flow`.
+        if reading.command is None and not self.solves_are_brief:
+            timeline.begin_anew(reading.value)
+        elif reading.command == Command(SOLVE):
+            timeline.carry_out(reading.command, reading.value)
+            self._awaits_cut = True
+        elif reading.value != timeline.value:
+            raise Fault(f"value differs: it is {timeline.value} here")
+        self._reading = None
+        told = (reading.numbers, reading.arcs, reading.flows) if is_told else ((), (), ())
+        solution = Solution(reading.value, is_told, *told, timeline.serial)
+        self.solution = solution if is_told else None
+        return solution
+
+    def _cut(self, reading: CutReading) -> Cut:
+        try:
+            reading.judge()
+        except Fault as fault:
+            raise TranscriptFault(ANSWER, reading.line, fault.reason) from None
+        self._reading = None
+        self.cut = Cut(reading.capacity, list(reading.side), reading.crossing(), reading.line, self.timeline.serial)
+        return self.cut
+
+    def _printed(self, reading: ProblemReading) -> Printed:
+        printed, timeline = reading.read(), self.timeline
+        known = timeline.problem
+        if (printed.node_count, printed.source, printed.sink) != (known.node_count, known.source, known.sink):
+            raise TranscriptFault(ANSWER, reading.first_line, "this is a problem with other nodes")
+        numbers = None
+        if self.is_known:
+            numbers = [at for at, arc in enumerate(timeline.arcs, 1) if not arc.is_closed]
+            if printed.arcs != [timeline.arcs[at - 1][:3] for at in numbers]:
+                raise TranscriptFault(ANSWER, reading.first_line, "this is a problem with other arcs")
+        else:
+            self.timeline = Timeline(printed, timeline.value, begins_known=False)
+            self.is_known, self.is_numbered = True, False
+        self._reading = None
+        return Printed(reading.lines, printed, numbers if self.is_numbered else None)
+
+    def _end(self) -> Iterator[Event]:
+        yield from self._break_off()
+        head = self._settle(lambda head: False)
+        if head is not None:
+            raise TranscriptFault(head.text, head.line, f"no reply to `{head.content}`")

@@ -1,0 +1,99 @@
+"""The options that say what a table is, in every tool: its columns, its numbers, its sources and sinks, its limits and its encoding."""
+
+from __future__ import annotations
+
+import argparse
+import os
+import re
+from decimal import Decimal
+
+from ..text.cells import cleaned, near
+from ..tables.headings import CAPACITY, HEAD, NAME, TAIL
+from ..tables.loader import PLACE_TABLES, Wanted
+from ..tables.readers import Reading
+
+COLUMNS = (TAIL, HEAD, CAPACITY, NAME)
+
+
+def encoding(word: str) -> str:
+    """The name of an encoding of text."""
+    try:
+        b"A".decode(word)
+    except UnicodeDecodeError:
+        # It must be an encoding of text in which some byte is no character.
+        pass
+    except (LookupError, UnicodeError):
+        raise argparse.ArgumentTypeError(f"no encoding of text: {word}") from None
+    return word
+
+
+def scale(word: str) -> Decimal:
+    """The factor by which decimal numbers are multiplied."""
+    if not re.fullmatch(r"[0-9]{1,20}(\.[0-9]{1,20})?", word) or not Decimal(word):
+        raise argparse.ArgumentTypeError(f"no decimal number above 0: {word}")
+    return Decimal(word)
+
+
+def add_options(parser: argparse._ActionsContainer) -> None:
+    """Adds the options that say what a table is."""
+    add = parser.add_argument
+    add("--tail", metavar="TITLE", help="the title of the column of tails; with --head and --capacity")
+    add("--head", metavar="TITLE", help="the title of the column of heads")
+    add("--capacity", metavar="TITLE", help="the title of the column of capacities")
+    add("--name", metavar="TITLE", help="the title of the column of the names of arcs")
+    add("--decimal", metavar="SIGN", choices=[".", ","], default="", help="the decimal sign of all numbers, a point or a comma")
+    add("--both-ways", action="store_true", help="make of each row two arcs, there and back")
+    add("--scale", metavar="K", type=scale, help="K times each number is a whole number, and counts; by default the least power of ten")
+    add("--source", metavar="PLACE[=LIMIT]", action="append", default=[], help="a source, which gives at most LIMIT; may be repeated")
+    add("--sink", metavar="PLACE[=LIMIT]", action="append", default=[], help="a sink, which takes at most LIMIT; may be repeated")
+    add("--sources", metavar="FILE", help="a table of sources and their limits")
+    add("--sinks", metavar="FILE", help="a table of sinks and their limits")
+    add("--node-limits", metavar="FILE", help="a table of places and the most that may pass through each")
+    add("--places", metavar="FILE", dest="place_table", help="a table of places: what each gives, takes and lets through")
+    add("--raw-names", action="store_true", help="read and write names in tables as they are, without an apostrophe before = + - @")
+    add("--encoding", metavar="NAME", type=encoding, help="how the tables are encoded, as in latin-1 (found)")
+
+
+def parsed(parser: argparse.ArgumentParser, given: list[str], fixed: int | None = 0) -> argparse.Namespace:
+    """The arguments, of which `places` gets those that are no options: so many that are `fixed`, and then the source and the sink. None
+    says that all are fixed. Arguments that do not go together are refused."""
+    end = given.index("--") if "--" in given else len(given)
+    words, unknown = parser.parse_known_intermixed_args(given[:end])
+    if unknown:
+        options = re.findall(r"^  (?:-[a-z], )?(--[a-z-]+)", parser.format_help(), re.MULTILINE)
+        parser.error(f"unrecognized arguments: {' '.join(unknown)}{near(unknown[0], options)}")
+    # After -- no argument is an option, so a place there may begin with a dash.
+    places = [*words.places, *given[end + 1 :]]
+    fixed = len(places) if fixed is None else fixed
+    words.fixed, words.places = places[:fixed], places[fixed:]
+    if words.fixed and words.places and not os.path.exists(words.fixed[0]) and os.path.exists(path := " ".join(places)):
+        parser.error(f'put a path with spaces in quotes: "{path}"')
+    if words.places and names_terminals(words) or len(words.places) not in (0, 2):
+        parser.error("name a source and a sink, as two words or by options such as --source and --sink")
+    if words.places:
+        words.source, words.sink = words.places[:1], words.places[1:]
+    titles = {column: getattr(words, column) for column in COLUMNS}
+    words.titles = {column: title for column, title in titles.items() if title is not None}
+    if words.titles and not {TAIL, HEAD, CAPACITY} <= words.titles.keys():
+        parser.error("--tail, --head and --capacity are given together")
+    if len({cleaned(title) for title in words.titles.values()}) < len(words.titles):
+        parser.error("two of --tail, --head, --capacity and --name name the same column")
+    return words
+
+
+def names_terminals(words: argparse.Namespace) -> bool:
+    """Whether the arguments name a source or a sink."""
+    return bool(words.source or words.sink) or words.sources is not None or words.sinks is not None
+
+
+def says_table(words: argparse.Namespace) -> bool:
+    """Whether the arguments say something of a table."""
+    given = [words.scale, words.node_limits, words.place_table, words.encoding]
+    return names_terminals(words) or bool(words.titles or words.both_ways or words.decimal) or any(it is not None for it in given)
+
+
+def wanted_of(words: argparse.Namespace) -> Wanted:
+    """What the arguments say of the tables."""
+    tables = {option: getattr(words, option) for option in PLACE_TABLES if getattr(words, option) is not None}
+    reading = Reading(words.titles, words.decimal, words.raw_names)
+    return Wanted(reading, words.encoding, words.scale, words.both_ways, tuple(words.source), tuple(words.sink), tables)

@@ -1,0 +1,115 @@
+"""The rooms of the Python package import only from those before them, and no modules import each other in a circle."""
+
+from __future__ import annotations
+
+from pathlib import Path
+
+import pytest
+from client_shared import CLIENT
+from layers import CORE, Imports, cycle_of, is_upward, room_of
+
+# Imports that were there before the rooms, and go with the next steps. No other may come.
+EXCEPTIONS = [
+    "__main__ -> tools.command",
+    "columns -> network",
+    "desk.board.handler -> desk.board.server",
+    "desk.board.maps -> tools.command",
+    "desk.plan.handlers -> tools.command",
+    "desk.plan.shell -> tools.command",
+    "desk.project.open_project -> tools.command",
+    "desk.project.opener -> tools.command",
+    "desk.project.opener -> tools.options",
+    "desk.project.storage -> tools.command",
+    "desk.project.table -> tools.command",
+    "desk.project.table -> tools.options",
+    "graphs -> tables.problem_networks",
+    "history -> arcs",
+    "history -> session.base",
+    "notebook -> presentation",
+    "notebook -> tools.command",
+    "presentation -> tools.command",
+    "session.base -> session.library",
+    "session.library -> arrays",
+    "session.library -> numbering",
+    "session.runners -> arrays",
+    "session.runners -> numbering",
+    "session.runners -> state",
+    "sweeps.cases -> tables.answers",
+    "tables.csv_file -> tables.numpy_rows",
+    "tables.loader -> tools.command",
+    "tables.problem_networks -> tables.table_answers",
+    "tables.sheet_tables -> tables.amount_columns",
+    "tables.subject -> tools.command",
+    "tables.subject -> tools.options",
+    "tables.table_answers -> tables.table_network",
+    "text.carried -> tables.faults",
+]
+ALLOWED = {(module, other) for module, _, other in (line.partition(" -> ") for line in EXCEPTIONS)}
+
+
+@pytest.fixture(scope="module")
+def edges() -> set[tuple[str, str]]:
+    return Imports(Path(CLIENT, "dmf")).edges()
+
+
+def test_imports_point_down(edges: set[tuple[str, str]]) -> None:
+    assert len(edges) > 300
+    assert sorted(edge for edge in edges - ALLOWED if is_upward(edge)) == []
+
+
+def test_no_circles(edges: set[tuple[str, str]]) -> None:
+    assert cycle_of(edges - ALLOWED) == []
+
+
+def test_exceptions_shrink(edges: set[tuple[str, str]]) -> None:
+    """Each exception is an import that points upward or closes a circle."""
+    allowed = edges - ALLOWED
+    assert ALLOWED <= edges
+    for edge in ALLOWED:
+        assert is_upward(edge) or cycle_of(allowed | {edge}), edge
+
+
+def test_each_module_has_a_room(edges: set[tuple[str, str]]) -> None:
+    modules = {module for edge in edges for module in edge}
+    assert {room_of(module) for module in modules} >= {"errors", "text", "session", CORE, "sweeps", "tables", "desk", "desk.board", "tools"}
+    assert room_of("history") == room_of("errors") and room_of("desk.plan.shell") == "desk.plan"
+
+
+# A package with one import of each form, and what they are.
+PACKAGE = {
+    "__init__.py": '_NAMES = {"network": ["Network"]}\n',
+    "errors.py": "def late():\n    from .desk import workspace\n",
+    "network.py": "from . import errors, state\n",
+    "state.py": "TYPE_CHECKING = False\nif TYPE_CHECKING:\n    from .network import Network\n",
+    "tables/__init__.py": "",
+    "tables/sheet.py": "from dmf.sweeps.cases import sweep\n",
+    "sweeps/__init__.py": "",
+    "sweeps/cases.py": "from .. import Network, Error\nimport dmf.state\nimport os\n",
+    "desk/__init__.py": "from .workspace import Desk\n",
+    "desk/workspace.py": "from ..state import X\n",
+}
+IMPORTS = [
+    "desk -> desk.workspace",
+    "desk.workspace -> state",
+    "errors -> desk.workspace",
+    "network -> errors",
+    "network -> state",
+    "state -> network",
+    "sweeps.cases -> errors",
+    "sweeps.cases -> network",
+    "sweeps.cases -> state",
+    "tables.sheet -> sweeps.cases",
+]
+
+
+def test_faults_are_found(tmp_path: Path) -> None:
+    """Late imports count, those for types alone, those of public names, and those between two rooms beside each other."""
+    for name, text in PACKAGE.items():
+        path = tmp_path / name
+        path.parent.mkdir(exist_ok=True)
+        path.write_text(text)
+    edges = Imports(tmp_path).edges()
+    assert sorted(" -> ".join(edge) for edge in edges) == IMPORTS
+    assert {edge for edge in edges if is_upward(edge)} == {("errors", "desk.workspace"), ("tables.sheet", "sweeps.cases")}
+    assert set(cycle_of(edges - {("errors", "desk.workspace")})) == {"network", "state"}
+    assert cycle_of(edges - {("errors", "desk.workspace"), ("state", "network")}) == []
