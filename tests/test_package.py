@@ -239,7 +239,7 @@ def test_removed(made: Path, tmp_path: Path) -> None:
     """Nothing is left but what dpkg keeps, also where Python has compiled the modules."""
     call_dpkg(tmp_path, "-i", the(made, "dmf_*.deb"))
     modules = tmp_path / "usr/lib/python3/dist-packages"
-    ran("/usr/bin/python3", "-c", "import dmf.plan", PYTHONPATH=str(modules))
+    ran("/usr/bin/python3", "-c", "import dmf.desk.plan.shell", PYTHONPATH=str(modules))
     assert len([*(modules / "dmf/__pycache__").glob("*.pyc")]) > 20
     call_dpkg(tmp_path, "-P", "dmf")
     assert [path.name for path in tmp_path.iterdir()] == ["var"]
