@@ -26,6 +26,7 @@ want_packages() {
     mapfile -t wanted < <(missing "$@")
     [ "${#wanted[@]}" -gt 0 ] || return 0
     if [ "$(id -u)" -eq 0 ] && command -v apt-get >/dev/null; then
+        echo "$name: installing ${#wanted[@]} packages of Debian and what they need, which takes some minutes"
         why=$(install_packages "${wanted[@]}")
         mapfile -t wanted < <(missing "$@")
         [ "${#wanted[@]}" -gt 0 ] || return 0

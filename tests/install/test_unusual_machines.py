@@ -39,6 +39,7 @@ LACKING = {
     "dpkg-query": '#!/bin/sh\nfor last; do :; done\n[ "$last" = fish ] || echo installed\n',
     "apt-get": "#!/bin/sh\necho 'Reading package lists...'\necho 'E: Unable to fetch some archives' >&2\nexit 100\n",
 }
+INSTALLING = "test: installing 1 packages of Debian and what they need, which takes some minutes"
 LACKS = "test: packages of Debian are missing: apt install fish"
 
 
@@ -94,7 +95,7 @@ CASES = [
     Case("the usual"),
     Case("not root", set_up=lambda place: own(place, NOBODY), by_nobody=True),
     Case("not root, and a package is missing", set_up=own_and_lack, by_nobody=True, test=(2, "", f"{LACKS}\n")),
-    Case("no network", set_up=lack, test=(2, "", f"{LACKS} (E: Unable to fetch some archives)\n")),
+    Case("no network", set_up=lack, test=(2, INSTALLING, f"{LACKS} (E: Unable to fetch some archives)\n")),
     Case(
         "a read-only clone", set_up=close, by_nobody=True,
         test=(2, "", "test: {clone} cannot be written, and the tests write in it; clone it to another place\n"),
