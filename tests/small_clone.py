@@ -14,14 +14,19 @@ from conftest import ROOT
 SECONDS = 60
 PACKED, FACTS = "prebuilt/dmf-x86_64-linux.gz", "prebuilt/dmf-x86_64-linux.txt"
 PACKED_LIBRARY, LIBRARY = "prebuilt/libdmf-x86_64-linux.so.0.gz", "crates/dmf_c/out/libdmf.so.0"
+SCRIPTS = ["dmf", "prove", ".ci/run", ".ci/typed", ".ci/bare_debian.sh"]
+SCRIPTS += [f"tools/{name}" for name in ("build.py", "prebuilt", "count.sh", "packages.sh", "own_kit", "must_fail.py", "prove_crates.py", "loaded.py")]
 # What a system has that has no toolchain, no Python and no compiler.
 FEW = ["sh", "awk", "cat", "chmod", "cmp", "cut", "dirname", "find", "gzip", "head", "id", "mkdir", "mktemp", "mv", "readlink", "rm"]
 FEW += ["sed", "sha256sum", "sort", "uname"]
-# A rt that makes the program $MADE of the crate dmf, and that writes $SAID at the end of `rt ci`.
+# A rt that makes the program $MADE of the crate dmf, and that writes $SAID at the end of `rt ci --anew`.
 STAND_IN = r"""#!/bin/sh
 case $1 in
 version) echo "a kit of the test" ;;
-ci) rm -rf crates/*/out && mkdir crates/dmf/out && cp "$MADE" crates/dmf/out/dmf && echo "$SAID" ;;
+ci)
+    test "$2" = --anew || exit 3
+    ls -d crates/*/out 2>/dev/null && exit 4
+    mkdir crates/dmf/out && cp "$MADE" crates/dmf/out/dmf && echo logic=proved functions=1 && echo "$SAID" ;;
 run) mkdir -p out/rlib && cp "$MADE" out/dmf ;;
 *) mkdir -p out/rlib ;;
 esac
@@ -49,7 +54,7 @@ class Clone:
             (self.root / "crates" / crate / "src" / "lib.rt").write_text(f"// {crate}\n")
         for folder in self.bin, self.home, self.rt.parent, self.root / "tools", self.root / ".ci":
             folder.mkdir()
-        for script in "dmf", "prove", ".ci/run", ".ci/typed", ".ci/bare_debian.sh", "tools/build.py", "tools/prebuilt", "tools/count.sh", "tools/packages.sh":
+        for script in SCRIPTS:
             shutil.copy(ROOT / script, self.root / script)
         (self.root / "crates.txt").write_text("# Crates.\nlow:\ndmf: low # and no other\ndmf_c staticlib: low\ntest_low: low\n")
         (self.root / "tools/library").write_text(MAKES_LIBRARY)

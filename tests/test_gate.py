@@ -57,15 +57,15 @@ def ended(clone: Clone, *words: str, said: str = SAID, test: str = SAID) -> tupl
 
 
 def test_all_well(clone: Clone) -> None:
-    """Tests, proofs, a mutant, and two comparisons: that prebuilt/ is of these sources, and what they make."""
+    """Tests, proofs, a library, a mutant, that nothing was loaded from before, and two comparisons: of the sources of prebuilt/, and of its bytes."""
     status, lines = ended(clone, *GATE)
-    assert (status, lines[-1], lines.count(SAID)) == (0, "8 passed, 0 failed", 2)
+    assert (status, lines[-1], lines.count(SAID)) == (0, "10 passed, 0 failed", 3)
 
 
 def test_all_edits(clone: Clone) -> None:
     status, lines = ended(clone, "./prove")
-    assert (status, lines[1], lines[-1]) == (0, SAID, "4 passed, 0 failed")
-    assert ended(clone, "./prove", "--all-edits")[1][-1] == "11 passed, 0 failed"
+    assert (status, lines.count(SAID), lines[-1]) == (0, 2, "6 passed, 0 failed")
+    assert ended(clone, "./prove", "--all-edits")[1][-1] == "13 passed, 0 failed"
     assert ended(clone, "./prove", "--edits") == (2, ["Usage: prove [--all-edits]"])
 
 
@@ -73,9 +73,9 @@ def test_all_edits(clone: Clone) -> None:
 def test_failures(clone: Clone, said: str) -> None:
     """A part that tells a failure, or that tells nothing."""
     missing = said != "1 passed, 1 failed"
-    assert ended(clone, *GATE, said=said)[1][-1] == f"{6 + (not missing)} passed, 1 failed"
+    assert ended(clone, *GATE, said=said)[1][-1] == f"{8 + (not missing)} passed, 1 failed"
     status, lines = ended(clone, *GATE, test=said)
-    assert (status, lines[-1]) == (1, f"{6 + (not missing)} passed, 1 failed")
+    assert (status, lines[-1]) == (1, f"{8 + (not missing)} passed, 1 failed")
 
 
 @pytest.mark.parametrize(
@@ -102,7 +102,7 @@ def test_no_bare_debian(clone: Clone) -> None:
     (clone.rt.parent / "id").chmod(0o755)
     status, lines = ended(clone, ".ci/run")
     said = "gate: no bare Debian could be made (only root can), so README's commands ran on this machine: a failure, unless --no-root is given"
-    assert (status, lines[-2:], lines.count(SAID)) == (1, [said, "8 passed, 1 failed"], 2)
+    assert (status, lines[-2:], lines.count(SAID)) == (1, [said, "10 passed, 1 failed"], 3)
     assert ended(clone, ".ci/run", "--root") == (2, ["Usage: .ci/run [--no-root]"])
 
 
@@ -117,20 +117,33 @@ def test_another_executable(clone: Clone) -> None:
     clone.made.write_text(clone.made.read_text() + "\n")
     status, lines = ended(clone, *GATE)
     said = "prebuilt/ has another executable than crates/dmf/out/dmf: `tools/prebuilt renew` makes it anew"
-    assert (status, lines[-1], said in lines) == (1, "7 passed, 1 failed", True)
+    assert (status, lines[-1], said in lines) == (1, "9 passed, 1 failed", True)
+
+
+def with_library(clone: Clone, script: str) -> None:
+    """Has the gate make its library by a script: another file, since tools/library is one of the library's sources."""
+    (clone.root / "tools/made").write_text(f"#!/bin/sh\n{script}\n")
+    (clone.root / "tools/made").chmod(0o755)
+    (clone.root / "prove").write_text((ROOT / "prove").read_text().replace(" tools/library ", " tools/made "))
 
 
 def test_another_library(clone: Clone) -> None:
-    """Sources that make another C library than the one of prebuilt/; and none."""
-    again = "`tools/prebuilt renew` makes it anew"
-    for made, said in ("another", f"prebuilt/ has another library than out/library/libdmf.so.0: {again}"), ("", "out/library/libdmf.so.0 is not there"):
-        script = f'#!/bin/sh\nmkdir -p "$1" && echo {made} >"$1/libdmf.so.0"\n' if made else "#!/bin/sh\nrm -rf $1\nexit 1\n"
-        # What makes the library is one of its sources too.
-        (clone.root / "tools/made").write_text(script)
-        (clone.root / "tools/made").chmod(0o755)
-        (clone.root / "prove").write_text((ROOT / "prove").read_text().replace("\ntools/library ", "\ntools/made "))
-        status, lines = ended(clone, *GATE)
-        assert (status, lines[-1], said in lines) == (1, "7 passed, 1 failed", True)
+    """Sources that make another C library than the one of prebuilt/."""
+    with_library(clone, 'mkdir -p "$1" && echo another >"$1/libdmf.so.0"')
+    status, lines = ended(clone, *GATE)
+    said = "prebuilt/ has another library than out/library/libdmf.so.0: `tools/prebuilt renew` makes it anew"
+    assert (status, lines[-1], said in lines) == (1, "9 passed, 1 failed", True)
+
+
+def test_a_stale_library(clone: Clone) -> None:
+    """No library is made of the sources, and the one of prebuilt/ lies there from before: it is not taken for the new one."""
+    with_library(clone, "exit 1")
+    stale = clone.root / "out/library/libdmf.so.0"
+    stale.parent.mkdir(parents=True)
+    stale.write_text("a library\n")
+    assert clone.check(str(clone.made), str(stale)) == (0, "")
+    status, lines = ended(clone, *GATE)
+    assert (status, lines[-1], "out/library/libdmf.so.0 is not there" in lines) == (1, "8 passed, 2 failed", True)
 
 
 def nested(tmp_path: Path, *words: str, **environment: str) -> subprocess.CompletedProcess[str]:

@@ -7,40 +7,37 @@ In a copy of the checkout, `rt must-fail` tries the edits of each crate that has
 named. Several crates are tried side by side, as many as processors and memory allow. What was said of an edit is printed once its crate
 is done. The last line is 'N passed, M failed', and the status is 0 only if nothing failed.
 
-An edit passes if the prover refuses it at a goal. It fails if the prover takes it or cannot read it, if it cannot be made, or if it is
-refused only because a proof names what it took away.
+An edit passes if the prover refuses it at a goal, which is then printed (tools/must_fail.py). It fails if the prover takes it or cannot
+read it, if it cannot be made, or if it is refused by a limit, or for a lost name.
 """
 
 from __future__ import annotations
 
 import argparse
 import os
-import re
 import shutil
 import subprocess
 import sys
 import tempfile
-from collections.abc import Iterator
 from concurrent.futures import ThreadPoolExecutor, as_completed
 from pathlib import Path
 
+from must_fail import KEPT, MORE, Verdict, edits_of, judge_all, name_of
+
 ROOT = Path(__file__).resolve().parents[1]
-KEPT, MORE = "must-fail", "more-must-fail"
 # The most memory that the check of an edit takes, in GiB.
 MEMORY = 3.5
-# What `rt must-fail` says of an edit that the prover refuses, and more if that says little of the contract.
-REFUSED = re.compile(r"^rt: must-fail (\S+): refused, as it must be(?! \(only because)", re.MULTILINE)
-
-
-def edits_of(crate: Path) -> list[Path]:
-    """The edits of a crate, those that the gate tries first."""
-    return [edit for part in (KEPT, MORE) for edit in sorted((crate / part).glob("*.edit"))]
 
 
 def crates_with_more() -> list[str]:
     """The crates that have edits that the gate leaves out, the one with the most edits first."""
     crates = {folder.parent for folder in ROOT.glob(f"crates/*/{MORE}")}
-    return [crate.name for crate in sorted(crates, key=lambda crate: (-len(edits_of(crate)), crate.name))]
+    return [crate.name for crate in sorted(crates, key=lambda crate: (-len(all_of(crate)), crate.name))]
+
+
+def all_of(crate: Path) -> list[Path]:
+    """The edits of a crate, those that the gate tries first."""
+    return [*edits_of(crate, KEPT, MORE)]
 
 
 def copy_checkout(to: Path) -> None:
@@ -73,16 +70,16 @@ def tried(crate: str, root: Path) -> str:
     return ran.stdout
 
 
-def not_refused(crate: str, said: str, edits: list[str]) -> Iterator[str]:
-    """The edits of a crate that are not refused at a goal, by what `rt` said of them."""
-    refused = REFUSED.findall(said)
-    return (f"{crate}/{edit}" for edit in edits if f"{crate}/{edit}" not in refused)
+def verdicts(crate: str, said: str) -> list[Verdict]:
+    """What became of each edit of a crate, by what `rt` said of them."""
+    found = judge_all(said)
+    names = [name_of(edit) for edit in all_of(ROOT / "crates" / crate)]
+    return [found.get(name, Verdict(name, "", "it was not tried")) for name in names]
 
 
 def try_all(crates: list[str]) -> int:
     """Tries the edits of these crates, and returns the status."""
-    passed = 0
-    failed: list[str] = []
+    judged: list[Verdict] = []
     with tempfile.TemporaryDirectory(prefix="dmf-edits-") as room, ThreadPoolExecutor(at_once()) as pool:
         root = Path(room)
         copy_checkout(root)
@@ -90,13 +87,12 @@ def try_all(crates: list[str]) -> int:
         for run in as_completed(runs):
             crate, said = runs[run], run.result()
             print(said, end="" if said.endswith("\n") or not said else "\n", flush=True)
-            edits = [edit.name for edit in edits_of(ROOT / "crates" / crate)]
-            lost = [*not_refused(crate, said, edits)]
-            passed, failed = passed + len(edits) - len(lost), failed + lost
-    for edit in failed:
-        print(f"all_edits.py: {edit} is not refused at a goal")
-    print(f"{passed} passed, {len(failed)} failed")
-    return 1 if failed else 0
+            judged += verdicts(crate, said)
+    for verdict in judged:
+        print(f"edit {verdict}")
+    passed = sum(bool(verdict.goal) for verdict in judged)
+    print(f"{passed} passed, {len(judged) - passed} failed")
+    return int(passed < len(judged))
 
 
 def main() -> int:
@@ -104,7 +100,7 @@ def main() -> int:
     parser.add_argument("crates", nargs="*", metavar="CRATE", help="a crate with must-fail edits; all that have more where none is named")
     crates = parser.parse_args().crates or crates_with_more()
     for crate in crates:
-        if not edits_of(ROOT / "crates" / crate):
+        if not all_of(ROOT / "crates" / crate):
             sys.exit(f"all_edits.py: no crate {crate} has must-fail edits")
     # The copy takes the libraries that this builds; otherwise two crates might build one library at the same time.
     if subprocess.run([ROOT / "dmf", "--version"], stdin=subprocess.DEVNULL, stdout=subprocess.DEVNULL).returncode:

@@ -2,6 +2,7 @@
 
 - for each clause of a call that callers have, the gate tries an edit that breaks it, unless none can (tools/list_edits.py);
 - each edit can be made: each text that it replaces stands in its file exactly once;
+- each changes code, and no contract: one that changes what is promised is refused whatever the code does;
 - tools/all_edits.py tries the edits of both folders, and one passes only if the prover refuses it at a goal."""
 
 from __future__ import annotations
@@ -11,6 +12,7 @@ import re
 import shutil
 import subprocess
 import sys
+from collections import Counter
 from collections.abc import Iterator
 from pathlib import Path
 
@@ -22,11 +24,11 @@ EDITS = sorted(edit for part in PARTS for edit in ROOT.glob(f"crates/*/{part}/*"
 RT = """#!/bin/sh
 test "$1" = must-fail || exit 3
 case $2 in
-high) echo 'rt: must-fail high/a.edit: refused, as it must be: ./proofs/A.antt:1:1: error: `returns`'
+high) echo 'rt: must-fail high/a.edit: refused, as it must be: ./proofs/a/Answers.antt:1:1: error: `returns`: as printed, the two types differ'
     echo 'rt: must-fail high/b.edit: refused, as it must be (only because a proof file names what the edit took away, so this says little)'
     echo 'rt: must-fail high/c.edit: NOT REFUSED: the crate is still proved with this edit' ;;
 low) ls crates/low/must-fail >&2
-    echo 'rt: must-fail low/a.edit: refused, as it must be'
+    echo 'rt: must-fail low/a.edit: refused, as it must be: note: src/lib.rt:7:1: it is not proved that what it ensures holds (`returns`)'
     echo 'rt: must-fail low/b.edit: BAD EDIT: there is no file src/b.rt' ;;
 esac
 """
@@ -69,6 +71,11 @@ def test_a_clause_without_an_edit_is_told(tmp_path: Path) -> None:
     assert f"{more.stem} covers run_check (told), and callers have no such clause" in listed(tmp_path).stderr
 
 
+def promises(text: str) -> Counter[str]:
+    """The lines of code that say what is required and ensured, and what a type keeps."""
+    return Counter(re.findall(r"^ *(?:requires|ensures|ghost (?!use )|impl Model).*$", text, re.MULTILINE))
+
+
 def unmade(edit: Path) -> Iterator[str]:
     """Why an edit cannot be made: it replaces one text after the other, each in what those before it have left."""
     said, file, old = edit.read_text(), edit, ""
@@ -85,6 +92,23 @@ def unmade(edit: Path) -> Iterator[str]:
                 yield f"{edit}: this stands {texts[file].count(old)} times in its file: {old}"
         else:
             texts[file] = texts[file].replace(old, value)
+    for file, text in texts.items():
+        if file.relative_to(edit.parents[1]).parts[0] != "src":
+            yield f"{edit}: it changes a definition or a proof, and no code"
+        elif promises(file.read_text()) - promises(text):
+            # A function that the edit adds may promise what it likes.
+            yield f"{edit}: it changes what is promised"
+
+
+def test_an_edit_of_a_promise_is_told(tmp_path: Path) -> None:
+    for name, text in ("src/lib.rt", "fn f() -> u64\n    ensures { result ≡ 1 }\n{\n    1\n}\n"), ("specs/A.antt", "one = 1\n"):
+        (tmp_path / name).parent.mkdir()
+        (tmp_path / name).write_text(text)
+    edit = tmp_path / "must-fail/f.edit"
+    edit.parent.mkdir()
+    for file, old, new, faults in ("src/lib.rt", "    1", "    2", 0), ("src/lib.rt", "≡ 1", "≡ 2", 1), ("specs/A.antt", "= 1", "= 2", 1):
+        edit.write_text(f"# It is 1.\nfile: {file}\nold: {old}\nnew: {new}\n")
+        assert len([*unmade(edit)]) == faults
 
 
 def test_each_edit_can_be_made() -> None:
@@ -108,15 +132,16 @@ def test_all_edits(tmp_path: Path) -> None:
         (tmp_path / name).write_text(said)
         (tmp_path / name).chmod(0o755)
     (tmp_path / "root/tools").mkdir()
-    shutil.copy(ROOT / "tools/all_edits.py", tmp_path / "root/tools")
+    for tool in "all_edits.py", "must_fail.py":
+        shutil.copy(ROOT / "tools" / tool, tmp_path / "root/tools")
     subprocess.run(["git", "init", "-q", tmp_path / "root"], check=True)
     environment = {**os.environ, "PATH": f"{tmp_path / 'bin'}:{os.environ['PATH']}"}
-    tool = [sys.executable, str(tmp_path / "root/tools/all_edits.py")]
-    ran = subprocess.run(tool, env=environment, capture_output=True, text=True)
+    command = [sys.executable, str(tmp_path / "root/tools/all_edits.py")]
+    ran = subprocess.run(command, env=environment, capture_output=True, text=True)
     assert (ran.returncode, ran.stdout.splitlines()[-1]) == (1, "2 passed, 3 failed"), ran.stderr
     assert re.search(r"^a\.edit\nb\.edit$", ran.stdout, re.MULTILINE)
-    told = re.findall(r"^all_edits\.py: (\S+) is not refused at a goal$", ran.stdout, re.MULTILINE)
+    told = re.findall(r"^edit (\S+): not refused at a goal", ran.stdout, re.MULTILINE)
     assert sorted(told) == ["high/b.edit", "high/c.edit", "low/b.edit"]
-    alone = subprocess.run([*tool, "low"], env=environment, capture_output=True, text=True)
+    alone = subprocess.run([*command, "low"], env=environment, capture_output=True, text=True)
     assert alone.stdout.splitlines()[-1] == "1 passed, 1 failed"
-    assert subprocess.run([*tool, "middle"], env=environment, capture_output=True).returncode == 1
+    assert subprocess.run([*command, "middle"], env=environment, capture_output=True).returncode == 1

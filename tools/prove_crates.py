@@ -1,0 +1,71 @@
+#!/usr/bin/env python3
+"""Proves each crate and its tests from nothing, and tries the must-fail edits of each: `rt ci --anew`, with a stricter count of the edits.
+
+    python3 tools/prove_crates.py
+
+What `rt` says is passed on. Then comes a line for each edit of crates/*/must-fail/: the goal at which the prover refused it, or why it
+shows nothing (tools/must_fail.py). `rt` itself lets edits pass that cannot be made, or that are refused by a limit or a lost name. Here
+these fail, and so does an edit that was not tried. The last line is 'N passed, M failed', and the status is 0 only if nothing failed.
+"""
+
+from __future__ import annotations
+
+import re
+import subprocess
+import sys
+from pathlib import Path
+
+from must_fail import KEPT, REFUSED, Verdict, edits_of, judge_all, name_of
+
+ROOT = Path(__file__).resolve().parents[1]
+COMMAND = ["rt", "ci", "--anew"]
+COUNT = re.compile(r"^(\d+) passed, (\d+) failed", re.MULTILINE)
+# The edits that `rt` counts as passed, and those that it counts as failed.
+PASSED = re.compile(rf"^rt: must-fail \S+: {REFUSED}", re.MULTILINE)
+FAILED = re.compile(r"^rt: must-fail \S+: NOT (?:REFUSED|TRIED)", re.MULTILINE)
+
+
+def run(command: list[str]) -> tuple[int, str]:
+    """Run a command at the root, passing on what it says, and return its status and what it said."""
+    said: list[str] = []
+    with subprocess.Popen(
+        command, cwd=ROOT, stdin=subprocess.DEVNULL, stdout=subprocess.PIPE, stderr=subprocess.STDOUT, text=True, errors="replace"
+    ) as running:
+        for line in running.stdout or ():
+            print(line, end="", flush=True)
+            said.append(line)
+    return running.returncode, "".join(said)
+
+
+def verdicts(said: str) -> list[Verdict]:
+    """Return what became of each edit that stands in the checkout."""
+    found = judge_all(said)
+    names = [name_of(edit) for crate in sorted(ROOT.glob("crates/*")) for edit in edits_of(crate, KEPT)]
+    return [found.get(name, Verdict(name, "", "it was not tried")) for name in names]
+
+
+def count(status: int, said: str, judged: list[Verdict]) -> tuple[int, int]:
+    """Return what passed and what failed: the proofs and runs as `rt` counts them, and the edits as they were judged."""
+    counted = COUNT.findall(said)
+    if not counted:
+        print("prove_crates.py: rt ended without a count")
+    passed, failed = map(int, counted[-1]) if counted else (0, 1)
+    refused = sum(bool(verdict.goal) for verdict in judged)
+    passed = max(0, passed - len(PASSED.findall(said))) + refused
+    failed = max(0, failed - len(FAILED.findall(said))) + len(judged) - refused
+    # A status that names no failure is one.
+    return passed, failed or int(status != 0)
+
+
+def main() -> int:
+    status, said = run(COMMAND)
+    judged = verdicts(said)
+    for verdict in judged:
+        print(f"edit {verdict}")
+    passed, failed = count(status, said, judged)
+    print(f"{passed} passed, {failed} failed")
+    return int(failed > 0)
+
+
+if __name__ == "__main__":
+    sys.exit(main())
