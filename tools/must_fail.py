@@ -21,7 +21,7 @@ REFUSED = "refused, as it must be"
 AT_CODE = re.compile(r"(?:note: )?(?:\./)?(src/\S+?):(\d+):\d+: it is not proved that .*?(?:\(`([^`)]+)|$)")
 AT_ANSWER = re.compile(r"(?:note: )?(?:\./)?(proofs/\S+/(?:Answers|Proof|Invariants)\.antt):(\d+):\d+: error: `([^`]+)`: (.*)")
 LOST_NAME = re.compile(r"is not in scope|has no field|has no `|was not admitted|is no name|operand is missing|expected the end|cannot continue")
-GAVE_UP = re.compile(r"gave up at one of its limits")
+GAVE_UP = re.compile(r"`search` gave|gave up at one of its limits")
 # Why an edit that is not refused at a goal is not, by how the line begins.
 REASONS = {
     "BAD EDIT": "it cannot be made, compiled or read",
