@@ -23,6 +23,7 @@ BOTH = {
     "test_sweeps",
     "test_sweeps_anew",
     "test_tried",
+    "test_unbounded_arcs",
 }
 
 

@@ -219,3 +219,11 @@ def test_matrices() -> None:
     # What flows on several arcs is added up.
     with dmf.Network([("a", "b", 3), ("a", "b", 4)], "a", "b") as network:
         assert network.solve().flow_matrix().toarray().tolist() == [[0, 7], [0, 0]]
+
+
+def test_a_matrix_of_64_bits() -> None:
+    """What flows on several arcs together is signed as long as it can be."""
+    for arcs, room, kind in (3, 2**62, "u"), (2, 2**62, "u"), (2, 2**62 - 1, "i"), (1, 2**63 - 1, "i"), (1, LARGEST, "u"), (3, LARGEST // 3, "u"):
+        with dmf.Network([("a", "b", room)] * arcs, "a", "b") as network:
+            matrix = network.solve().flow_matrix()
+            assert (matrix.toarray().tolist(), matrix.dtype.kind) == ([[0, arcs * room], [0, 0]], kind)

@@ -139,6 +139,36 @@ def test_matrices(seed: int) -> None:
     assert dense[numpy.ix_(sorted(side), sorted(others))].sum() == theirs.flow_value
 
 
+@pytest.mark.parametrize("amount", [2**62, 2**63 - 1, 2**63, 2**64 - 3])
+def test_matrices_of_64_bits(amount: int) -> None:
+    """The flow is signed as long as it can be, and then unsigned, without the entries that would be negative."""
+    dense = numpy.array([[0, amount, 0], [2, 0, amount], [0, 0, 0]], object)
+    dense[1, 2] = min(amount, 2**64 - 1 - amount - 2)
+    matrix, value = sparse.csr_matrix(dense.astype(numpy.uint64)), int(dense[1, 2])
+    found = dmf.maximum_flow(matrix, 0, 2)
+    wanted = [[0, value, 0], [-value, 0, value], [0, -value, 0]]
+    assert (found.flow_value, found.flow.toarray().tolist(), found.flow.dtype) == (value, wanted, numpy.int64)
+    alone = sparse.csr_matrix(numpy.array([[0, amount], [2, 0]], numpy.uint64))
+    found = dmf.maximum_flow(alone, 0, 1)
+    is_signed = amount < 2**63
+    assert (found.flow_value, found.flow.dtype) == (amount, numpy.int64 if is_signed else numpy.uint64)
+    assert found.flow.toarray().tolist() == [[0, amount], [-amount if is_signed else 0, 0]]
+    # Entries at one place are added up, and together they are below 2^64.
+    parts = [amount // 3, amount // 3, amount - 2 * (amount // 3)]
+    twice = sparse.coo_matrix((numpy.array(parts, numpy.uint64), ([0, 0, 0], [1, 1, 1])), shape=(2, 2))
+    found = dmf.maximum_flow(twice, 0, 1)
+    assert (found.flow_value, found.flow.toarray()[0, 1], found.flow.dtype.kind) == (amount, amount, "i" if is_signed else "u")
+
+
+def test_a_matrix_past_64_bits() -> None:
+    matrix = sparse.coo_matrix((numpy.array([2**63, 2**63], numpy.uint64), ([0, 0], [1, 1])), shape=(2, 2))
+    for call in dmf.value, dmf.minimum_cut, dmf.maximum_flow:
+        with pytest.raises(dmf.CapacitiesPast64Bits, match="^capacities past 64 bits: <Arc 2: 0 to 1>$"):
+            call(matrix, 0, 1)
+        with pytest.raises(dmf.NumberTooLarge, match=r"^number too large: one of 65 bits in \(0, 1, "):
+            call(sparse.csr_matrix(numpy.array([[0, 2.0**64], [0, 0]])), 0, 1)
+
+
 def test_faults() -> None:
     for call in dmf.value, dmf.minimum_cut, dmf.maximum_flow:
         with pytest.raises(dmf.NoSuchNode, match="^no such node: 'pond'$"):

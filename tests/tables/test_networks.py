@@ -195,6 +195,20 @@ def test_a_matrix(saved: Path) -> None:
         assert (again.value, list(again.values())) == (solution.value, list(solution.values()))
 
 
+def test_arrays_of_64_bits(tmp_path: Path) -> None:
+    """Whole numbers are exact, one of 64 bits beside a small one too; and pipes side by side are added up before they are floats."""
+    for most, kind in (2**63, "u"), (2**62, "i"):
+        (tmp_path / "t.csv").write_text(f"from,to,capacity\nA,B,{most}\nA,B,1\nB,A,0\n")
+        with opened(tmp_path / "t.csv", source="A", sink="B") as network:
+            solution = network.solve()
+            flows, matrix = solution.array(), solution.flow_matrix()
+        assert (flows.tolist(), flows.dtype.kind) == ([most, 1, 0], kind)
+        assert (matrix.toarray().tolist(), matrix.dtype.kind) == ([[0, most + 1], [0, 0]], kind)
+    (tmp_path / "t.csv").write_text("from,to,capacity\nA,B,0.1\nA,B,0.2\n")
+    with opened(tmp_path / "t.csv", source="A", sink="B") as network:
+        assert network.solve().flow_matrix().toarray().tolist() == [[0, 0.3], [0, 0]]
+
+
 def test_past_64_bits(tmp_path: Path) -> None:
     """What a source without a limit cannot carry any more is refused, and changes nothing."""
     (tmp_path / "t.csv").write_text("from,to,capacity,supply\nA,C,3,\nB,C,4,\nC,D,9,\nA,,,x\nB,,,x\n")

@@ -9,7 +9,7 @@ import importlib
 import re
 import sys
 from array import array
-from collections.abc import Hashable, Iterable, Iterator, Mapping, Sequence
+from collections.abc import Hashable, Iterable, Iterator, Mapping
 from typing import Any
 
 from .arcs import Columns, Node, OpenArcs
@@ -143,7 +143,12 @@ def flow_array(text: bytes | array[int], count: int) -> Any:
     """The flows of a solution's text, or of a column, as an array of numpy."""
     np = package("numpy", "an array of flows")
     column = np.frombuffer(text, np.uint64) if isinstance(text, array) else _last_numbers(np, text, count)
-    return column.astype(np.uint64 if column.size and int(column.max()) >> 63 else np.int64)
+    return column.astype(kind_for(column))
+
+
+def kind_for(numbers: Any) -> str:
+    """Return the type for the numbers of an unsigned array: signed, unless one is 2^63 or more."""
+    return "uint64" if numbers.size and int(numbers.max()) >> 63 else "int64"
 
 
 def _last_numbers(np: Any, text: bytes, count: int) -> Any:
@@ -352,22 +357,18 @@ def frame(arcs: OpenArcs[Any], flow: Any, capacities: array[int]) -> Any:
 
 
 def flow_matrix(arcs: OpenArcs[Any], flow: Any) -> Any:
-    """The flows as a sparse matrix of scipy."""
+    """The flows as a sparse matrix of scipy, of the type that `kind_for` returns."""
+    matrix = matrix_of(flow, *arcs.ends(), len(arcs.columns.numbers))
+    return matrix.astype(kind_for(matrix.data))
+
+
+def matrix_of(flow: Any, tails: array[int], heads: array[int], count: int) -> Any:
+    """The flows between nodes that are counted from 1, as a sparse matrix of scipy of unsigned numbers. What flows on several arcs is added
+    up: all flows of a network are below 2^64 together, since its capacities are."""
     sparse = package("scipy.sparse", "a matrix of flows")
     np = package("numpy", "a matrix of flows")
-    tails, heads = (np.frombuffer(ends, np.uint32).astype(np.int64) - 1 for ends in arcs.ends())
-    count = len(arcs.columns.numbers)
-    return _without_zeros(sparse.csr_matrix((flow, (tails, heads)), shape=(count, count)))
-
-
-def matrix_of(flow: Any, ends: Sequence[tuple[int, int]], count: int) -> Any:
-    """The same for flows between these ends, counted from 0, among so many nodes."""
-    sparse = package("scipy.sparse", "a matrix of flows")
-    tails, heads = zip(*ends) if ends else ((), ())
-    return _without_zeros(sparse.csr_matrix((flow, (tails, heads)), shape=(count, count)))
-
-
-def _without_zeros(matrix: Any) -> Any:
+    rows, columns = (np.frombuffer(ends, np.uint32).astype(np.int64) - 1 for ends in (tails, heads))
+    matrix = sparse.csr_matrix((flow.astype(np.uint64), (rows, columns)), shape=(count, count))
     matrix.eliminate_zeros()
     return matrix
 

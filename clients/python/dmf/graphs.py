@@ -4,19 +4,22 @@ scipy."""
 from __future__ import annotations
 
 from array import array
-from collections.abc import Callable, Hashable, Mapping
+from collections.abc import Callable, Hashable, Mapping, Sequence
+from functools import partial
 from typing import TYPE_CHECKING, Any, Dict, NamedTuple, overload
 
 from . import arrays
 from .arcs import Columns, Node
 from .arrays import columns_of_arrays, is_unbounded
-from .errors import Refused, Unbounded
-from .state import Kept
-from .session.quick import CUT, FLOW, VALUE, Solved, solved
+from .errors import Refused
 from .rows import Whole, columns_of, whole
-from .session_holder import Running
-from .session.base import PROGRAM, Program, where
+from .session.base import PROGRAM, Problem, Program, Way, where
+from .session.quick import CUT, FLOW, VALUE, Solved, solved
 from .session.runners import chosen, problem_of, program_of
+from .session_holder import Running
+from .state import Kept
+from .text.lexical import LARGEST
+from .unbounded_arcs import BoundlessFlow, flows_of, solve_unbounded
 
 if TYPE_CHECKING:
     from .session.library import Library
@@ -30,17 +33,18 @@ WANTED = "a graph of networkx, a sparse matrix of scipy, or a dictionary of dict
 
 class MatrixFlow(NamedTuple):
     """A maximum flow of a matrix, with the names of scipy: its value, and the flow as a sparse matrix: row i and column j have what flows
-    from node i to node j less what flows back, so it is negative where more flows back."""
+    from node i to node j less what flows back, so it is negative where more flows back. The numbers are signed, of 64 bits. If one is
+    2^63 or more, they are unsigned instead, and the entries that would be negative are left out."""
 
     flow_value: int
     flow: Any
 
 
 class _Given(NamedTuple):
-    """A network as it was given: what is kept of it, and the capacity of the arcs without a bound, if it has some."""
+    """A network as it was given: what is kept of it, and the places of the arcs without a bound, from 0 on."""
 
     kept: Kept[Any]
-    unbounded: int | None = None
+    unbounded: Sequence[int] = ()
 
 
 def value(
@@ -51,8 +55,7 @@ def value(
     `graph` is one of those that `maximum_flow` takes, or rows `(tail, head, capacity)` as `Network` has them, a tuple of three arrays, or
     a frame with columns `tail`, `head` and `capacity`. `capacity` is the attribute, or the column, that has the capacities, and `infinite`
     the capacity of arcs whose capacity is missing or infinite. Raises what `maximum_flow` raises."""
-    given = _given(graph, source, sink, capacity, infinite)
-    return _bounded(given, _solved(given, VALUE, program).value)
+    return _solved(_given(graph, source, sink, capacity, infinite), VALUE, program).value
 
 
 def minimum_cut(
@@ -63,10 +66,9 @@ def minimum_cut(
     of `value`; the nodes of a matrix are numbers from 0 on. It leaves no session behind."""
     given = _given(graph, source, sink, capacity, infinite)
     found = _solved(given, CUT, program)
-    amount = _bounded(given, found.value)
     names = given.kept.columns.names
     side = {names[node - 1] for node in found.side}
-    return amount, (side, {node for node in names if node not in side})
+    return found.value, (side, {node for node in names if node not in side})
 
 
 @overload
@@ -99,21 +101,12 @@ def maximum_flow(
     if not is_matrix and not isinstance(graph, Mapping) and not _is_graph(graph):
         raise TypeError(f"a flow in the shape of the graph needs {WANTED}, and not a {type(graph).__name__}: make a Network of it")
     given = _given(graph, source, sink, capacity, infinite)
-    found = _solved(given, FLOW, program)
-    amount = _bounded(given, found.value)
-    count = len(given.kept.columns)
+    found, count = _solved(given, FLOW, program), len(given.kept.columns)
     if is_matrix:
-        return MatrixFlow(amount, _matrix(given.kept.columns, arrays.flow_array(found.flows, count), max(graph.shape)))
-    flows = found.flows if isinstance(found.flows, array) else arrays.flows(found.flows, count)
-    assert flows is not None, "the program told no flow for each arc"
-    return amount, _as_dictionaries(graph, given.kept, flows)
-
-
-def _bounded(given: _Given, amount: int) -> int:
-    """A value. Raises `Unbounded` if it is as large as the capacity of an arc without a bound, which no bounded flow reaches."""
-    if given.unbounded is not None and amount >= given.unbounded:
-        raise Unbounded("the flow has no bound: a path from the source to the sink has only arcs of infinite or missing capacity")
-    return amount
+        assert isinstance(found, Solved), "an entry of a matrix has a bound"
+        return MatrixFlow(found.value, _matrix(given.kept.columns, arrays.flow_array(found.flows, count), max(graph.shape)))
+    flows = flows_of(found.flows, count) if isinstance(found, Solved) else found.flows
+    return found.value, _as_dictionaries(graph, given.kept, flows)
 
 
 def _is_graph(graph: Any) -> bool:
@@ -121,7 +114,7 @@ def _is_graph(graph: Any) -> bool:
 
 
 def _given(graph: Any, source: Hashable, sink: Hashable, capacity: str, infinite: Whole | None) -> _Given:
-    unbounded = None
+    unbounded: list[int] = []
     if hasattr(graph, "tocoo"):
         entries = graph.tocoo()
         columns = columns_of_arrays(entries.row, entries.col, entries.data, None, range(max(graph.shape)), infinite)
@@ -157,51 +150,57 @@ def _rows_of_dictionaries(graph: Mapping[Any, Mapping[Any, Any]], capacity: str)
     ]
 
 
-def _filled(rows: list[tuple[Any, ...]], infinite: Whole | None) -> tuple[list[tuple[Any, ...]], int | None]:
-    """The rows with a capacity where they have none: the given one; or one that is larger than all others together, which is returned
-    too."""
-    missing = [is_unbounded(row[2]) for row in rows]
-    if not any(missing):
-        return rows, None
-    unbounded = None
-    if infinite is None:
-        unbounded = 1 + sum(whole(row[2], row[:3]) for row, is_missing in zip(rows, missing) if not is_missing)
-    room = unbounded if infinite is None else whole(infinite, "infinite")
-    return [(*row[:2], room, row[3]) if is_missing else row for row, is_missing in zip(rows, missing)], unbounded
+def _filled(rows: list[tuple[Any, ...]], infinite: Whole | None) -> tuple[list[tuple[Any, ...]], list[int]]:
+    """Return the rows with a capacity where they have none, and the places of those that have no bound, from 0 on. The capacity is the
+    given one; without one it is 0, and means nothing."""
+    missing = [place for place, row in enumerate(rows) if is_unbounded(row[2])]
+    room = 0 if infinite is None or not missing else whole(infinite, "infinite")
+    for place in missing:
+        rows[place] = (*rows[place][:2], room, rows[place][3])
+    return rows, missing if infinite is None else []
 
 
-def _solved(given: _Given, words: list[str], program: Program) -> Solved:
+def _solved(given: _Given, words: list[str], program: Program) -> Solved | BoundlessFlow:
     """What these words ask for. Raises a `Refused` that names the arc of a fault."""
-    way = chosen(program)
+    solver = partial(_solved_problem, way=chosen(program), program=program)
+    problem = problem_of(given.kept)
     try:
-        if not isinstance(way, PROGRAM) and len(given.kept.columns) <= MOST_IN_PROCESS:
-            return _by_library(given, words, way)
-        return solved(arrays.problem_pieces(problem_of(given.kept)), words, program_of(program))
+        if given.unbounded and sum(problem.capacities) <= LARGEST:
+            return solve_unbounded(problem, given.unbounded, words, solver)
+        # Capacities that are past 64 bits together are refused, whatever the others are.
+        return solver(problem, words)
     except Refused as refused:
         raise where(refused, given.kept.handle) from None
 
 
-def _by_library(given: _Given, words: list[str], library: Library) -> Solved:
-    session = library.begin(problem_of(given.kept), 0)
+def _solved_problem(problem: Problem, words: list[str], way: Way, program: Program) -> Solved:
+    if not isinstance(way, PROGRAM) and len(problem.tails) <= MOST_IN_PROCESS:
+        return _by_library(problem, words, way)
+    return solved(arrays.problem_pieces(problem), words, program_of(program))
+
+
+def _by_library(problem: Problem, words: list[str], library: Library) -> Solved:
+    session = library.begin(problem, 0)
     try:
         value = session.step(("solve",))
         if words == CUT:
             return Solved(value, side=session.cut()[1])
-        return Solved(value, session.flows(value, len(given.kept.columns)) if words == FLOW else b"")
+        return Solved(value, session.flows(value, len(problem.tails)) if words == FLOW else b"")
     finally:
         session.end()
 
 
 def _matrix(columns: Columns[Any], flow: Any, count: int) -> Any:
-    """What flows between each two nodes of a matrix."""
-    sparse, np = arrays.package("scipy.sparse", "a matrix of flows"), arrays.package("numpy", "a matrix of flows")
+    """Return what flows between each two nodes of a matrix, less what flows back."""
     # The nodes are numbers from 0 on, in this order.
-    tails, heads = (np.frombuffer(ends, np.uint32).astype(np.int64) - 1 for ends in (columns.tails, columns.heads))
-    there = sparse.csr_matrix((flow.astype(np.int64), (tails, heads)), shape=(count, count))
-    return (there - there.T).tocsr()
+    there = arrays.matrix_of(flow, columns.tails, columns.heads, count)
+    onward = there - there.minimum(there.T)
+    kind = arrays.kind_for(onward.data)
+    signed = onward.astype(kind)
+    return (signed - signed.T).tocsr() if kind == "int64" else onward
 
 
-def _as_dictionaries(graph: Any, kept: Kept[Any], flows: array[int]) -> dict[Any, dict[Any, Any]]:
+def _as_dictionaries(graph: Any, kept: Kept[Any], flows: Sequence[int]) -> dict[Any, dict[Any, Any]]:
     """The flows as networkx has them. Each node has its dictionary."""
     columns = kept.columns
     names = columns.names
@@ -222,7 +221,7 @@ def _as_dictionaries(graph: Any, kept: Kept[Any], flows: array[int]) -> dict[Any
     return found
 
 
-def _flows_back(graph: Any, kept: Kept[Any], flows: array[int]) -> Callable[[int], int]:
+def _flows_back(graph: Any, kept: Kept[Any], flows: Sequence[int]) -> Callable[[int], int]:
     """What flows back on the edge of an arc of a number: in an undirected graph its two arcs stand one after the other."""
     if graph.is_directed():
         return lambda number: 0

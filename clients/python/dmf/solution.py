@@ -202,7 +202,8 @@ class Solution(Mapping[Arc[Node], int], Generic[Node]):
 
     def flow_matrix(self) -> Any:
         """A sparse matrix of scipy: row i and column j have the flow from node i to node j on all arcs together. Nodes are counted
-        from 0 in the order of `Network.nodes`. Raises an ImportError if scipy or numpy is not installed."""
+        from 0 in the order of `Network.nodes`. The numbers are signed, or unsigned if one is 2^63 or more. Raises an ImportError if scipy or
+        numpy is not installed."""
         return arrays.flow_matrix(self._flows.arcs, self.array())
 
     def __repr__(self) -> str:

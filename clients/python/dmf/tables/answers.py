@@ -2,6 +2,7 @@
 
 from __future__ import annotations
 
+from array import array
 from collections.abc import Collection, Iterator
 from decimal import Decimal
 from typing import Any, cast
@@ -9,6 +10,7 @@ from typing import Any, cast
 from .. import arrays
 from ..arcs import Arc
 from ..errors import NotANumber, shown
+from ..numbering import NODES
 from ..quantity import Measure, QuantityFault, number_in
 from ..rows import whole
 from ..solution import Cut, Solution
@@ -81,8 +83,14 @@ class TableSolution(Solution[str]):
 
     def array(self) -> Any:
         """The flows as an array of numpy: whole numbers, or floats if the table has decimals."""
-        numpy = arrays.package("numpy", "an array of flows")
-        return numpy.array(self.values() if self._measure.divisor == 1 else list(map(float, self.values())))
+        return self._numbers(arrays.package("numpy", "an array of flows").array([flow for _, flow in self._pairs()], "uint64"))
+
+    def _numbers(self, whole: Any) -> Any:
+        """Return whole numbers of the session as numbers of the table: whole ones, or floats if the table has decimals."""
+        if self._measure.divisor == 1:
+            return whole.astype(arrays.kind_for(whole))
+        numbers = [float(self._measure.quantity(number)) for number in whole.tolist()]
+        return arrays.package("numpy", "an array of flows").array(numbers, "float64")
 
     def frame(self) -> Any:
         """A frame of pandas with a row for each open arc: its number, tail, head, name, flow and capacity."""
@@ -103,9 +111,13 @@ class TableSolution(Solution[str]):
     def flow_matrix(self) -> Any:
         """A sparse matrix of scipy: row i and column j have the flow from place i to place j on all arcs together. Places are counted from
         0 in the order of `TableNetwork.nodes`. The numbers are those of `array`. Raises an ImportError if scipy or numpy is not installed."""
-        places = {place: number for number, place in enumerate(self._columns.places())}
+        np = arrays.package("numpy", "a matrix of flows")
+        places = {place: number for number, place in enumerate(self._columns.places(), 1)}
         ends = [(places[arc.tail], places[arc.head]) for arc in self]
-        return arrays.matrix_of(self.array(), ends, len(places))
+        tails, heads = (array(NODES, column) for column in (zip(*ends) if ends else ((), ())))
+        flow = np.array([flow for _, flow in self._pairs()], "uint64")
+        matrix = arrays.matrix_of(flow, tails, heads, len(places))
+        return type(matrix)((self._numbers(matrix.data), matrix.indices, matrix.indptr), shape=matrix.shape)
 
     @property
     def _columns(self) -> FoldedColumns:
