@@ -54,7 +54,7 @@ def proved(root: Path, environment: dict[str, str]) -> tuple[int, list[str]]:
     ("said", "goal"),
     [
         (AT_CODE, "goal returns of src/links.rt:248"),
-        (AT_ANSWER, "goal set_ends-requires-clause-links in proofs/stack/take_off/Answers.antt:15"),
+        (AT_ANSWER, "the answer set_ends-requires-clause-links in proofs/stack/take_off/Answers.antt:15"),
         (CUT_OFF, "goal returns-then-a-b-cl of src/search/labels.rt:7"),
     ],
 )
@@ -122,6 +122,7 @@ def test_modules_of_this_run(tmp_path: Path) -> None:
     [
         ("crate dmf_links: modules loaded=33 checked=2", 33),
         ("statements dmf_links: modules loaded=7 checked=0", 7),
+        ("library dmf_links: modules loaded=9 checked=0", 9),
         ("rt: dmf_links is kept: an earlier run on this machine proved the same files over the same libraries", 0),
         ("rt: dmf_c: 2 of its 2 must-fail edits were tried by an earlier run on this machine, and nothing that they stand on has changed", 0),
         ("rt: dmf_c: begins with what a check kept in /work/other/crates/dmf_c", 0),

@@ -17,7 +17,7 @@ from pathlib import Path
 
 CRATES = Path(__file__).resolve().parents[1] / "crates"
 PROVED = re.compile(r"^rt: (\w+) proved$")
-LOADED = re.compile(r"^(crate|statements) (\w+): modules loaded=(\d+) checked=(\d+)")
+LOADED = re.compile(r"^(crate|library|statements) (\w+): modules loaded=(\d+) checked=(\d+)")
 # What else says that something is believed that this run did not do.
 KEPT = re.compile(
     r"^rt: \w+ is kept:|were tried by an earlier run|: begins with what a check kept in |the others are kept from earlier runs"

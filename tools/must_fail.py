@@ -49,7 +49,7 @@ def goal_of(complaint: str) -> str:
         name = f"goal {at[3]}" if at[3] else "an unnamed goal"
         return f"{name} of {at[1]}:{at[2]}{' (search gave up)' if GAVE_UP.search(complaint) else ''}"
     at = AT_ANSWER.match(complaint)
-    return f"goal {at[3]} in {at[1]}:{at[2]}" if at and not LOST_NAME.search(at[4]) else ""
+    return f"the answer {at[3]} in {at[1]}:{at[2]}" if at and not LOST_NAME.search(at[4]) else ""
 
 
 def judge(line: str) -> Verdict | None:

@@ -1,5 +1,5 @@
 """docs/PROVED.md speaks of each public function of the crates that it names: by its own name, or by the type of which it names all calls.
-Laws stand in docs/DEFINITIONS.md. And docs/TRUST.md says how much a sceptic has to read, and how much the toolchain assumes."""
+Laws stand in docs/DEFINITIONS.md. And docs/TRUST.md says how much a sceptic has to read, and names as many assumed statements as it counts."""
 
 from __future__ import annotations
 
@@ -92,3 +92,11 @@ def test_definitions() -> None:
     counted = subprocess.run(words, capture_output=True, text=True, check=True).stdout.splitlines()[-1]
     files, definitions, lines = map(int, re.findall(r"\d+", counted))
     assert f"{definitions} definitions in {files} files, {lines:,} lines" in " ".join(TRUST.read_text().split())
+
+
+def test_assumed() -> None:
+    """The assumed statements that TRUST names, counted. The prover lists them: `rt check --list-axioms` in crates/dmf."""
+    text = TRUST.read_text()
+    (number,) = map(int, re.findall(r"(\d+) assumed statements", text))
+    named = [name for line in re.findall(r"^    (?!git |\./)(.*)$", text, re.MULTILINE) for name in re.sub(r"^\S.*?  +", "", line).split()]
+    assert number == len(named) == len({*named}) and {"rattle_alloc", "read", "write", "rattle_errno"} <= {*named}
