@@ -3,9 +3,10 @@
 
     python3 tools/prove_crates.py
 
-What `rt` says is passed on. Then comes a line for each edit of crates/*/must-fail/: the goal at which the prover refused it, or why it
-shows nothing (tools/must_fail.py). `rt` itself lets edits pass that cannot be made, or that are refused by a limit or a lost name. Here
-these fail, and so does an edit that was not tried. The last line is 'N passed, M failed', and the status is 0 only if nothing failed.
+What `rt` says is passed on. Then come lines that say when each crate was proved, in minutes and seconds from the beginning, and a line
+for each edit of crates/*/must-fail/: the goal at which the prover refused it, or why it shows nothing (tools/must_fail.py). `rt` itself
+lets edits pass that cannot be made, or that are refused by a limit or a lost name. Here these fail, and so does an edit that was not
+tried. The last line is 'N passed, M failed', and the status is 0 only if nothing failed.
 """
 
 from __future__ import annotations
@@ -13,6 +14,7 @@ from __future__ import annotations
 import re
 import subprocess
 import sys
+import time
 from pathlib import Path
 
 from must_fail import KEPT, REFUSED, Verdict, edits_of, judge_all, name_of
@@ -23,17 +25,25 @@ COUNT = re.compile(r"^(\d+) passed, (\d+) failed", re.MULTILINE)
 # The edits that `rt` counts as passed, and those that it counts as failed.
 PASSED = re.compile(rf"^rt: must-fail \S+: {REFUSED}", re.MULTILINE)
 FAILED = re.compile(r"^rt: must-fail \S+: NOT (?:REFUSED|TRIED)", re.MULTILINE)
+# What tells where the time goes.
+STEP = re.compile(r"^rt: \w+(?:: its tests are)? (?:NOT )?(?:PROVED|proved)$|^rt: \w+: (?:trying its must-fail edits|its tests )|^rt: \w+ ran")
 
 
 def run(command: list[str]) -> tuple[int, str]:
-    """Run a command at the root, passing on what it says, and return its status and what it said."""
+    """Run a command at the root, passing on what it says, and return its status and what it said. Then print when each step was done."""
+    begun = time.monotonic()
     said: list[str] = []
+    steps: list[str] = []
     with subprocess.Popen(
         command, cwd=ROOT, stdin=subprocess.DEVNULL, stdout=subprocess.PIPE, stderr=subprocess.STDOUT, text=True, errors="replace"
     ) as running:
         for line in running.stdout or ():
             print(line, end="", flush=True)
             said.append(line)
+            if STEP.match(line):
+                minutes, seconds = divmod(int(time.monotonic() - begun), 60)
+                steps.append(f"after {minutes}:{seconds:02} {line}")
+    print(*steps, sep="", end="")
     return running.returncode, "".join(said)
 
 
