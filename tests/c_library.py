@@ -5,7 +5,7 @@ from __future__ import annotations
 import ctypes
 import functools
 import subprocess
-from ctypes import byref, c_char, c_size_t, c_uint32, c_uint64, c_void_p, create_string_buffer
+from ctypes import byref, c_size_t, c_uint8, c_uint32, c_uint64, c_void_p
 from pathlib import Path
 
 ROOT = Path(__file__).resolve().parent.parent
@@ -48,8 +48,22 @@ def want(status: int, place: int = 0) -> None:
         raise Refused(status, place)
 
 
+# What stands in each place that a call may write before the call.
+ODD = 0xA5
+ODD_NUMBER = 0xA5A5_A5A5
+# Numbers of `enum dmf_status`.
+NO_MEMORY, NO_SUCH_NODE, TOO_MANY_ARCS, SUM_TOO_LARGE, BAD_LENGTH, BAD_TEXT = 1, 2, 5, 6, 10, 12
+
+
+def odd_array(kind: type[ctypes._SimpleCData[int]], count: int) -> ctypes.Array[ctypes._SimpleCData[int]]:
+    """An array with odd numbers, and with one place after its last, since no pointer may be NULL."""
+    array = (kind * (count + 1))()
+    ctypes.memset(array, ODD, ctypes.sizeof(array))
+    return array
+
+
 class Library:
-    """The loaded library."""
+    """The loaded library. Before each call odd numbers stand where the call may write; those stay where the header says so."""
 
     def __init__(self, folder: Path) -> None:
         self.calls = ctypes.CDLL(str(folder / "libdmf.so.0"))
@@ -59,21 +73,29 @@ class Library:
             getattr(self.calls, f"dmf_session_{name}").restype = c_uint32
 
     def open(self, nodes: int, ends: tuple[int, int], arcs: list[tuple[int, int, int]], past: int = 1_000_000) -> CSession:
-        count = c_size_t(len(arcs))
-        tails = (c_uint32 * max(1, len(arcs)))(*(arc[0] for arc in arcs))
-        heads = (c_uint32 * max(1, len(arcs)))(*(arc[1] for arc in arcs))
-        capacities = (c_uint64 * max(1, len(arcs)))(*(arc[2] for arc in arcs))
-        session, bad_arc = c_void_p(), c_size_t()
+        columns = ([arc[0] for arc in arcs], [arc[1] for arc in arcs], [arc[2] for arc in arcs])
+        return self.open_arrays(nodes, ends, columns, past)
+
+    def open_arrays(self, nodes: int, ends: tuple[int, int], columns: tuple[list[int], list[int], list[int]], past: int) -> CSession:
+        """Opens a session on tails, heads and capacities, whose lengths may differ."""
+        tails, heads, capacities = columns
+        session, bad_arc = c_void_p(ODD_NUMBER), c_size_t(ODD_NUMBER)
         status = self.calls.dmf_session_new(
-            c_uint32(nodes), c_uint32(ends[0]), c_uint32(ends[1]), tails, count, heads, count, capacities, count, c_uint32(past),
-            byref(session), byref(bad_arc),
+            c_uint32(nodes), c_uint32(ends[0]), c_uint32(ends[1]),
+            (c_uint32 * max(1, len(tails)))(*tails), c_size_t(len(tails)), (c_uint32 * max(1, len(heads)))(*heads), c_size_t(len(heads)),
+            (c_uint64 * max(1, len(capacities)))(*capacities), c_size_t(len(capacities)), c_uint32(past), byref(session), byref(bad_arc),
         )  # fmt: skip
-        want(status, bad_arc.value)
-        return CSession(self.calls, session)
+        if status == 0:
+            assert bad_arc.value == ODD_NUMBER and session.value != ODD_NUMBER
+            return CSession(self.calls, session)
+        assert session.value == ODD_NUMBER
+        raise Refused(status, bad_arc.value if status in (NO_SUCH_NODE, TOO_MANY_ARCS, SUM_TOO_LARGE) else 0)
 
     def read(self, text: bytes, past: int = 1_000_000) -> CSession:
-        session, line, fault = c_void_p(), c_uint64(), c_uint32()
+        session, line, fault = c_void_p(ODD_NUMBER), c_uint64(ODD_NUMBER), c_uint32(ODD_NUMBER)
         status = self.calls.dmf_session_read(text, c_size_t(len(text)), c_uint32(past), byref(session), byref(line), byref(fault))
+        assert (status == BAD_TEXT) == (line.value != 0) == (fault.value != 0)
+        assert (status == 0) == (session.value != ODD_NUMBER)
         if status != 0:
             raise Refused(status, 1_000 * line.value + fault.value)
         return CSession(self.calls, session)
@@ -98,30 +120,42 @@ class CSession:
     def step(self, word: str, *numbers: int) -> None:
         want(getattr(self.calls, f"dmf_session_{word}")(self.session, *map(c_uint64, numbers)))
 
+    def filled(self, name: str, kind: type[ctypes._SimpleCData[int]], count: int) -> tuple[int, ...]:
+        """What the call puts into an array with so many places. The place after the last stays, and a refused call puts nothing."""
+        places = odd_array(kind, count)
+        before = bytes(places)
+        status = getattr(self.calls, f"dmf_session_{name}")(self.session, places, c_size_t(count))
+        assert bytes(places)[count * ctypes.sizeof(kind) :] == before[count * ctypes.sizeof(kind) :]
+        assert status == 0 or bytes(places) == before
+        want(status)
+        return tuple(int(number) for number in list(places)[:count])
+
     def array(self, name: str) -> tuple[int, ...]:
-        places = (c_uint64 * max(1, self.number("arcs")))()
-        want(getattr(self.calls, f"dmf_session_{name}")(self.session, places, c_size_t(self.number("arcs"))))
-        return tuple(places[: self.number("arcs")])
+        return self.filled(name, c_uint64, self.number("arcs"))
 
     def side(self) -> list[int]:
         """The nodes of the side, ascending."""
-        marks = (ctypes.c_uint8 * self.number("nodes"))()
-        want(self.calls.dmf_session_side(self.session, marks, c_size_t(self.number("nodes"))))
+        marks = self.filled("side", c_uint8, self.number("nodes"))
         assert set(marks) <= {0, 1}
         return [v for v, mark in enumerate(marks, 1) if mark]
 
     def check(self, flows: tuple[int, ...]) -> None:
-        place = c_uint64()
-        status = self.calls.dmf_session_check(self.session, (c_uint64 * max(1, len(flows)))(*flows), c_size_t(len(flows)), byref(place))
+        place = c_uint64(ODD_NUMBER)
+        given = (c_uint64 * max(1, len(flows)))(*flows)
+        status = self.calls.dmf_session_check(self.session, given, c_size_t(len(flows)), byref(place))
+        assert tuple(given)[: len(flows)] == flows
         want(status, place.value)
+        assert place.value == 0
 
     def text(self, name: str) -> bytes:
         """Asks for the length, with too little room, and then for the text; the byte after it stays."""
-        length = c_size_t()
+        length = c_size_t(ODD_NUMBER)
         call = getattr(self.calls, f"dmf_session_{name}")
-        assert call(self.session, (c_char * 1)(), c_size_t(1), byref(length)) == 10
-        text = create_string_buffer(b"\xa5" * length.value)
-        text[length.value] = b"\xa5"
-        want(call(self.session, text, c_size_t(length.value), byref(length)))
-        assert text.raw[length.value :] == b"\xa5"
-        return text.raw[: length.value]
+        for room in 0, 1:
+            text = odd_array(c_uint8, room)
+            assert call(self.session, text, c_size_t(room), byref(length)) == BAD_LENGTH
+            assert set(bytes(text)) == {ODD}
+        text, told = odd_array(c_uint8, length.value), c_size_t(ODD_NUMBER)
+        want(call(self.session, text, c_size_t(length.value), byref(told)))
+        assert told.value == length.value and bytes(text)[length.value] == ODD
+        return bytes(text)[: length.value]

@@ -1,5 +1,6 @@
-/* Opens a session, changes it and reads it, while each request for memory is refused in turn. A refused call answers
- * DMF_NO_MEMORY and leaves the session as it was; asked again with memory, it does what it should. Prints how many requests were refused. */
+/* Opens two sessions, changes one and reads it, while each request for memory is refused in turn. A refused call answers DMF_NO_MEMORY and
+ * leaves the session as it was, and what it may write: odd numbers stand there. Asked again with memory, it does what it should. After each
+ * refused opening, and when all is freed, as many blocks are allocated as before. Prints how many requests were refused. */
 #include <dmf.h>
 #include <stdio.h>
 #include <stdlib.h>
@@ -7,9 +8,11 @@
 
 extern void *__libc_malloc(size_t);
 extern void *__libc_realloc(void *, size_t);
+extern void __libc_free(void *);
 
 static long left = -1; /* so many requests are granted before one is refused; below 0 all are */
 static long refused;
+static long blocks; /* how many are allocated */
 
 static int refuse(void)
 {
@@ -21,12 +24,22 @@ static int refuse(void)
 
 void *malloc(size_t size)
 {
-    return refuse() ? NULL : __libc_malloc(size);
+    void *block = refuse() ? NULL : __libc_malloc(size);
+    blocks += block != NULL;
+    return block;
 }
 
-void *realloc(void *block, size_t size)
+void *realloc(void *old, size_t size)
 {
-    return refuse() ? NULL : __libc_realloc(block, size);
+    void *block = refuse() ? NULL : __libc_realloc(old, size);
+    blocks += old == NULL && block != NULL;
+    return block;
+}
+
+void free(void *block)
+{
+    blocks -= block != NULL;
+    __libc_free(block);
 }
 
 #define ARCS 5
@@ -58,65 +71,139 @@ static struct seen look(const dmf_session *session)
     return seen;
 }
 
-static enum dmf_status call(dmf_session *session, int step)
-{
-    uint64_t flows[MOST] = {3, 2, 1, 2, 3}, place;
+/* What calls write. */
+struct outputs {
+    uint64_t flows[MOST], capacities[MOST], place, line;
+    dmf_session *session;
+    size_t bad_arc, length;
+    uint32_t fault;
     uint8_t side[NODES], text[1000];
-    size_t length;
+};
+
+static struct outputs odd(void)
+{
+    struct outputs outputs;
+    memset(&outputs, 0xa5, sizeof outputs);
+    return outputs;
+}
+
+enum step { SOLVE, FLOWS, SIDE, CHECK, CAP, ADD, SOLVE_AGAIN, PROBLEM, SOLUTION, UNDO, REDO, CLOSE, SHUT, STEPS };
+
+static enum dmf_status call(dmf_session *session, enum step step, struct outputs *to)
+{
+    static const uint64_t flows[ARCS] = {3, 2, 1, 2, 3};
     switch (step) {
-    case 0: return dmf_session_solve(session);
-    case 1: return dmf_session_side(session, side, NODES);
-    case 2: return dmf_session_check(session, flows, ARCS, &place);
-    case 3: return dmf_session_cap(session, 5, 1);
-    case 4: return dmf_session_add(session, 1, 4, 7);
-    case 5: return dmf_session_solve(session);
-    case 6: return dmf_session_problem(session, text, sizeof text, &length);
-    case 7: return dmf_session_solution(session, text, sizeof text, &length);
-    case 8: return dmf_session_undo(session, 2);
-    case 9: return dmf_session_redo(session, 2);
-    case 10: return dmf_session_close(session, 1);
+    case SOLVE:
+    case SOLVE_AGAIN: return dmf_session_solve(session);
+    case FLOWS: return dmf_session_flows(session, to->flows, ARCS);
+    case SIDE: return dmf_session_side(session, to->side, NODES);
+    case CHECK: return dmf_session_check(session, flows, ARCS, &to->place);
+    case CAP: return dmf_session_cap(session, 5, 1);
+    case ADD: return dmf_session_add(session, 1, 4, 7);
+    case PROBLEM: return dmf_session_problem(session, to->text, sizeof to->text, &to->length);
+    case SOLUTION: return dmf_session_solution(session, to->text, sizeof to->text, &to->length);
+    case UNDO: return dmf_session_undo(session, 2);
+    case REDO: return dmf_session_redo(session, 2);
+    case CLOSE: return dmf_session_close(session, 1);
     default: return dmf_session_shut(session, 3);
     }
 }
 
-enum { STEPS = 12 };
+/* What a call writes that is refused memory: a check names no place, and nothing else is written. */
+static struct outputs left_by_refused(enum step step)
+{
+    struct outputs outputs = odd();
+    if (step == CHECK)
+        outputs.place = 0;
+    return outputs;
+}
+
+/* What is written of a step that is not refused stands there: so the odd numbers would be seen. */
+static int is_written(enum step step, const struct outputs *to)
+{
+    static const char begin[] = "p max 4 6\n", value[] = "s 10\n";
+    switch (step) {
+    case FLOWS: return to->flows[0] == 3 && to->flows[ARCS - 1] == 3;
+    case SIDE: return to->side[0] == 1 && to->side[NODES - 1] == 0;
+    case CHECK: return to->place == 0;
+    case PROBLEM: return to->length > sizeof begin && memcmp(to->text, begin, sizeof begin - 1) == 0;
+    case SOLUTION: return to->length > sizeof value && memcmp(to->text, value, sizeof value - 1) == 0;
+    default: return 1;
+    }
+}
+
+static enum dmf_status open_arrays(struct outputs *to)
+{
+    static const uint32_t tails[] = {1, 1, 2, 2, 3}, heads[] = {2, 3, 3, 4, 4};
+    static const uint64_t capacities[] = {3, 2, 5, 2, 3};
+    return dmf_session_new(NODES, 1, 4, tails, ARCS, heads, ARCS, capacities, ARCS, 9, &to->session, &to->bad_arc);
+}
+
+static enum dmf_status open_text(struct outputs *to)
+{
+    static const char text[] = "p max 4 2\nn 1 s\nn 4 t\na 1 2 3\na 2 4 5\n";
+    return dmf_session_read((const uint8_t *)text, sizeof text - 1, 9, &to->session, &to->line, &to->fault);
+}
+
+/* Opens a session in this way, at the second time if a request was refused at the first. */
+static dmf_session *opened(enum dmf_status (*open)(struct outputs *), long request)
+{
+    struct outputs to = odd(), want = odd();
+    long before = refused, allocated = blocks;
+    enum dmf_status status = open(&to);
+    if (refused > before) {
+        /* The first bad arc may be any number, and no fault is 0. */
+        want.bad_arc = to.bad_arc;
+        if (open == open_text)
+            want.line = want.fault = 0;
+        if (status != DMF_NO_MEMORY || memcmp(&to, &want, sizeof to) != 0 || blocks != allocated)
+            fail("a refused opening has left something", request);
+        to = odd();
+        status = open(&to);
+    }
+    if (status != DMF_OK || to.bad_arc != odd().bad_arc)
+        fail("no session", request);
+    return to.session;
+}
+
+static void take_step(dmf_session *session, enum step step, long request)
+{
+    struct outputs to = odd(), want;
+    struct seen old = look(session);
+    long so_far = refused;
+    enum dmf_status status = call(session, step, &to);
+    if (refused > so_far && status == DMF_NO_MEMORY) {
+        struct seen new = look(session);
+        want = left_by_refused(step);
+        if (memcmp(&old, &new, sizeof old) != 0)
+            fail("a refused call changed the session", request);
+        if (memcmp(&to, &want, sizeof to) != 0)
+            fail("a refused call wrote", request);
+        to = odd();
+        status = call(session, step, &to);
+    }
+    if (status != DMF_OK || !is_written(step, &to))
+        fail("a call is refused, or wrote nothing", request);
+}
 
 /* Runs all with one request refused; whether that came to be. */
 static int run(long request)
 {
-    const uint32_t tails[] = {1, 1, 2, 2, 3}, heads[] = {2, 3, 3, 4, 4};
-    const uint64_t capacities[] = {3, 2, 5, 2, 3};
-    dmf_session *session = NULL;
-    size_t bad_arc;
-    enum dmf_status status;
-    long before = refused;
+    dmf_session *session, *other;
+    long before = refused, allocated = blocks;
 
     left = request;
-    status = dmf_session_new(NODES, 1, 4, tails, ARCS, heads, ARCS, capacities, ARCS, 9, &session, &bad_arc);
-    if (refused > before) {
-        if (status != DMF_NO_MEMORY || session != NULL)
-            fail("a refused session is there", request);
-        status = dmf_session_new(NODES, 1, 4, tails, ARCS, heads, ARCS, capacities, ARCS, 9, &session, &bad_arc);
-    }
-    if (status != DMF_OK)
-        fail("no session", request);
-    for (int step = 0; step < STEPS; step++) {
-        struct seen old = look(session);
-        long so_far = refused;
-        status = call(session, step);
-        if (refused > so_far && status == DMF_NO_MEMORY) {
-            struct seen new = look(session);
-            if (memcmp(&old, &new, sizeof old) != 0)
-                fail("a refused call changed the session", request);
-            status = call(session, step);
-        }
-        if (status != DMF_OK)
-            fail("a call is refused", request);
-    }
-    if (dmf_session_value(session) != 7)
+    session = opened(open_arrays, request);
+    other = opened(open_text, request);
+    for (int step = 0; step < STEPS; step++)
+        take_step(session, (enum step)step, request);
+    if (dmf_session_value(session) != 7 || dmf_session_value(other) != 0)
         fail("another value", request);
     left = -1;
     dmf_session_free(session);
+    dmf_session_free(other);
+    if (blocks != allocated)
+        fail("not all is freed", request);
     return refused > before;
 }
 
