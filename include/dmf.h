@@ -162,7 +162,7 @@ enum dmf_status dmf_session_side(const dmf_session *session, uint8_t *side, size
 enum dmf_status dmf_session_check(const dmf_session *session, const uint64_t *flows, size_t count, uint64_t *place);
 
 /* The problem text of the open arcs, or the solution text, into `room` bytes. *length becomes the length of the whole text,
- * unless the answer is DMF_NO_MEMORY. If it exceeds `room`, the answer is DMF_BAD_LENGTH, and nothing is written: so ask with
+ * unless the answer is DMF_NO_MEMORY, which leaves it. If it exceeds `room`, the answer is DMF_BAD_LENGTH, and nothing is written: so ask with
  * a room of 1 byte, and then with that length. No 0 is added. */
 enum dmf_status dmf_session_problem(const dmf_session *session, uint8_t *text, size_t room, size_t *length);
 enum dmf_status dmf_session_solution(const dmf_session *session, uint8_t *text, size_t room, size_t *length);

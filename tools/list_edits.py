@@ -1,10 +1,10 @@
 #!/usr/bin/env python3
-"""Prints for each call of the four libraries that callers use which must-fail edit breaks each clause of its contract.
+"""Prints for each call of the libraries that callers use which must-fail edit breaks each clause of its contract.
 
     python3 tools/list_edits.py [CALL..]
 
-The calls are the functions, the methods of types and the methods of traits that `dmf_net`, `dmf_text`, `dmf_session` and `dmf_run` export,
-and the clauses are what they ensure. An edit names the clauses that it breaks, itself or in a call below, in lines of the form
+The calls are the functions, the methods of types and the methods of traits that `dmf_net`, `dmf_text`, `dmf_session` and `dmf_run` export, and
+the functions of C's in `dmf_c`; the clauses are what they ensure. An edit names the clauses that it breaks, itself or in a call below, in lines of the form
 
     covers: CALL (CLAUSE, ..), CALL, ..
 
@@ -23,11 +23,13 @@ from typing import NamedTuple
 
 CRATES = Path(__file__).resolve().parents[1] / "crates"
 FRONTS = "dmf_net", "dmf_text", "dmf_session", "dmf_run"
+C_FRONT = "dmf_c"
 KEPT, MORE = "must-fail", "more-must-fail"
 
 USE = re.compile(r"^pub use ([\w:]+)::(?:\{([^}]*)\}|(\w+));", re.MULTILINE)
 BLOCK = re.compile(r"^(pub trait|impl)\b([^{;]*)\{\n(.*?)^\}", re.MULTILINE | re.DOTALL)
 FUNCTION = re.compile(r"^( *)(pub )?fn (\w+)(.*?)(?:;$|^\1[{}])", re.MULTILINE | re.DOTALL)
+C_FUNCTION = re.compile(r'^pub (?:unsafe )?extern "C" fn (\w+)(.*?)^\{', re.MULTILINE | re.DOTALL)
 CLAUSE = re.compile(r"^ +ensures (?:(\w+) )?\{", re.MULTILINE)
 COVERS = re.compile(r"^covers: (.*)$", re.MULTILINE)
 COVERED = re.compile(r"([\w:]+)(?: \(([\w, ]+)\))?(?:, |$)")
@@ -37,6 +39,8 @@ A_LAW = "a law: it holds whatever the body does"
 OF_EACH_VALUE = "an invariant: it holds of each value of the type"
 OF_ITS_ANSWER = "follows from the clause of what the call answers"
 FOR_CALLERS = "for a caller's type to keep: the bodies here do nothing"
+READ_ONLY = "a body changes no session without the heap, which it does not get"
+C_NUMBERS = {"value": "value", "source": "node", "sink": "node", **dict.fromkeys(("past", "future", "arcs", "nodes"), "count")}
 REASONS = {
     "run_solve (optimal)": A_LAW,
     "run_solve_any (optimal)": A_LAW,
@@ -51,7 +55,9 @@ REASONS = {
     "refusal_text (short)": OF_ITS_ANSWER,
     "Session::step (optimal)": OF_ITS_ANSWER,
     "Session::step_watched (optimal)": OF_ITS_ANSWER,
+    "dmf_version": "a number that the contract and the body have alike; a test compares it with the other versions",
     "Session::new": "a body has no other history to give than the one that it gets",
+    **{f"dmf_session_{call} (unchanged)": READ_ONLY for call in (*C_NUMBERS, "flows", "capacities")},
     **{f"Watch::{call} ({name})": FOR_CALLERS for call in ("begun", "augmented", "lowered") for name in ("told", "drained")},
 }
 # Clauses so plain that the gate leaves their edits out.
@@ -61,7 +67,15 @@ LEFT_OUT = {
     *(f"{history}::{field} (count)" for history in ("History", "Session") for field in ("past", "bound")),
     *(f"{stream}::new ({part})" for stream in ("StdSource", "StdSink") for part in ("bytes", "mark")),
     *("Source::read (mark)", "Sink::put (mark)", "Sink::flush (mark)"),
+    *(f"dmf_session_{call} ({name})" for call, name in C_NUMBERS.items()),
     *("Side::new", "Side::capacity", "Arc::with_cap", "Arc::closed", "LineBuffer::as_bytes", "Direction::step", "Direction::cap"),
+}
+# Clauses that are broken as those of another call are, for which the gate tries an edit.
+AS_ANOTHER = "left out, since the gate tries the like for another call"
+LIKE_OTHERS = {
+    "dmf_session_flows (answer)",
+    *(f"dmf_session_capacities ({name})" for name in ("answer", "filled", "refused")),
+    *(f"dmf_session_{call} (unchanged)" for call in ("side", "problem", "solution")),
 }
 # A clause which tells that the value that a call reads is one of its type.
 INVARIANT = re.compile(r"ensures (\w+) \{ (?:IsState self\.now|IsTimeline \((?:H\.)?timeline self\.now\)) \}")
@@ -130,9 +144,15 @@ def calls_of(file: Path, name: str) -> Iterator[tuple[str, str]]:
             yield from ((f"{name}::{function}", head) for function, head in functions(inside, "    ", is_public))
 
 
+def c_calls() -> Iterator[tuple[Path, str, str]]:
+    """The functions of C's: the file, the name and the head of each."""
+    for file in sorted((CRATES / C_FRONT / "src").glob("*.rt")):
+        yield from ((file, name, head) for name, head in C_FUNCTION.findall(file.read_text()))
+
+
 def front_clauses() -> dict[Clause, Home]:
     """The clauses of all calls of the fronts."""
-    found = {}
+    found = {Clause(name, clause): Home(file, head) for file, name, head in c_calls() for clause in CLAUSE.findall(head)}
     for front in FRONTS:
         for _, name in exports(front):
             for file in sorted((CRATES / home_of(front, name) / "src").rglob("*.rt")):
@@ -168,7 +188,7 @@ def covering() -> dict[Clause, Edits]:
 def reason(clause: Clause, home: Home, has_edit: bool) -> str:
     """Why the gate tries no edit for a clause; empty if it should."""
     if has_edit:
-        return ONE_FIELD if str(clause) in LEFT_OUT else ""
+        return ONE_FIELD if str(clause) in LEFT_OUT else AS_ANOTHER if str(clause) in LIKE_OTHERS else ""
     if home.file.name == "laws.rt":
         return A_LAW
     if clause.name in INVARIANT.findall(home.head):
@@ -200,7 +220,7 @@ def main() -> None:
         sys.exit(f"list_edits.py: callers have no call {call} with a contract")
     for clause in edits.keys() - clauses.keys():
         sys.exit(f"list_edits.py: {', '.join([*edits[clause].kept, *edits[clause].more])} covers {clause}, and callers have no such clause")
-    for name in {*REASONS, *LEFT_OUT} - {*map(str, clauses)}:
+    for name in {*REASONS, *LEFT_OUT, *LIKE_OTHERS} - {*map(str, clauses)}:
         sys.exit(f"list_edits.py: it gives a reason for {name}, and callers have no such clause")
     print("| Call | Clause | Edits |\n| --- | --- | --- |", *rows(clauses, edits, wanted), sep="\n")
 

@@ -17,7 +17,8 @@ PROVED, DEFINITIONS, TRUST = (ROOT / "docs" / f"{name}.md" for name in ("PROVED"
 NAMES = re.compile(r"`([\w:]+)`")
 # How a section names a type of which it means all calls.
 CALLS = re.compile(r"(?:[Tt]he|all) calls of ((?:`\w+`(?:, | and )?)+)")
-FUNCTION = re.compile(r"^(    )?(pub )?(?:const )?fn (\w+)")
+FUNCTION = re.compile(r'^(    )?(pub )?(?:const )?(?:(?:unsafe )?extern "C" )?fn (\w+)')
+C_FUNCTION = re.compile(r'^pub (?:unsafe )?extern "C" fn (\w+)', re.MULTILINE)
 # A crate whose other calls only one crate makes, as its section says.
 INNER = {"dmf_links": "Only `dmf_path` calls the rest"}
 
@@ -38,7 +39,8 @@ def sections() -> dict[str, str]:
 
 def exported(crate: str) -> set[str]:
     uses = re.findall(r"^pub use (?!dmf_)([^;]*);", (ROOT / "crates" / crate / "src" / "lib.rt").read_text(), re.MULTILINE)
-    return {name for use in uses for name in re.findall(r"\w+", use.rpartition("{")[2] if "{" in use else use.rpartition("::")[2])}
+    names = {name for use in uses for name in re.findall(r"\w+", use.rpartition("{")[2] if "{" in use else use.rpartition("::")[2])}
+    return names | {name for file in (ROOT / "crates" / crate / "src").glob("*.rt") for name in C_FUNCTION.findall(file.read_text())}
 
 
 def functions(crate: str) -> Iterator[Function]:
@@ -68,17 +70,18 @@ def is_told(function: Function, text: str) -> bool:
 def test_functions() -> None:
     texts = sections()
     assert {"dmf_links", "dmf_streams", "dmf_runs"} <= texts.keys() and len(ALL) > 100
+    assert Function("dmf_c", "", "dmf_session_free") in ALL
     laws = NAMES.findall(DEFINITIONS.read_text())
     assert not [it for it in ALL if not is_told(it, texts[it.crate]) and it.name not in laws]
 
 
 def test_crates() -> None:
-    """PROVED speaks of each library that has no terminal or file in its name and whose functions have contracts: all below `dmf_runs`."""
+    """PROVED speaks of each library that has no terminal or file in its name and whose functions have contracts: all below `dmf_runs`, and C's."""
     uses = dict(line.split(":") for line in (ROOT / "crates.txt").read_text().splitlines() if line and line[0] != "#")
     below = {"dmf_runs", "dmf_arguments", *uses["dmf_runs"].split()}
     while more := {it for crate in below for it in uses.get(crate, "").split() if it in uses} - below:
         below |= more
-    assert below - {"dmf_node"} == sections().keys()
+    assert below - {"dmf_node"} | {"dmf_c"} == sections().keys()
 
 
 @pytest.mark.parametrize("wrong", [Function("dmf_path", "Paths", "no_such_call"), Function("dmf_state", "", "no_such_call")])

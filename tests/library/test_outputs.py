@@ -147,8 +147,9 @@ def test_a_text_with_room_left(library: Library, name: str) -> None:
 def test_a_refused_command(library: Library, word: str, numbers: tuple[int, ...], status: int) -> None:
     """Three states stand before the present one, and one after it."""
     with opened(library) as session:
-        for step in ("solve",), ("close", 5), ("solve",), ("cap", 1, 1), ("undo", 1):
-            session.step(str(step[0]), *map(int, step[1:]))
+        for step in "solve", "close 5", "solve", "cap 1 1", "undo 1":
+            name, *given = step.split()
+            session.step(name, *map(int, given))
         before = state(session)
         with pytest.raises(Refused) as refused:
             session.step(word, *numbers)

@@ -2,3 +2,6 @@ pub mod Passed
 pub mod PlanGlue
 pub mod HandleGlue
 pub mod Judging
+pub mod Answered
+pub mod Siding
+pub mod Fitting

@@ -1,5 +1,6 @@
 pub mod Handle
 pub mod Owned
+pub mod Status
 pub mod Codes
 pub mod Building
 pub mod Built

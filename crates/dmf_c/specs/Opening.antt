@@ -2,7 +2,8 @@
 -- Private: only contracts inside the crate and proofs use this.
 use Rattle.std.specs.Prelude.{ℕ, ◌≡◌, ◌⊎◌, Option, Some}
 use Rattle.dmf_history.specs.Timeline.{Timeline}
+use Rattle.dmf_c.specs.Status.{DMF_OK, DMF_NO_MEMORY}
 
--- C has the session, or memory was refused and no session is written.
-abbrev pub Starts : Timeline → ℕ → Option Timeline → Option Timeline → Type 0
-Starts t code before after = ((code ≡ 1) × (after ≡ before)) ⊎ ((code ≡ 0) × (after ≡ Some t))
+-- C has the session, or memory was refused.
+abbrev pub Starts : Timeline → ℕ → Option Timeline → Type 0
+Starts t code session = (code ≡ DMF_NO_MEMORY) ⊎ ((code ≡ DMF_OK) × (session ≡ Some t))

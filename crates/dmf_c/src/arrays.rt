@@ -1,18 +1,23 @@
 //! What C reads into its arrays.
-ghost use Rattle.std.specs.Prelude.{◌≡◌, ◌⊎◌, ◌^◌, ◌<◌, length};
+ghost use Rattle.std.specs.Prelude.{ℕ, ◌≡◌, ◌≢◌, ◌+◌, ◌^◌, ◌<◌, length, slice_index, if◌then◌else◌};
+ghost use Rattle.dmf_state.specs.Side.{has_node};
 ghost use Rattle.dmf_c.specs.Codes.{OfPresent};
-ghost use Rattle.dmf_c.specs.Arrays.{Fills, FillsCapacities, AreCapacities, Marks, AnswersSide};
+ghost use Rattle.dmf_c.specs.Status.{DMF_OK};
+ghost use Rattle.dmf_c.specs.Arrays.{length_code, AreCapacities, AnswersSide, MarksSide};
 
 use crate::code::refusal_code;
 use crate::handle::Handle;
 use dmf_session::{Command, Reply};
+use dmf_solver::greatest_is_optimal;
 use dmf_state::{Arc, Side};
 use std::alloc::Global;
 
 /// The flow on each arc.
 #[unsafe(no_mangle)]
 pub extern "C" fn dmf_session_flows(session: &mut Handle, flows: &mut [u64]) -> u32
-    ensures filled { OfPresent session.old.timeline (λ s. Fills s.flows result flows.old flows.new) }
+    ensures answer { OfPresent session.old.timeline (λ s. result ≡ length_code (length flows.old) (length s.network.arcs)) }
+    ensures filled { OfPresent session.old.timeline (λ s. result ≡ DMF_OK → flows.new ≡ s.flows) }
+    ensures refused { result ≢ DMF_OK → flows.new ≡ flows.old }
     ensures unchanged { session.new.timeline ≡ session.old.timeline }
 {
     let present = session.plan().present();
@@ -26,7 +31,9 @@ pub extern "C" fn dmf_session_flows(session: &mut Handle, flows: &mut [u64]) -> 
 /// The capacity of each arc.
 #[unsafe(no_mangle)]
 pub extern "C" fn dmf_session_capacities(session: &mut Handle, capacities: &mut [u64]) -> u32
-    ensures filled { OfPresent session.old.timeline (λ s. FillsCapacities s.network result capacities.old capacities.new) }
+    ensures answer { OfPresent session.old.timeline (λ s. result ≡ length_code (length capacities.old) (length s.network.arcs)) }
+    ensures filled { OfPresent session.old.timeline (λ s. result ≡ DMF_OK → AreCapacities s.network.arcs capacities.new) }
+    ensures refused { result ≢ DMF_OK → capacities.new ≡ capacities.old }
     ensures unchanged { session.new.timeline ≡ session.old.timeline }
 {
     let present = session.plan().present();
@@ -39,8 +46,7 @@ pub extern "C" fn dmf_session_capacities(session: &mut Handle, capacities: &mut 
 
 fn copy_capacities(arcs: &[Arc], capacities: &mut [u64])
     requires { length capacities.old ≡ length arcs.now }
-    ensures capacities { AreCapacities arcs.now capacities.new }
-    ensures size { length capacities.new ≡ length capacities.old }
+    ensures { AreCapacities arcs.now capacities.new }
 {
     for i in 0..arcs.len() {
         capacities[i] = arcs[i].cap;
@@ -50,8 +56,9 @@ fn copy_capacities(arcs: &[Arc], capacities: &mut [u64])
 /// The side of the smallest minimum cut.
 #[unsafe(no_mangle)]
 pub extern "C" fn dmf_session_side(alloc: Global, session: &mut Handle, side: &mut [u8]) -> u32
-    ensures told { ((result ≡ 10) × (side.new ≡ side.old)) ⊎ AnswersSide session.old.timeline result side.old side.new }
-    ensures size { OfPresent session.old.timeline (λ s. result ≡ 0 → length side.new ≡ s.network.nodes) }
+    ensures answer { OfPresent session.old.timeline (λ s. AnswersSide s (length side.old) result) }
+    ensures marked { OfPresent session.old.timeline (λ s. result ≡ DMF_OK → MarksSide s.network side.new) }
+    ensures refused { result ≢ DMF_OK → side.new ≡ side.old }
     ensures unchanged { session.new.timeline ≡ session.old.timeline }
 {
     let plan = session.plan();
@@ -60,6 +67,7 @@ pub extern "C" fn dmf_session_side(alloc: Global, session: &mut Handle, side: &m
     }
     match plan.step(alloc, Command::PrintCut) {
         Ok(Reply::Cut(found)) => {
+            greatest_is_optimal();
             mark(&found, side);
             0
         }
@@ -71,7 +79,7 @@ pub extern "C" fn dmf_session_side(alloc: Global, session: &mut Handle, side: &m
 /// Marks the nodes of the side.
 fn mark(side: &Side, marks: &mut [u8])
     requires { length marks.old < 2 ^ 32 }
-    ensures marks { Marks side.now marks.new }
+    ensures marks { (k : ℕ) → k < length marks.new → slice_index marks.new k ≡ (if has_node side.now.ids (k + 1) then 1 else 0) }
     ensures size { length marks.new ≡ length marks.old }
 {
     for i in 0..marks.len() {

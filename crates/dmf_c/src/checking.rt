@@ -1,6 +1,7 @@
 //! How C has numbers judged.
 ghost use Rattle.std.specs.Prelude.{◌≡◌, ◌⊎◌, length};
 ghost use Rattle.dmf_c.specs.Codes.{OfPresent};
+ghost use Rattle.dmf_c.specs.Status.{DMF_NO_MEMORY};
 ghost use Rattle.dmf_c.specs.Arrays.{Judges, JudgesFlow, TellsGreatest, flow_code, flow_place};
 
 use crate::handle::Handle;
@@ -16,7 +17,7 @@ pub extern "C" fn dmf_session_check(
     flows: &[u64],
     place: &mut u64,
 ) -> u32
-    ensures judged { (result ≡ 1) ⊎ OfPresent session.old.timeline (λ s. Judges s flows.now result place.new) }
+    ensures judged { OfPresent session.old.timeline (λ s. Judges s flows.now result place.new) }
     ensures unchanged { session.new.timeline ≡ session.old.timeline }
 {
     let judgement = judge(alloc, session.plan().present(), flows);
@@ -32,7 +33,7 @@ struct Judgement {
 }
 
 fn judge(alloc: Global, state: &State, flows: &[u64]) -> Judgement
-    ensures { (result.code ≡ 1) ⊎ Judges state.now flows.now result.code result.place }
+    ensures { Judges state.now flows.now result.code result.place }
 {
     if flows.len() != state.arcs().len() {
         return Judgement { code: 10, place: 0 };
@@ -45,7 +46,7 @@ fn judge(alloc: Global, state: &State, flows: &[u64]) -> Judgement
 
 fn judge_flow(alloc: Global, state: &State, flows: Vec<u64>) -> Judgement
     requires { length flows.items ≡ length state.now.network.arcs }
-    ensures { (result.code ≡ 1) ⊎ JudgesFlow state.now flows.items result.code result.place }
+    ensures { ((result.code ≡ DMF_NO_MEMORY) × (result.place ≡ 0)) ⊎ JudgesFlow state.now flows.items result.code result.place }
 {
     match state.with_flows(alloc, flows) {
         Ok(judged) => Judgement {
@@ -61,7 +62,7 @@ fn judge_flow(alloc: Global, state: &State, flows: Vec<u64>) -> Judgement
 
 /// 0 if the state's flow is greatest, 9 if some flow has a larger value, 1 if memory is refused.
 fn greatest(alloc: Global, state: &State) -> u32
-    ensures { (result ≡ 1) ⊎ TellsGreatest state.now state.now.flows result }
+    ensures { (result ≡ DMF_NO_MEMORY) ⊎ TellsGreatest state.now state.now.flows result }
 {
     match is_greatest(alloc, state) {
         Ok(true) => 0,

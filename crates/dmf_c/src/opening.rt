@@ -1,7 +1,8 @@
 //! How C opens a session.
-ghost use Rattle.std.specs.Prelude.{◌≡◌, ◌⊎◌, ◌≤◌, Some, IfOk};
+ghost use Rattle.std.specs.Prelude.{◌≡◌, ◌≢◌, ◌≤◌, Some, IfOk};
 ghost use Rattle.dmf_history.specs.Timeline.{start};
-ghost use Rattle.dmf_c.specs.Building.{has_terminals, opened, Opens};
+ghost use Rattle.dmf_c.specs.Building.{has_terminals, Opens};
+ghost use Rattle.dmf_c.specs.Status.{DMF_OK, DMF_MAX_PAST};
 ghost use Rattle.dmf_c.specs.Opening.{Starts};
 
 use crate::building::build_network;
@@ -26,8 +27,8 @@ pub extern "C" fn dmf_session_new(
     session: &mut Slot,
     bad_arc: &mut usize,
 ) -> u32
-    ensures { ((result ≡ 1) × (session.new.session ≡ session.old.session))
-        ⊎ Opens (opened nodes source sink tails.now heads.now capacities.now past) result session.old.session session.new.session bad_arc.new }
+    ensures answer { Opens nodes source sink tails.now heads.now capacities.now past result session.new.session bad_arc.old bad_arc.new }
+    ensures refused { result ≢ DMF_OK → session.new ≡ session.old }
 {
     if heads.len() != tails.len() || capacities.len() != tails.len() {
         *bad_arc = 0;
@@ -57,8 +58,9 @@ fn has_terminals(nodes: u32, source: u32, sink: u32) -> bool
 
 /// Opens a session on the state.
 pub fn open(alloc: Global, state: State, past: u32, session: &mut Slot) -> u32
-    requires { past ≤ 1000000 }
-    ensures { Starts (start past state) result session.old.session session.new.session }
+    requires { past ≤ DMF_MAX_PAST }
+    ensures answer { Starts (start past state) result session.new.session }
+    ensures refused { result ≢ DMF_OK → session.new ≡ session.old }
 {
     match made(alloc, state, past) {
         Ok(slot) => {
@@ -70,7 +72,7 @@ pub fn open(alloc: Global, state: State, past: u32, session: &mut Slot) -> u32
 }
 
 fn made(alloc: Global, state: State, past: u32) -> Result<Slot, NoMemory>
-    requires { past ≤ 1000000 }
+    requires { past ≤ DMF_MAX_PAST }
     ensures { IfOk result (λ slot. slot.session ≡ Some (start past state)) }
 {
     let plan = Plan::new(DeltaHistory::with_bound(alloc, state, past));

@@ -1,7 +1,8 @@
 //! Problem texts that C reads.
-ghost use Rattle.std.specs.Prelude.{◌≡◌, ◌⊎◌};
+ghost use Rattle.std.specs.Prelude.{◌≡◌, ◌≢◌};
 ghost use Rattle.dmf_text.specs.Problem.{problem_of};
-ghost use Rattle.dmf_c.specs.Texts.{ReadsBounded};
+ghost use Rattle.dmf_c.specs.Status.{DMF_OK, DMF_BAD_TEXT};
+ghost use Rattle.dmf_c.specs.Texts.{Reads, IsFault};
 
 use crate::opening::open;
 use crate::slot::Slot;
@@ -19,8 +20,10 @@ pub extern "C" fn dmf_session_read(
     line: &mut u64,
     fault: &mut u32,
 ) -> u32
-    ensures { ((result ≡ 1) × (session.new.session ≡ session.old.session))
-        ⊎ ReadsBounded past (problem_of text.now) result session.old.session session.new.session line.new fault.new }
+    ensures answer { Reads past (problem_of text.now) result session.new.session line.new fault.new }
+    ensures numbered { result ≡ DMF_BAD_TEXT → IsFault fault.new }
+    ensures no_fault { result ≢ DMF_BAD_TEXT → (line.new ≡ 0) × (fault.new ≡ 0) }
+    ensures refused { result ≢ DMF_OK → session.new ≡ session.old }
 {
     *line = 0;
     *fault = 0;

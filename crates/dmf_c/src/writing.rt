@@ -1,8 +1,9 @@
 //! Texts that C gets.
-ghost use Rattle.std.specs.Prelude.{◌≡◌, ◌⊎◌, [], Some, IfOk};
+ghost use Rattle.std.specs.Prelude.{◌≡◌, ◌≢◌, [], Some, IfOk};
 ghost use Rattle.dmf_text.specs.Written.{problem_text, solution_text};
 ghost use Rattle.dmf_c.specs.Codes.{OfPresent};
-ghost use Rattle.dmf_c.specs.Texts.{GivesText};
+ghost use Rattle.dmf_c.specs.Status.{DMF_OK};
+ghost use Rattle.dmf_c.specs.Texts.{GivesText, AnswersText};
 
 use crate::handle::Handle;
 use dmf_state::{NoMemory, State};
@@ -17,7 +18,8 @@ pub extern "C" fn dmf_session_problem(
     text: &mut [u8],
     size: &mut usize,
 ) -> u32
-    ensures told { (result ≡ 1) ⊎ OfPresent session.old.timeline (λ s. GivesText (problem_text s.network) result text.old text.new size.new) }
+    ensures answer { OfPresent session.old.timeline (λ s. AnswersText (problem_text s.network) result text.old text.new size.old size.new) }
+    ensures refused { result ≢ DMF_OK → text.new ≡ text.old }
     ensures unchanged { session.new.timeline ≡ session.old.timeline }
 {
     match problem_bytes(alloc, session.plan().present()) {
@@ -34,7 +36,8 @@ pub extern "C" fn dmf_session_solution(
     text: &mut [u8],
     size: &mut usize,
 ) -> u32
-    ensures told { (result ≡ 1) ⊎ OfPresent session.old.timeline (λ s. GivesText (solution_text s) result text.old text.new size.new) }
+    ensures answer { OfPresent session.old.timeline (λ s. AnswersText (solution_text s) result text.old text.new size.old size.new) }
+    ensures refused { result ≢ DMF_OK → text.new ≡ text.old }
     ensures unchanged { session.new.timeline ≡ session.old.timeline }
 {
     match solution_bytes(alloc, session.plan().present()) {
@@ -101,7 +104,8 @@ fn solution_bytes(alloc: Global, state: &State) -> Result<Vec<u8>, NoMemory>
 
 /// Gives the bytes if they fit, and says how many there are.
 fn give(bytes: &[u8], text: &mut [u8], size: &mut usize) -> u32
-    ensures { GivesText bytes.now result text.old text.new size.new }
+    ensures answer { GivesText bytes.now result text.old text.new size.new }
+    ensures refused { result ≢ DMF_OK → text.new ≡ text.old }
 {
     *size = bytes.len();
     if text.len() < bytes.len() {
