@@ -2,8 +2,8 @@
 
     python3 tools/over_proved.py KIT ROOT CRATE
 
-KIT is the toolchain's folder, ROOT the repository's, CRATE the library's crate, which is proved here. The status is 0 if it was built, and
-2 where other work than that of `rt ci` lies in out/, or none.
+KIT is the toolchain's folder, ROOT the repository's, CRATE the library's crate, which is proved here, from nothing. The status is 0 if it
+was built, and 2 where other work than that of `rt ci` lies in out/, or none.
 """
 
 from __future__ import annotations
@@ -23,7 +23,9 @@ def main(kit: str, root: str, name: str) -> int:
     # Other commands leave a stamp, by which they know of which sources their work is.
     if not all(os.path.isdir(it.rlib) and not os.path.exists(f"{it.folder}/out/rlib/stamp") for it in crate.below()):
         return 2
-    return int(crate.build_static([]))
+    # Otherwise the check begins with what out/ keeps of an earlier one, and its own jobs leave work there for each other.
+    rtlib.KEPT = []
+    return int(crate.build_static(["--jobs", "2"]))
 
 
 if __name__ == "__main__":
