@@ -1,0 +1,6 @@
+pub mod Values
+pub mod Closing
+pub mod Shutting
+pub mod Bounds
+pub mod Held
+pub mod Least

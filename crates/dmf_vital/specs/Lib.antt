@@ -1,0 +1,6 @@
+pub mod Without
+pub mod GreatestValue
+pub mod Loss
+pub mod Worst
+pub mod Kept
+pub mod Laws

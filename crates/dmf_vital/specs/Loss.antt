@@ -1,0 +1,33 @@
+-- What an arc or a node is worth: how much of the greatest value is lost without it. The most vital arc is one whose loss is greatest
+-- (Wollmer 1963).
+-- Public: a public contract says no more than this.
+use Rattle.std.specs.Prelude.{ℕ, ◌≡◌, ◌+◌, ◌≤◌, true}
+use Rattle.dmf_state.specs.Flow.{IsInnerNode}
+use Rattle.dmf_state.specs.Network.{Network, has_arc}
+use Rattle.dmf_vital.specs.GreatestValue.{IsGreatestValue}
+use Rattle.dmf_vital.specs.Without.{without_arc, without_node, with_second}
+
+-- The greatest value of network `m` is less than that of network `n` by this loss.
+pub record IsLoss (n m : Network) (loss : ℕ) : Type 0 where
+  pub before : ℕ
+  pub after : ℕ
+  pub greatest_before : IsGreatestValue n before
+  pub greatest_after : IsGreatestValue m after
+  pub difference : after + loss ≡ before
+
+-- There is an arc number `j`, and this is lost without it.
+abbrev pub IsLossOfArc : Network → ℕ → ℕ → Type 0
+IsLossOfArc n j loss = (has_arc n j ≡ true) × IsLoss n (without_arc n j) loss
+
+-- `v` is a node other than the source and the sink, and this is lost without it.
+abbrev pub IsLossOfNode : Network → ℕ → ℕ → Type 0
+IsLossOfNode n v loss = IsInnerNode n v × IsLoss n (without_node n v) loss
+
+-- There is an arc number `j`, and a second arc beside it gains this.
+abbrev pub IsGainOfSecond : Network → ℕ → ℕ → Type 0
+IsGainOfSecond n j gain = (has_arc n j ≡ true) × IsLoss (with_second n j) n gain
+
+-- Arc number `j` is a most vital arc: without no other arc is more lost.
+pub record IsMostVital (n : Network) (j loss : ℕ) : Type 0 where
+  pub own : IsLossOfArc n j loss
+  pub most : (i other : ℕ) → IsLossOfArc n i other → other ≤ loss
