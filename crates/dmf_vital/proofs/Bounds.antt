@@ -1,9 +1,8 @@
 -- The loss of an arc is between 0 and what it carries in a greatest flow.
-use Rattle.std.proofs.Common.{ℕ, ◌≡◌, ◌+◌, ◌-◌, ◌≤◌, List, length, true, refl, ap, sym, ◌∙◌, subst, arith, pos, ◌+ℤ◌, ◌≤ℤ◌, get_or, set, cond, ◌==◌}
+use Rattle.std.proofs.Common.{ℕ, ◌≡◌, ◌+◌, ◌-◌, ◌≤◌, List, true, sym, subst, arith, pos, ◌+ℤ◌, ◌≤ℤ◌, set}
 use Rattle.std.proofs.lemmas.Int.{ints}
 use Rattle.std.proofs.lemmas.List.{get_or-set_same}
 use Rattle.std.proofs.lemmas.Slice.Zip.{AllZip-long}
-use Rattle.dmf_state.specs.Arc.{no_arc}
 use Rattle.dmf_state.specs.Flow.{flow_on, outflow, inflow, IsFlow, flow_value}
 use Rattle.dmf_state.specs.Network.{Network, IsNetwork, arc_number, has_arc}
 use Rattle.dmf_state.specs.NetworkState.{NetworkState}
@@ -12,12 +11,11 @@ use Rattle.dmf_state.proofs.Changing.{flow_at-set, within-set}
 use Rattle.dmf_solver.specs.Greatest.{IsGreatest}
 use Rattle.dmf_solver.proofs.cuts.GreatestFlow.{some-greatest_flow}
 use Rattle.dmf_solver.proofs.draining.Draining.{drains-state, some-drained}
-use Rattle.dmf_vital.specs.GreatestValue.{IsGreatestValue}
-use Rattle.dmf_vital.specs.Loss.{IsLoss, IsLossOfArc}
+use Rattle.dmf_vital.specs.Loss.{IsLossOfArc}
 use Rattle.dmf_vital.specs.Laws.{ArcHasLoss, LossIsAtMostFlow, IdleArcLosesNothing, LoopLosesNothing}
 use Rattle.dmf_vital.specs.Without.{without_arc}
 use Rattle.dmf_vital.proofs.Closing.{network-without, flow-without, value-without, long-without, flow-from_without}
-use Rattle.dmf_vital.proofs.Values.{state-of_greatest, value-is_greatest, value-of_greatest, some-value}
+use Rattle.dmf_vital.proofs.Values.{state-of_greatest, value-is_greatest, some-value}
 
 module _ (n : Network) (j : ℕ) (network : IsNetwork n) (has : has_arc n j ≡ true) (flows less : List ℕ) (greatest : IsGreatest n flows)
     (greatest_less : IsGreatest (without_arc n j) less) where

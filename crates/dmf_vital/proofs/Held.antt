@@ -1,5 +1,5 @@
 -- An arc whose flow cannot go another way: the network without it has a cut whose capacity is less by that flow.
-use Rattle.std.proofs.Common.{ℕ, zero, suc, ◌≡◌, ◌≢◌, ◌+◌, ◌-◌, ◌*◌, ◌<◌, ◌≤◌, ◌&&◌, List, [], ◌∷◌, length, get_or, set, Bool, true, false, not, cond, refl, ap, sym, ◌∙◌}
+use Rattle.std.proofs.Common.{ℕ, zero, suc, ◌≡◌, ◌≢◌, ◌+◌, ◌-◌, ◌<◌, ◌≤◌, ◌&&◌, List, [], ◌∷◌, length, get_or, set, Bool, true, false, not, cond, refl, ap, ◌∙◌}
 use Rattle.std.proofs.Common.{arith, ⊎_elim, inl, inr, subst, pos, ◌+ℤ◌, ◌≤ℤ◌}
 use Rattle.std.specs.List.{zip}
 use Rattle.std.proofs.lemmas.Bool.{cases_Bool, cases_eq, cases_lt, both_ways}
@@ -10,20 +10,19 @@ use Rattle.dmf_state.specs.declared.arc.Arc.{Arc}
 use Rattle.dmf_state.specs.Arc.{no_arc, closed_arc}
 use Rattle.dmf_state.specs.Cut.{IsCut, cut_capacity}
 use Rattle.dmf_state.specs.Flow.{flow_on, AreWithinCapacities, IsFlow, flow_value}
-use Rattle.dmf_state.specs.Network.{Network, IsNetwork, arc_number, has_arc}
+use Rattle.dmf_state.specs.Network.{Network, IsNetwork, has_arc}
 use Rattle.dmf_state.proofs.ChangedArc.{has_arc-within}
 use Rattle.dmf_solver.specs.Greatest.{IsGreatest}
 use Rattle.dmf_solver.proofs.cuts.Crossing.{leaving, entering, across-none, value-across, none-across, none-across_both, value-across_back}
 use Rattle.dmf_solver.proofs.cuts.MaxFlowMinCut.{value-le_capacity}
 use Rattle.dmf_solver.proofs.pairs.ByArc.{has-step}
 use Rattle.dmf_solver.proofs.solving.ResidualSteps.{by_residual, residual-ahead, residual-behind}
-use Rattle.dmf_vital.specs.GreatestValue.{IsGreatestValue}
 use Rattle.dmf_vital.specs.Kept.{HoldsTail}
 use Rattle.dmf_vital.specs.Laws.{HeldFlowIsLost}
-use Rattle.dmf_vital.specs.Loss.{IsLoss, IsLossOfArc}
+use Rattle.dmf_vital.specs.Loss.{IsLossOfArc}
 use Rattle.dmf_vital.specs.Without.{without_arc}
 use Rattle.dmf_vital.proofs.Bounds.{some-loss, loss-at_most_flow}
-use Rattle.dmf_vital.proofs.Closing.{network-without, long-without, value-without}
+use Rattle.dmf_vital.proofs.Closing.{network-without}
 use Rattle.dmf_vital.proofs.Values.{value-is_greatest, value-of_greatest}
 
 -- ---- the flow that leaves a set over full arcs
@@ -134,13 +133,13 @@ module _ (n : Network) (flows : List ℕ) (j : ℕ) (has : ℕ → Bool) (networ
       let value = value-of_greatest n flows network greatest in
       elim (cases_Bool (has n.source)) [
         | inl source ↦ elim (cases_Bool (has n.sink)) [
-            | inl sink ↦ absurd (omega (arith, none-across_both n flows has network conserved source sink, leaving-is, none-enters, some))
-            | inr sink ↦ (source, sink)
-          ]
+          | inl sink ↦ absurd (omega (arith, none-across_both n flows has network conserved source sink, leaving-is, none-enters, some))
+          | inr sink ↦ (source, sink)
+        ]
         | inr source ↦ elim (cases_Bool (has n.sink)) [
-            | inl sink ↦ absurd (omega (arith, ints, value-across_back n flows has network conserved source sink, leaving-is, none-enters, some, value.1))
-            | inr sink ↦ absurd (omega (arith, none-across n flows has network conserved source sink, leaving-is, none-enters, some))
-          ]
+          | inl sink ↦ absurd (omega (arith, ints, value-across_back n flows has network conserved source sink, leaving-is, none-enters, some, value.1))
+          | inr sink ↦ absurd (omega (arith, none-across n flows has network conserved source sink, leaving-is, none-enters, some))
+        ]
       ]
 
   -- So no flow without the arc has a larger value than its flow leaves.

@@ -1,17 +1,15 @@
 -- Some greatest flow has no more on an arc than is lost without it.
-use Rattle.std.proofs.Common.{ℕ, ◌≡◌, ◌+◌, ◌-◌, ◌<◌, ◌≤◌, List, [], ◌∷◌, length, get_or, refl, ap, sym, subst, arith, ⊎_elim, pos, ◌+ℤ◌, ◌≤ℤ◌, Bool, true, false, cond, ◌*◌, ◌∙◌}
-use Rattle.std.proofs.lemmas.Bool.{cases_lt}
+use Rattle.std.proofs.Common.{ℕ, ◌≡◌, ◌+◌, ◌-◌, ◌<◌, ◌≤◌, List, [], ◌∷◌, length, refl, subst, arith, pos, ◌+ℤ◌, ◌≤ℤ◌, true, ◌*◌}
 use Rattle.std.proofs.lemmas.Int.{ints}
 use Rattle.std.proofs.lemmas.Slice.Zip.{AllZip-long}
 use Rattle.dmf_path.specs.Path.{has_rank, bottleneck}
 use Rattle.dmf_path.specs.Step.{Step}
 use Rattle.dmf_state.specs.Flow.{flow_on, IsFlow, flow_value}
 use Rattle.dmf_state.specs.Network.{Network, IsNetwork, has_arc}
-use Rattle.dmf_state.specs.NetworkState.{NetworkState, IsState}
+use Rattle.dmf_state.specs.NetworkState.{IsState}
 use Rattle.dmf_state.proofs.ChangedArc.{has_arc-within}
 use Rattle.dmf_state.proofs.Summing.{part-le}
 use Rattle.dmf_solver.specs.Change.{Solve}
-use Rattle.dmf_solver.specs.Greatest.{IsGreatest}
 use Rattle.dmf_solver.specs.Residual.{augmented}
 use Rattle.dmf_solver.specs.Solve.{AugmentsInTurn}
 use Rattle.dmf_solver.proofs.changes.SomeOutcome.{some-outcome}

@@ -1,6 +1,6 @@
 -- The network in which a node is shut.
-use Rattle.std.proofs.Common.{ℕ, zero, ◌≡◌, ◌+◌, ◌-◌, ◌≤◌, ◌==◌, ◌&&◌, ◌||◌, not, Bool, true, false, cond, List, [], ◌∷◌, ◌++◌, length, get_or, set, map, refl, ap, sym, ◌∙◌, subst}
-use Rattle.std.proofs.Common.{append_assoc, arith, pos, ◌≤ℤ◌, length-append}
+use Rattle.std.proofs.Common.{ℕ, ◌≡◌, ◌+◌, ◌-◌, ◌≤◌, ◌==◌, ◌&&◌, ◌||◌, not, Bool, true, false, cond, List, [], ◌∷◌, ◌++◌, length, get_or, set, map, refl, ap, sym, ◌∙◌, subst}
+use Rattle.std.proofs.Common.{append_assoc, arith, length-append}
 use Rattle.std.specs.List.{zip, All}
 use Rattle.std.proofs.Math.Seq.{get_or-append_seam, set-append_seam}
 use Rattle.std.proofs.lemmas.Bool.{both_ways}
@@ -199,9 +199,10 @@ shuts v n done (arc ∷ arcs) s t all is closes =
     let later = All-tail (IsArc n.nodes) arc arcs all in
     let js : List ℕ = open_arcs_at v (length done + 1 + 1) arcs in
     (elim (is_open_at v arc)
-    as (λ b. is_open_at v arc ≡ b → Closes (cond b ((length done + 1) ∷ js) js) s t → t.network ≡ with_arcs n (done ++ map (shut_arc v) (arc ∷ arcs)))
-    [ true ↦ λ e c. shuts-open v n done arc arcs s t (λ u. shuts v n (done ++ closed_arc arc ∷ []) arcs u t later) is e c
-    | false ↦ λ e c. shuts-other v n done arc arcs s t (shuts v n (done ++ arc ∷ []) arcs s t later) is (All-head (IsArc n.nodes) arc arcs all) e c ])
+    as (λ b. is_open_at v arc ≡ b → Closes (cond b ((length done + 1) ∷ js) js) s t → t.network ≡ with_arcs n (done ++ map (shut_arc v) (arc ∷ arcs))) [
+      | true ↦ λ e c. shuts-open v n done arc arcs s t (λ u. shuts v n (done ++ closed_arc arc ∷ []) arcs u t later) is e c
+      | false ↦ λ e c. shuts-other v n done arc arcs s t (shuts v n (done ++ arc ∷ []) arcs s t later) is (All-head (IsArc n.nodes) arc arcs all) e c
+    ])
     refl closes
 
 -- Shutting a node makes the network without it.

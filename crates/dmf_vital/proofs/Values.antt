@@ -1,8 +1,8 @@
 -- Greatest values, and differences of them.
-use Rattle.std.proofs.Common.{ℕ, ◌≡◌, List, sym, arith, pos, ◌≤ℤ◌}
+use Rattle.std.proofs.Common.{ℕ, ◌≡◌, List, sym, arith, pos}
 use Rattle.std.proofs.lemmas.Int.{ints}
 use Rattle.dmf_state.specs.Cut.{cut_capacity}
-use Rattle.dmf_state.specs.Flow.{IsFlow, flow_value}
+use Rattle.dmf_state.specs.Flow.{flow_value}
 use Rattle.dmf_state.specs.Network.{Network, IsNetwork}
 use Rattle.dmf_state.specs.NetworkState.{IsState}
 use Rattle.dmf_solver.specs.Greatest.{IsGreatest}

@@ -2,8 +2,8 @@
 #![tactic(auto)]
 
 pub use laws::{
-    arc_has_loss, closing_leaves_out, greatest_value_is_one, held_flow_is_lost, idle_arc_loses_nothing, loss_is_flow,
-    node_has_loss, shutting_leaves_out,
+    arc_has_loss, closing_leaves_out, greatest_value_is_one, held_flow_is_lost,
+    idle_arc_loses_nothing, loss_is_flow, node_has_loss, shutting_leaves_out,
 };
 
 mod laws;
