@@ -4,3 +4,5 @@ pub mod Shutting
 pub mod Bounds
 pub mod Held
 pub mod Least
+pub mod Second
+pub mod Ranking

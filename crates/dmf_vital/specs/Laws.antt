@@ -1,6 +1,6 @@
 -- What is true of greatest values and of losses.
 -- Public: a public contract says no more than this.
-use Rattle.std.specs.Prelude.{ℕ, ◌≡◌, ◌≤◌, Bool, true, List}
+use Rattle.std.specs.Prelude.{ℕ, ◌≡◌, ◌≤◌, Bool, true, List, ◌∷◌}
 use Rattle.dmf_state.specs.Flow.{flow_on, IsInnerNode}
 use Rattle.dmf_state.specs.Network.{Network, IsNetwork, arc_number, has_arc}
 use Rattle.dmf_state.specs.NetworkState.{NetworkState}
@@ -8,8 +8,9 @@ use Rattle.dmf_solver.specs.Change.{Close, Shut, Becomes}
 use Rattle.dmf_solver.specs.Greatest.{IsGreatest}
 use Rattle.dmf_vital.specs.GreatestValue.{IsGreatestValue}
 use Rattle.dmf_vital.specs.Kept.{HoldsTail}
-use Rattle.dmf_vital.specs.Loss.{IsLoss, IsLossOfArc, IsLossOfNode}
-use Rattle.dmf_vital.specs.Without.{without_arc, without_node}
+use Rattle.dmf_vital.specs.Loss.{IsLoss, IsLossOfArc, IsLossOfNode, IsGainOfSecond, IsMostVital}
+use Rattle.dmf_vital.specs.Without.{without_arc, without_node, with_second}
+use Rattle.dmf_vital.specs.Worst.{NumberedLoss, AreWorst}
 
 -- ---- values and losses
 
@@ -66,3 +67,18 @@ HeldFlowIsLost = (n : Network) (flows : List ℕ) (j : ℕ) (has : ℕ → Bool)
 -- The loss is the least that the arc carries in any greatest flow: some greatest flow has that on it.
 abbrev pub SomeFlowIsLoss : Type 0
 SomeFlowIsLoss = (n : Network) (j loss : ℕ) → IsNetwork n → IsLossOfArc n j loss → (flows : List ℕ) × IsGreatest n flows × (flow_on flows j ≡ loss)
+
+-- The first of the worst arcs is a most vital arc.
+abbrev pub WorstIsMostVital : Type 0
+WorstIsMostVital = (n : Network) (most : ℕ) (first : NumberedLoss) (rest : List NumberedLoss) → AreWorst (IsLossOfArc n) most (first ∷ rest)
+    → IsMostVital n first.number first.loss
+
+-- ---- the gain by a second arc
+
+-- Each arc beside which a second one fits has a gain,
+abbrev pub SecondHasGain : Type 0
+SecondHasGain = (n : Network) (j : ℕ) → IsNetwork n → IsNetwork (with_second n j) → has_arc n j ≡ true → (gain : ℕ) × IsGainOfSecond n j gain
+
+-- which is at most the capacity.
+abbrev pub GainIsAtMostCapacity : Type 0
+GainIsAtMostCapacity = (n : Network) (j gain : ℕ) → IsNetwork n → IsNetwork (with_second n j) → IsGainOfSecond n j gain → gain ≤ (arc_number n j).cap

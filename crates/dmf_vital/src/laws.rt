@@ -1,6 +1,7 @@
 ghost use Rattle.dmf_vital.specs.Laws.{HasGreatestValue, HasOneGreatestValue, ArcHasLoss, NodeHasLoss, HasOneLoss};
 ghost use Rattle.dmf_vital.specs.Laws.{ClosingLeavesOut, ShuttingLeavesOut};
 ghost use Rattle.dmf_vital.specs.Laws.{LossIsAtMostFlow, IdleArcLosesNothing, LoopLosesNothing, HeldFlowIsLost, SomeFlowIsLoss};
+ghost use Rattle.dmf_vital.specs.Laws.{WorstIsMostVital, SecondHasGain, GainIsAtMostCapacity};
 
 /// The law that a network has one greatest value.
 pub fn greatest_value_is_one()
@@ -44,4 +45,15 @@ pub fn held_flow_is_lost()
 pub fn loss_is_flow()
     ensures at_most { LossIsAtMostFlow }
     ensures some { SomeFlowIsLoss }
+{}
+
+/// The law that the first of the worst arcs is a most vital arc.
+pub fn worst_is_most_vital()
+    ensures { WorstIsMostVital }
+{}
+
+/// The law that a second arc beside another gains something, at most its capacity.
+pub fn second_has_gain()
+    ensures some { SecondHasGain }
+    ensures at_most { GainIsAtMostCapacity }
 {}

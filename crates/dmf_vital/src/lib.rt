@@ -3,7 +3,8 @@
 
 pub use laws::{
     arc_has_loss, closing_leaves_out, greatest_value_is_one, held_flow_is_lost,
-    idle_arc_loses_nothing, loss_is_flow, node_has_loss, shutting_leaves_out,
+    idle_arc_loses_nothing, loss_is_flow, node_has_loss, second_has_gain, shutting_leaves_out,
+    worst_is_most_vital,
 };
 
 mod laws;
