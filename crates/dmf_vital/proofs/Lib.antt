@@ -4,5 +4,10 @@ pub mod Shutting
 pub mod Bounds
 pub mod Held
 pub mod Least
+pub mod Chained
+pub mod Listed
+pub mod Growing
+pub mod Pushed
+pub mod Stuck
 pub mod Second
 pub mod Ranking

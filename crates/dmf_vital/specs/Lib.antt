@@ -4,3 +4,7 @@ pub mod Loss
 pub mod Worst
 pub mod Kept
 pub mod Laws
+pub mod Hop
+pub mod Chains
+pub mod Tree
+pub mod Shifted

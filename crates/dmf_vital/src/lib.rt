@@ -6,5 +6,13 @@ pub use laws::{
     idle_arc_loses_nothing, loss_is_flow, node_has_loss, second_has_gain, shutting_leaves_out,
     worst_is_most_vital,
 };
+pub use loss::{arc_losses, value_without_arc};
 
+mod chains;
+mod hop;
 mod laws;
+mod loss;
+mod push;
+mod rerouting;
+mod search;
+mod tree;

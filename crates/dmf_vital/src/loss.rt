@@ -1,0 +1,37 @@
+ghost use Rattle.std.specs.Prelude.{◌≡◌, ℕ, ◌+◌, ◌<◌, true, length, slice_index, IfOk};
+ghost use Rattle.dmf_state.specs.Network.{has_arc};
+ghost use Rattle.dmf_solver.specs.Greatest.{IsGreatest};
+ghost use Rattle.dmf_vital.specs.GreatestValue.{IsGreatestValue};
+ghost use Rattle.dmf_vital.specs.Loss.{IsLossOfArc};
+ghost use Rattle.dmf_vital.specs.Without.{without_arc};
+
+use crate::rerouting::{loss_of, make_rerouting};
+use dmf_state::{NoMemory, State};
+use std::alloc::Global;
+
+/// The greatest value that is left without arc number `j`, which is there, of a state whose flow is greatest. The state stays as it is.
+/// Fails only if memory is refused.
+pub fn value_without_arc(alloc: Global, state: &State, j: u32) -> Result<u64, NoMemory>
+    requires is_there { has_arc state.now.network j ≡ true }
+    requires greatest { IsGreatest state.now.network state.now.flows }
+    ensures { IfOk result (IsGreatestValue (without_arc state.now.network j)) }
+{
+    let mut rerouting = make_rerouting(alloc, state)?;
+    let loss = loss_of(state, &mut rerouting, j)?;
+    Ok(state.value() - loss)
+}
+
+/// What is lost without each arc, in order, of a state whose flow is greatest. The state stays as it is. Fails only if memory is refused.
+pub fn arc_losses(alloc: Global, state: &State) -> Result<Vec<u64>, NoMemory>
+    requires { IsGreatest state.now.network state.now.flows }
+    ensures one_each { IfOk result (λ losses. length losses.items ≡ length state.now.network.arcs) }
+    ensures losses { IfOk result (λ losses. (k : ℕ) → k < length losses.items
+        → IsLossOfArc state.now.network (k + 1) (slice_index losses.items k)) }
+{
+    let mut rerouting = make_rerouting(alloc, state)?;
+    let mut losses = vec![in alloc; 0u64; state.arcs().len()]?;
+    for k in 0..losses.len() {
+        losses[k] = loss_of(state, &mut rerouting, k as u32 + 1)?;
+    }
+    Ok(losses)
+}
