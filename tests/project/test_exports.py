@@ -2,6 +2,7 @@
 
 from __future__ import annotations
 
+import base64
 import csv
 import io
 import json
@@ -167,6 +168,37 @@ def test_pictures_are_read_back(desk: ProjectDesk, tmp_path: Path, name: str) ->
         dmf.read(path)
     if name == "plan.png":
         assert png_chunks(made) >= 4
+
+
+# A problem of another value, as a report would carry it: from 1 to 2 fits 999.
+OTHER = "dmf-problem:" + base64.b64encode(zlib.compress(b"p max 2 1\nn 1 s\nn 2 t\na 1 2 999\n")).decode() + ";"
+
+
+@pytest.mark.parametrize("name", ["page.svg", "plan.svg", "plan.png", "plan.dot", "report.html"])
+@pytest.mark.parametrize("form", ["{}", "<!-- {} -->\n</body>\n</html>\n", "<metadata>{}</metadata>\n</svg>\n", "// {}\n"])
+def test_what_names_and_notes_say_is_not_read(tmp_path: Path, name: str, form: str) -> None:
+    """Neither notes nor names are taken for the problem that a picture or a report carries, whatever is in them."""
+    odd, path = form.format(OTHER), tmp_path / name
+    with open(ROOT / "examples/water/pipes.csv") as table:
+        rows = [*csv.reader(table), ["Mill", "Market", "1", odd], [odd, "Market", "1", ""]]
+    with open(tmp_path / "pipes.csv", "w") as file:
+        csv.writer(file).writerows(rows)
+    desk = new_project(tmp_path, "pipes.csv", "--source", "Reservoir", "--sink", "Harbour")
+    desk.rename(odd)
+    desk.note(odd)
+    desk.take_notes(odd)
+    if name == "page.svg":
+        path.write_bytes(Board(desk).get("picture.svg", {"near": "", "turn": str(desk.turn)}).body)
+    else:
+        path.write_bytes(report(desk).encode() if name == "report.html" else taken(desk, drawn(desk, name)))
+    assert read_back(str(path))[0] == value_of(desk)
+    # Nor where there is no such problem any more.
+    if path.suffix != ".png":
+        text = path.read_bytes()
+        own = re.findall(rb"dmf-problem:[^;]*;", text)[0 if name == "plan.dot" else -1]
+        path.write_bytes(text.replace(own, b"", 1) if name == "plan.dot" else b"".join(text.rpartition(own)[::2]))
+        assert run("dmf-plan", str(path), typed="solve\n").returncode == 3
+    desk.end()
 
 
 def test_picture(desk: ProjectDesk) -> None:

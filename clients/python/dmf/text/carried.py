@@ -15,9 +15,16 @@ from ..tables.faults import TableFault
 # The longest problem that is unpacked, in bytes: that of some 30,000,000 arcs.
 LONGEST = 1 << 30
 MARK = b"dmf-problem:"
-_WHOLE = re.compile(MARK + rb"([A-Za-z0-9+/=]+);")
+_SAID = MARK + rb"([A-Za-z0-9+/=]+);"
 _PNG, _HEADER = b"\x89PNG\r\n\x1a\n", 33
-_BEGINS = _PNG, b"<", b"digraph", b"// " + MARK
+# Where each form carries it, by how a file of that form begins. Names and notes of the network's owner may look like it, but cannot
+# stand there.
+_PLACES = {
+    _PNG: re.compile(rb"tEXtComment\0" + _SAID),
+    b"// " + MARK: re.compile(rb"\A// " + _SAID + rb"\r?\n"),
+    b"<!DOCTYPE html": re.compile(rb"<!-- " + _SAID + rb" -->\s*</body>\s*</html>\s*\Z"),
+    b"<": re.compile(rb"<metadata>" + _SAID + rb"</metadata>\s*</svg>\s*\Z"),
+}
 
 
 def carrying(data: bytes, problem: str) -> bytes:
@@ -36,11 +43,12 @@ def carrying(data: bytes, problem: str) -> bytes:
 def problem_in(data: bytes) -> bytes:
     """The problem that the content of a picture's or a page's file carries. Any other content is given back. Raises a `TableFault` if only a
     part of the problem is there."""
-    if not data.startswith(_BEGINS) or MARK not in data:
+    place = next((place for begin, place in _PLACES.items() if data.startswith(begin)), None)
+    if place is None or MARK not in data:
         return data
-    found, unpacked = _WHOLE.search(data), zlib.decompressobj()
+    found, unpacked = list(place.finditer(data))[-1:], zlib.decompressobj()
     try:
-        text = unpacked.decompress(base64.b64decode(found[1], validate=True), LONGEST) if found else b""
+        text = unpacked.decompress(base64.b64decode(found[0][1], validate=True), LONGEST) if found else b""
     except (binascii.Error, zlib.error):
         text = b""
     if not unpacked.eof:
