@@ -8,10 +8,17 @@ import errno
 import fcntl
 import json
 import os
+import re
+import stat
 
 MARK = "dmf journal"
 VERSION = 1
 TAKEN = (errno.EWOULDBLOCK, errno.EACCES, errno.EAGAIN)
+
+
+def _head(identity: str, serial: int) -> bytes:
+    """Return the first line of a journal that begins after so many acts."""
+    return json.dumps({MARK: VERSION, "id": identity, "after": serial}).encode()
 
 
 class Taken(Exception):
@@ -24,8 +31,11 @@ class Journal:
     def __init__(self, path: str) -> None:
         self.path = path
         while True:
-            self._file = os.open(path, os.O_RDWR | os.O_CREAT | os.O_APPEND, 0o666)
+            # A link could lead to a file of somebody's.
+            self._file = os.open(path, os.O_RDWR | os.O_CREAT | os.O_APPEND | os.O_NOFOLLOW | os.O_NONBLOCK, 0o666)
             try:
+                if not stat.S_ISREG(os.fstat(self._file).st_mode):
+                    raise OSError(errno.EINVAL, "it is no file")
                 fcntl.flock(self._file, fcntl.LOCK_EX | fcntl.LOCK_NB)
                 # The desk that had the lock may have removed the file before this one got it.
                 with contextlib.suppress(FileNotFoundError):
@@ -43,7 +53,13 @@ class Journal:
         """Begins it anew, after so many acts."""
         os.ftruncate(self._file, 0)
         self._length = 0
-        self.append(json.dumps({MARK: VERSION, "id": identity, "after": serial}).encode())
+        self.append(_head(identity, serial))
+
+    @staticmethod
+    def is_begun(text: bytes, identity: str) -> bool:
+        """Return True if a text without an end of a line can be what a kill left of a journal that was begun."""
+        head = _head(identity, 0)[:-2]
+        return head.startswith(text) or text.startswith(head) and re.fullmatch(rb"[0-9]+}?", text[len(head) :]) is not None
 
     def append(self, line: bytes) -> None:
         """Appends a line, and waits until it is on the disk. If that fails, raises an OSError, and the journal is as it was."""

@@ -9,7 +9,7 @@ from decimal import Decimal
 from ..steps import Add, Cap, Change, Close, DeskFault, Follow, Place, Reopen, Shut, Solve
 from ..desk_view import DeskView
 from ...text.folding import AT_PLACE
-from ...quantity import plain_text
+from ...quantity import QuantityFault, plain_text
 from ...text.cells import shown
 from ...text.problem_text import display
 from .schema import ArcName, PlaceName, Request
@@ -118,4 +118,7 @@ def changes_of(view: DeskView, requests: Iterable[Request], unsure: Collection[A
 
 
 def _amount(view: DeskView, text: str) -> Decimal | int:
-    return view.measure.quantity(view.measure.whole(Decimal(text)))
+    try:
+        return view.measure.quantity(view.measure.whole(Decimal(text)))
+    except QuantityFault as fault:
+        raise DeskFault(f"{text} {fault}") from None

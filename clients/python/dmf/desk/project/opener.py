@@ -5,16 +5,20 @@ from __future__ import annotations
 import argparse
 import os
 import secrets
-from collections.abc import Callable
+from collections.abc import Callable, Iterator
 from dataclasses import dataclass, field, replace
+from decimal import Decimal
 from functools import cached_property
 from typing import Optional
 
+from ..expressions import finer
 from ..workspace import Desk
 from ..steps import DeskFault
 from ...errors import Error, Refused, SessionEnded
+from ...quantity import decimals
 from ...session.base import Program
 from ...text.cells import shown
+from ...text.problem_text import TextFault, read_problem
 from ...tables.other_columns import Extra
 from ...tables.faults import TableFault
 from ...tables.loader import split_path
@@ -22,7 +26,7 @@ from ...tools.options import says_table
 from ...tables.subject import FAULT, UNREADABLE, Subject, read_subject
 from ...tools.command import ToolFault, cannot, warn
 from .scenarios import FIRST, Base, ProjectDesk
-from .storage import ProjectFile, created, journal_of, opened
+from .storage import ProjectFile, created, journal_of, read_project
 from .schema import ENDING, File, KeptTable, Project, ProjectFault, Scenario
 from .table import differences, kept_table, read_again, told_shortly, with_sums
 
@@ -83,13 +87,49 @@ def is_project(path: str) -> bool:
 def project_desk(path: str, table: str = "", program: Program = None) -> ProjectDesk:
     """The desk of the project at a path. `table` is where its table is now, if that has moved. Raises a `ProjectFault`, an OSError if the
     file cannot be read, and what `Desk` raises."""
-    file = opened(path)
+    file = read_project(path)
     try:
+        if not file.is_folded:
+            _judge_network(file)
+        _judge_amounts(file)
+        file.fold()
         return ProjectDesk(file, _base(path, file, table), program)
     except BaseException:
-        # Nothing was done that the journal has not.
-        file.end()
+        # Nothing was done that the journal has not, and the next call may find that it is a fault.
+        file.leave()
         raise
+
+
+def _judge_network(file: ProjectFile) -> None:
+    """Raise a `ProjectFault` if the network of a project, which no session has read yet, has a fault."""
+    try:
+        read_problem(file.project.network.encode("utf-8", "surrogateescape"))
+    except TextFault as fault:
+        raise ProjectFault(f"{file.path}: network: {fault}") from None
+
+
+def _judge_amounts(file: ProjectFile) -> None:
+    """Raise a `ProjectFault` with its place for an amount that the network of a project cannot have."""
+    found = list(_amounts(file.project))
+    subject = Subject(file.path, file.project.network.encode("utf-8", "surrogateescape"))
+    largest: dict[int, Decimal] = {}
+    for amount, _ in found:
+        largest[decimals(amount)] = max(amount, largest.get(decimals(amount), amount))
+    for amount in largest.values():
+        try:
+            finer(subject, amount)
+        except DeskFault as fault:
+            place = next(place for other, place in found if other == amount)
+            raise ProjectFault(f"{file.path}: {place}: {fault}") from None
+
+
+def _amounts(project: Project) -> Iterator[tuple[Decimal, str]]:
+    """Yield the amounts of a project's steps, each with its place."""
+    for name, scenario in enumerate(project.scenarios):
+        for at, step in enumerate(scenario.steps):
+            for number, request in enumerate(step.requests):
+                if len(request) > 2:
+                    yield Decimal(request[2]), f"scenarios[{name}].steps[{at}].requests[{number}]"
 
 
 @dataclass(frozen=True)
@@ -122,7 +162,11 @@ def _base(path: str, file: ProjectFile, moved: str) -> Base:
     except (ToolFault, TableFault) as fault:
         lines = list(fault.reasons) if isinstance(fault, ToolFault) else fault.lines()
         return Base(kept, [*told, f"the table {name} is not read, and {as_kept}: {lines[0]}; --table FILE names it where it is now", *lines[1:]])
-    found = differences(kept.text, subject.text)
+    try:
+        found = differences(kept.text, subject.text)
+    except TextFault as fault:
+        _judge_network(file)
+        return Base(kept, [*told, f"the table {name} is not read, and {as_kept}: {fault}; --table FILE names it where it is now"])
     if file.why_not:
         changed = [f"the table {name} has changed since, and {as_kept}"] if found.told else []
         return Base(kept, [*told, *changed])

@@ -23,7 +23,7 @@ from ...text.cells import shown
 from ...tables.subject import Subject
 from ...text.problem_text import display
 from .storage import ProjectFile
-from .schema import ArcName, KeptStep, KeptTable, Project, Scenario, said_scenario, said_step, said_table
+from .schema import ArcName, KeptStep, KeptTable, Project, ProjectFault, Scenario, said_scenario, said_step, said_table
 from .naming import changes_of, place_meant, requests_of
 from .table import Differences
 
@@ -74,7 +74,10 @@ class ProjectDesk(Desk):
         self._keeps = False
         # The scenario that is only visited.
         self._visited = ""
-        super().__init__(finest(base.subject, file.project), with_solve=True, program=program)
+        try:
+            super().__init__(finest(base.subject, file.project), with_solve=True, program=program)
+        except Refused as fault:
+            raise ProjectFault(f"{file.path}: {f'the table {base.table.file.path}' if base.table else 'network'}: {fault}") from None
         self.news = [*file.news, *base.told]
         file.news.clear()
         if base.table:

@@ -3,12 +3,15 @@
 from __future__ import annotations
 
 import json
+import math
+import re
 from collections.abc import Callable, Mapping
 from dataclasses import dataclass, field
-from decimal import Decimal, InvalidOperation
+from decimal import Decimal
 from typing import Any, Union
 
 from ...errors import Error
+from ...quantity import LARGEST_EXPONENT, LONGEST_NUMBER, SIGNS
 
 VERSION = 1
 ENDING = ".dmf.json"
@@ -26,6 +29,11 @@ PlaceName = Union[str, int]
 ArcName = tuple[Any, ...]
 Request = tuple[Any, ...]
 KINDS = ("supply", "demand", "limit")
+# An amount as it is written here; the longest one; and the most digits of a whole number, of which the largest is that of 64 bits.
+_AMOUNT = re.compile(r"[0-9]+(?:\.[0-9]+)?")
+_LONGEST_AMOUNT, _MOST_DIGITS = LONGEST_NUMBER + 2 * LARGEST_EXPONENT, 20
+# Surrogates that stand for no byte of a file.
+_LONE = re.compile("[\ud800-\udc7f\udd00-\udfff]")
 # By the word of a request, what follows it.
 REQUESTS = {"close": ("arc",), "open": ("arc",), "cap": ("arc", "amount"), "add": ("ends", "amount"), "shut": ("place",)}
 
@@ -164,7 +172,10 @@ def loaded(text: bytes) -> Any:
         raise ProjectFault(f"{name} is no number of JSON")
 
     try:
-        return json.loads(text.decode(), object_pairs_hook=single, parse_constant=refuse)
+        hooks: dict[str, Any] = {"object_pairs_hook": single, "parse_constant": refuse, "parse_int": _whole_number}
+        content = json.loads(text.decode(), **hooks)
+        _judge_texts(content, "")
+        return content
     except json.JSONDecodeError as fault:
         is_cut = fault.pos >= len(fault.doc.rstrip()) or fault.msg.startswith("Unterminated string")
         where = "the text ends in the midst of it" if is_cut else fault.msg[:1].lower() + fault.msg[1:]
@@ -173,6 +184,25 @@ def loaded(text: bytes) -> Any:
         raise ProjectFault(f"byte {fault.start + 1} is no UTF-8") from None
     except RecursionError:
         raise ProjectFault("it is nested too deeply") from None
+
+
+def _whole_number(digits: str) -> int | float:
+    """Return a whole number, or a float if it has more digits than any here."""
+    return int(digits) if len(digits) <= _MOST_DIGITS else float(digits)
+
+
+def _judge_texts(content: object, place: str) -> None:
+    """Raise a `ProjectFault` if a text could not be written to a file again."""
+    if isinstance(content, str):
+        if _LONE.search(content):
+            raise ProjectFault(f"{place or 'the file'} has half a letter, a surrogate that stands alone")
+    elif isinstance(content, dict):
+        for name, part in content.items():
+            _judge_texts(name, f"the name of a field in {place or 'the file'}")
+            _judge_texts(part, f"{place}.{name}" if place else name)
+    elif isinstance(content, list):
+        for at, part in enumerate(content):
+            _judge_texts(part, f"{place}[{at}]")
 
 
 def project_of(text: bytes) -> Project:
@@ -204,6 +234,8 @@ def position_of(content: object, place: str) -> tuple[float, ...]:
     """The coordinates of a place."""
     if not isinstance(content, list) or len(content) != 2 or not all(type(it) in (int, float) for it in content):
         raise ProjectFault(f"{place} is not two numbers")
+    if not all(map(math.isfinite, content)):
+        raise ProjectFault(f"{place} is past all numbers that a picture has")
     return tuple(map(float, content))
 
 
@@ -236,7 +268,7 @@ def step_of(content: object, place: str) -> KeptStep:
 def _request_of(content: object, place: str) -> Request:
     """A request, as in ["cap", ["Mill", "Town", "Mill Lane"], "47.3"]."""
     word = content[0] if isinstance(content, list) and content else None
-    if not isinstance(content, list) or word not in REQUESTS or len(content) != 1 + len(REQUESTS[word]):
+    if not isinstance(content, list) or type(word) is not str or word not in REQUESTS or len(content) != 1 + len(REQUESTS[word]):
         raise ProjectFault(f"{place} is none of {', '.join(REQUESTS)} with what follows it")
     found = []
     for kind, part in zip(REQUESTS[word], content[1:]):
@@ -263,10 +295,7 @@ def _is_arc(part: object) -> bool:
 
 
 def _is_amount(part: object) -> bool:
-    try:
-        return type(part) is str and Decimal(part).is_finite() and Decimal(part) >= 0
-    except InvalidOperation:
-        return False
+    return type(part) is str and len(part) <= _LONGEST_AMOUNT and _AMOUNT.fullmatch(part) is not None
 
 
 _FORMS: dict[str, Callable[[object], bool]] = {"place": _is_place, "ends": _is_ends, "arc": _is_arc, "amount": _is_amount}
@@ -275,9 +304,8 @@ _FORMS: dict[str, Callable[[object], bool]] = {"place": _is_place, "ends": _is_e
 def table_of(content: object, place: str) -> KeptTable:
     """The table of an object in JSON."""
     fields = Fields(content, place)
-    file = File(fields.take("path", str), fields.take("sum", str))
     table = KeptTable(
-        file, fields.take("sheet", str, ""), _options_of(fields.take("options", dict, {}), f"{place}.options"), unit=fields.take("unit", str, ""),
+        _file_of(fields), fields.take("sheet", str, ""), _options_of(fields.take("options", dict, {}), f"{place}.options"), unit=fields.take("unit", str, ""),
         noun=fields.take("noun", str, ""), assumed=fields.texts("assumed"),
     )  # fmt: skip
     for option, given in fields.take("places", dict, {}).items():
@@ -285,17 +313,42 @@ def table_of(content: object, place: str) -> KeptTable:
         if option not in PLACE_OPTIONS:
             raise ProjectFault(f"{where} is none of {', '.join(PLACE_OPTIONS)}")
         parts = Fields(given, where)
-        table.places[option] = File(parts.take("path", str), parts.take("sum", str))
+        table.places[option] = _file_of(parts)
         parts.end()
     fields.end()
     return table
+
+
+def _file_of(fields: Fields) -> File:
+    path = fields.take("path", str)
+    if "\0" in path:
+        raise ProjectFault(f"{fields.at('path')} is no path")
+    return File(path, fields.take("sum", str))
 
 
 def _options_of(content: Mapping[str, Any], place: str) -> dict[str, Any]:
     fields = Fields(content, place)
     found = {name: fields.texts(name) if kind is list else fields.take(name, kind) for name, kind in OPTIONS.items() if name in content}
     fields.end()
+    for name, judge in _OPTION_JUDGES.items():
+        if name in found and not judge(found[name]):
+            raise ProjectFault(f"{fields.at(name)} is {found[name]!r}, which the option --{name} does not take")
     return found
+
+
+def _is_encoding(name: str) -> bool:
+    try:
+        b"A".decode(name)
+    except UnicodeDecodeError:
+        return True
+    except (LookupError, ValueError):
+        return False
+    return True
+
+
+_OPTION_JUDGES: dict[str, Callable[[str], bool]] = {
+    "decimal": SIGNS.__contains__, "scale": lambda text: _is_amount(text) and Decimal(text) > 0, "encoding": _is_encoding,
+}  # fmt: skip
 
 
 def text_of(project: Project) -> bytes:

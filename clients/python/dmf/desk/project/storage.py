@@ -14,6 +14,7 @@ import os
 import re
 import shutil
 import signal
+import stat
 from collections.abc import Iterator
 from typing import Any
 
@@ -42,7 +43,9 @@ class ProjectFile:
     """A project that is open. `why_not` says why this desk may only read it, and is empty if it writes it; `news` are what is
     to be said: what a kill has cost, and what somebody else has written meanwhile."""
 
-    def __init__(self, path: str, project: Project, journal: Journal | None, why_not: str = "", filed: int = 0) -> None:
+    def __init__(
+        self, path: str, project: Project, journal: Journal | None, why_not: str = "", filed: int = 0, has_rest: bool = False
+    ) -> None:
         self.path = path
         self.project = project
         self.why_not = why_not
@@ -51,6 +54,24 @@ class ProjectFile:
         self._journal = journal
         # How many acts the file has; the journal has those after them.
         self._filed = filed
+        # Whether the journal ends with half a line.
+        self._has_rest = has_rest
+
+    @property
+    def is_folded(self) -> bool:
+        """Return True if the file has all that the journal has, so that opening it writes nothing."""
+        return self._journal is None or self.project.serial == self._filed and not self._has_rest
+
+    def fold(self) -> None:
+        """Write what the journal has into the file. If that cannot be done, the project can only be read from then on."""
+        if self.is_folded:
+            return
+        self.news += [f"the last line of {journal_of(self.path)} has no end: what was in hand then is lost"] * self._has_rest
+        try:
+            self.write()
+        except OSError as error:
+            self.why_not = f"it cannot be written: {error.strerror}"
+            self.end()
 
     def keep(self, word: str, content: Any) -> None:
         """Does this to the project, once it is on the disk. Raises an OSError if that fails, and a `ProjectFault` if it cannot be done, and
@@ -112,6 +133,13 @@ class ProjectFile:
             self._journal, self.why_not = None, self.why_not or "it was closed"
             journal.end(is_folded=self.project.serial == self._filed)
 
+    def leave(self) -> None:
+        """Let others write it, and leave the file and what is in the journal as they are."""
+        if self._journal:
+            journal, is_folded = self._journal, self.is_folded
+            self._journal, self.why_not = None, self.why_not or "it was closed"
+            journal.end(is_folded=is_folded)
+
     def discard(self) -> None:
         """Removes a project that was just made."""
         if self._journal:
@@ -159,11 +187,27 @@ def created(path: str, project: Project) -> ProjectFile:
 
 
 def opened(path: str) -> ProjectFile:
-    """The project in a file. Raises a `ProjectFault` that names the file and the place in it, and an OSError if it cannot be read."""
+    """The project in a file, which has all that was in the journal from then on. Raises what `read_project` raises."""
+    file = read_project(path)
+    file.fold()
+    return file
+
+
+def read_project(path: str) -> ProjectFile:
+    """Return the project in a file and its journal, and write nothing.
+
+    Raises
+    ------
+    ProjectFault
+        If it is none, with the file and the place in it.
+    OSError
+        If it cannot be read.
+    """
     path = os.path.realpath(path)
-    os.stat(path)
+    if not stat.S_ISREG(os.stat(path).st_mode):
+        raise OSError(errno.EINVAL, "it is no file")
     journal, why_not = None, ""
-    is_new = not os.path.exists(journal_of(path))
+    is_new = not os.path.lexists(journal_of(path))
     try:
         journal = Journal(journal_of(path))
     except Taken:
@@ -176,25 +220,13 @@ def opened(path: str) -> ProjectFile:
         if journal:
             journal.end(is_folded=is_new)
         raise
-    made = ProjectFile(path, project, journal, why_not, filed)
-    if journal and (project.serial > filed or has_rest):
-        made.news += [f"the last line of {journal_of(path)} has no end: what was in hand then is lost"] * has_rest
-        try:
-            made.write()
-        except OSError as error:
-            made.why_not = f"it cannot be written: {error.strerror}"
-            made.end()
-    return made
+    return ProjectFile(path, project, journal, why_not, filed, has_rest)
 
 
 def _read(path: str) -> tuple[Project, int, bool]:
     """The project of a file and its journal, how many acts the file has, and whether the journal ends with half a line. The journal is read
     first: if another desk writes the file between, the file has all of that journal."""
-    try:
-        with open(journal_of(path), "rb") as file:
-            journal = file.read()
-    except FileNotFoundError:
-        journal = b""
+    journal = _journal_text(journal_of(path))
     with open(path, "rb") as file:
         text = file.read()
     try:
@@ -205,6 +237,8 @@ def _read(path: str) -> tuple[Project, int, bool]:
         raise ProjectFault(f"{path}: {fault}{hint}") from None
     filed = project.serial
     *lines, rest = journal.split(b"\n")
+    if not lines and not Journal.is_begun(rest, project.identity):
+        raise ProjectFault(f"{journal_of(path)} is no journal of this project; move it away to open the file as it is")
     count = 0
     for at, line in enumerate(lines, 1):
         place = f"{journal_of(path)}: line {at}"
@@ -220,6 +254,22 @@ def _read(path: str) -> tuple[Project, int, bool]:
             if serial > filed:
                 prepared(project, word, given, word)()
     return project, filed, bool(rest)
+
+
+def _journal_text(path: str) -> bytes:
+    """Return what a journal has; nothing if there is none."""
+    if not os.path.lexists(path):
+        return b""
+    try:
+        with open(path, "rb", opener=lambda name, flags: os.open(name, flags | os.O_NOFOLLOW | os.O_NONBLOCK)) as file:
+            if stat.S_ISREG(os.fstat(file.fileno()).st_mode):
+                return file.read()
+    except FileNotFoundError:
+        return b""
+    except OSError as error:
+        if error.errno != errno.ELOOP:
+            raise
+    raise ProjectFault(f"{path} is a link or no file, and so no journal; move it away to open the project as its file is")
 
 
 @contextlib.contextmanager

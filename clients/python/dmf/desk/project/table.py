@@ -28,7 +28,14 @@ MOST_TOLD = 20
 
 def sum_of(path: str) -> str:
     """The SHA-256 sum of a file. Raises a `ToolFault` if it cannot be read."""
-    return hashlib.sha256(read_file(path, 4)).hexdigest()
+    return hashlib.sha256(_content_of(path)).hexdigest()
+
+
+def _content_of(path: str) -> bytes:
+    """Return the content of a file. Raises a `ToolFault` if it cannot be read, or is a pipe or a device, which may have no end."""
+    if os.path.exists(path) and not os.path.isfile(path):
+        raise ToolFault(f"{path} is no file that could be read again", 4)
+    return read_file(path, 4)
 
 
 def kept_table(words: argparse.Namespace, subject: Subject, folder: str) -> KeptTable:
@@ -78,7 +85,7 @@ def read_again(table: KeptTable, folder: str) -> Subject:
         options.get("both_ways", False), tuple(options.get("source", ())), tuple(options.get("sink", ())), places,
     )  # fmt: skip
     path = os.path.join(folder, table.file.path)
-    data = problem_in(read_file(path, 4))
+    data = problem_in(_content_of(path))
     if is_problem(path, data):
         return Subject(path, data, raw_names=wanted.reading.raw_names)
     return subject_of(wanted, f"{path}#{table.sheet}" if table.sheet else path, data)
