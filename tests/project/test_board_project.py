@@ -67,7 +67,7 @@ def test_keep_beside(driver: Any, tmp_path: Path) -> None:
     assert "close Bridge pipe" in ran.stdout and "close Mill Lane" in ran.stdout
     with board(f"{tmp_path}/pipes.csv") as it:
         status, told = it.post("do", what="keep")
-        assert status == 409 and b"cannot be made: it is there already" in told and it.state()["offer"] == "pipes.dmf.json"
+        assert status == 409 and b"cannot be made: it already exists; open it, or choose another name" in told and it.state()["offer"] == "pipes.dmf.json"
         assert it.do(what="close", arc=10)["value"] == str(without("Bridge pipe"))
 
 

@@ -165,7 +165,7 @@ def test_made_in_python(tmp_path: Path) -> None:
         assert "read alone" in told.stderr and told.stdout.startswith("limit 126 pallets")
     made, other = project_of(path.read_bytes()), project_of(Path(desk.file.path).read_bytes())
     assert (made.table, made.network, made.scenarios[0].steps[0].requests) == (other.table, other.network, (("shut", "East Depot"),))
-    with pytest.raises(dmf.ProjectFault, match="there already"):
+    with pytest.raises(dmf.ProjectFault, match="it already exists; open it, or choose another name"):
         dmf.new_project(tmp_path / "routes.csv", **tables)
     (tmp_path / "bad.csv").write_text("from,to,capacity\nA,B,many\nA,C,-1\n")
     with pytest.raises(dmf.ProjectFault, match="line 2(.|\n)*line 3"):

@@ -5,6 +5,8 @@ from __future__ import annotations
 import argparse
 import os
 import secrets
+import shlex
+import sys
 from collections.abc import Callable, Iterator
 from dataclasses import dataclass, field, replace
 from decimal import Decimal
@@ -47,10 +49,15 @@ def desk_of(words: argparse.Namespace, *, with_solve: bool, may_follow: bool = F
             return project_desk(words.path, words.table or "")
         if words.table is not None:
             raise ToolFault("--table says where the table of a project has gone, and FILE is no project", 2)
+        if words.keep and os.path.lexists(beside(words.path)):
+            # What the options ask for may be another network than that of the project.
+            raise ToolFault(f"{beside(words.path)} already exists; {_how_to_open(beside(words.path))}", UNREADABLE)
         subject = read_subject(words)
         desk = Desk(subject, with_solve=with_solve, may_follow=may_follow and not words.keep)
         desk.news += subject.notes
         if not words.keep:
+            if os.path.isfile(beside(words.path)):
+                desk.news.append(f"a project of this table exists; {_how_to_open(beside(words.path))}")
             return desk
         try:
             kept = keep_project(beside(words.path), words, desk)
@@ -66,6 +73,12 @@ def desk_of(words: argparse.Namespace, *, with_solve: bool, may_follow: bool = F
         raise (cannot("read", words.path, error, UNREADABLE) if is_project(words.path) else ToolFault(str(error), UNREADABLE)) from None
     except SessionEnded as error:
         raise ToolFault(str(error), UNREADABLE) from None
+
+
+def _how_to_open(path: str) -> str:
+    """Return how the tool that runs opens a project."""
+    tool = os.path.basename(sys.argv[0])
+    return f"open it with: {tool if tool.startswith('dmf-') else 'dmf-plan'} {shlex.quote(path)}"
 
 
 def ended(name: str, desk: Desk) -> None:
@@ -208,6 +221,8 @@ def keep_project(path: str, words: argparse.Namespace, desk: Desk, program: Prog
         file = created(path, project)
     except (ToolFault, TableFault) as fault:
         raise DeskFault(f"no project can be kept: {fault}") from None
+    except FileExistsError as error:
+        raise DeskFault(f"{shown(base.subject.path)} cannot be made: {error.strerror}; open it, or choose another name") from None
     except OSError as error:
         raise DeskFault(f"{shown(base.subject.path)} cannot be made: {error.strerror}") from None
     try:

@@ -169,7 +169,7 @@ def _uninterrupted() -> Iterator[None]:
 def created(path: str, project: Project) -> ProjectFile:
     """A new project, in a file that is not there yet. Raises an OSError."""
     if os.path.lexists(path):
-        raise FileExistsError(errno.EEXIST, "it is there already")
+        raise FileExistsError(errno.EEXIST, "it already exists")
     if os.path.exists(journal_of(path)) and os.path.getsize(journal_of(path)):
         raise FileExistsError(errno.EEXIST, f"the journal of another one is there, {journal_of(path)}")
     try:
