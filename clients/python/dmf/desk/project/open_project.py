@@ -55,7 +55,8 @@ class OpenProject:
     another desk has the project open, so that this one may only look.
 
     Calls raise `ProjectFault` where a name means nothing or several things, where what is asked cannot be done, and where it cannot be kept;
-    nothing has changed then. A project ends with `end`, or with the `with` block that it is made for; until then no other desk can write it.
+    nothing has changed then. Ctrl-C, or whatever else breaks a call off, ends the session; the next call begins another one with the same
+    steps, which takes as long as these. A project ends with `end`, or with the `with` block that it is made for; until then no other desk can write it.
     """
 
     __module__ = "dmf"
@@ -71,8 +72,16 @@ class OpenProject:
         return made
 
     def _take(self, desk: ProjectDesk) -> None:
-        self._desk = desk
+        self._shown = desk
+        self._is_over = False
         self.path = desk.subject.path
+
+    @property
+    def _desk(self) -> ProjectDesk:
+        """Return the desk, on a new session with the same steps if something has broken off the one that it had."""
+        if self._shown.has_ended and not self._is_over:
+            self._shown.begin_again()
+        return self._shown
 
     def __enter__(self) -> OpenProject:
         return self
@@ -81,27 +90,28 @@ class OpenProject:
         self.end()
 
     def __repr__(self) -> str:
-        return f"<Project {self.path!r}: scenario {self.scenario!r}, value {self._desk.value}>"
+        return f"<Project {self.path!r}: scenario {self.scenario!r}, value {self._shown.value}>"
 
     def end(self) -> None:
         """Ends the session, and writes the file. Raises an OSError if that fails; the journal has all of it then."""
-        self._desk.end()
+        self._is_over = True
+        self._shown.end()
 
     # What is so now.
 
     @property
     def news(self) -> list[str]:
-        return list(self._desk.news)
+        return list(self._shown.news)
 
     @property
     def scenarios(self) -> list[str]:
         """The names of the scenarios."""
-        return [it.name for it in self._desk.project.scenarios]
+        return [it.name for it in self._shown.project.scenarios]
 
     @property
     def scenario(self) -> str:
         """The name of the present scenario."""
-        return self._desk.scenario.name
+        return self._shown.scenario.name
 
     @property
     def value(self) -> Quantity:

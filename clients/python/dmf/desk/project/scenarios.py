@@ -16,7 +16,7 @@ from ..workspace import Desk
 from ..expressions import finer
 from ..steps import Change, DeskFault, Follow, Solve, Step
 from ..desk_view import Timeline
-from ...errors import Refused
+from ...errors import Refused, SessionEnded
 from ...session.base import Program
 from ...quantity import decimals, plain_text
 from ...text.cells import shown
@@ -314,12 +314,13 @@ class ProjectDesk(Desk):
             finally:
                 self._visited = ""
                 try:
-                    same = len([*takewhile(lambda pair: pair[0] is pair[1], zip(before.done, self._time.done))])
-                    self._undo(self.at - same)
-                    for step in before.done[same:]:
-                        self._held.make_again(step)
+                    # If the session has ended, it begins again with the steps before.
+                    with contextlib.suppress(SessionEnded):
+                        same = len([*takewhile(lambda pair: pair[0] is pair[1], zip(before.done, self._time.done))])
+                        self._undo(self.at - same)
+                        for step in before.done[same:]:
+                            self._held.make_again(step)
                 finally:
-                    # If the session has ended, it begins again with these.
                     self._time = before
 
     def _made(self) -> list[KeptStep]:
