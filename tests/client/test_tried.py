@@ -142,6 +142,26 @@ def test_a_block_that_undid_has_room_again() -> None:
         assert (network.value, len(network.arcs)) == (0, 5)
 
 
+@pytest.mark.parametrize("how", ["go on", "begin again", "copy"])
+def test_what_is_forgotten_stays_so(how: str) -> None:
+    """Also in a session that began anew, of which the last changes are others."""
+    with pipes(history=2) as network:
+        network.close(("lake", "mill"))
+        network.close(("lake", "town"))
+        network.solve()
+        network.solve()
+        network.undo(2)
+        network.cap(("mill", "town"), 7)
+        if how == "begin again":
+            network._session.kill("the session was ended by a test")
+            network.begin_again()
+        with network.copy() if how == "copy" else contextlib.nullcontext(network) as tried:
+            with pytest.raises(dmf.NothingToUndo, match="^nothing to undo: undo 2$"):
+                tried.undo(2)
+            assert (len(tried.arcs), tried.undo(), tried.capacity(("mill", "town"))) == (3, 0, 5)
+            assert [line for line in tried.problem().splitlines() if line[0] == "a"] == ["a 2 3 5", "a 2 4 2", "a 3 4 3"]
+
+
 def test_the_session_ends_inside() -> None:
     network = pipes()
     with network.try_out():

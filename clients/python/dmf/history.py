@@ -164,10 +164,14 @@ class Changes:
             raise HistoryOutOfRange(why)
 
     def judge_undo(self, count: int) -> None:
-        """Raise `NothingToUndo` if that would undo a change from before the innermost trial."""
+        """Raise `NothingToUndo` if that would undo a forgotten change, or one from before the innermost trial."""
         if self.floors and self.place - count < self.floors[-1]:
             made = self.place - self.floors[-1]
             raise NothingToUndo(f"undo {count}, of {made} changes that are tried out")
+        # A session that began anew may have kept changes that are forgotten here.
+        undone = self._changes[max(0, self.place - count) : self.place]
+        if not all(isinstance(change, Change) for change in undone):
+            raise NothingToUndo(f"undo {count}")
 
     def judge_redo(self, count: int) -> None:
         """Raises `NothingToRedo` if fewer changes can be made again."""
