@@ -131,6 +131,8 @@ class DeskModel:
             # To a desk the arc is the new one from then on.
             if numbers[0] in now.now.replaced:
                 raise Fault("arc is open")
+        if word == "shut" and not any(numbers[0] in arc[:2] for arc, _ in now.now.network.open_arcs()):
+            raise Fault("no arc is open there")
         after = now.now.changed(word, *numbers).changed("solve")
         self._take(states=(*now.states[: now.at + 1], after), acts=(*now.acts[: now.at], (word, *numbers)), at=now.at + 1)
 
@@ -175,6 +177,12 @@ class DeskModel:
 
     def go(self, name: str) -> None:
         self._judge(name not in self.scenarios)
+        self.present = name
+
+    def rename(self, name: str) -> None:
+        if name in self.scenarios:
+            raise Fault("a scenario is called so")
+        self.scenarios = {name if it == self.present else it: scenario for it, scenario in self.scenarios.items()}
         self.present = name
 
     def delete(self, name: str) -> None:
