@@ -88,10 +88,11 @@ def numbers_for(random: Random, model: DeskModel, word: str) -> list[Any]:
     nodes, names = random.sample(range(1, now.network.nodes + 1), 2), sorted(model.scenarios)
     name, fresh = random.choice(names), f"s{random.randrange(6)}"
     amount, count = random.choice([0, 1, 2, 5, 9, 30]), random.choice([1, 1, 1, 2, 3])
-    return {
+    found: dict[str, list[Any]] = {
         "close": [arc], "open": [arc], "cap": [arc, amount], "add": [*nodes, amount], "shut": nodes[:1], "undo": [count], "redo": [count],
         "new": [fresh, random.choice(["base", *names])], "copy": [fresh], "go": [name], "rename": [fresh], "delete": [name],
-    }.get(word, [])  # fmt: skip
+    }  # fmt: skip
+    return found.get(word, [])
 
 
 class Lockstep:

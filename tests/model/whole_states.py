@@ -122,7 +122,7 @@ class DeskModel:
         return self.scenarios[self.present]
 
     def _take(self, **changes: object) -> None:
-        self.scenarios[self.present] = replace(self.scenario, **changes)  # type: ignore[arg-type]
+        self.scenarios[self.present] = replace(self.scenario, **changes)
 
     def step(self, word: str, *numbers: int) -> None:
         now = self.scenario
