@@ -1,0 +1,5 @@
+//! Tests of what arcs are worth: losses by worked values, and on random networks beside closing and solving.
+#![tactic(auto)]
+
+#[cfg(test)]
+mod tests;

@@ -1,0 +1,103 @@
+ghost use Rattle.std.specs.Prelude.{◌≡◌, ◌<◌, OnOk};
+ghost use Rattle.dmf_solver.specs.Greatest.{IsGreatest};
+
+use dmf_solver::{is_greatest, plan_close, plan_solve};
+use dmf_state::State;
+use dmf_vital::{arc_losses, value_without_arc};
+use std::alloc::Global;
+use std::test::Fail;
+
+/// The next number below a bound, by a linear congruential generator.
+fn draw(chance: &mut u64, bound: u64) -> u64
+    requires { 0 < bound }
+    ensures { result < bound }
+{
+    *chance = chance
+        .wrapping_mul(6_364_136_223_846_793_005)
+        .wrapping_add(1_442_695_040_888_963_407);
+    (*chance >> 33) % bound
+}
+
+/// A network of 2 to 7 nodes and up to 15 arcs: some parallel, self loops, without capacity or closed, and some capacities near 2^62.
+fn network(alloc: Global, seed: u64) -> Result<State, Fail> {
+    let mut chance = seed;
+    let nodes = 2 + (seed % 6) as u32;
+    let mut state = State::new(alloc, nodes, 1, nodes);
+    for _ in 0..seed % 16 {
+        let tail = draw(&mut chance, u64::from(nodes)) + 1;
+        let head = draw(&mut chance, u64::from(nodes)) + 1;
+        let cap = draw(&mut chance, 8);
+        let many = if seed % 5 == 0 { cap << 57 } else { cap };
+        state.push_arc(tail, head, many)?;
+    }
+    if seed % 3 == 0 && !state.arcs().is_empty() {
+        let edit = plan_close(alloc, &state, 1)?;
+        state.apply(&edit)?;
+    }
+    Ok(state)
+}
+
+/// Solves the state.
+fn solve(alloc: Global, state: &mut State) -> Result<(), Fail> {
+    let edit = plan_solve(alloc, state)?;
+    state.apply(&edit)?;
+    Ok(())
+}
+
+/// The greatest value after an arc is closed in a copy.
+fn closed_value(alloc: Global, state: &State, j: u64) -> Result<u64, Fail> {
+    let mut copy = state.copy(alloc)?;
+    let edit = plan_close(alloc, &copy, j)?;
+    copy.apply(&edit)?;
+    solve(alloc, &mut copy)?;
+    Ok(copy.value())
+}
+
+/// Whether the losses are what closing and solving tells, for each open arc, and 0 for each closed one.
+fn agree(alloc: Global, state: &State) -> Result<bool, Fail> {
+    if !is_greatest(alloc, state)? {
+        return Err(Fail::from("the solved flow is not greatest"));
+    }
+    let losses = arc_losses(alloc, state)?;
+    for (k, loss) in losses.iter().enumerate() {
+        let left = if state.arcs()[k].closed {
+            state.value()
+        } else {
+            closed_value(alloc, state, k as u64 + 1)?
+        };
+        if left.checked_add(*loss) != Some(state.value()) {
+            return Ok(false);
+        }
+    }
+    Ok(true)
+}
+
+#[test]
+fn losses_are_what_closing_tells(rt: HostRuntime) -> Result<(), Fail> {
+    for seed in 0..1_000 {
+        let mut state = network(rt.alloc(), seed)?;
+        solve(rt.alloc(), &mut state)?;
+        assert!(rt; agree(rt.alloc(), &state)?);
+    }
+    Ok(())
+}
+
+/// The network of four nodes and five arcs that the examples of the documentation use, solved. Worked by hand: 5 flow; without the arcs
+/// in turn 2, 3, 4, 3 and 2 do.
+#[test]
+fn the_example(rt: HostRuntime) -> Result<(), Fail> {
+    let mut state = State::new(rt.alloc(), 4, 1, 4);
+    for (tail, head, cap) in [(1, 2, 3), (1, 3, 2), (2, 3, 5), (2, 4, 2), (3, 4, 3)] {
+        state.push_arc(tail, head, cap)?;
+    }
+    solve(rt.alloc(), &mut state)?;
+    if !is_greatest(rt.alloc(), &state)? {
+        return Err(Fail::from("the solved flow is not greatest"));
+    }
+    let losses = arc_losses(rt.alloc(), &state)?;
+    assert!(rt; losses.as_slice() == [3, 2, 1, 2, 3].as_slice());
+    if state.arcs().len() == 5 {
+        assert!(rt; value_without_arc(rt.alloc(), &state, 3)? == 4);
+    }
+    Ok(())
+}
