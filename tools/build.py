@@ -41,7 +41,7 @@ MEMORY = 3.5
 SECONDS = {
     "dmf_node": 2, "dmf_arguments": 75, "dmf_state": 85, "dmf_history": 40, "dmf_links": 55, "dmf_path": 190, "dmf_text": 160,
     "dmf_streams": 26, "dmf_solver": 170, "dmf_solving": 36, "dmf_session": 104, "dmf_explain": 130, "dmf_terminal": 55,
-    "dmf_progress": 35, "dmf_runs": 102, "dmf_host": 51, "dmf": 95,
+    "dmf_progress": 35, "dmf_runs": 102, "dmf_host": 51, "dmf_program": 30, "dmf": 95,
 }  # fmt: skip
 UNKNOWN_SECONDS = 60
 # A crate that delays nothing though it takes this many times its seconds more is built by one job, which takes a quarter less processor time

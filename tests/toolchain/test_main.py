@@ -23,8 +23,8 @@ from nested import run_pytest
 PASSED, FAILED, SECONDS = 0, 1, 600
 # The length of the first name of the program, in bytes: by that it has no fault.
 SHORTEST = 200
-# A function: what stands before its name, its name, its parameters, and what stands before its body.
-FUNCTION = re.compile(r"^((?:(?:///|#\[)[^\n]*\n)*(?:pub )?)fn (\w+)\((.*?)\)( ->.*?)\{\n.*?^\}\n", re.MULTILINE | re.DOTALL)
+# A function: what stands before its name, its name, its lifetimes, its parameters, and what stands before its body.
+FUNCTION = re.compile(r"^((?:(?:///|#\[)[^\n]*\n)*(?:pub )?)fn (\w+)((?:<[^>]*>)?)\((.*?)\)( ->.*?)\{\n.*?^\}\n", re.MULTILINE | re.DOTALL)
 NAME_LENGTH = """
 fn name_length(rt: &HostRuntime) -> usize {
     match words(rt) {
@@ -40,17 +40,17 @@ fn name_length(rt: &HostRuntime) -> usize {
 
 def with_copies(file: str, whole: re.Match[str]) -> str:
     """A function that calls a copy of itself for each of its mutants, or one without a fault. One without mutants stays."""
-    front, name, parameters, result = whole.groups()
+    front, name, lifetimes, parameters, result = whole.groups()
     names = re.findall(r"(\w+): ", parameters)
     call = f"({', '.join(names)})"
     mine = [(place, it) for place, it in enumerate(WIRINGS, 1) if it.file == file and it.old in whole[0]]
     texts = [(0, whole[0]), *((place, whole[0].replace(it.old, it.new)) for place, it in mine)]
     if not mine:
         return whole[0]
-    copies = "".join(text.replace(f"fn {name}(", f"fn {name}_{place}(") for place, text in texts)
+    copies = "".join(text.replace(f"fn {name}{lifetimes}(", f"fn {name}_{place}{lifetimes}(") for place, text in texts)
     choices = "".join(f"        {SHORTEST + place} => {name}_{place}{call},\n" for place, _ in texts[1:])
     handle = "rt" if "rt: &" in parameters else "&rt"
-    return f"{front}fn {name}({parameters}){result}{{\n    match name_length({handle}) {{\n{choices}        _ => {name}_0{call},\n    }}\n}}\n\n{copies}"
+    return f"{front}fn {name}{lifetimes}({parameters}){result}{{\n    match name_length({handle}) {{\n{choices}        _ => {name}_0{call},\n    }}\n}}\n\n{copies}"
 
 
 def mutated(file: str, whole: str) -> str:

@@ -1,4 +1,7 @@
 //! The files of a run: the problem, and standard output.
+ghost use Rattle.std.specs.Prelude.{◌≡◌, IfErr};
+ghost use Rattle.dmf_host.specs.Ending.{no_memory};
+
 use crate::fault::Fault;
 use dmf_streams::{EngineFault, MAX_BYTES};
 use dmf_text::StdSink;
@@ -9,8 +12,10 @@ use std::rt::Stdout;
 /// How many bytes the buffer before standard output holds.
 const OUTPUT_BUFFER: usize = 65536;
 
-/// Standard output with a buffer.
-pub fn output(rt: &HostRuntime) -> Result<StdSink<BufWriter<Stdout>>, Fault> {
+/// Standard output with a buffer. Fails only if memory is refused.
+pub fn output(rt: &HostRuntime) -> Result<StdSink<BufWriter<Stdout>>, Fault>
+    ensures { IfErr result (λ fault. fault ≡ no_memory) }
+{
     match BufWriter::with_capacity(rt.alloc(), OUTPUT_BUFFER, rt.stdout()) {
         Ok(writer) => Ok(StdSink::new(writer)),
         Err(_) => Err(Fault::NO_MEMORY),

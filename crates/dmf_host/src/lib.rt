@@ -1,16 +1,14 @@
-//! What the program does with its host, but for sessions: words, files, help, faults, and the runs that solve and check.
+//! What the program does with its host beside its runs: words, files, help, faults, and its exit status.
 #![tactic(auto)]
 
 pub use arguments::words;
 pub use explained::explain;
 pub use fault::Fault;
 pub use files::{open_problem, output};
-pub use runs::{SolveAnswer, check, solve};
-pub use told::{print, program_status, tell};
+pub use told::{exit_status, print, tell};
 
 mod arguments;
 mod explained;
 mod fault;
 mod files;
-mod runs;
 mod told;

@@ -5,4 +5,4 @@ mod limit;
 mod progress;
 mod word;
 
-pub use progress::{Progress, WatchedCommands, WatchedSink, WatchedSolve, WatchedSource};
+pub use progress::{Progress, WatchedSink, WatchedSolve, WatchedSource};

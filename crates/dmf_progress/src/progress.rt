@@ -131,12 +131,15 @@ fn after(rt: &HostRuntime, wait: u64) -> Option<Instant> {
         .checked_add(Duration::from_millis(wait))
 }
 
-/// A source that reports how much of a text is read, unless somebody types it.
+/// A source that reports how much of a text is read, unless somebody types it. A source of commands erases the line before it reads more
+/// of them instead.
 #[derive(Drop)]
 pub struct WatchedSource<'a, S> {
     source: S,
     progress: &'a Progress<'a>,
     is_told: bool,
+    /// Whether a read ends the task, since the program then waits for a command.
+    ends_task: bool,
     bytes: u64,
     /// The size of the text in bytes, if it is known.
     size: Option<u64>,
@@ -149,6 +152,7 @@ impl<'a, S: Source> WatchedSource<'a, S> {
             source,
             progress,
             is_told: true,
+            ends_task: false,
             bytes: 0,
             size: progress.size_of(path),
         }
@@ -160,8 +164,21 @@ impl<'a, S: Source> WatchedSource<'a, S> {
             source,
             progress,
             is_told: !progress.rt.stdin().is_terminal(),
+            ends_task: false,
             bytes: 0,
             size: progress.size_of(INPUT),
+        }
+    }
+
+    /// The source of commands.
+    pub fn of_commands(source: S, progress: &'a Progress<'a>) -> Self {
+        WatchedSource {
+            source,
+            progress,
+            is_told: false,
+            ends_task: true,
+            bytes: 0,
+            size: None,
         }
     }
 }
@@ -170,6 +187,9 @@ impl<S: Source> Source for WatchedSource<'_, S> {
     ghost left = { λ s. S.left s.source };
 
     fn read(&mut self, buffer: &mut [u8]) -> Result<usize, Failed> {
+        if self.ends_task {
+            self.progress.end();
+        }
         if !self.is_told {
             return self.source.read(buffer);
         }
@@ -183,29 +203,6 @@ impl<S: Source> Source for WatchedSource<'_, S> {
             });
         }
         Ok(given)
-    }
-}
-
-/// A source of commands that erases the line before it reads more of them.
-#[derive(Drop)]
-pub struct WatchedCommands<'a, S> {
-    source: S,
-    progress: &'a Progress<'a>,
-}
-
-impl<'a, S: Source> WatchedCommands<'a, S> {
-    /// A source of the bytes that this one has left.
-    pub fn new(source: S, progress: &'a Progress<'a>) -> Self {
-        WatchedCommands { source, progress }
-    }
-}
-
-impl<S: Source> Source for WatchedCommands<'_, S> {
-    ghost left = { λ s. S.left s.source };
-
-    fn read(&mut self, buffer: &mut [u8]) -> Result<usize, Failed> {
-        self.progress.end();
-        self.source.read(buffer)
     }
 }
 

@@ -1,0 +1,102 @@
+-- What the program does: which run its arguments ask for, on what, and how it ends.
+-- Public: a public contract says no more than this.
+use Rattle.std.specs.Prelude.{ℕ, ◌≡◌, ◌⊎◌, List, Bool, true, false, Result, Ok, Err, ⊤}
+use Rattle.dmf_arguments.specs.Words.{Task, solving, holding, checking, task_of, ReadsWords}
+use Rattle.dmf_arguments.specs.declared.words.Arguments.{Arguments}
+use Rattle.dmf_arguments.specs.declared.words.WordsFault.{WordsFault}
+use Rattle.dmf_arguments.specs.declared.words.WordsFault.TheVariants as words
+use Rattle.dmf_text.specs.Streams.{Reader, Writer}
+use Rattle.dmf_streams.specs.declared.fault.Status.{Status}
+use Rattle.dmf_streams.specs.declared.fault.EngineFault.{EngineFault}
+use Rattle.dmf_solving.specs.SolveRun.{RunsSolve, RunsBrief, RunsAny}
+use Rattle.dmf_solving.specs.CheckRun.{RunsCheck}
+use Rattle.dmf_runs.specs.Streams.{Streams}
+use Rattle.dmf_runs.specs.Session.{RunsSessionWith}
+use Rattle.dmf_host.specs.declared.fault.Fault.{Fault}
+use Rattle.dmf_host.specs.declared.fault.Fault.TheVariants.{Usage, Run}
+use Rattle.dmf_host.specs.Ending.{IsPrinted, no_memory}
+
+-- ---- files
+
+-- What opening the file at a path may give: its reader, or why it cannot be read.
+abbrev pub Opening : Type 1
+Opening = List ℕ → Result Reader Fault → Type 0
+
+-- ---- the run that a task asks for
+
+-- how the program ends whose run ended so
+abbrev pub ended : Result Status EngineFault → Result Status Fault
+ended (Ok status) = Ok status
+ended (Err fault) = Err (Run fault)
+
+-- The program ends as a run that is so.
+pub record EndsAs (Runs : Result Status EngineFault → Type 0) (result : Result Status Fault) : Type 0 where
+  pub outcome : Result Status EngineFault
+  pub runs : Runs outcome
+  pub result_is : result ≡ ended outcome
+
+-- A solve, with the cut if it is wanted: briefly for the value, else by any greatest flow if that will do, else for the solution.
+abbrev pub RunsSolving : Bool → Bool → Bool → Reader → Reader → Writer → Writer → Result Status EngineFault → Type 0
+RunsSolving cut true any = RunsBrief cut
+RunsSolving cut false true = RunsAny cut
+RunsSolving cut false false = RunsSolve cut
+
+-- The file at the path was opened, and the program ends as a run on its reader that is so.
+pub record RunsOnFile (Opens : Opening) (path : List ℕ) (Runs : Reader → Reader → Result Status EngineFault → Type 0)
+    (result : Result Status Fault) : Type 0 where
+  pub from : Reader
+  pub to : Reader
+  pub opened : Opens path (Ok from)
+  pub runs : EndsAs (Runs from to) result
+
+-- The file at the path could not be opened: the program ends with the reason, and has read and written nothing.
+pub record FindsNoFile (Opens : Opening) (path : List ℕ) (old new : Streams) (result : Result Status Fault) : Type 0 where
+  pub fault : Fault
+  pub refused : Opens path (Err fault)
+  pub result_is : result ≡ Err fault
+  pub untouched : new ≡ old
+
+-- A run on the file at the path, if it can be opened.
+abbrev pub RunsOn : Opening → List ℕ → Streams → Streams → (Reader → Reader → Result Status EngineFault → Type 0) → Result Status Fault → Type 0
+RunsOn Opens path old new Runs result = RunsOnFile Opens path Runs result ⊎ FindsNoFile Opens path old new result
+
+-- The run of a task, over standard input and standard output. A solve reads its problem from standard input. A session and a check read
+-- it from the file at their path, and the commands or the solution from standard input. Progress is no part of this: it goes to standard
+-- error, of which no definition speaks.
+abbrev pub RunsTask : Opening → Task → Streams → Streams → Result Status Fault → Type 0
+RunsTask Opens (solving cut brief any progress) old new result =
+    EndsAs (RunsSolving cut brief any old.reader new.reader old.writer new.writer) result
+RunsTask Opens (holding cut brief progress bound path) old new result =
+    RunsOn Opens path old new (λ from to. RunsSessionWith (record { cut = cut; brief = brief }) bound from to old new) result
+RunsTask Opens (checking path) old new result =
+    RunsOn Opens path old new (λ from to. RunsCheck from to old.reader new.reader old.writer new.writer) result
+
+-- ---- the program
+
+-- Nothing is known of the files of a host.
+abbrev pub AnyFile : Opening
+AnyFile path found = ⊤
+
+-- There were streams on which the task was run, and the program ends with the result of that run.
+pub record HasRun (task : Task) (result : Result Status Fault) : Type 0 where
+  pub old : Streams
+  pub new : Streams
+  pub runs : RunsTask AnyFile task old new result
+
+-- The task is run, unless memory is refused before.
+abbrev pub MayRun : Task → Result Status Fault → Type 0
+MayRun task result = HasRun task result ⊎ (result ≡ Err no_memory)
+
+-- What follows on these arguments: their task is run, unless memory is refused before. What follows where there are none: the text that
+-- was asked for is written, or the program ends with the fault of the words.
+abbrev pub Follows : Result Arguments WordsFault → Result Status Fault → Type 0
+Follows (Ok asked) result = MayRun (task_of asked) result
+Follows (Err (words.Help text)) result = IsPrinted result
+Follows (Err (words.Usage text)) result = result ≡ Err (Usage text)
+Follows (Err words.NoMemory) result = result ≡ Err no_memory
+
+-- What the program makes of its words, of which the first is its name: it reads them, and does what follows.
+pub record RunsWords (words : List (List ℕ)) (result : Result Status Fault) : Type 0 where
+  pub read : Result Arguments WordsFault
+  pub reads : ReadsWords words read
+  pub follows : Follows read result
