@@ -4,8 +4,8 @@
     python3 tools/claims.py            prints it
     python3 tools/claims.py --write    writes it to docs/CLAIMS.txt
 
-The calls are those of the fronts `dmf_net`, `dmf_text`, `dmf_session` and `dmf_run`, and those of C in `dmf_c`. Of a call stand here its
-signature and its clauses, of a type its members and what contracts see of it, of a definition its text: without comments and bodies. So
+The calls are those of the fronts `dmf_net`, `dmf_text`, `dmf_session` and `dmf_run`, those of `dmf_program`, by which `main` runs what its words
+ask for, the functions of `main`'s crate with contracts, and the calls of C in `dmf_c`. Of a call stand here its signature and its clauses, of a type its members and what contracts see of it, of a definition its text: without comments and bodies. So
 whatever makes a claim weaker or stronger changes a line of that file, and what only changes code or a proof changes none. The definitions of
 std and of the toolchain's other libraries are not followed.
 """
@@ -23,8 +23,8 @@ from typing import NamedTuple
 from list_definitions import CRATES, Definition, module_of, named_in
 from list_edits import exports, home_of, type_of
 
-FRONTS = "dmf_net", "dmf_text", "dmf_session", "dmf_run"
-OF_C = "dmf_c"
+FRONTS = "dmf_net", "dmf_text", "dmf_session", "dmf_run", "dmf_program"
+OF_C, OF_MAIN = "dmf_c", "dmf"
 PLACE = CRATES.parent / "docs" / "CLAIMS.txt"
 
 COMMENT = re.compile(r"^ *(?://.*|#!?\[[^\n]*\])\n|(?<=[;,{}]) *// [^\n]*$", re.MULTILINE)
@@ -107,10 +107,15 @@ def calls_of_c() -> list[Item]:
     return [item for file in code_of(OF_C) for item in items_of(file) if 'extern "C"' in item.text]
 
 
+def calls_of_main() -> list[Item]:
+    """The functions of the program's crate that promise something."""
+    return [item for file in code_of(OF_MAIN) for item in items_of(file) if re.search(r"^ +ensures\b", item.text, re.MULTILINE)]
+
+
 def claimed() -> dict[str, list[Item]]:
     """What each front exports."""
     found = {front: [it for _, name in exports(front) for it in named(home_of(front, name), name)] for front in FRONTS}
-    return {**found, OF_C: calls_of_c()}
+    return {**found, OF_MAIN: calls_of_main(), OF_C: calls_of_c()}
 
 
 @lru_cache(maxsize=None)

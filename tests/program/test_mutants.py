@@ -24,7 +24,7 @@ def test_place(mutant: Mutant) -> None:
 
 
 def test_count() -> None:
-    assert f"Each of {len(WIRINGS)} faulty copies" in (ROOT / "docs" / "TRUST.md").read_text()
+    assert f"each of {len(WIRINGS)} faulty copies" in (ROOT / "docs" / "TRUST.md").read_text()
 
 
 @pytest.mark.long
