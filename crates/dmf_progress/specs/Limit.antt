@@ -1,6 +1,6 @@
 -- An upper bound of the value of a flow.
 -- Private: only contracts inside the crate and proofs use this.
-use Rattle.std.specs.Prelude.{ℕ, ◌==◌, not, ℤ, pos, ◌≤ℤ◌, List}
+use Rattle.std.specs.Prelude.{ℕ, ◌==◌, not, pos, ◌≤ℤ◌, List}
 use Rattle.dmf_state.specs.declared.arc.Arc.{Arc}
 use Rattle.dmf_state.specs.Network.{Network}
 use Rattle.dmf_state.specs.Flow.{IsFlow, flow_value}
