@@ -3,7 +3,7 @@
 
     python3 tools/list_definitions.py [NAME]
 
-NAME is by default `RunsSessionWith`, which says what a session writes. A line has a file, how many of its definitions are among these, and
+NAME is by default `RunsWords`, which says what the program makes of its words. A line has a file, how many of its definitions are among these, and
 how many lines they have with their comments. The last line adds up. Types that stand beside the code and the definitions of std are not
 followed.
 """
@@ -100,7 +100,7 @@ def start_of(name: str) -> Definition:
 
 def main() -> None:
     parser = argparse.ArgumentParser(description=(__doc__ or "").splitlines()[0])
-    parser.add_argument("name", nargs="?", metavar="NAME", default="RunsSessionWith", help="a definition")
+    parser.add_argument("name", nargs="?", metavar="NAME", default="RunsWords", help="a definition")
     found = below(start_of(parser.parse_args().name))
     files = sorted({definition.file for definition in found})
     for file in files:
