@@ -4,14 +4,8 @@
     python3 tools/list_edits.py [CALL..]
 
 The calls are the functions, the methods of types and the methods of traits that `dmf_net`, `dmf_text`, `dmf_session` and `dmf_run` export, and
-the functions of C's in `dmf_c`; the clauses are what they ensure. An edit names the clauses that it breaks, itself or in a call below, in lines of the form
-"""Prints for each call of the four libraries that callers use, and of the one by which `main` runs what its words ask for, which must-fail edit
-breaks each clause of its contract.
-
-    python3 tools/list_edits.py [CALL..]
-
-The calls are the functions, the methods of types and the methods of traits that `dmf_net`, `dmf_text`, `dmf_session`, `dmf_run` and
-`dmf_program` export, and the clauses are what they ensure. An edit names the clauses that it breaks, itself or in a call below, in lines of the form
+`dmf_program`, by which `main` runs what its words ask for, and the functions of C's in `dmf_c`; the clauses are what they ensure. An edit names
+the clauses that it breaks, itself or in a call below, in lines of the form
 
     covers: CALL (CLAUSE, ..), CALL, ..
 
@@ -29,9 +23,8 @@ from pathlib import Path
 from typing import NamedTuple
 
 CRATES = Path(__file__).resolve().parents[1] / "crates"
-FRONTS = "dmf_net", "dmf_text", "dmf_session", "dmf_run"
-C_FRONT = "dmf_c"
 FRONTS = "dmf_net", "dmf_text", "dmf_session", "dmf_run", "dmf_program"
+C_FRONT = "dmf_c"
 KEPT, MORE = "must-fail", "more-must-fail"
 
 USE = re.compile(r"^pub use ([\w:]+)::(?:\{([^}]*)\}|(\w+));", re.MULTILINE)

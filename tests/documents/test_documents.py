@@ -25,7 +25,7 @@ LINK = re.compile(r"\]\((?![a-z]+:)([^)#]*)#?([^)]*)\)")
 WORD = re.compile(r"[^\s(){}\[\],;.`\"]+")
 # The most words of a page. Pages that only grow, by a line for each release or decision, have no bound.
 MOST_WORDS = 1_800
-MORE_WORDS = {"docs/DEFINITIONS.md": 4_000, "docs/FORMATS.md": 3_300, "docs/SEARCH.md": 2_600}
+MORE_WORDS = {"docs/DEFINITIONS.md": 4_000, "docs/FORMATS.md": 3_300, "docs/PROVED.md": 1_900, "docs/SEARCH.md": 2_600}
 GROWING = {"CHANGELOG.md", "docs/DECISIONS.md"}
 
 

@@ -76,14 +76,12 @@ def test_functions() -> None:
 
 
 def test_crates() -> None:
-    """PROVED speaks of each library that has no terminal or file in its name and whose functions have contracts: all below `dmf_runs`, and C's."""
-    """PROVED speaks of each library whose functions have contracts for callers: all below `dmf_runs`, and the one by which `main` calls the runs."""
+    """PROVED speaks of each library whose functions have contracts for callers: all below `dmf_runs`, the one by which `main` calls them, and C's."""
     uses = dict(line.split(":") for line in (ROOT / "crates.txt").read_text().splitlines() if line and line[0] != "#")
     below = {"dmf_runs", "dmf_arguments", *uses["dmf_runs"].split()}
     while more := {it for crate in below for it in uses.get(crate, "").split() if it in uses} - below:
         below |= more
-    assert below - {"dmf_node"} | {"dmf_c"} == sections().keys()
-    assert below - {"dmf_node"} | {"dmf_program"} == sections().keys()
+    assert below - {"dmf_node"} | {"dmf_program", "dmf_c"} == sections().keys()
 
 
 @pytest.mark.parametrize("wrong", [Function("dmf_path", "Paths", "no_such_call"), Function("dmf_state", "", "no_such_call")])
