@@ -17,6 +17,7 @@ SECONDS = 60
 AT_CODE = "refused, as it must be: note: src/links.rt:248:1: it is not proved that what the function ensures holds when it returns (`returns`); the facts known"
 AT_ANSWER = "refused, as it must be: ./proofs/stack/take_off/Answers.antt:15:49: error: `set_ends-requires-clause-links`: as printed, the two types differ"
 CUT_OFF = "refused, as it must be: note: src/search/labels.rt:7:1: it is not proved that what the function ensures holds when it returns (`returns-then-a-b-cl"
+LONG = "refused, as it must be: ./proofs/closed_side/ClosedSide/drop_shut_gates/Answers.antt:9:10: error: `returns-in_err-look_back-in-Some-then-len-clause-par"
 LIMIT = "refused, as it must be (only by a limit of the prover, which gave no verdict, so this says less of the contract: choose another): antt ran out of stack"
 LOST = "refused, as it must be (only because a proof file names what the edit took away, so this says little of the contract): ./proofs/A.antt:1:1: error"
 LEMMA = "refused, as it must be: ./proofs/Stacks.antt:3:1: error: `all-are-put`: as printed, the two types differ"
@@ -56,6 +57,7 @@ def proved(root: Path, environment: dict[str, str]) -> tuple[int, list[str]]:
         (AT_CODE, "goal returns of src/links.rt:248"),
         (AT_ANSWER, "the answer set_ends-requires-clause-links in proofs/stack/take_off/Answers.antt:15"),
         (CUT_OFF, "goal returns-then-a-b-cl of src/search/labels.rt:7"),
+        (LONG, "the answer returns-in_err-look_back-in-Some-then-len-clause-par in proofs/closed_side/ClosedSide/drop_shut_gates/Answers.antt:9"),
     ],
 )
 def test_a_refusal_at_a_goal_passes(tmp_path: Path, said: str, goal: str) -> None:

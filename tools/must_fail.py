@@ -16,10 +16,10 @@ KEPT, MORE = "must-fail", "more-must-fail"
 # What `rt` says of one edit: the crate with the edit's file, and the rest of the line.
 SAID = re.compile(r"^rt: must-fail (\S+/\S+\.edit): (.*)$")
 REFUSED = "refused, as it must be"
-# The first complaint of the prover: at a place of the code, that something is not proved, with the goal's name in brackets, cut off
-# where the line is long; or in the file that answers a function's goals, with the name of the goal.
+# The first complaint of the prover, cut off where it is long: at a place of the code, that something is not proved, with the goal's name
+# in brackets; or in the file that answers a function's goals, with the name of the goal. `rt` passes over complaints of lost names.
 AT_CODE = re.compile(r"(?:note: )?(?:\./)?(src/\S+?):(\d+):\d+: it is not proved that .*?(?:\(`([^`)]+)|$)")
-AT_ANSWER = re.compile(r"(?:note: )?(?:\./)?(proofs/\S+/(?:Answers|Proof|Invariants)\.antt):(\d+):\d+: error: `([^`]+)`: (.*)")
+AT_ANSWER = re.compile(r"(?:note: )?(?:\./)?(proofs/\S+/(?:Answers|Proof|Invariants)\.antt):(\d+):\d+: error: `([^`]+)(?:`: (.*)|$)")
 LOST_NAME = re.compile(r"is not in scope|has no field|has no `|was not admitted|is no name|operand is missing|expected the end|cannot continue")
 GAVE_UP = re.compile(r"`search` gave|gave up at one of its limits")
 # Why an edit that is not refused at a goal is not, by how the line begins.
@@ -49,7 +49,7 @@ def goal_of(complaint: str) -> str:
         name = f"goal {at[3]}" if at[3] else "an unnamed goal"
         return f"{name} of {at[1]}:{at[2]}{' (search gave up)' if GAVE_UP.search(complaint) else ''}"
     at = AT_ANSWER.match(complaint)
-    return f"the answer {at[3]} in {at[1]}:{at[2]}" if at and not LOST_NAME.search(at[4]) else ""
+    return f"the answer {at[3]} in {at[1]}:{at[2]}" if at and not LOST_NAME.search(at[4] or "") else ""
 
 
 def judge(line: str) -> Verdict | None:
