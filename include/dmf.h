@@ -33,7 +33,8 @@
 extern "C" {
 #endif
 
-#define DMF_VERSION "0.1.0"
+#define DMF_VERSION "0.2.0"
+#define DMF_ABI 0            /* the number of this interface */
 #define DMF_MAX_PAST 1000000 /* the largest bound of a history */
 
 /* What a call answers. The numbers never change. */
@@ -83,6 +84,10 @@ typedef struct dmf_session dmf_session;
 /* The version of the library, which may be newer than DMF_VERSION: 10,000 times the first number, 100 times the second, and
  * the third. */
 uint32_t dmf_version(void);
+
+/* The number of the library's interface, which is also in the name of its file, libdmf.so.0. A program that was compiled with another
+ * DMF_ABI must not call the library. */
+uint32_t dmf_abi(void);
 
 /* ---- To open and to free ------------------------------------------------------------------------------------------- */
 

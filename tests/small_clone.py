@@ -56,6 +56,7 @@ class Clone:
             folder.mkdir()
         for script in SCRIPTS:
             shutil.copy(ROOT / script, self.root / script)
+        (self.root / "VERSION").write_text("0.9.7\n")
         (self.root / "crates.txt").write_text("# Crates.\nlow:\ndmf: low # and no other\ndmf_c staticlib: low\ntest_low: low\n")
         (self.root / "tools/library").write_text(MAKES_LIBRARY)
         (self.root / "tools/library").chmod(0o755)

@@ -56,6 +56,7 @@ REASONS = {
     "refusal_text (short)": OF_ITS_ANSWER,
     "Session::step (optimal)": OF_ITS_ANSWER,
     "Session::step_watched (optimal)": OF_ITS_ANSWER,
+    "dmf_abi": "a number that the contract and the body have alike; a test compares it with the header",
     "dmf_version": "a number that the contract and the body have alike; a test compares it with the other versions",
     "Session::new": "a body has no other history to give than the one that it gets",
     **{f"dmf_session_{call} (unchanged)": READ_ONLY for call in (*C_NUMBERS, "flows", "capacities")},

@@ -43,6 +43,34 @@ def test_which_is_taken(monkeypatch: pytest.MonkeyPatch) -> None:
     assert found is not None and Path(found).read_bytes() == Path(library_file()).read_bytes()
 
 
+class OtherLibrary:
+    """A library that answers two numbers."""
+
+    def __init__(self, version: int, interface: int) -> None:
+        self.dmf_version = lambda: version
+        self.dmf_abi = lambda: interface
+
+
+@pytest.mark.parametrize(
+    "version, interface, told",
+    [
+        (100, 0, "is dmf 0.1.0; this package is dmf 0.2.4, and needs 0.2.x"),
+        (300, 0, "is dmf 0.3.0; this package is dmf 0.2.4, and needs 0.2.x"),
+        (10_204, 0, "is dmf 1.2.4; this package is dmf 0.2.4, and needs 0.2.x"),
+        (201, 1, "has the interface 1, and this package needs 0"),
+    ],
+)
+def test_other_libraries(monkeypatch: pytest.MonkeyPatch, version: int, interface: int, told: str) -> None:
+    monkeypatch.setattr(dmf, "__version__", "0.2.4")
+    monkeypatch.setattr(loaded.ctypes, "CDLL", lambda path: OtherLibrary(version, interface))
+    monkeypatch.setenv("DMF_LIBRARY", "/there/libdmf.so.0")
+    loaded.load.cache_clear()
+    with pytest.raises(dmf.NoProgram) as caught:
+        pipes()
+    assert str(caught.value) == f"/there/libdmf.so.0 {told}"
+    loaded.load.cache_clear()
+
+
 def test_one_that_cannot_be_used(monkeypatch: pytest.MonkeyPatch, tmp_path: Path) -> None:
     """One that is named, and cannot be loaded, is told; so is one of another version, here the library with another number."""
     missing, text = tmp_path / "missing.so", tmp_path / "text.so"

@@ -1,7 +1,6 @@
 """Compares what stands twice in the repository, and looks for definitions and lemmas that nothing uses:
 
 - each file of definitions and of lemmas begins with a comment, and one of definitions says whether it is public or private;
-- the program's version is the one of the Python package, of the manual pages and of CHANGELOG.md's newest release;
 - each link between pages leads to a file, and to a heading of it where it names one;
 - each name of code and of a file that a page has in backquotes stands in the repository;
 - no page has more words than its bound, and each names its reader in its first lines;
@@ -44,28 +43,8 @@ def headless_files() -> Iterator[str]:
             yield f"{file} does not say whether it is public or private"
 
 
-def wrong_versions() -> Iterator[str]:
-    """Where another version stands than the program's."""
-    (version,) = re.findall(r'VERSION: &str = "(.*)"', Path("crates/dmf_arguments/src/help.rt").read_text())
-    told = {
-        "clients/python/dmf/__init__.py": r'^__version__ = "(.*)"',
-        "CHANGELOG.md": r"^## (\d\S*)",
-        **{str(page): r'^\.TH \S+ 1 "" "dmf (.*?)"' for page in sorted(Path("docs").glob("*.1"))},
-        "docs/dmf.3": r'^\.TH DMF 3 "" "dmf (.*?)"',
-        "include/dmf.h": r'^#define DMF_VERSION "(.*)"',
-    }
-    for page, form in told.items():
-        found = re.search(form, Path(page).read_text(), re.MULTILINE)
-        if not found or found[1] != version:
-            yield f"{page} has not the version {version}"
-
-
 def test_heads() -> None:
     assert not [*headless_files()]
-
-
-def test_versions() -> None:
-    assert not [*wrong_versions()]
 
 
 def headings(page: Path) -> Iterator[str]:

@@ -233,10 +233,10 @@ def test_compared(clone: Clone) -> None:
 
 
 def test_of_what_it_was_made(clone: Clone) -> None:
-    """The facts: five lines, the first of which is that of `rt version`, and the same each time."""
+    """The facts: six lines, the first two of which are those of VERSION and of `rt version`, and the same each time."""
     facts = (clone.root / FACTS).read_text()
     names = ["executable", "sources", "library", "library sources"]
-    assert re.fullmatch("toolchain: a kit of the test\n" + "".join(f"{name}: [0-9a-f]{{64}}\n" for name in names), facts)
+    assert re.fullmatch("version: 0.9.7\ntoolchain: a kit of the test\n" + "".join(f"{name}: [0-9a-f]{{64}}\n" for name in names), facts)
     files = [clone.root / name for name in (FACTS, PACKED, PACKED_LIBRARY)]
     before = [file.read_bytes() for file in files]
     clone.renew()

@@ -27,7 +27,7 @@ from __future__ import annotations
 import sys
 
 # The version of the program that this package comes with.
-__version__ = "0.1.0"
+__version__ = "0.2.0"
 
 # A type checker reads these imports. Python loads a module when one of its names is first asked for, as the table below says.
 TYPE_CHECKING = False

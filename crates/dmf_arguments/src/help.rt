@@ -1,7 +1,7 @@
 //! The texts that the help adds to what clap makes of the program's arguments.
 
 /// The version, which `dmf --version` writes after the program's name.
-pub const VERSION: &str = "0.1.0";
+pub const VERSION: &str = "0.2.0";
 
 /// The option `--any`.
 pub const ANY: &str = "Write any flow of the greatest value, found sooner";

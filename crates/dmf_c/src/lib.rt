@@ -13,4 +13,5 @@ mod plan;
 mod reading;
 mod slot;
 mod texts;
+mod version;
 mod writing;

@@ -68,11 +68,3 @@ pub extern "C" fn dmf_session_sink(session: &mut Handle) -> u32
 {
     session.plan().present().sink()
 }
-
-/// The version, as a number.
-#[unsafe(no_mangle)]
-pub extern "C" fn dmf_version() -> u32
-    ensures { result ≡ 100 }
-{
-    100
-}

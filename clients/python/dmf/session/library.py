@@ -18,7 +18,7 @@ from ..errors import NoProgram, Refused
 from ..text.lexical import display
 from ..numbering import AMOUNTS
 from .base import Command, Problem, Session, judged, line_of, refused, refused_line
-from .versions import fits, other_version
+from .versions import ABI, fits, other_version
 
 # The largest network of which all calls run in the thread of their caller, in arcs. There Ctrl-C waits for the call to end, which takes
 # milliseconds. The calls of a larger one run in a thread beside, which Ctrl-C leaves alone, but for steps over so many states at most,
@@ -123,6 +123,7 @@ def load(path: str) -> Library:
     try:
         loaded = ctypes.CDLL(path)
         refuse_other(path, loaded.dmf_version())
+        refuse_interface(path, loaded.dmf_abi())
         return Library(path, loaded)
     except (OSError, AttributeError) as error:
         raise NoProgram(f"{display(path)} cannot be loaded: {display(str(error))}") from error
@@ -134,6 +135,12 @@ def refuse_other(path: str, number: int) -> None:
     version = f"{major}.{rest // 100}.{rest % 100}"
     if not fits(version):
         raise other_version(display(path), version)
+
+
+def refuse_interface(path: str, number: int) -> None:
+    """Raise `NoProgram` for a library whose calls are of another form than this package makes them."""
+    if number != ABI:
+        raise NoProgram(f"{display(path)} has the interface {number}, and this package needs {ABI}")
 
 
 class _Held:
