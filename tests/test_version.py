@@ -59,7 +59,7 @@ def test_it_is_written_everywhere(tmp_path: Path) -> None:
     assert set_version(tmp_path, "--check") == (1, [f"{file} shows {VERSION} and not 7.68.9" for file in by_hand])
     assert "\n    dmf 7.68.9\n" in (tmp_path / "docs/TUTORIAL.md").read_text()
     assert "{ result ≡ 76809 }" in (tmp_path / "crates/dmf_c/src/version.rt").read_text()
-    left = [path for path in tmp_path.rglob("*") if path.is_file() and path.suffix != ".gz" and f'"{VERSION}"' in path.read_text()]
+    left = [path for path in tmp_path.rglob("*") if path.is_file() and path.suffix not in (".gz", ".png") and f'"{VERSION}"' in path.read_text()]
     assert left == []
 
 

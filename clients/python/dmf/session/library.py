@@ -9,7 +9,7 @@ import functools
 import os
 import weakref
 from array import array
-from collections.abc import Callable, Sequence
+from collections.abc import Callable, Iterator, Sequence
 from itertools import compress, count
 from typing import Any, Generic, TypeVar
 
@@ -120,11 +120,22 @@ class Library:
 @functools.cache
 def load(path: str) -> Library:
     """The library at this path. Raises `NoProgram` if it cannot be loaded, or is of another version than this package needs."""
-    try:
+    with _loading(path):
         loaded = ctypes.CDLL(path)
-        refuse_other(path, loaded.dmf_version())
-        refuse_interface(path, loaded.dmf_abi())
+        version = loaded.dmf_version()
+    refuse_other(path, version)
+    with _loading(path):
+        interface = loaded.dmf_abi()
+    refuse_interface(path, interface)
+    with _loading(path):
         return Library(path, loaded)
+
+
+@contextlib.contextmanager
+def _loading(path: str) -> Iterator[None]:
+    """Raise `NoProgram` if a library cannot be loaded, or lacks a call."""
+    try:
+        yield
     except (OSError, AttributeError) as error:
         raise NoProgram(f"{display(path)} cannot be loaded: {display(str(error))}") from error
 
