@@ -78,12 +78,12 @@ class Names:
             self._between.setdefault(self._ends(number), []).append(number)
 
     def drop(self, number: int) -> None:
-        """Takes out an arc that was taken in."""
+        """Take out an arc that was taken in, or half of it: Ctrl-C may have come between."""
         if "_arcs" in vars(self):
             for name in self._typed(number):
-                self._arcs[name].remove(number)
+                _remove(self._arcs.get(name, []), number)
         if "_between" in vars(self):
-            self._between[self._ends(number)].remove(number)
+            _remove(self._between.get(self._ends(number), []), number)
 
     def _typed(self, number: int) -> set[str]:
         """The names by which an arc can be typed: how it is called, and its name in the problem."""
@@ -243,3 +243,8 @@ class Names:
     def list(self, numbers: Sequence[int]) -> str:
         listed = ", ".join(f"#{number} ({self.arc(number)})" for number in numbers[:MOST_LISTED])
         return listed + ", .." * (len(numbers) > MOST_LISTED)
+
+
+def _remove(numbers: list[int], number: int) -> None:
+    if number in numbers:
+        numbers.remove(number)
