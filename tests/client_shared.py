@@ -10,7 +10,7 @@ from collections.abc import Iterable, Iterator
 from typing import Any
 
 import dmf as dmf
-from dmf.session.process import Child
+from dmf.session.process import ProgramSession
 
 ROOT = os.path.dirname(os.path.dirname(os.path.abspath(__file__)))
 CLIENT = f"{ROOT}/clients/python"
@@ -30,7 +30,7 @@ def pipes(**options: Any) -> dmf.Network[str]:
 def process_of(network: dmf.Network[Any]) -> subprocess.Popen[bytes]:
     """The program of a network that runs one."""
     session = network._session
-    assert isinstance(session, Child)
+    assert isinstance(session, ProgramSession)
     return session.process
 
 

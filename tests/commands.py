@@ -218,5 +218,5 @@ def lists_text(old: str) -> str:
 GENERATED = {
     "crates/test_calls/src/commands.rt": calls_text,
     "crates/test_sessions/src/tests/words.rt": words_text,
-    "clients/python/dmf/text/commands.py": lists_text,
+    "clients/python/dmf/text/session_commands.py": lists_text,
 }

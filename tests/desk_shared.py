@@ -15,7 +15,7 @@ from pathlib import Path
 from typing import NamedTuple
 
 from dmf.desk.workspace import Desk
-from dmf.tables.subject import Subject
+from dmf.tables.loader import LoadedProblem
 
 ROOT = Path(__file__).resolve().parents[1]
 PIPES = "examples/water/pipes.csv"
@@ -117,7 +117,7 @@ def water_problem() -> bytes:
 
 
 def desk_of(text: bytes, with_solve: bool = True) -> Desk:
-    return Desk(Subject("a test", text), with_solve=with_solve)
+    return Desk(LoadedProblem("a test", text), with_solve=with_solve)
 
 
 def end_session(of: int | None = None) -> None:

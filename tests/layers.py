@@ -24,8 +24,8 @@ ROOMS = [
     ["tools", "__main__"],
 ]
 RANKS = {room: rank for rank, rooms in enumerate(ROOMS) for room in rooms}
-# One room of several modules.
-SAME = {room: ROOMS[0][0] for room in ROOMS[0]}
+# Modules in no folder that make one room.
+SAME = {**{room: ROOMS[0][0] for room in ROOMS[0]}, "__main__": "tools"}
 
 Edge = tuple[str, str]
 

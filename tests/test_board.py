@@ -22,12 +22,12 @@ import pytest
 from board_running import Board, board
 from built import BUILT
 from desk_shared import ODD, PIPES, SECONDS, run, stop_session, wait_until_asked, without
-from dmf.desk import desk_sweep
+from dmf.desk import analysis as desk_sweep
 from dmf import Network
-from dmf.desk.board import Answer
-from dmf.desk.board import Board as InBoard
+from dmf.desk.board.responses import Response
+from dmf.desk.board.routes import Board as InBoard
 from dmf.desk.workspace import Desk
-from dmf.tables.subject import Subject
+from dmf.tables.loader import LoadedProblem
 
 # Requests of a wrong form: the path, the body or None, and what is said.
 FORMS: list[tuple[str, Optional[bytes], str]] = [
@@ -260,9 +260,9 @@ def test_no_new_session(tmp_path: Path, monkeypatch: pytest.MonkeyPatch) -> None
 def test_unforeseen(monkeypatch: pytest.MonkeyPatch, error: Exception) -> None:
     """Whatever error comes out of a request: a sentence tells it, and the steps before it stand."""
     text = run("dmf-problem", "--table", PIPES, "Reservoir", "Harbour").stdout
-    board = InBoard(Desk(Subject("a test", text.encode()), with_solve=True))
+    board = InBoard(Desk(LoadedProblem("a test", text.encode()), with_solve=True))
 
-    def told(made: Answer) -> Any:
+    def told(made: Response) -> Any:
         return made.status, json.loads(made.body)
 
     assert told(board.post("do", {"what": "close", "arc": 10, "turn": board.desk.turn}))[0] == 200

@@ -15,7 +15,7 @@ import pytest
 from board_pages import Page
 from board_running import Board, board
 from desk_shared import ODD, PIPES, ROOT, SCRIPT, STORY, run, swept
-from dmf.desk.board import Door
+from dmf.desk.board.server import Door
 
 pytestmark = pytest.mark.seconds(20)
 

@@ -12,12 +12,13 @@ import pytest
 from board_running import Board as Running
 from built import BUILT
 from desk_shared import SECONDS
+from dmf.desk.analysis import trials_of
 from dmf.desk import answers as desk_first
-from dmf.desk.board.responses import Answer
+from dmf.desk.board.responses import Response
 from dmf.desk.board.routes import Board
 from dmf.desk.workspace import Desk
 from dmf.errors import NoProgram
-from dmf.tables.subject import Subject
+from dmf.tables.loader import LoadedProblem
 from test_board_nearby import square
 
 # Requests that change nothing, and such that do or try something.
@@ -57,7 +58,7 @@ def small_is_large(monkeypatch: pytest.MonkeyPatch) -> None:
 
 
 def board_of(seed: int, may_follow: bool = True) -> Board:
-    return Board(Desk(Subject("square.max", square(5, random.Random(seed))), with_solve=True, may_follow=may_follow))
+    return Board(Desk(LoadedProblem("square.max", square(5, random.Random(seed))), with_solve=True, may_follow=may_follow))
 
 
 def boards(seed: int) -> tuple[Board, Board]:
@@ -67,7 +68,7 @@ def boards(seed: int) -> tuple[Board, Board]:
     return first, usual
 
 
-def asked(board: Board, path: str, words: dict[str, Any]) -> Answer:
+def asked(board: Board, path: str, words: dict[str, Any]) -> Response:
     if (path, words) in ASKED or path == "state":
         return board.get(path, words)
     return board.post(path, {**words, "turn": board.desk.turn})
@@ -131,7 +132,7 @@ def test_trials() -> None:
     """Arcs are tried on the desk, which is compared with the other one."""
     first, usual = boards(3)
     numbers = first.desk.pictured()
-    assert list(first.desk.sweep(numbers)) == list(usual.desk.sweep(numbers))
+    assert list(trials_of(first.desk, numbers)) == list(trials_of(usual.desk, numbers))
     end(first, usual)
 
 

@@ -10,7 +10,7 @@ from collections.abc import Iterator
 import pytest
 from board_running import JSON, board
 from desk_shared import PIPES, SECONDS
-from dmf.desk.board.guests import AFTER_BREAK, AFTER_PAGE, AFTER_REQUEST, Guests
+from dmf.desk.board.connections import AFTER_BREAK, AFTER_PAGE, AFTER_REQUEST, LivePages
 
 
 class Room:
@@ -18,7 +18,7 @@ class Room:
 
     def __init__(self) -> None:
         self.now = 100.0
-        self.guests = Guests(1, lambda: self.now)
+        self.guests = LivePages(1, lambda: self.now)
         self.ends: dict[str, tuple[socket.socket, socket.socket]] = {}
 
     def come(self, name: str) -> None:

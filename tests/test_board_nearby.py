@@ -7,7 +7,7 @@ from collections.abc import Callable
 
 import pytest
 from desk_shared import desk_of
-from dmf.desk.board.nearby import Nearby
+from dmf.desk.board.selection import Nearby
 from dmf.desk.workspace import Desk
 from dmf.desk.steps import DeskFault
 

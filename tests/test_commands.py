@@ -13,7 +13,7 @@ from commands import COMMANDS, GENERATED, LISTED, LISTED_PRINTS, OF_FORM, PRINTE
 from conftest import BUILT, ROOT
 from dmf import errors
 from dmf import Network
-from dmf.text import commands as client
+from dmf.text import session_commands as client
 from oracle import session
 from oracle.network import Arc, State
 from oracle.session import Session, SolveReply, command_of

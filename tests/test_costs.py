@@ -11,11 +11,11 @@ from typing import Any
 import dmf
 import pytest
 from desk_shared import run
-from dmf.desk.analysis import Bought, cheapest, prices, priced
+from dmf.desk.analysis import Bought, cheapest, priced, prices
 from dmf.desk.workspace import Desk
 from dmf.desk.steps import DeskFault
 from project_shared import words
-from dmf.tables.subject import read_subject
+from dmf.tables.loader import read_subject
 
 try:
     import networkx

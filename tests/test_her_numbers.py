@@ -21,9 +21,10 @@ import pytest
 from board_running import Board, board
 from built import BUILT
 from desk_shared import SECONDS, run
+from dmf.desk.analysis import trials_of
 from dmf.desk.workspace import Desk
 from dmf.desk.export import problem
-from dmf.tables.subject import Subject
+from dmf.tables.loader import LoadedProblem
 from dmf.text.problem_text import read_problem
 from her_table import (
     CLOSED, DOUBLED, GIVEN, INNER, LET_THROUGH, LIMIT, LIMITS, PIPES, REMARKS, TABLE, VALUE, WORDS, Pipe, greatest, number, told,
@@ -99,7 +100,7 @@ def test_steps_with_finer_numbers(folder: Path) -> None:
 
 def test_an_unlimited_source(folder: Path) -> None:
     """It gives what its pipes carry, also where these are changed, until it gets a limit; and it is never the limit itself."""
-    desk = Desk(Subject("a test", (folder / "pipes.max").read_bytes()), with_solve=True)
+    desk = Desk(LoadedProblem("a test", (folder / "pipes.max").read_bytes()), with_solve=True)
     chance = random.Random(53)
     number = {pipe.name: at for at, pipe in enumerate(PIPES, 1)}
     # The pipes after each step.
@@ -123,7 +124,7 @@ def test_an_unlimited_source(folder: Path) -> None:
         limit = [desk.names.short(it) for it in desk.cut_arcs()]
         assert "what Mill gives at most" not in limit
         assert sum(Fraction(desk.line(it).capacity) for it in desk.cut_arcs()) == Fraction(desk.value)
-        for trial in desk.sweep(it for it in desk.cut_arcs() if not desk.role(it)):
+        for trial in trials_of(desk, (it for it in desk.cut_arcs() if not desk.role(it))):
             (pipe,) = (it for it in pipes if number[it.name] == trial.arc)
             assert trial.doubled is not None and Fraction(trial.doubled) == greatest([*pipes, pipe])
     assert len(values) > 12

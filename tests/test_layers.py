@@ -8,45 +8,6 @@ import pytest
 from client_shared import CLIENT
 from layers import CORE, Imports, cycle_of, is_upward, room_of
 
-# Imports that were there before the rooms, and go with the next steps. No other may come.
-EXCEPTIONS = [
-    "__main__ -> tools.command",
-    "columns -> network",
-    "desk.board.handler -> desk.board.server",
-    "desk.board.maps -> tools.command",
-    "desk.plan.handlers -> tools.command",
-    "desk.plan.shell -> tools.command",
-    "desk.project.open_project -> tools.command",
-    "desk.project.opener -> tools.command",
-    "desk.project.opener -> tools.options",
-    "desk.project.storage -> tools.command",
-    "desk.project.table -> tools.command",
-    "desk.project.table -> tools.options",
-    "graphs -> tables.problem_networks",
-    "history -> arcs",
-    "history -> session.base",
-    "notebook -> presentation",
-    "notebook -> tools.command",
-    "presentation -> tools.command",
-    "session.base -> session.library",
-    "session.library -> arrays",
-    "session.library -> numbering",
-    "session.runners -> arrays",
-    "session.runners -> numbering",
-    "session.runners -> state",
-    "sweeps.cases -> tables.answers",
-    "tables.csv_file -> tables.numpy_rows",
-    "tables.loader -> tools.command",
-    "tables.problem_networks -> tables.table_answers",
-    "tables.sheet_tables -> tables.amount_columns",
-    "tables.subject -> tools.command",
-    "tables.subject -> tools.options",
-    "tables.table_answers -> tables.table_network",
-    "text.carried -> tables.faults",
-]
-ALLOWED = {(module, other) for module, _, other in (line.partition(" -> ") for line in EXCEPTIONS)}
-
-
 @pytest.fixture(scope="module")
 def edges() -> set[tuple[str, str]]:
     return Imports(Path(CLIENT, "dmf")).edges()
@@ -54,19 +15,11 @@ def edges() -> set[tuple[str, str]]:
 
 def test_imports_point_down(edges: set[tuple[str, str]]) -> None:
     assert len(edges) > 300
-    assert sorted(edge for edge in edges - ALLOWED if is_upward(edge)) == []
+    assert sorted(edge for edge in edges if is_upward(edge)) == []
 
 
 def test_no_circles(edges: set[tuple[str, str]]) -> None:
-    assert cycle_of(edges - ALLOWED) == []
-
-
-def test_exceptions_shrink(edges: set[tuple[str, str]]) -> None:
-    """Each exception is an import that points upward or closes a circle."""
-    allowed = edges - ALLOWED
-    assert ALLOWED <= edges
-    for edge in ALLOWED:
-        assert is_upward(edge) or cycle_of(allowed | {edge}), edge
+    assert cycle_of(edges) == []
 
 
 def test_each_module_has_a_room(edges: set[tuple[str, str]]) -> None:

@@ -13,11 +13,12 @@ from typing import Any, cast
 import pytest
 from desk_shared import PIPES, ROOT, Pipe, SECONDS, desk_of, end_session, greatest, run, swept, values, water, water_problem, without
 from built import BUILT
+from dmf.desk.analysis import trials_of
 from dmf import Network
-from dmf.desk.live_network import Held
+from dmf.desk.live_network import LiveNetwork
 from dmf.desk.steps import DeskFault, Place
 from dmf.errors import SessionEnded
-from dmf.desk.plan.shell import Plan
+from dmf.desk.plan.shell import Shell
 from dmf.desk.plan.arguments import capped
 
 WATER = water_problem()
@@ -56,12 +57,12 @@ def refused(make: Callable[[], object]) -> str:
 def test_sweep() -> None:
     desk = desk_of(WATER)
     wanted = swept()
-    found = {desk.names.arc_name(it.arc): (it.closed, it.doubled) for it in desk.sweep(range(1, 15))}
+    found = {desk.names.arc_name(it.arc): (it.closed, it.doubled) for it in trials_of(desk, range(1, 15))}
     assert found == wanted, f"a sweep: {found}, and not {wanted}"
     assert (desk.value, desk.at, list(desk.cut_arcs())) == (165, 1, [3, 9, 14]), f"after a sweep: {desk.value}, {desk.cut_arcs()}"
     desk.end()
     idle = desk_of(WATER, with_solve=False)
-    told = refused(lambda: list(idle.sweep([1])))
+    told = refused(lambda: list(trials_of(idle, [1])))
     assert "solve" in told, f"a sweep before a solve: {told}"
     idle.end()
 
@@ -90,7 +91,7 @@ def test_random() -> None:
         lambda: desk.shut(desk.names.place(chance.choice(names[1:]))),
         lambda: desk.open_place(desk.names.place(chance.choice(names))),
         lambda: desk.open(chance.choice([n for n, it in enumerate(desk.lines, 1) if it.is_closed and not it.is_replaced] or [1])),
-        lambda: list(desk.sweep(opened()[:2])),
+        lambda: list(trials_of(desk, opened()[:2])),
         lambda: desk.go_to(chance.randrange(1, len(desk.steps) + 1)),
     ]
     for turn in range(150):
@@ -118,7 +119,7 @@ def test_random_decimals(seed: int) -> None:
     """The same by commands, with amounts of up to five decimals and shares of amounts: whatever scale they take, each step has the value of
     all sets of places, and what is only tried, or undone, leaves the others as they were."""
     chance = random.Random(seed)
-    plan = Plan(desk_of(WATER), is_typed=False, write=lambda _: None)
+    plan = Shell(desk_of(WATER), is_typed=False, write=lambda _: None)
     desk = plan.desk
 
     def amount() -> str:
@@ -148,9 +149,9 @@ def test_broken_off_while_made_again(monkeypatch: pytest.MonkeyPatch) -> None:
     """Who stops the desk while its steps are made again on a finer scale, or on a new session, ends that too, and no step is lost."""
     desk = desk_of(WATER)
     desk.close(10)
-    make = Held.make
+    make = LiveNetwork.make
 
-    def stopped(held: Held, text: str, changes: Any) -> Any:
+    def stopped(held: LiveNetwork, text: str, changes: Any) -> Any:
         if held is not desk._held:
             desk.break_off("it was stopped")
         return make(held, text, changes)
@@ -158,7 +159,7 @@ def test_broken_off_while_made_again(monkeypatch: pytest.MonkeyPatch) -> None:
     acts: list[Callable[[], object]] = [lambda: desk.cap(11, Decimal("7.5")), desk.begin_again]
     for act in acts:
         with monkeypatch.context() as patched:
-            patched.setattr(Held, "make", stopped)
+            patched.setattr(LiveNetwork, "make", stopped)
             with pytest.raises(SessionEnded, match="it was stopped"):
                 act()
         assert [step.value for step in desk.steps] == [165, 155]
@@ -187,7 +188,7 @@ def test_unforeseen(monkeypatch: pytest.MonkeyPatch, capsys: pytest.CaptureFixtu
     """Whatever error comes out of a command, before or after it has changed the session: a line tells it, and the steps before it
     stand."""
     told: list[str] = []
-    plan = Plan(desk_of(WATER), is_typed=False, write=told.append)
+    plan = Shell(desk_of(WATER), is_typed=False, write=told.append)
     plan.run_script(["close Bridge pipe", "close Mill Lane", "undo"])
     desk = plan.desk
     before = [(it.text, it.value) for it in desk.steps], desk.at, list(desk.lines), desk.value, [desk.flow(n) for n in range(1, 15)]
@@ -227,7 +228,7 @@ def test_no_new_session(tmp_path: Path, monkeypatch: pytest.MonkeyPatch, capsys:
     program.symlink_to(BUILT)
     monkeypatch.setenv("DMF", str(program))
     told: list[str] = []
-    plan = Plan(desk_of(WATER), is_typed=False, write=told.append)
+    plan = Shell(desk_of(WATER), is_typed=False, write=told.append)
     plan.run_script(["close Bridge pipe"])
     end_session()
     program.unlink()

@@ -10,7 +10,7 @@ from pathlib import Path
 
 import pytest
 from desk_shared import ODD, PIPES, ROOT, SCRIPT, SECONDS, STORY, desk_of, greatest, run, swept, values, water, water_problem, without
-from dmf.desk.plan.shell import Plan
+from dmf.desk.plan.shell import Shell
 
 # Lines that are refused before a solve, and what is said of each.
 LINES = {
@@ -201,7 +201,7 @@ def test_no_picture(tmp_path: Path, monkeypatch: pytest.MonkeyPatch) -> None:
 
 def test_no_other_file(tmp_path: Path, monkeypatch: pytest.MonkeyPatch) -> None:
     """What somebody else puts at the path of a new file, after it was found to be free, stays as it is."""
-    plan = Plan(desk_of(water_problem()), is_typed=False, write=lambda _: None)
+    plan = Shell(desk_of(water_problem()), is_typed=False, write=lambda _: None)
     victim, path = tmp_path / "victim.max", tmp_path / "new.max"
     victim.write_text("as it was")
     put = plan._files.put

@@ -14,7 +14,7 @@ from pathlib import Path
 import pytest
 from desk_shared import PIPES, ROOT, SECONDS, desk_of, end_session, sessions_of, stop_session, wait_until_asked, water, water_problem, without
 from dmf import Network
-from dmf.desk.plan.shell import Plan
+from dmf.desk.plan.shell import Shell
 from tool_runs import wait_until_asleep
 
 WATER = water_problem()
@@ -91,7 +91,7 @@ def test_broken_off() -> None:
 def test_broken_off_again(monkeypatch: pytest.MonkeyPatch, capsys: pytest.CaptureFixture[str]) -> None:
     """Ctrl-C also ends the steps that are made again, and none of them is lost."""
     told: list[str] = []
-    plan = Plan(desk_of(WATER), is_typed=True, write=told.append)
+    plan = Shell(desk_of(WATER), is_typed=True, write=told.append)
     plan.onecmd("close Bridge pipe")
 
     def broken_off(*_: object) -> None:

@@ -9,10 +9,11 @@ from typing import Any
 import pytest
 from client_shared import dmf, pipes
 from desk_shared import run
-from dmf.desk.board import Board
+from dmf.desk.analysis import trials_of
+from dmf.desk.board.routes import Board
 from dmf.desk.workspace import Desk
 from dmf.desk.steps import DeskFault, Trial
-from dmf.tables.subject import Subject
+from dmf.tables.loader import LoadedProblem
 
 HALF, LARGEST = 2**63, 2**64 - 1
 # Two arcs side by side: with the first closed and opened again, the capacities of open and closed arcs are past 2^64 together.
@@ -61,17 +62,17 @@ def test_an_arc_is_opened_where_none_is_open() -> None:
 
 def test_a_desk() -> None:
     """The same steps on a desk, and by dmf-plan."""
-    desk = Desk(Subject("a test", BESIDE.encode()))
+    desk = Desk(LoadedProblem("a test", BESIDE.encode()))
     desk.close(1)
     desk.open(1)
     desk.solve()
     # Each of the two that are open is in the cut. A second one beside the large arc would be past 64 bits.
-    assert list(desk.sweep([2, 3])) == [Trial(2, HALF, HALF + 2), Trial(3, 1, None)]
+    assert list(trials_of(desk, [2, 3])) == [Trial(2, HALF, HALF + 2), Trial(3, 1, None)]
     desk.end()
 
 
 def test_a_board() -> None:
-    desk = Desk(Subject("a test", BESIDE.encode()), with_solve=True)
+    desk = Desk(LoadedProblem("a test", BESIDE.encode()), with_solve=True)
     board = Board(desk)
     for what in "close", "open":
         assert board.post("do", {"what": what, "arc": 1, "turn": desk.turn}).status == 200
@@ -91,14 +92,14 @@ def test_dmf_plan(tmp_path: Any) -> None:
 
 def test_a_second_arc_past_64_bits() -> None:
     """Its value is None whether the arc is in the cut or not: no such arc can be added."""
-    desk = Desk(Subject("a test", f"p max 3 2\nn 1 s\nn 3 t\na 1 2 {HALF + 5}\na 2 3 4\n".encode()), with_solve=True)
-    assert list(desk.sweep([1, 2])) == [Trial(1, 0, None), Trial(2, 0, 8)]
+    desk = Desk(LoadedProblem("a test", f"p max 3 2\nn 1 s\nn 3 t\na 1 2 {HALF + 5}\na 2 3 4\n".encode()), with_solve=True)
+    assert list(trials_of(desk, [1, 2])) == [Trial(1, 0, None), Trial(2, 0, 8)]
     with pytest.raises(DeskFault, match="together past 18446744073709551615"):
         desk.double(1)
     desk.close(1)
     desk.add(desk.names.place("#1"), desk.names.place("#2"), 2)
     # What the closed arc had is free again: 2 + 4 + 2 fit, and the limit is the new arc.
-    assert list(desk.sweep([2, 3])) == [Trial(2, 0, 2), Trial(3, 0, 4)]
+    assert list(trials_of(desk, [2, 3])) == [Trial(2, 0, 2), Trial(3, 0, 4)]
     desk.end()
 
 

@@ -10,6 +10,7 @@ from typing import Any
 
 import pytest
 from client_shared import BUILT, CLIENT, PIPES, dmf, pipes, written
+from dmf.session import base
 from packages import load
 
 LARGEST = 2**64 - 1
@@ -73,14 +74,14 @@ def test_a_frame_is_anything_with_columns() -> None:
 @pytest.fixture(params=["with numpy", "without numpy"])
 def numpy_or_none(request: pytest.FixtureRequest, monkeypatch: pytest.MonkeyPatch) -> None:
     """With numpy, where it is there, and without it: problems are written and read in two ways."""
-    monkeypatch.setattr(dmf.arrays, "loaded", lambda: numpy if request.param == "with numpy" else None)
+    monkeypatch.setattr(base, "loaded_numpy", lambda: numpy if request.param == "with numpy" else None)
 
 
 @pytest.mark.usefixtures("numpy_or_none")
 def test_numbers_of_all_lengths() -> None:
     """Numbers of each count of digits, also more arcs than are written at once, reach the program and come back."""
     random = Random("lengths")
-    for count in 1, 3, dmf.arrays.PIECE, 2 * dmf.arrays.PIECE + 5:
+    for count in 1, 3, base.PIECE, 2 * base.PIECE + 5:
         rows = [(random.randrange(10 ** random.randint(1, 5)), -1, random.randrange(10 ** random.randint(0, 14))) for _ in range(count)]
         rows.append((-1, -2, 10**18))
         with dmf.Network(rows, -1, -2) as network:

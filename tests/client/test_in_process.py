@@ -22,6 +22,7 @@ from built import heed_interrupts
 from c_library import library_file
 from client_shared import BUILT, PIPES, dmf, environment, interrupted_soon, pipes, script
 from dmf.session import library as loaded
+from dmf.session import worker_threads
 from dmf import graphs as once
 from tool_runs import wait_until_asleep
 
@@ -66,7 +67,7 @@ def bound(request: pytest.FixtureRequest, monkeypatch: pytest.MonkeyPatch) -> in
 def test_each_call(bound: int, call: str) -> None:
     """As by the program, in each state that can be undone and redone."""
     with prepared() as network, prepared(program=BUILT) as other:
-        assert [isinstance(it._session, loaded.InProcess) for it in (network, other)] == [True, False]
+        assert [isinstance(it._session, loaded.LibrarySession) for it in (network, other)] == [True, False]
         CALLS[call](network)
         CALLS[call](other)
         assert all_told(network) == all_told(other)
@@ -207,7 +208,7 @@ def test_another_thread_breaks_it_off(monkeypatch: pytest.MonkeyPatch, bound: in
 def test_one_thread_runs_call_after_call(monkeypatch: pytest.MonkeyPatch) -> None:
     """Another one begins only while a call was left and goes on; and a forked process has its own."""
     monkeypatch.setattr(loaded, "MOST_AT_ONCE", 0)
-    loaded._threads.cache_clear()
+    worker_threads.threads.cache_clear()
     begun: list[object] = []
     begin = _thread.start_new_thread
 
@@ -234,7 +235,7 @@ def test_one_thread_runs_call_after_call(monkeypatch: pytest.MonkeyPatch) -> Non
 
 
 def test_few_threads_are_kept() -> None:
-    threads, until = loaded._Threads(), threading.Event()
+    threads, until = worker_threads.Threads(), threading.Event()
     done: list[int] = []
 
     def work(_: object, number: int) -> None:
@@ -244,10 +245,10 @@ def test_few_threads_are_kept() -> None:
     for turn in range(3):
         until.clear()
         for number in range(turn * 50, turn * 50 + 50):
-            threads.begin(loaded._Job(work, loaded._Held(int, 0), (number,)))
+            threads.begin(worker_threads.Job(work, worker_threads.Handle(int, 0), (number,)))
         until.set()
         end = time.monotonic() + SECONDS
-        while len(done) < turn * 50 + 50 or len(threads._waiting) > loaded.MOST_THREADS:
+        while len(done) < turn * 50 + 50 or len(threads._waiting) > worker_threads.MOST_THREADS:
             assert time.monotonic() < end
             time.sleep(0.01)
     assert sorted(done) == list(range(150))

@@ -12,7 +12,7 @@ import pytest
 from c_library import library_file
 from client_shared import BUILT, CLIENT, dmf, environment, pipes
 from dmf.session import library as loaded
-from dmf.session.process import Child
+from dmf.session.process import ProgramSession
 
 SECONDS = 60
 SILENT = """
@@ -29,12 +29,12 @@ pytestmark = pytest.mark.usefixtures("by_library")
 
 def test_which_is_taken(monkeypatch: pytest.MonkeyPatch) -> None:
     with pipes() as network:
-        assert isinstance(network._session, loaded.InProcess) and dmf.library() == library_file()
+        assert isinstance(network._session, loaded.LibrarySession) and dmf.library() == library_file()
     with pipes(program=BUILT) as network:
-        assert isinstance(network._session, Child)
+        assert isinstance(network._session, ProgramSession)
     monkeypatch.setenv("DMF_LIBRARY", "")
     with pipes() as network:
-        assert isinstance(network._session, Child) and dmf.library() is None
+        assert isinstance(network._session, ProgramSession) and dmf.library() is None
     monkeypatch.delenv("DMF_LIBRARY")
     # The tests name a program by DMF.
     assert dmf.library() is None

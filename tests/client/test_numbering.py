@@ -9,6 +9,7 @@ from typing import Any
 
 import pytest
 from client_shared import dmf
+from dmf.columns import WholeNodes
 from hypothesis import given
 from hypothesis import strategies as st
 
@@ -57,7 +58,7 @@ def test_what_is_kept(count: int) -> None:
     kinds: dict[Any, bool] = {(3, 4, 1): True, (4 * count, 1, 1): True, (2**40, 1, 1): False, (-1, 2, 1): False, ("a", 2, 1): False, (True, 2, 1): False}
     for row, is_whole in kinds.items():
         numbers = columns_of([*small, row], ()).numbers
-        assert isinstance(numbers, dmf.numbering.WholeNodes) == is_whole, row
+        assert isinstance(numbers, WholeNodes) == is_whole, row
     with pytest.raises(TypeError):
         numbers.get([])
     numbers = columns_of(small, ()).numbers

@@ -14,7 +14,7 @@ from typing import Any
 
 import pytest
 from client_shared import BUILT, dmf, pipes, script
-from dmf.sweeps.copies import Answer
+from dmf.sweeps.copies import CaseAnswer
 
 SECONDS = 20
 
@@ -143,7 +143,7 @@ def test_all_workers_begin_at_once() -> None:
         futures = [future for _, future in given]
         futures[2].set_exception(ZeroDivisionError("of a worker"))
         for place in 1, 0, 3:
-            futures[place].set_result(([Answer(16 * place + turn) for turn in range(16)], 0.1))
+            futures[place].set_result(([CaseAnswer(16 * place + turn) for turn in range(16)], 0.1))
         thread.join(SECONDS)
         assert (told[:-1], type(told[-1])) == (list(range(32)), ZeroDivisionError)
 

@@ -9,9 +9,9 @@ from typing import Any
 
 import dmf
 import pytest
-from dmf.session.fresh import Anew
+from dmf.session.fresh import FreshSession
 from dmf.session.base import MOST_COMMANDS
-from dmf.session.runners import chosen, program_of, started
+from dmf.session.runners import chosen, program_of, start
 
 NODES = 9
 
@@ -109,8 +109,8 @@ def test_steps() -> None:
     """Its steps are those of another session, and it tells a cut where that does."""
     chance = random.Random(8)
     with network_of(chance) as network:
-        usual, anew = (started(network._kept.copy(), chosen(None)) for _ in range(2))
-        anew = Anew(anew, program_of(None))
+        usual, anew = (start(network._kept.copy(), chosen(None)) for _ in range(2))
+        anew = FreshSession(anew, program_of(None))
         solved = 0
         for _ in range(300):
             word = chance.choice(["cap", "close", "solve", "solve", "undo", "undo", "redo", "shut", "add"])

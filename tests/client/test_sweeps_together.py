@@ -11,11 +11,11 @@ from typing import Any
 
 import pytest
 from client_shared import BUILT, dmf, script
-from dmf.sweeps.copies import Copy
+from dmf.sweeps.copies import SolvedCopy
 from dmf.text.lexical import LARGEST, MOST_NODES
-from dmf.session.process import Child
+from dmf.session.process import ProgramSession
 from dmf.session.base import MOST_COMMANDS, case_lines
-from dmf.sweeps.pool import Here
+from dmf.sweeps.pool import LocalPool
 
 ARCS = 24
 CLOSED: list[Any] = [[("close", number)] for number in range(1, ARCS + 1)]
@@ -77,16 +77,16 @@ def test_what_is_sent_together_is_short(monkeypatch: pytest.MonkeyPatch) -> None
     """However many commands the cases have: a pipe may have room for a page alone, which is as much as all of these."""
     cases: list[Any] = [[("close", number) for number in range(1, ARCS + 1) if number != left] for left in range(1, ARCS + 1)]
     sent: list[int] = []
-    exchange = Child.exchange
+    exchange = ProgramSession.exchange
 
-    def noted(child: Child, lines: str) -> AbstractContextManager[None]:
+    def noted(child: ProgramSession, lines: str) -> AbstractContextManager[None]:
         sent.append(len(lines) + 1)
         return exchange(child, lines)
 
     with beside(BUILT) as network:
-        copy = Copy(network._kept.copy(), BUILT)
+        copy = SolvedCopy(network._kept.copy(), BUILT)
         assert [answer.value for answer in copy.answers(cases[:1], False)] == [1]
-        monkeypatch.setattr(Child, "exchange", noted)
+        monkeypatch.setattr(ProgramSession, "exchange", noted)
         assert [answer.value for answer in copy.answers(cases * 20, False)] == list(range(1, ARCS + 1)) * 20
         copy.end()
     # Each has 23 commands of 7 or 8 letters, a solve and `undo 24`, with their ends.
@@ -100,7 +100,7 @@ def test_a_case_of_many_commands_goes_alone() -> None:
     longest = "add", MOST_NODES, MOST_NODES, LARGEST
     assert sum(len(line) + 1 for line in case_lines([longest] * MOST_COMMANDS)) <= 4_096
     with beside(BUILT) as network:
-        copy = Copy(network._kept.copy(), BUILT)
+        copy = SolvedCopy(network._kept.copy(), BUILT)
         many: list[Any] = [("add", "a", "b", 1)] * MOST_COMMANDS
         assert copy._commands(many) == [("add", 1, 2, 1)] * MOST_COMMANDS and copy._commands([*many, many[0]]) == []
         assert swept(network, [many, [*many, many[0]], CLOSED[0]]) == [300 + MOST_COMMANDS, 301 + MOST_COMMANDS, 299]
@@ -110,16 +110,16 @@ def test_a_case_of_many_commands_goes_alone() -> None:
 def test_when_another_session_begins(count: int | None, is_worth_it: bool) -> None:
     """After 1.5 s of trying, as the first took to begin with its first case: if 60 cases are left, of 25 ms each, or nobody knows how many."""
     with beside(BUILT) as network:
-        here = Here(network._kept.copy(), BUILT, False, 4, count)
+        here = LocalPool(network._kept.copy(), BUILT, False, 4, count)
         try:
             assert here._is_worth_another()
-            here._copies.append(Copy(network._kept.copy(), BUILT))
+            here._copies.append(SolvedCopy(network._kept.copy(), BUILT))
             assert not here._is_worth_another(), "the first has not begun yet"
             here._note(1, 0.5, begin_seconds=1.0, is_first=True)
             assert not here._is_worth_another()
             here._note(40, 1.0, begin_seconds=0.0, is_first=False)
             assert here._is_worth_another() == is_worth_it
-            here._copies.append(Copy(network._kept.copy(), BUILT))
+            here._copies.append(SolvedCopy(network._kept.copy(), BUILT))
             assert not here._is_worth_another(), "the second has not begun yet"
             here._note(1, 0.5, begin_seconds=1.0, is_first=True)
             assert not here._is_worth_another()

@@ -155,7 +155,8 @@ def test_what_is_forgotten_stays_so(how: str) -> None:
         if how == "begin again":
             network._session.kill("the session was ended by a test")
             network.begin_again()
-        with network.copy() if how == "copy" else contextlib.nullcontext(network) as tried:
+        chosen: contextlib.AbstractContextManager[Any] = network.copy() if how == "copy" else contextlib.nullcontext(network)
+        with chosen as tried:
             with pytest.raises(dmf.NothingToUndo, match="^nothing to undo: undo 2$"):
                 tried.undo(2)
             assert (len(tried.arcs), tried.undo(), tried.capacity(("mill", "town"))) == (3, 0, 5)

@@ -10,11 +10,11 @@ from typing import Any
 import pytest
 from c_library import library_file
 from dmf.desk.project.opener import project_desk
-from dmf.desk.project.scenarios import ProjectDesk
+from dmf.desk.project.scenarios import Scenarios
 from dmf.desk.steps import DeskFault
 from dmf.desk.workspace import Desk
 from dmf.errors import Refused
-from dmf.tables.subject import Subject
+from dmf.tables.loader import LoadedProblem
 from oracle.network import Arc, State
 from oracle.texts import Fault
 from project_shared import new_project
@@ -110,15 +110,15 @@ class Lockstep:
 
     def _new_desk(self) -> Player:
         """Return a desk that made the acts of the present scenario, one after the other."""
-        made, now = Player(Desk(Subject("t", self._text), with_solve=True), self._names), self.model.scenario
+        made, now = Player(Desk(LoadedProblem("t", self._text), with_solve=True), self._names), self.model.scenario
         for word, *numbers in now.acts:
             made.step(word, *numbers)  # type: ignore[arg-type]
         made.desk.undo(len(now.acts) - now.at)
         return made
 
     @property
-    def _project(self) -> ProjectDesk:
-        assert isinstance(self.project.desk, ProjectDesk)
+    def _project(self) -> Scenarios:
+        assert isinstance(self.project.desk, Scenarios)
         return self.project.desk
 
     def act(self, word: str, numbers: list[Any]) -> None:

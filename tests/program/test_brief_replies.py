@@ -10,9 +10,10 @@ from random import Random
 
 import pytest
 import random_cases
-from dmf.text.session_replies import Cut, Solution
+from dmf.text.session_replies import CutReply, SolutionReply
 from dmf.text.problem_text import read_problem
-from dmf.text.transcript import Follower, TranscriptFault
+from dmf.text.session_replies import TranscriptFault
+from dmf.text.transcript import TranscriptReader
 from oracle import problem as oracle_problem
 from oracle import session, texts
 from oracle.network import State, smallest_side
@@ -98,9 +99,9 @@ def test_picture(tmp_path: Path) -> None:
     assert (brief.returncode, brief.stderr, brief.stdout) == (0, b"", whole.stdout)
 
 
-def is_told(event: Solution | Cut, state: State, is_brief: bool) -> bool:
+def is_told(event: SolutionReply | CutReply, state: State, is_brief: bool) -> bool:
     """Whether an event is what the second implementation has in this state."""
-    if isinstance(event, Cut):
+    if isinstance(event, CutReply):
         return (event.side, event.capacity) == smallest_side(state)
     flows = [] if is_brief else [flow for _, flow in state.open_arcs()]
     return (event.value, event.is_told, list(event.flows)) == (state.value(), not is_brief, flows)
@@ -125,7 +126,7 @@ def test_random_sessions(seed: int) -> None:
 def followed(state: State, commands: list[bytes], wanted: session.SolveReply, is_given: bool) -> int:
     """Follows a session, judges each event, and counts the solves."""
     held, solves = session.Session(state, wanted), 0
-    follower = Follower(read_problem(oracle_problem.problem_text(state)), iter(commands) if is_given else None)
+    follower = TranscriptReader(read_problem(oracle_problem.problem_text(state)), iter(commands) if is_given else None)
     for place, line in enumerate(commands, 1):
         reply = held.answer(place, line)
         events = [] if is_given else follower.take(line)
@@ -133,7 +134,7 @@ def followed(state: State, commands: list[bytes], wanted: session.SolveReply, is
             events += follower.take(reply_line)
         is_brief = reply.startswith(b"c solve value ")
         solves += is_brief
-        told = [event for event in events if isinstance(event, (Solution, Cut))]
+        told = [event for event in events if isinstance(event, (SolutionReply, CutReply))]
         assert len(told) == sum(it.startswith((b"s ", b"c cut ", b"c solve value ")) for it in io.BytesIO(reply)), line
         assert all(is_told(event, held.present(), is_brief) for event in told), (line, told)
         assert [tuple(arc) for arc in follower.timeline.arcs] == [tuple(arc) for arc in held.present().arcs]
@@ -145,6 +146,6 @@ def followed(state: State, commands: list[bytes], wanted: session.SolveReply, is
 
 
 def test_fault_is_located() -> None:
-    follower = Follower(read_problem(PROBLEM), iter([b"print cut\n"]))
+    follower = TranscriptReader(read_problem(PROBLEM), iter([b"print cut\n"]))
     with pytest.raises(TranscriptFault, match="this does not answer `print cut`"):
         follower.take(b"c solve value 6\n")

@@ -17,7 +17,7 @@ from board_pages import Page
 from board_running import Board, board
 from desk_shared import ROOT, run, without
 from dmf.desk.project.comparison import ArcState
-from dmf.desk.project.scenarios import ProjectDesk
+from dmf.desk.project.scenarios import Scenarios
 from dmf.desk.project.opener import project_desk
 from project_played import played, state
 from project_shared import named, supply_project, water_project
@@ -133,7 +133,7 @@ def test_make_and_name(driver: Any, water: Board, tmp_path: Path) -> None:
     assert told[2].endswith("1 of 2 steps, value 180; for May")
 
 
-def flooded(folder: Path) -> ProjectDesk:
+def flooded(folder: Path) -> Scenarios:
     """The supply story: a flooded depot in one scenario, and another one without a step."""
     desk = supply_project(folder)
     desk.shut(desk.names.place("East Depot"))
@@ -141,7 +141,7 @@ def flooded(folder: Path) -> ProjectDesk:
     return desk
 
 
-def judged(desk: ProjectDesk, folder: Path) -> list[list[str]]:
+def judged(desk: Scenarios, folder: Path) -> list[list[str]]:
     """What differs between the network of the table and the flooded depot, by the second implementation: the arcs, what each was and
     is."""
     depot = desk.names.place("East Depot").entry
@@ -183,7 +183,7 @@ def test_same_differences(driver: Any, tmp_path: Path) -> None:
     assert len({shown[kind] for kind in ("more", "less", "else", "same")}) == 4
 
 
-def assert_coloured(desk: ProjectDesk, wanted: list[list[str]], classes: dict[str, str]) -> None:
+def assert_coloured(desk: Scenarios, wanted: list[list[str]], classes: dict[str, str]) -> None:
     """Each arc of the picture is of the kind that its row tells; the others are the same."""
     kinds = {}
     for arc, was, now in wanted:

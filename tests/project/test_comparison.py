@@ -10,19 +10,19 @@ from typing import Any
 import dmf
 import pytest
 from desk_shared import run
-from dmf.desk.live_network import Held
+from dmf.desk.live_network import LiveNetwork
 from dmf.desk.steps import Change, Step
 from dmf.desk.export import problem
 from dmf.desk.project.comparison import CLOSED, compare
-from dmf.desk.project.scenarios import ProjectDesk
-from dmf.desk.project.schema import project_of
+from dmf.desk.project.scenarios import Scenarios
+from dmf.desk.project.schema import parse_project
 from dmf.desk.project.opener import project_desk
 from dmf.text.problem_text import read_problem
 from project_played import played, state
 from project_shared import arc_states, named, supply_project, water_project
 
 
-def judge(desk: ProjectDesk, folder: Path, first: tuple[str, str], second: tuple[str, str]) -> None:
+def judge(desk: Scenarios, folder: Path, first: tuple[str, str], second: tuple[str, str]) -> None:
     """Compares scenarios, each with the commands that make it, with what the second implementation has of both. No arc was added."""
     text = desk.project.network
     one, two = (played(folder, text, commands) for _, commands in (first, second))
@@ -102,13 +102,13 @@ def test_takes_as_long_as_what_differs(tmp_path: Path, monkeypatch: pytest.Monke
     desk.new("more", "first")
     desk.close(named(desk, "Bridge pipe"))
     made: list[str] = []
-    make = Held.make
+    make = LiveNetwork.make
 
-    def counted(held: Held, text: str, changes: tuple[Change, ...]) -> Step:
+    def counted(held: LiveNetwork, text: str, changes: tuple[Change, ...]) -> Step:
         made.append(text)
         return make(held, text, changes)
 
-    monkeypatch.setattr(Held, "make", counted)
+    monkeypatch.setattr(LiveNetwork, "make", counted)
     before = arc_states(desk)
     found = compare(desk, "first", "more")
     # Mill Lane carries 29 in place of 45 in the limits of the story's page.
@@ -163,7 +163,7 @@ def test_made_in_python(tmp_path: Path) -> None:
         assert project.shut("East Depot") == 126
         told = run("dmf-plan", str(path), typed="cut\n")
         assert "read alone" in told.stderr and told.stdout.startswith("limit 126 pallets")
-    made, other = project_of(path.read_bytes()), project_of(Path(desk.file.path).read_bytes())
+    made, other = parse_project(path.read_bytes()), parse_project(Path(desk.file.path).read_bytes())
     assert (made.table, made.network, made.scenarios[0].steps[0].requests) == (other.table, other.network, (("shut", "East Depot"),))
     with pytest.raises(dmf.ProjectFault, match="it already exists; open it, or choose another name"):
         dmf.new_project(tmp_path / "routes.csv", **tables)

@@ -24,8 +24,8 @@ from client_shared import dmf
 from dmf.desk.board.routes import Board
 from dmf.desk.board.picture import Picture
 from dmf.desk.export import drawn, problem, table, taken
-from dmf.desk.project.scenarios import ProjectDesk
-from dmf.desk.project.report_project import report
+from dmf.desk.project.scenarios import Scenarios
+from dmf.desk.project.report import report
 from dmf.quantity import plain_text
 from oracle import program
 from project_shared import named, new_project, supply_project, water_project
@@ -36,20 +36,20 @@ SVG = "{http://www.w3.org/2000/svg}"
 TITLE = re.compile(r"(.*): (?:([0-9.]+) of ([0-9.]+)|closed)([^:]*)", re.DOTALL)
 
 
-def water(folder: Path) -> ProjectDesk:
+def water(folder: Path) -> Scenarios:
     desk = water_project(folder)
     desk.close(named(desk, "Bridge pipe"))
     desk.add(desk.names.place("Mill"), desk.names.place("Station"), 25, "New, pipe")
     return desk
 
 
-def supply(folder: Path) -> ProjectDesk:
+def supply(folder: Path) -> Scenarios:
     desk = supply_project(folder)
     desk.shut(desk.names.place("East Depot"))
     return desk
 
 
-def rota(folder: Path) -> ProjectDesk:
+def rota(folder: Path) -> Scenarios:
     """The rota of a ward, in which somebody falls ill."""
     arcs = subprocess.run([sys.executable, ROOT / "examples/rota/arcs.py"], stdin=open(ROOT / "examples/rota/rota.csv"), capture_output=True, check=True).stdout
     (folder / "rota.csv").write_bytes(arcs)
@@ -58,7 +58,7 @@ def rota(folder: Path) -> ProjectDesk:
     return desk
 
 
-def town(folder: Path) -> ProjectDesk:
+def town(folder: Path) -> Scenarios:
     """A town of decimal numbers, of which a pipe is wider."""
     (folder / "town.csv").write_text("von;nach;Kapazität (l/s);Rohr;Kosten\nSee;Werk;47,3;a;9\nWerk;Turm;30,25;b;8\nWerk;Ort;20;c;7\nTurm;Ort;40;d;6\n")
     desk = new_project(folder, "town.csv", "--source", "See", "--sink", "Ort")
@@ -66,7 +66,7 @@ def town(folder: Path) -> ProjectDesk:
     return desk
 
 
-STORIES: dict[str, Callable[[Path], ProjectDesk]] = {"water": water, "supply": supply, "rota": rota, "town": town}
+STORIES: dict[str, Callable[[Path], Scenarios]] = {"water": water, "supply": supply, "rota": rota, "town": town}
 
 
 @pytest.fixture(params=STORIES)
@@ -78,13 +78,13 @@ def desk(request: pytest.FixtureRequest, tmp_path: Path) -> Any:
     made.end()
 
 
-def states(desk: ProjectDesk) -> dict[str, tuple[str, str]]:
+def states(desk: Scenarios) -> dict[str, tuple[str, str]]:
     """What flows on each open arc, and what fits, by its name."""
     opened = [number for number in desk.pictured() if not desk.line(number).is_closed]
     return {desk.names.arc(it): (plain_text(desk.flow(it)), plain_text(desk.line(it).capacity)) for it in opened}
 
 
-def value_of(desk: ProjectDesk) -> str:
+def value_of(desk: Scenarios) -> str:
     """The greatest value of a scenario, by the second implementation."""
     answer = program.run([b"solve"], problem(desk).encode()).written
     assert isinstance(answer, bytes)
@@ -112,13 +112,13 @@ def png_chunks(data: bytes) -> int:
     return count
 
 
-def assert_said(desk: ProjectDesk, text: str) -> None:
+def assert_said(desk: Scenarios, text: str) -> None:
     """A text has the network's name, the scenario, the day, the value and its unit."""
     wanted = ["kept.dmf.json", "scenario The plan", time.strftime("%Y-%m-%d"), f"at most {value_of(desk)} {desk.measure.told_unit}".rstrip()]
     assert [it for it in wanted if it not in text] == []
 
 
-def test_problem(desk: ProjectDesk, tmp_path: Path) -> None:
+def test_problem(desk: Scenarios, tmp_path: Path) -> None:
     text = problem(desk)
     (tmp_path / "plan.max").write_text(text)
     wanted = {name: capacity for name, (_, capacity) in states(desk).items()}
@@ -126,7 +126,7 @@ def test_problem(desk: ProjectDesk, tmp_path: Path) -> None:
     assert_said(desk, text)
 
 
-def test_table(desk: ProjectDesk, tmp_path: Path) -> None:
+def test_table(desk: Scenarios, tmp_path: Path) -> None:
     """The table has each flow, says once of which plan it is, and is read again by the tools, also into a project that writes it again."""
     text = table(desk)
     (tmp_path / "plan.csv").write_text(text)
@@ -146,7 +146,7 @@ def test_table(desk: ProjectDesk, tmp_path: Path) -> None:
 
 
 @pytest.mark.parametrize("name", ["page.svg", "plan.svg", "plan.png", "plan.dot", "report.html"])
-def test_pictures_are_read_back(desk: ProjectDesk, tmp_path: Path, name: str) -> None:
+def test_pictures_are_read_back(desk: Scenarios, tmp_path: Path, name: str) -> None:
     """A picture or a report carries its problem: dmf-plan and dmf.read find the same values, and one of which a part is missing is refused."""
     path = tmp_path / name
     if name == "page.svg":
@@ -201,7 +201,7 @@ def test_what_names_and_notes_say_is_not_read(tmp_path: Path, name: str, form: s
     desk.end()
 
 
-def test_picture(desk: ProjectDesk) -> None:
+def test_picture(desk: Scenarios) -> None:
     """The page's picture to take along has the flow and the room of each arc, and a caption."""
     root = ElementTree.fromstring(Picture(desk).svg((), desk.pictured(), to_take=True))
     titles = [group.findtext(f"{SVG}title") or "" for group in root.iter(f"{SVG}g") if (group.get("class") or "").startswith("arc")]
@@ -212,7 +212,7 @@ def test_picture(desk: ProjectDesk) -> None:
     assert "red: the limit" in texts and (not desk.measure.told_unit or f"numbers in {desk.measure.told_unit}" in texts)
 
 
-def test_drawn(desk: ProjectDesk, tmp_path: Path) -> None:
+def test_drawn(desk: Scenarios, tmp_path: Path) -> None:
     """What dmf-plan draws has the same numbers, and the same caption."""
     wanted, path = states(desk), desk.file.path
     names = [f"{tmp_path}/{name}" for name in ("plan.svg", "plan.png", "plan.dot")]

@@ -13,8 +13,8 @@ from typing import Any
 import pytest
 from dmf.desk.project import storage as project_file
 from dmf.desk.project.storage import MOST_VERSIONS, created, journal_of, opened, versions_of
-from dmf.desk.project.schema import ProjectFault, Scenario, project_of, said_scenario, said_step, text_of
-from dmf.tools.command import write_file
+from dmf.desk.project.schema import ProjectFault, Scenario, parse_project, said_scenario, said_step, text_of
+from dmf.files import write_file
 from project_files import STEP, a_project, begun, left, made_project, refused
 
 
@@ -36,7 +36,7 @@ def test_a_kill_at_each_byte(path: str) -> None:
         again = opened(path)
         assert again.project.serial == acts, end
         assert bool(again.news) == (not text[:end].endswith(b"\n") and end > 0), end
-        assert project_of(Path(path).read_bytes()) == again.project
+        assert parse_project(Path(path).read_bytes()) == again.project
         again.end()
         assert not Path(journal_of(path)).exists()
 
@@ -113,7 +113,7 @@ def test_versions(path: str) -> None:
     assert file.project.notes == str(MOST_VERSIONS + 1)
     file.keep("notes", "again")
     file.end()
-    assert len(versions_of(path)) == MOST_VERSIONS and project_of(Path(versions_of(path)[-1]).read_bytes()).notes == str(MOST_VERSIONS + 1)
+    assert len(versions_of(path)) == MOST_VERSIONS and parse_project(Path(versions_of(path)[-1]).read_bytes()).notes == str(MOST_VERSIONS + 1)
 
 
 def test_a_clock_that_jumps(path: str, monkeypatch: pytest.MonkeyPatch) -> None:
@@ -143,8 +143,8 @@ def test_a_clock_that_jumps(path: str, monkeypatch: pytest.MonkeyPatch) -> None:
         else:
             left(file)
     opened(path).end()
-    kept = [project_of(Path(it).read_bytes()).notes for it in versions_of(path)]
-    assert len(kept) == MOST_VERSIONS and kept == sorted(kept, key=notes.index) and project_of(Path(path).read_bytes()).notes == notes[-1]
+    kept = [parse_project(Path(it).read_bytes()).notes for it in versions_of(path)]
+    assert len(kept) == MOST_VERSIONS and kept == sorted(kept, key=notes.index) and parse_project(Path(path).read_bytes()).notes == notes[-1]
 
 
 def test_two_desks(path: str) -> None:
@@ -237,7 +237,7 @@ def test_written_by_somebody_else(path: str) -> None:
     Path(path).write_bytes(text_of(other))
     file.end()
     assert file.news == [f"somebody else has written {path} meanwhile: that is {path}.~1~ now"]
-    assert project_of(Path(f"{path}.~1~").read_bytes()).notes == "theirs" and project_of(Path(path).read_bytes()) == file.project
+    assert parse_project(Path(f"{path}.~1~").read_bytes()).notes == "theirs" and parse_project(Path(path).read_bytes()) == file.project
     again = opened(path)
     again.keep("notes", "ours")
     again.end()

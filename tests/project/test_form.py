@@ -13,7 +13,7 @@ import pytest
 from desk_shared import ROOT
 from dmf.desk.project import acts
 from dmf.desk.project.storage import opened
-from dmf.desk.project.schema import REQUESTS, project_of, text_of
+from dmf.desk.project.schema import REQUESTS, parse_project, text_of
 from project_files import a_project, made_project, refused
 
 
@@ -32,7 +32,7 @@ def changed(path: str, change: Callable[[dict[str, Any]], object]) -> str:
 
 
 def test_read_back(path: str) -> None:
-    assert project_of(text_of(a_project())) == a_project()
+    assert parse_project(text_of(a_project())) == a_project()
     read = opened(path)
     assert read.project == a_project() and not read.why_not
     read.end()

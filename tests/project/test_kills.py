@@ -11,7 +11,7 @@ from pathlib import Path
 
 import pytest
 from desk_shared import greatest, water
-from dmf.desk.plan.shell import Plan
+from dmf.desk.plan.shell import Shell
 from dmf.desk.project.storage import opened
 from dmf.desk.project.schema import Project
 from dmf.desk.project.opener import project_desk
@@ -73,7 +73,7 @@ def session(path: str, commands: list[str]) -> tuple[int, int]:
         def write(text: str) -> None:
             os.write(writing, text.encode())
 
-        plan = Plan(project_desk(path), is_typed=False, write=write)
+        plan = Shell(project_desk(path), is_typed=False, write=write)
         plan.run_script(commands)
         plan.desk.end()
     finally:

@@ -20,7 +20,7 @@ from dmf.desk.workspace import Desk
 from dmf.desk.steps import DeskFault
 from dmf.desk.project import report as project_findings
 from dmf.desk.project.report import checked, findings
-from dmf.desk.project.report_project import report
+from dmf.desk.project.report import report
 from project_shared import named, new_project, supply_project, water_project
 from packages import load
 

@@ -13,9 +13,10 @@ from typing import Any
 
 import pytest
 from desk_shared import ODD, end_session, greatest, water, without
+from dmf.desk.analysis import trials_of
 from dmf.desk.steps import DeskFault
 from dmf.network import Network
-from dmf.desk.project.scenarios import ProjectDesk
+from dmf.desk.project.scenarios import Scenarios
 from dmf.desk.project.opener import project_desk
 from project_shared import arc_states, named, new_project, supply_project, water_project
 
@@ -26,13 +27,13 @@ def refused(call: Any, *given: Any) -> str:
     return str(fault.value)
 
 
-def again(desk: ProjectDesk) -> ProjectDesk:
+def again(desk: Scenarios) -> Scenarios:
     """The desk of the same project, closed and opened again."""
     desk.end()
     return project_desk(desk.file.path)
 
 
-def names(desk: ProjectDesk) -> list[str]:
+def names(desk: Scenarios) -> list[str]:
     return [it.name for it in desk.project.scenarios]
 
 
@@ -137,7 +138,7 @@ def test_a_trial_keeps_nothing_that_is_only_tried(tmp_path: Path) -> None:
     before = desk.project.serial
     with desk.aside():
         desk.close(named(desk, "Bridge pipe"))
-    list(desk.sweep([1, 2]))
+    list(trials_of(desk, [1, 2]))
     assert desk.project.serial == before and not desk.scenario.steps
     desk.end()
 
@@ -224,7 +225,7 @@ def test_an_ended_session(tmp_path: Path, monkeypatch: pytest.MonkeyPatch) -> No
     assert again(desk).value == 165
 
 
-def visit(desk: ProjectDesk) -> None:
+def visit(desk: Scenarios) -> None:
     with desk.visiting("first"):
         raise AssertionError("it was not visited")
 

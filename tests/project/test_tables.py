@@ -11,10 +11,10 @@ import pytest
 from desk_shared import ROOT, SECONDS, greatest, run, water, water_problem
 from dmf.desk.workspace import Desk
 from dmf.desk.steps import DeskFault
-from dmf.desk.project.scenarios import ProjectDesk
+from dmf.desk.project.scenarios import Scenarios
 from dmf.desk.project.storage import versions_of
 from dmf.desk.project.opener import keep_project, project_desk
-from dmf.tables.subject import read_subject
+from dmf.tables.loader import read_subject
 from project_shared import named, new_project, supply_project, water_project, words
 from packages import load
 
@@ -25,7 +25,7 @@ Weir;Sea;60,25;Long
 """
 
 
-def with_steps(folder: Path) -> ProjectDesk:
+def with_steps(folder: Path) -> Scenarios:
     desk = water_project(folder)
     desk.close(named(desk, "Bridge pipe"))
     desk.cap(named(desk, "Mill Lane"), 60)

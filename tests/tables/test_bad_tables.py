@@ -12,7 +12,7 @@ from typing import Any, Optional
 import pytest
 import town_table as town
 from client_shared import dmf
-from dmf.tables.loader import Wanted, plan_of
+from dmf.tables.loader import TableOptions, load_tables
 from packages import load
 
 openpyxl: Any = load("openpyxl")
@@ -22,12 +22,12 @@ NO_NUMBER = "is no number; a number is digits, perhaps with a decimal sign, as 4
 def faults(data: bytes, path: str = "t") -> list[str]:
     """What is told of a table, without its file."""
     with pytest.raises(dmf.TableFault) as caught:
-        plan_of(Wanted(), path, data)
+        load_tables(TableOptions(), path, data)
     return [line.removeprefix(f"{path}: ").removeprefix("t#Arcs: ") for line in caught.value.lines()]
 
 
 def rows(data: bytes) -> list[tuple[str, str, int]]:
-    table = plan_of(Wanted(), "t", data).arcs
+    table = load_tables(TableOptions(), "t", data).arcs
     names = list(table.places)
     return [(names[tail - 1], names[head - 1], number) for tail, head, number in zip(table.tails, table.heads, table.amounts.numbers)]
 
@@ -142,13 +142,13 @@ def test_refused(text: str, told: str) -> None:
 def test_units(title: str, cells: list[str], unit: str) -> None:
     """A unit that the title names, or the cells; a word in the title counts where neither does."""
     data = f"von;nach;{title}\nA;B;{cells[0]}\nB;C;{cells[1]}\n".encode()
-    amounts = plan_of(Wanted(), "t", data).arcs.amounts
+    amounts = load_tables(TableOptions(), "t", data).arcs.amounts
     assert (amounts.unit, [*amounts.numbers]) == (unit, [3, 4])
 
 
 def test_numbers_for_names_are_told() -> None:
     """A fourth column of numbers with a title that says nothing is read as names, and that is told; names are not."""
-    notes = [plan_of(Wanted(), "t", f"von;nach;Menge;Lkw\nA;B;3;{cell}\n".encode()).notes for cell in ("4", "blau")]
+    notes = [load_tables(TableOptions(), "t", f"von;nach;Menge;Lkw\nA;B;3;{cell}\n".encode()).notes for cell in ("4", "blau")]
     assert notes == [["read 'von' as tail, 'nach' as head, 'Menge' as capacity, 'Lkw' as name"], []]
 
 

@@ -17,7 +17,8 @@ from dmf.desk.workspace import Desk
 from dmf.desk.export import problem, table
 from dmf.tables import other_columns as extra
 from dmf.tables.other_columns import Extra, extra_in, left_out
-from dmf.tables.subject import Subject, add_words, read_subject, words_of
+from dmf.tables.loader import LoadedProblem, read_subject
+from dmf.tools.options import add_words, words_of
 from hypothesis import given
 from hypothesis import strategies as some
 from made_tables import made
@@ -27,7 +28,7 @@ CELLS = some.text(some.one_of(some.sampled_from('"\\ \t\r\n\ufeff\u2028c'), some
 PROBLEM = "p max 2 3\nn 1 s\nn 2 t\n" + "a 1 2 3\n" * 3
 
 
-def subject_of(path: Path, *words: str) -> Subject:
+def subject_of(path: Path, *words: str) -> LoadedProblem:
     parser = argparse.ArgumentParser()
     add_words(parser)
     return read_subject(words_of(parser, [str(path), *words]))

@@ -6,7 +6,7 @@ from decimal import Decimal
 
 import pytest
 from dmf.quantity import Measure
-from dmf.text.table_comments import Described, Role, comments, described
+from dmf.text.table_comments import Role, TableComments, described, table_comments
 from dmf.text.problem_text import read_problem
 
 TEXT = """c capacities are those of the table times 10
@@ -20,7 +20,7 @@ c inner arc 72 supply 2
 c inner arc 74 demand 9 unlimited
 c inner arc 75 limit 4
 """
-SAID = Described(
+SAID = TableComments(
     Measure(Decimal(10), "l/s", "pipes.csv", ","),
     {41: "sources", 42: "sinks"},
     {43: 4},
@@ -30,13 +30,13 @@ PROBLEM = "p max 50 0\nn 1 s\nn 2 t\n"
 
 
 def test_there_and_back() -> None:
-    assert comments(SAID) == TEXT
+    assert table_comments(SAID) == TEXT
     for text in TEXT, TEXT.replace("\n", "\r\n"), TEXT[:-1], f"c hello\n{TEXT}{PROBLEM}", "".join(sorted(TEXT.splitlines(keepends=True))):
         assert described(text.encode()) == SAID
-    assert comments(Described()) == ""
+    assert table_comments(TableComments()) == ""
     # With 41 to 43 past the last node and 72 on past the last arc, the measure is left.
     problem = read_problem((TEXT + PROBLEM.replace("50", "40")).encode())
-    assert problem.described == Described(SAID.measure)
+    assert problem.described == TableComments(SAID.measure)
 
 
 @pytest.mark.parametrize(
@@ -47,7 +47,7 @@ def test_there_and_back() -> None:
     ],
 )  # fmt: skip
 def test_other_comments(text: str) -> None:
-    assert described(text.encode()) == Described()
+    assert described(text.encode()) == TableComments()
 
 
 def test_the_first_counts() -> None:
@@ -57,6 +57,6 @@ def test_the_first_counts() -> None:
 
 def test_odd_names() -> None:
     """What cannot stand on a line is escaped, and does not come back; all else does."""
-    said = Described(Measure(unit=" m\xb3/h c unit", table="a\nc unit x\u2028\udcfc.csv"))
-    assert comments(said) == "c unit m\xb3/h c unit\nc table a\\nc unit x\\u2028\\udcfc.csv\n"
-    assert described(comments(said).encode()).measure == Measure(unit="m\xb3/h c unit", table="a\\nc unit x\\u2028\\udcfc.csv")
+    said = TableComments(Measure(unit=" m\xb3/h c unit", table="a\nc unit x\u2028\udcfc.csv"))
+    assert table_comments(said) == "c unit m\xb3/h c unit\nc table a\\nc unit x\\u2028\\udcfc.csv\n"
+    assert described(table_comments(said).encode()).measure == Measure(unit="m\xb3/h c unit", table="a\\nc unit x\\u2028\\udcfc.csv")

@@ -9,8 +9,8 @@ from fractions import Fraction
 
 import pytest
 from dmf.quantity import Measure, readings
-from dmf.tables.faults import Faults
-from dmf.tables.sheet_tables import Exact
+from dmf.tables.sheet import Faults
+from dmf.tables.sheet import Exact
 from dmf.tables.amount_columns import Amounts
 from hypothesis import given
 from hypothesis import strategies as st

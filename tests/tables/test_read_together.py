@@ -8,22 +8,25 @@ import io
 from array import array
 from collections import Counter
 from collections.abc import Iterator
-from contextlib import contextmanager
+from contextlib import ExitStack, contextmanager
 from decimal import Decimal
 from fractions import Fraction
+from importlib import import_module
+from unittest.mock import patch
 
 import pytest
-from dmf import arrays
 from dmf.tables import csv_file as file
-from dmf.tables import numbered
+from dmf.tables import problem_builder, warnings
+from dmf.tables import readers as numbered
 from dmf.tables import numpy_rows as spans
-from dmf.tables.ends import ends_alone
-from dmf.tables.faults import TableFault
+from dmf.tables.problem_builder import ends_alone
+from dmf.errors import TableFault
 from dmf.tables.csv_file import Block
-from dmf.tables.numbered import Numbers, are_plain, name_of
+from dmf.tables.readers import Numbers, are_plain, name_of
 from dmf.tables.amount_columns import Plain, _plain
-from dmf.tables.readers import Reading, read_arcs
-from dmf.tables.sheet_tables import Rows
+from dmf.tables.arcs_and_places import read_arcs
+from dmf.tables.readers import ReadOptions
+from dmf.tables.sheet import Rows
 from dmf.tables.numpy_rows import Spans, first_alike, spans_of
 from dmf.tables.warnings import _alike, _equal
 from hypothesis import given
@@ -40,7 +43,7 @@ def pieces_of(size: int, *, by_numpy: bool) -> Iterator[None]:
         patch.setattr(file, "PIECE_BYTES", size)
         patch.setattr(file, "LARGE_PIECE_BYTES", 3 * size)
         patch.setattr(file, "LEAST_LINES", 0)
-        patch.setattr(arrays, "numpy_for", lambda _: load("numpy") if by_numpy else None)
+        patch.setattr(file, "numpy_for", lambda _: load("numpy") if by_numpy else None)
         yield
 
 
@@ -167,7 +170,7 @@ def read(text: str, size: int, *, by_numpy: bool) -> list[object]:
     """All that is read of a table, or what is wrong with it."""
     with pieces_of(size, by_numpy=by_numpy):
         try:
-            table = read_arcs(file.csv_sheet(text.encode(), "t", None, 3), Reading())
+            table = read_arcs(file.csv_sheet(text.encode(), "t", None, 3), ReadOptions())
         except TableFault as fault:
             return [*fault.lines()]
         amounts = [table.amounts.quantity(row) for row in range(len(table.tails))]
@@ -247,11 +250,10 @@ ENDS = some.lists(some.tuples(some.integers(1, 6), some.integers(1, 6), some.int
 def test_ends_and_rows(rows: list[tuple[int, int, int]], by_numpy: bool) -> None:
     """By numpy, where it is there, and without."""
     tails, heads, numbers = (array(code, [row[place] for row in rows]) for place, code in enumerate("IIQ"))
-    before, arrays.numpy_for = arrays.numpy_for, lambda _: arrays.package("numpy", "this test") if by_numpy else None
-    try:
+    with ExitStack() as stack:
+        for module in problem_builder, warnings:
+            stack.enter_context(patch.object(module, "numpy_for", lambda _: import_module("numpy") if by_numpy else None))
         alone, alike, loops = ends_alone(tails, heads), set(_alike(tails, heads, numbers)), _equal(tails, heads)
-    finally:
-        arrays.numpy_for = before
     ways = [(tail, head) for tail, head, _ in rows if tail != head]
     left, entered = {tail for tail, _ in ways}, {head for _, head in ways}
     first = list(dict.fromkeys(tail for tail, _ in ways if tail not in entered))

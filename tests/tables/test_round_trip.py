@@ -19,17 +19,18 @@ from client_shared import dmf
 from desk_shared import run
 from dmf.desk.workspace import Desk
 from dmf.desk.export import table
-from dmf.tables.subject import Subject, add_words, read_subject, words_of
+from dmf.tables.loader import LoadedProblem, read_subject
+from dmf.tools.options import add_words, words_of
 from made_tables import Row, made
 from oracle import program
 
-def subject_of(path: Path, *words: str) -> Subject:
+def subject_of(path: Path, *words: str) -> LoadedProblem:
     parser = argparse.ArgumentParser()
     add_words(parser)
     return read_subject(words_of(parser, [str(path), *words]))
 
 
-def told(subject: Subject) -> tuple[list[Row], dict[tuple[str, str], Decimal | None]]:
+def told(subject: LoadedProblem) -> tuple[list[Row], dict[tuple[str, str], Decimal | None]]:
     """What a table says, as it is read."""
     assert subject.plan
     arcs, extra = subject.plan.arcs, subject.extra
@@ -43,7 +44,7 @@ def told(subject: Subject) -> tuple[list[Row], dict[tuple[str, str], Decimal | N
     return rows, {(term.kind, term.place): term.quantity for term in subject.plan.counted}
 
 
-def value_of(subject: Subject) -> Fraction:
+def value_of(subject: LoadedProblem) -> Fraction:
     """The greatest value of a subject's problem, by the second implementation."""
     answer = program.run([b"solve"], subject.text).written
     assert isinstance(answer, bytes)

@@ -15,7 +15,7 @@ from typing import Any
 import pytest
 from client_shared import dmf
 from dmf.quantity import plain_text
-from dmf.tables.sheet_tables import Exact
+from dmf.tables.sheet import Exact
 from dmf.tables.workbook import cell_text, workbook_sheets
 from dmf.tables.xlsx import Workbook, is_date, unescaped
 from hypothesis import given

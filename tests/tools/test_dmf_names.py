@@ -21,7 +21,7 @@ from built import heed_interrupts
 from conftest import BUILT, ROOT
 from dmf.desk.workspace import Desk
 from dmf.desk.export import table
-from dmf.tables.subject import Subject
+from dmf.tables.loader import LoadedProblem
 from names_rows import FAULTS, LATER, NO_TABLES, ROADS, TABLES, TITLES, TOLD_OF, TOWN_CHANGES, TOWN_DRAWN, TOWN_PLAN, TOWN_TOLD, UNKNOWN, WARNED
 from tool_runs import Ran, Text, Tools, put, text, wait_until_asleep
 
@@ -98,7 +98,7 @@ def test_a_carriage_return_in_a_table(tools: Tools, tmp_path: Path) -> None:
     """It is shown as `\\x0d`, since a reader of the table may take it for the end of a line, which `csv` leaves without quotes."""
     ran = names_of(tools, tmp_path, CARRIAGE_RETURNS, None, "s 3 / f 1 2 3", "--csv")
     assert ran.out.splitlines()[1:] == [rb'1,"ca\x0d""nal",la\x0dke,2,3,3,yes,']
-    assert table(Desk(Subject("a test", CARRIAGE_RETURNS))).splitlines()[1:] == [r'1,"ca\x0d""nal",la\x0dke,2,0,3,no,']
+    assert table(Desk(LoadedProblem("a test", CARRIAGE_RETURNS))).splitlines()[1:] == [r'1,"ca\x0d""nal",la\x0dke,2,0,3,no,']
 
 
 @pytest.mark.parametrize(("problem", "commands", "answer", "told"), NO_TABLES)

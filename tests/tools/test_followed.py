@@ -10,9 +10,12 @@ from typing import Any
 
 import pytest
 import random_cases
-from dmf.text.session_replies import Cut, Event, Printed, Solution
-from dmf.text.problem_text import Fault, display, fields, lines, number, read_names, read_problem
-from dmf.text.transcript import Follower, TranscriptFault
+from dmf.text.session_replies import CutReply, Event, PrintedReply, SolutionReply
+from dmf.text.lexical import Fault, display, fields, lines, read_number
+from dmf.text.problem_text import read_problem
+from dmf.text.spelling import read_names
+from dmf.text.session_replies import TranscriptFault
+from dmf.text.transcript import TranscriptReader
 from oracle import problem as oracle_problem
 from oracle import session, texts
 from oracle.network import State, smallest_side
@@ -84,7 +87,7 @@ SHOWN = {
 FUNCTIONS: list[tuple[Callable[..., Any], Mapping[Any, Any]]] = [
     (lines, LINES),
     (fields, FIELDS),
-    (number, NUMBERS),
+    (read_number, NUMBERS),
     (read_names, NAMES),
     (display, SHOWN),
 ]
@@ -141,7 +144,7 @@ def test_problems(batch: int) -> None:
 class Told:
     """What was told of the reply to one command, and what the second implementation has there."""
 
-    follower: Follower
+    follower: TranscriptReader
     events: list[Event]
     state: State
 
@@ -155,12 +158,12 @@ class Told:
 
     def judge_event(self, event: Event) -> None:
         numbers = [at for at, arc in enumerate(self.state.arcs, 1) if not arc.is_closed]
-        if isinstance(event, Solution):
+        if isinstance(event, SolutionReply):
             assert (event.is_told, event.value, list(event.numbers)) == (True, self.state.value(), numbers)
             assert list(event.flows) == [flow for _, flow in self.state.open_arcs()]
-        elif isinstance(event, Printed):
+        elif isinstance(event, PrintedReply):
             assert event.numbers == numbers
-        elif isinstance(event, Cut):
+        elif isinstance(event, CutReply):
             side, capacity = smallest_side(self.state)
             crossing = [at for at in numbers if self.state.arcs[at - 1].tail in side and self.state.arcs[at - 1].head not in side]
             assert (event.side, event.capacity, event.arcs) == (side, capacity, crossing)
@@ -169,14 +172,14 @@ class Told:
 def follow(state: State, commands: list[bytes], wanted: session.SolveReply, bound: int, is_given: bool) -> None:
     """Follows a session, and judges what is known after each command. Every reply is told whole before the next one begins."""
     held = session.Session(state, wanted, bound)
-    follower = Follower(read_problem(oracle_problem.problem_text(state)), iter(commands) if is_given else None)
+    follower = TranscriptReader(read_problem(oracle_problem.problem_text(state)), iter(commands) if is_given else None)
     for place, line in enumerate(commands, 1):
         reply = held.answer(place, line)
         events = [] if is_given else follower.take(line)
         told = lines_with_ends(reply)
         for reply_line in told:
             events += follower.take(reply_line)
-        whole = sum(isinstance(event, (Solution, Cut, Printed)) for event in events)
+        whole = sum(isinstance(event, (SolutionReply, CutReply, PrintedReply)) for event in events)
         assert whole == sum(reply_line.startswith((b"s ", b"c cut ", b"p max ")) for reply_line in told), line
         Told(follower, events, held.present()).judge()
     assert not follower.end()
@@ -240,7 +243,7 @@ def lines_with_ends(text: bytes) -> list[bytes]:
 
 def fault_of(problem: bytes, commands: Iterable[bytes] | None, replies: list[bytes]) -> str | None:
     """The fault of a session, if it has one."""
-    follower = Follower(read_problem(problem), None if commands is None else iter(commands))
+    follower = TranscriptReader(read_problem(problem), None if commands is None else iter(commands))
     try:
         for line in replies:
             follower.take(line)

@@ -12,7 +12,7 @@ from typing import Any
 import pytest
 from built import BUILT
 from desk_shared import ODD, PIPES, ROOT, SCRIPT, SECONDS, STORY, run, swept, water_problem
-from dmf.text.problem_text import display
+from dmf.text.lexical import display
 from packages import load
 
 jsonschema = load("jsonschema")

@@ -13,7 +13,7 @@ from desk_shared import run
 from dmf.desk.board.picture import Picture
 from dmf.desk.workspace import Desk
 from dmf.desk.export import picture_text
-from dmf.tables.subject import Subject
+from dmf.tables.loader import LoadedProblem
 from dmf.text.problem_text import read_problem
 from tool_runs import Tools
 
@@ -135,7 +135,7 @@ def test_dmf_plan(tmp_path: Path, is_table: bool) -> None:
 @pytest.mark.parametrize("problem", [PLAIN, IN_LITRES])
 def test_pictures_of_a_desk(problem: str) -> None:
     """Those of a board, too."""
-    desk = Desk(Subject("a test", problem.encode()), with_solve=True)
+    desk = Desk(LoadedProblem("a test", problem.encode()), with_solve=True)
     amounts = "1470/1470" if problem == PLAIN else "14.7/14.7"
     for drawn in picture_text(desk), Picture(desk).svg((), [1, 2], to_take=True):
         assert (LEGEND in drawn, amounts in drawn) == (problem != PLAIN, True)

@@ -12,10 +12,12 @@ from desk_shared import run
 from dmf.desk.workspace import Desk
 from dmf.desk.export import table
 from dmf.quantity import Measure
-from dmf.tables.sheet import ArcRow, cell_of, line, name_in, plan_table
+from dmf.tables.sheet import cell_of, line, name_in
+from dmf.tables.table_writer import ArcRow, plan_table
 from dmf.tables.csv_file import csv_sheet
-from dmf.tables.readers import Reading, read_arcs
-from dmf.tables.subject import Subject
+from dmf.tables.arcs_and_places import read_arcs
+from dmf.tables.readers import ReadOptions
+from dmf.tables.loader import LoadedProblem
 from hypothesis import given
 from hypothesis import strategies as some
 from tool_runs import Tools
@@ -62,7 +64,7 @@ def test_a_table_of_a_plan(names: list[str]) -> None:
     name, tail, head = (" ".join(re.sub("[^ -~＝＋－＠]", "", name).split()) or "x" for name in names)
     text = plan_table([ArcRow(1, name, tail, head, 3, 4, None)], Measure(), raw_names=False)
     titles = {"tail": "from", "head": "to", "capacity": "capacity", "name": "name"}
-    table = read_arcs(csv_sheet(text.encode(), "", None, 3), Reading(titles))
+    table = read_arcs(csv_sheet(text.encode(), "", None, 3), ReadOptions(titles))
     places = list(table.places)
     assert [places[table.tails[0] - 1], places[table.heads[0] - 1], list(table.amounts.numbers), [*table.labels]] == [tail, head, [4], [name]]
 
@@ -112,7 +114,7 @@ def test_dmf_plan(tmp_path: Path, is_raw: bool) -> None:
 
 def test_the_board() -> None:
     """Its plan.csv."""
-    desk = Desk(Subject("a test", PROBLEM.encode()), with_solve=True)
+    desk = Desk(LoadedProblem("a test", PROBLEM.encode()), with_solve=True)
     assert [row[0] for row in names_of(table(desk), 1)] == protected(is_raw=False)
     desk.end()
 

@@ -18,13 +18,13 @@ from pathlib import Path
 import pytest
 from client_shared import CLIENT, dmf
 from desk_shared import run
-from dmf.desk.board import Board
+from dmf.desk.board.routes import Board
 from dmf.desk.workspace import Desk
 from dmf.desk.export import problem, table
-from dmf.desk.plan.shell import Plan
-from dmf.tables.subject import Subject
-from dmf.text.problem_text import read_names
-from dmf.tools.command import write_file
+from dmf.desk.plan.shell import Shell
+from dmf.tables.loader import LoadedProblem
+from dmf.text.spelling import read_names
+from dmf.files import write_file
 
 LARGE = b"x" * 100_000
 PROBLEM = "c node 1 lake\nc node 2 sea\nc arc 1 canal\np max 2 1\nn 1 s\nn 2 t\na 1 2 3\n"
@@ -105,7 +105,7 @@ def test_what_can_have_no_file_beside_it(tmp_path: Path) -> None:
     write_file("/dev/null", LARGE)
     with pytest.raises(OSError, match="No space left on device"):
         write_file("/dev/full", LARGE)
-    script = "import sys; sys.path.insert(0, sys.argv[1])\nfrom dmf.tools.command import write, write_file\n"
+    script = "import sys; sys.path.insert(0, sys.argv[1])\nfrom dmf.tools.command import write; from dmf.files import write_file\n"
     script += "write('before\\n'); write_file(sys.argv[2], b'here\\n'); write('after\\n')"
     for path in "/dev/stdout", "/dev/fd/1", "/proc/self/fd/1":
         command = [sys.executable, "-c", script, CLIENT, path]
@@ -120,8 +120,8 @@ def test_dmf_plan_saves_again_what_it_could_not_save(tmp_path: Path, monkeypatch
     wrote before stays."""
     told = io.StringIO()
     monkeypatch.setattr(sys, "stderr", told)
-    desk = Desk(Subject("a test", PROBLEM.encode()), with_solve=True)
-    plan = Plan(desk, is_typed=False, write=lambda text: None)
+    desk = Desk(LoadedProblem("a test", PROBLEM.encode()), with_solve=True)
+    plan = Shell(desk, is_typed=False, write=lambda text: None)
     path = tmp_path / "plan.csv"
     with room_for(60):
         plan.onecmd(f"save {path}")
@@ -143,7 +143,7 @@ HALVES = ["\ud800", "a\udfffb", "\ud83d\ud83d"]
 @pytest.mark.parametrize("name", [*HALVES, " a", "a ", "a\nb", "a\r", "\x1b[31m", "x\u2028y", "=a"])
 def test_names_of_added_arcs(name: str) -> None:
     """What a desk writes has a name that was given for an arc, or that name escaped. A reader finds no line in it."""
-    desk = Desk(Subject("a test", PROBLEM.encode()), with_solve=True)
+    desk = Desk(LoadedProblem("a test", PROBLEM.encode()), with_solve=True)
     desk.add(desk.names.place("lake"), desk.names.place("sea"), 4, name)
     text = problem(desk).encode()
     nodes, arcs = read_names(text)
@@ -159,7 +159,7 @@ def test_names_of_added_arcs(name: str) -> None:
 
 def test_the_name_of_an_arc_that_is_opened_again() -> None:
     """It is the one that the arc had, and not as it was shown."""
-    desk = Desk(Subject("a test", PROBLEM.replace("canal", "ca\rnal\u2028").encode()), with_solve=True)
+    desk = Desk(LoadedProblem("a test", PROBLEM.replace("canal", "ca\rnal\u2028").encode()), with_solve=True)
     before = problem(desk)
     desk.close(1)
     desk.open(1)
@@ -171,7 +171,7 @@ def test_the_name_of_an_arc_that_is_opened_again() -> None:
 @pytest.mark.parametrize("name", HALVES)
 def test_names_on_a_board(name: str) -> None:
     """Each of its pages and files has the name, escaped."""
-    desk = Desk(Subject("a test", PROBLEM.encode()), with_solve=True)
+    desk = Desk(LoadedProblem("a test", PROBLEM.encode()), with_solve=True)
     board = Board(desk)
     added = board.post("do", {"what": "add", "tail": 1, "head": "sea", "capacity": "4", "name": name, "turn": desk.turn})
     assert added.status == 200

@@ -35,6 +35,9 @@ if TYPE_CHECKING:
     from importlib.machinery import ModuleSpec
 
     from .arcs import Arc as Arc
+    from .desk.project.comparison import Comparison as Comparison
+    from .desk.project.open_project import OpenProject as OpenProject, new_project as new_project, open_project as open_project
+    from .desk.project.schema import ProjectFault as ProjectFault
     from .errors import (
         AmbiguousArc as AmbiguousArc,
         ArcBeforeSourceAndSink as ArcBeforeSourceAndSink,
@@ -66,6 +69,7 @@ if TYPE_CHECKING:
         SessionEnded as SessionEnded,
         SourceAndSinkAreTheSame as SourceAndSinkAreTheSame,
         SourceOrSinkMissing as SourceOrSinkMissing,
+        TableFault as TableFault,
         TerminalNamedTwice as TerminalNamedTwice,
         TooFewArcs as TooFewArcs,
         TooManyArcs as TooManyArcs,
@@ -76,14 +80,18 @@ if TYPE_CHECKING:
         UsedByTwoThreads as UsedByTwoThreads,
         WrongNumberOfFields as WrongNumberOfFields,
     )
-    from .session.executable import program as program
+    from .graphs import (
+        MatrixFlow as MatrixFlow,
+        from_networkx as from_networkx,
+        from_scipy as from_scipy,
+        maximum_flow as maximum_flow,
+        minimum_cut as minimum_cut,
+        value as value,
+    )
     from .network import Network as Network, Row as Row
-    from .graphs import MatrixFlow as MatrixFlow, maximum_flow as maximum_flow, minimum_cut as minimum_cut, value as value
-    from .desk.project.comparison import Comparison as Comparison
-    from .desk.project.schema import ProjectFault as ProjectFault
-    from .desk.project.open_project import OpenProject as OpenProject, new_project as new_project, open_project as open_project
+    from .session.executable import program as program
+    from .session.runners import library as library
     from .solution import Cut as Cut, Solution as Solution
-    from .tables.problem_networks import from_networkx as from_networkx, from_scipy as from_scipy, read as read
     from .sweeps.cases import (
         SweepResult as SweepResult,
         each_arc_closed as each_arc_closed,
@@ -92,27 +100,25 @@ if TYPE_CHECKING:
         each_pair_added as each_pair_added,
         sweep as sweep,
     )
-    from .tables.faults import TableFault as TableFault
-    from .tables.table_network import TableNetwork as TableNetwork
     from .tables.network_loader import read_table as read_table
-    from .session.runners import library as library
+    from .tables.problem_networks import read as read
+    from .tables.table_network import TableNetwork as TableNetwork
 
 # The public names of each module, but for those of the exceptions, which the module `errors` knows itself.
 _NAMES = {
     "arcs": ["Arc"],
-    "session.executable": ["program"],
-    "network": ["Network", "Row"],
-    "graphs": ["MatrixFlow", "maximum_flow", "minimum_cut", "value"],
     "desk.project.comparison": ["Comparison"],
-    "desk.project.schema": ["ProjectFault"],
     "desk.project.open_project": ["OpenProject", "new_project", "open_project"],
-    "solution": ["Cut", "Solution"],
-    "tables.problem_networks": ["from_networkx", "from_scipy", "read"],
-    "tables.faults": ["TableFault"],
-    "tables.table_network": ["TableNetwork"],
-    "tables.network_loader": ["read_table"],
-    "sweeps.cases": ["SweepResult", "each_arc_closed", "each_capacity_raised", "each_node_shut", "each_pair_added", "sweep"],
+    "desk.project.schema": ["ProjectFault"],
+    "graphs": ["MatrixFlow", "from_networkx", "from_scipy", "maximum_flow", "minimum_cut", "value"],
+    "network": ["Network", "Row"],
+    "session.executable": ["program"],
     "session.runners": ["library"],
+    "solution": ["Cut", "Solution"],
+    "sweeps.cases": ["SweepResult", "each_arc_closed", "each_capacity_raised", "each_node_shut", "each_pair_added", "sweep"],
+    "tables.network_loader": ["read_table"],
+    "tables.problem_networks": ["read"],
+    "tables.table_network": ["TableNetwork"],
 }
 _HOMES = {name: module for module, names in _NAMES.items() for name in names}
 if not TYPE_CHECKING:

@@ -8,9 +8,10 @@ import signal
 import sys
 from typing import Any, NoReturn
 
+from .errors import NoProgram, Refused, ToolFault
+from .files import cannot
 from .session import executable
-from .errors import NoProgram, Refused
-from .tools.command import ToolFault, cannot, run, write
+from .tools.command import run, write
 
 # The status of `./dmf` where there is no program, where a file cannot be read, and where a problem has a fault.
 MISSING, UNREAD, FAULTY = 70, 4, 3
@@ -29,7 +30,7 @@ def become(path: str) -> NoReturn:
 
 def told(network: Any) -> list[str]:
     """The value of a network, and what its smallest minimum cut has, with what each carries: in the numbers of its table, if it has one."""
-    from .text.folding import DOES, listed
+    from .text.table_comments import DOES, listed
     from .quantity import plain_text
 
     flow, cut, measure = network.solve(), network.cut(), network._measure

@@ -10,10 +10,9 @@ from collections.abc import Hashable, Iterable, Iterator
 from itertools import compress
 from typing import Any, Generic, Protocol
 
-from .columns import Columns as Columns
-from .columns import Node as Node
-from .errors import AmbiguousArc, NoSuchArc, SessionEnded, shown
-from .numbering import NODES
+from .columns import Columns, Node
+from .errors import AmbiguousArc, NoSuchArc, SessionEnded, shown_value
+from .text.lexical import NODES
 
 
 class Owner(Protocol):
@@ -85,8 +84,8 @@ class Arc(Generic[Node]):
         return Arc, (self.number, self.tail, self.head, self.given_key)
 
     def __repr__(self) -> str:
-        key = "" if self.given_key is None else f", {shown(self.given_key)}"
-        return f"<Arc {self.number}: {shown(self.tail)} to {shown(self.head)}{key}>"
+        key = "" if self.given_key is None else f", {shown_value(self.given_key)}"
+        return f"<Arc {self.number}: {shown_value(self.tail)} to {shown_value(self.head)}{key}>"
 
 
 class Handles(Generic[Node]):
@@ -153,10 +152,10 @@ def _keys(arc: Arc[Node]) -> list[Hashable]:
 def one_of(found: list[Arc[Node]], key: Hashable, state: str = "open") -> Arc[Node]:
     """The only arc among those found. Raises `NoSuchArc` if there is none, and `AmbiguousArc` if there are several."""
     if not found:
-        raise NoSuchArc(shown(key))
+        raise NoSuchArc(shown_value(key))
     if len(found) > 1:
         some = ", ".join(map(repr, found[:9])) + ", .." * (len(found) > 9)
-        raise AmbiguousArc(f"{len(found)} {state} arcs have the key or the ends {shown(key)}: {some}")
+        raise AmbiguousArc(f"{len(found)} {state} arcs have the key or the ends {shown_value(key)}: {some}")
     return found[0]
 
 

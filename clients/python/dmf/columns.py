@@ -1,4 +1,4 @@
-"""The arcs of a problem, column by column, and which of them have a name, an end or a place."""
+"""The arcs of a problem, column by column, and the numbers by which a session knows its nodes."""
 
 from __future__ import annotations
 
@@ -6,16 +6,83 @@ import contextlib
 import functools
 from array import array
 from collections import defaultdict
-from collections.abc import Callable, Hashable, Iterable, Mapping, Sequence
+from collections.abc import Callable, Hashable, Iterable, Iterator, Mapping, Sequence
 from itertools import compress, count
 from operator import gt
 from typing import TYPE_CHECKING, Any, Generic, TypeVar
 
-from .errors import NoSuchArc, shown
-from .numbering import NODES, WholeNodes
+from .errors import NoSuchArc, shown_value
+from .text.lexical import NODES, NO_NODE, NUMBERS
 
 if TYPE_CHECKING:
-    from .text.table_comments import Described
+    from .text.table_comments import TableComments
+
+
+class WholeNodes(Mapping[Any, int]):
+    """Nodes that are whole numbers from 0 on, each with its number: from 1 on, in the order in which they came. It works as a
+    dictionary does, in a tenth of the memory and time."""
+
+    def __init__(self, names: array[int] | None = None, numbers: array[int] | None = None) -> None:
+        """`names` are the nodes in the order of their numbers, and `numbers` has the number of each node at the place that is the node."""
+        self.names = array(NODES) if names is None else names
+        self._numbers = array(NUMBERS) if numbers is None else numbers
+
+    @classmethod
+    def of(cls, names: list[int]) -> WholeNodes:
+        """The numbers of nodes that all differ."""
+        made = cls()
+        made.names.extend(names)
+        made._make_room(max(names, default=0))
+        for number, node in enumerate(names, 1):
+            made._numbers[node] = number
+        return made
+
+    def take(self, nodes: list[Any], most: int) -> array[int] | None:
+        """The numbers of these nodes. Each new node gets the next number. If one is no whole number from 0 to `most`, takes none, and
+        returns None."""
+        if not nodes or set(map(type, nodes)) != {int} or min(nodes) < 0:
+            return None if nodes else array(NODES)
+        try:
+            return array(NODES, map(self._numbers.__getitem__, nodes))
+        except (IndexError, OverflowError):
+            highest = max(nodes)
+        if highest > most:
+            return None
+        self._make_room(highest)
+        for node in nodes:
+            if self._numbers[node] == NO_NODE:
+                self.names.append(node)
+                self._numbers[node] = len(self.names)
+        return array(NODES, map(self._numbers.__getitem__, nodes))
+
+    def _make_room(self, highest: int) -> None:
+        """Makes room for nodes up to this one, and for as many again, so that it is seldom called."""
+        room = len(self._numbers)
+        if highest >= room:
+            self._numbers.extend(array(NUMBERS, [NO_NODE]) * (max(highest + 1, 2 * room) - room))
+
+    @functools.cached_property
+    def _dictionary(self) -> dict[Any, int]:
+        """For nodes of other types, of which some are equal to whole numbers."""
+        return dict(zip(self.names, count(1)))
+
+    def __getitem__(self, node: Any) -> int:
+        if type(node) is not int:
+            return self._dictionary[node]
+        number = self._numbers[node] if 0 <= node < len(self._numbers) else NO_NODE
+        if number == NO_NODE:
+            raise KeyError(node)
+        return number
+
+    def __len__(self) -> int:
+        return len(self.names)
+
+    def __iter__(self) -> Iterator[Any]:
+        return iter(self.names)
+
+    def __reduce__(self) -> tuple[Any, ...]:
+        return WholeNodes.of, (list(self.names),)
+
 
 Node = TypeVar("Node", bound=Hashable)
 # How many questions about the arcs at a node look at all arcs, before an index of them is made.
@@ -46,7 +113,7 @@ class Columns(Generic[Node]):
     arcs' numbers. `numbers` has the number of each node, in order. Nothing of it changes. A function may make the keys when one is
     first asked for. `described` is what the problem tells of its table, where it is of one."""
 
-    described: Described | None = None
+    described: TableComments | None = None
 
     def __init__(
         self,
@@ -71,12 +138,6 @@ class Columns(Generic[Node]):
         """The same arcs with one more node."""
         numbers = {**self.numbers, node: len(self.numbers) + 1}
         return Columns(numbers, self.tails, self.heads, lambda: self.keys)
-
-    def network_class(self) -> Any:
-        """The class of the networks of such columns."""
-        from .network import Network
-
-        return Network
 
     @property
     def keys(self) -> dict[int, Hashable]:
@@ -109,7 +170,7 @@ class Columns(Generic[Node]):
         """The number of a node. Raises `NoSuchNode`, also for a value that cannot be hashed."""
         with contextlib.suppress(KeyError, TypeError):
             return self.numbers[node]
-        from .text.hints import no_such_node
+        from .text.spelling import no_such_node
 
         raise no_such_node(node, self.numbers)
 
@@ -119,7 +180,7 @@ class Columns(Generic[Node]):
 
     def no_such_arc(self, key: Hashable) -> NoSuchArc:
         """The refusal of a key, or of a pair of ends, that no arc has."""
-        from .text.hints import no_such_arc
+        from .text.spelling import no_such_arc
 
         return no_such_arc(key, self.numbers, self.keys, self.named)
 
@@ -129,7 +190,7 @@ class Columns(Generic[Node]):
         try:
             found = self._by_key.find(key)
         except TypeError:
-            raise NoSuchArc(shown(key)) from None
+            raise NoSuchArc(shown_value(key)) from None
         if isinstance(key, tuple) and len(key) == 2:
             tail, head = map(self.numbers.get, key)
             if tail and head and (pairs := self.between(tail, head)):

@@ -11,24 +11,26 @@ from types import ModuleType
 # The modules that have what was in each module of then; a package has no names of its own.
 HOMES: dict[str, tuple[str, ...]] = {
     "executable": ("session.executable",),
-    "numbering": ("numbering",),
+    "numbering": ("columns",),
     "once": ("graphs",),
     "project": (),
     "project.comparison": ("desk.project.comparison",),
     "project.form": ("desk.project.schema",),
     "project.live": ("desk.project.open_project",),
     "showing": ("presentation",),
-    "sources": ("tables.problem_networks",),
+    "sources": ("graphs", "tables.problem_networks"),
     "sweeping": ("sweeps.cases",),
-    "tables.answers": ("tables.answers",),
+    "tables.answers": ("tables.table_answers",),
     "tables.comments": ("text.table_comments",),
-    "tables.faults": ("tables.faults",),
+    "tables.faults": ("errors",),
     "tables.folded": ("tables.table_answers",),
     "tables.live": ("tables.table_network",),
     "tables.opened": ("tables.network_loader",),
     "tables.places": ("tables.arcs_and_places",),
     "ways": ("session.runners",),
 }
+# Classes that pickles name by names of then.
+RENAMED = {"Described": "TableComments", "Inner": "InnerNode"}
 
 
 def spec_of(name: str) -> ModuleSpec | None:
@@ -53,7 +55,7 @@ class _Earlier(Loader):
     def _find(self, module: str, name: str) -> object:
         for home in self._homes:
             try:
-                found: object = getattr(import_module(f"{self._package}.{home}"), name)
+                found: object = getattr(import_module(f"{self._package}.{home}"), RENAMED.get(name, name))
             except AttributeError:
                 continue
             return found

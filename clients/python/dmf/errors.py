@@ -3,10 +3,11 @@
 from __future__ import annotations
 
 import re
+from collections.abc import Sequence
 from typing import Any, ClassVar
 
 
-def shown(thing: object) -> str:
+def shown_value(thing: object) -> str:
     """A value of the caller in a message: its repr, also if Python refuses to write one of its numbers."""
     try:
         return repr(thing)
@@ -159,16 +160,77 @@ class SourceAndSinkAreTheSame(Refused, ValueError):
 
 # The other reasons for which the program refuses a problem's text, or a line of a session. Each has its own class.
 class LineTooLong(Refused): ...
+
+
 class WrongNumberOfFields(Refused): ...
+
+
 class ProblemLineExpected(Refused): ...
+
+
 class SecondProblemLine(Refused): ...
+
+
 class UnknownLine(Refused): ...
+
+
 class NotAMaxProblem(Refused): ...
+
+
 class NeitherSourceNorSink(Refused): ...
+
+
 class TerminalNamedTwice(Refused): ...
+
+
 class ArcBeforeSourceAndSink(Refused): ...
+
+
 class SourceOrSinkMissing(Refused): ...
+
+
 class TooFewArcs(Refused): ...
+
+
+class TableFault(Error, ValueError):
+    """Why a table is refused: the reason, the line and the column, counted from 1, and the path of its file, as far as they are known;
+    and the `others` that were found with it, of which `untold` more are not kept."""
+
+    def __init__(self, reason: str, line: int = 0, path: str = "", column: int = 0) -> None:
+        super().__init__(reason, line, path, column)
+        self.reason = reason
+        self.line = line
+        self.path = path
+        self.column = column
+        self.others: list[TableFault] = []
+        self.untold = 0
+
+    def __str__(self) -> str:
+        return "\n".join(self.lines())
+
+    def told(self) -> str:
+        """This fault alone, in one line."""
+        place = f"line {self.line}" + (f", column {self.column}" if self.column else "")
+        return ": ".join(part for part in (self.path, place if self.line else "", self.reason) if part)
+
+    def lines(self) -> list[str]:
+        """All of it, a line for each fault."""
+        told = [fault.told() for fault in (self, *self.others)]
+        return told + [f"and {self.untold} more"] * (self.untold > 0)
+
+    def name_path(self, path: str) -> None:
+        """Names the file of the faults that name none."""
+        for fault in (self, *self.others):
+            fault.path = fault.path or path
+
+
+class ToolFault(Exception):
+    """Why a tool ends, in a line for each reason, and with which status."""
+
+    def __init__(self, reason: str, status: int = 1, more: Sequence[str] = ()) -> None:
+        super().__init__(reason)
+        self.reasons = reason, *more
+        self.status = status
 
 
 # All exceptions by their names. A traceback names each as its caller does: dmf.NoSuchArc.

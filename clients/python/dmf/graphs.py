@@ -1,5 +1,4 @@
-"""Answers of one call each, without a session: greatest values, maximum flows and minimum cuts of graphs, in the shapes of networkx and
-scipy."""
+"""Answers of one call each, without a session, and networks of graphs: in the shapes of networkx and scipy."""
 
 from __future__ import annotations
 
@@ -9,15 +8,16 @@ from functools import partial
 from typing import TYPE_CHECKING, Any, Dict, NamedTuple, overload
 
 from . import arrays
-from .arcs import Columns, Node
-from .arrays import columns_of_arrays, is_unbounded
+from .arrays import columns_of_arrays, is_unbounded, no_capacity, with_infinite
+from .columns import Columns, Node
 from .errors import Refused
+from .network import Network
 from .rows import Whole, columns_of, whole
-from .session.base import PROGRAM, Problem, Program, Way, where
-from .session.quick import CUT, FLOW, VALUE, Solved, solved
-from .session.runners import chosen, problem_of, program_of
-from .session_holder import Running
-from .state import Kept
+from .session.base import PROGRAM, ProblemColumns, Program, Way, flow_array, kind_for, problem_pieces, where
+from .session.fresh import CUT, FLOW, VALUE, Solved, solved
+from .session.runners import chosen, program_of
+from .session_holder import SessionHolder
+from .state import NetworkState
 from .text.lexical import LARGEST
 from .unbounded_arcs import BoundlessFlow, flows_of, solve_unbounded
 
@@ -43,7 +43,7 @@ class MatrixFlow(NamedTuple):
 class _Given(NamedTuple):
     """A network as it was given: what is kept of it, and the places of the arcs without a bound, from 0 on."""
 
-    kept: Kept[Any]
+    kept: NetworkState[Any]
     unbounded: Sequence[int] = ()
 
 
@@ -104,7 +104,7 @@ def maximum_flow(
     found, count = _solved(given, FLOW, program), len(given.kept.columns)
     if is_matrix:
         assert isinstance(found, Solved), "an entry of a matrix has a bound"
-        return MatrixFlow(found.value, _matrix(given.kept.columns, arrays.flow_array(found.flows, count), max(graph.shape)))
+        return MatrixFlow(found.value, _matrix(given.kept.columns, flow_array(found.flows, count), max(graph.shape)))
     flows = flows_of(found.flows, count) if isinstance(found, Solved) else found.flows
     return found.value, _as_dictionaries(graph, given.kept, flows)
 
@@ -127,18 +127,16 @@ def _given(graph: Any, source: Hashable, sink: Hashable, capacity: str, infinite
     elif isinstance(graph, tuple) and len(graph) == 3 and all(hasattr(column, "dtype") for column in graph):
         tails, heads, capacities = graph
         columns = columns_of_arrays(tails, heads, capacities, None, (), infinite)
-    elif isinstance(graph, Running):
+    elif isinstance(graph, SessionHolder):
         raise TypeError("a Network has the method solve, whose value is the greatest")
     else:
         rows = graph if infinite is None else (arrays.with_infinite(tuple(row), whole(infinite, "infinite")) for row in graph)
         columns = columns_of(rows, ())
-    return _Given(Kept(*columns, source, sink, 0), unbounded)
+    return _Given(NetworkState(*columns, source, sink, 0), unbounded)
 
 
 def _rows_of_graph(graph: Any, capacity: str) -> list[tuple[Any, ...]]:
     # It takes as long as all else together, and only graphs of networkx need it.
-    from .tables.problem_networks import rows_of_graph
-
     return rows_of_graph(graph, capacity, may_lack=True)
 
 
@@ -163,7 +161,7 @@ def _filled(rows: list[tuple[Any, ...]], infinite: Whole | None) -> tuple[list[t
 def _solved(given: _Given, words: list[str], program: Program) -> Solved | BoundlessFlow:
     """What these words ask for. Raises a `Refused` that names the arc of a fault."""
     solver = partial(_solved_problem, way=chosen(program), program=program)
-    problem = problem_of(given.kept)
+    problem = given.kept.problem()
     try:
         if given.unbounded and sum(problem.capacities) <= LARGEST:
             return solve_unbounded(problem, given.unbounded, words, solver)
@@ -173,13 +171,13 @@ def _solved(given: _Given, words: list[str], program: Program) -> Solved | Bound
         raise where(refused, given.kept.handle) from None
 
 
-def _solved_problem(problem: Problem, words: list[str], way: Way, program: Program) -> Solved:
+def _solved_problem(problem: ProblemColumns, words: list[str], way: Way, program: Program) -> Solved:
     if not isinstance(way, PROGRAM) and len(problem.tails) <= MOST_IN_PROCESS:
         return _by_library(problem, words, way)
-    return solved(arrays.problem_pieces(problem), words, program_of(program))
+    return solved(problem_pieces(problem), words, program_of(program))
 
 
-def _by_library(problem: Problem, words: list[str], library: Library) -> Solved:
+def _by_library(problem: ProblemColumns, words: list[str], library: Library) -> Solved:
     session = library.begin(problem, 0)
     try:
         value = session.step(("solve",))
@@ -195,12 +193,12 @@ def _matrix(columns: Columns[Any], flow: Any, count: int) -> Any:
     # The nodes are numbers from 0 on, in this order.
     there = arrays.matrix_of(flow, columns.tails, columns.heads, count)
     onward = there - there.minimum(there.T)
-    kind = arrays.kind_for(onward.data)
+    kind = kind_for(onward.data)
     signed = onward.astype(kind)
     return (signed - signed.T).tocsr() if kind == "int64" else onward
 
 
-def _as_dictionaries(graph: Any, kept: Kept[Any], flows: Sequence[int]) -> dict[Any, dict[Any, Any]]:
+def _as_dictionaries(graph: Any, kept: NetworkState[Any], flows: Sequence[int]) -> dict[Any, dict[Any, Any]]:
     """The flows as networkx has them. Each node has its dictionary."""
     columns = kept.columns
     names = columns.names
@@ -221,7 +219,7 @@ def _as_dictionaries(graph: Any, kept: Kept[Any], flows: Sequence[int]) -> dict[
     return found
 
 
-def _flows_back(graph: Any, kept: Kept[Any], flows: Sequence[int]) -> Callable[[int], int]:
+def _flows_back(graph: Any, kept: NetworkState[Any], flows: Sequence[int]) -> Callable[[int], int]:
     """What flows back on the edge of an arc of a number: in an undirected graph its two arcs stand one after the other."""
     if graph.is_directed():
         return lambda number: 0
@@ -233,3 +231,67 @@ def _flows_back(graph: Any, kept: Kept[Any], flows: Sequence[int]) -> Callable[[
             twins[number], twins[number + 1] = number + 1, number
         number += 1 if is_loop else 2
     return lambda number: flows[twins[number] - 1] if twins[number] else 0
+
+
+def from_networkx(
+    graph: Any,
+    source: Node,
+    sink: Node,
+    capacity: str = "capacity",
+    *,
+    infinite: Whole | None = None,
+    program: Program = None,
+    history: int | None = None,
+) -> Network[Node]:
+    """The network of a graph of networkx: each edge is an arc, or two opposite ones if the graph is undirected, and its attribute
+    `capacity` is the capacity. In a multigraph the key of an arc is `(u, v, k)`. `infinite` is the capacity of edges that lack the
+    attribute, or whose capacity is infinite, None or NaN. `program` and `history` are those of `Network`.
+
+    Raises `NoCapacity` if an edge lacks the attribute and there is no `infinite`, and what `Network` raises.
+    """
+    filled = None if infinite is None else whole(infinite, "infinite")
+    rows: list[Any] = rows_of_graph(graph, capacity, may_lack=filled is not None)
+    if filled is not None:
+        rows = [with_infinite(row, filled) for row in rows]
+    return Network(rows, source, sink, nodes=graph, program=program, history=history)
+
+
+def rows_of_graph(graph: Any, capacity: str, *, may_lack: bool) -> list[tuple[Any, ...]]:
+    """The arcs of a graph of networkx, with their keys: each edge is one, or two opposite ones, one after the other, if the graph is
+    undirected. The capacity is the attribute `capacity`, or None if the edge lacks it. Raises `NoCapacity` if it may not."""
+    rows: list[tuple[Any, ...]] = []
+    edges = graph.edges(keys=True, data=True) if graph.is_multigraph() else graph.edges(data=True)
+    for tail, head, *key, attributes in edges:
+        if capacity not in attributes and not may_lack:
+            raise no_capacity((tail, head, *key), capacity)
+        amount = attributes.get(capacity)
+        rows.append((tail, head, amount, (tail, head, *key) if key else None))
+        if not graph.is_directed() and tail != head:
+            rows.append((head, tail, amount, (head, tail, *key) if key else None))
+    return rows
+
+
+def from_scipy(
+    matrix: Any,
+    source: int,
+    sink: int,
+    *,
+    infinite: Whole | None = None,
+    program: Program = None,
+    history: int | None = None,
+) -> Network[int]:
+    """The network of a sparse matrix of scipy: the entry of row i and column j is the capacity of an arc from node i to node j,
+    counted from 0. `infinite` is the capacity of arcs whose capacity is infinite or NaN. `program` and `history` are those of
+    `Network`. Raises what `Network` raises."""
+    entries = matrix.tocoo()
+    return Network.from_arrays(
+        entries.row,
+        entries.col,
+        entries.data,
+        source=source,
+        sink=sink,
+        nodes=range(max(matrix.shape)),
+        infinite=infinite,
+        program=program,
+        history=history,
+    )

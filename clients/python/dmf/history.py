@@ -3,11 +3,12 @@
 from __future__ import annotations
 
 from collections.abc import Callable, Sequence
-from typing import Any
+from typing import Any, Tuple
 
-from .arcs import Arc
 from .errors import HistoryOutOfRange, NothingToRedo, NothingToUndo
-from .session.base import Command
+
+# A command of a session: its word and its numbers, as ("cap", 3, 5).
+Command = Tuple[Any, ...]
 
 
 class Change:
@@ -53,7 +54,7 @@ class _Back:
         self.dropped = dropped
 
 
-class Changes:
+class History:
     """A list of changes, of which some are made, and the ones after them undone. At most `most` can be undone; of an older one the command
     alone is kept. `_make` and `_unmake` carry out what a change does here, and may do so again after an error broke them off: the present
     state is the old one until all is done."""
@@ -148,7 +149,7 @@ class Changes:
     def _unmake(self, change: Change) -> None:
         raise NotImplementedError
 
-    def take_changes(self, other: Changes, again: Callable[[Arc[Any]], Arc[Any]]) -> None:
+    def take_changes(self, other: History, again: Callable[[Any], Any]) -> None:
         """Takes the changes of another one, which it has made already, with handles of its own for the added arcs."""
         self._changes = [_with_own_arc(change, again) if isinstance(change, Change) else change for change in other._changes]
         self._now = _Now(other.place, other.value)
@@ -179,7 +180,7 @@ class Changes:
             raise NothingToRedo(f"redo {count}")
 
 
-def _with_own_arc(change: Change, again: Callable[[Arc[Any]], Arc[Any]]) -> Change:
+def _with_own_arc(change: Change, again: Callable[[Any], Any]) -> Change:
     if change.added is None:
         return change
     arc, capacity, replaced = change.added

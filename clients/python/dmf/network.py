@@ -9,23 +9,24 @@ from collections.abc import Callable, Hashable, Iterable, Iterator
 from typing import Any, NoReturn, Tuple, Union
 
 from . import arrays
-from .arcs import Arc, Columns, Node
-from .history import Change
+from .arcs import Arc
+from .columns import Columns, Node
 from .errors import ArcIsOpen, Refused, SessionEnded
-from .state import Kept
+from .history import Change
+from .presentation import Presentable
 from .rows import Whole, columns_of, whole
-from .session_holder import alone
 from .session.base import Program, Way, bound, where
-from .presentation import Showing
+from .session.runners import chosen, start
+from .session_holder import exclusive
 from .solution import Solution
-from .session.runners import chosen, started
+from .state import NetworkState
 
 # An arc as the caller gives it: its tail, its head, its capacity and, if it has one, its key.
 Row = Union[Tuple[Node, Node, Whole], Tuple[Node, Node, Whole, Hashable]]
 SOLVE = ("solve",)
 
 
-class Network(Showing[Node]):
+class Network(Presentable[Node]):
     """A network with a flow on it, and its changes. At the beginning the flow is 0.
 
     The arcs are `(tail, head, capacity)` or `(tail, head, capacity, key)`, any number of them between two nodes. Capacities are whole
@@ -148,19 +149,24 @@ class Network(Showing[Node]):
         self, columns: Columns[Node], capacities: array[int], source: Node, sink: Node, program: Program, most: int
     ) -> None:
         """Begins the session of a problem."""
-        kept = Kept(columns, capacities, source, sink, most)
+        kept = NetworkState(columns, capacities, source, sink, most)
         try:
-            self._begin(started(kept, chosen(program)), kept)
+            self._begin(start(kept, chosen(program)), kept)
         except Refused as refused:
             raise where(refused, kept.handle) from None
         self._session.program = program
 
     @classmethod
-    def _of(cls, kept: Kept[Node], way: Way, path: str | None = None) -> Network[Node]:
+    def _of(cls, kept: NetworkState[Node], way: Way, path: str | None = None) -> Network[Node]:
         """A network on a session of its own that has carried out the commands of what is kept, on the first problem at this path."""
         made = cls.__new__(cls)
-        made._begin(started(kept, way, path), kept)
+        made._begin(start(kept, way, path), kept)
         return made
+
+    @staticmethod
+    def _class_of_copies() -> type[Network[Any]]:
+        """The class of the copies on which a sweep tries its cases."""
+        return Network
 
     @property
     def arcs(self) -> list[Arc[Node]]:
@@ -176,7 +182,7 @@ class Network(Showing[Node]):
         """The capacity of an open arc. Raises `ArcIsClosed`, and what `arc` raises."""
         return self._kept.capacity(self._kept.arc(arc))
 
-    @alone
+    @exclusive
     def cap(self, arc: Hashable, capacity: Whole) -> int:
         """Gives an arc another capacity. If its flow is larger, takes the difference off the arc, and off paths through it. Returns
         the value of the remaining flow.
@@ -189,7 +195,7 @@ class Network(Showing[Node]):
         self._kept.note_capacities(command, [found], room, value)
         return value
 
-    @alone
+    @exclusive
     def close(self, arc: Hashable) -> int:
         """Closes an arc: it carries nothing any more, and only `undo` opens it again; `open` adds another one in its place. Returns
         the value of the remaining flow. Raises `ArcIsClosed`, and what `arc` raises."""
@@ -199,7 +205,7 @@ class Network(Showing[Node]):
         self._kept.note_capacities(command, [found], None, value)
         return value
 
-    @alone
+    @exclusive
     def shut(self, node: Node) -> int:
         """Closes every open arc at a node, as one change. Returns the value of the remaining flow. Raises `NoSuchNode`."""
         command = "shut", self._kept.number(node)
@@ -207,7 +213,7 @@ class Network(Showing[Node]):
         self._kept.note_capacities(command, self._kept.at(node), None, value)
         return value
 
-    @alone
+    @exclusive
     def add(self, tail: Node, head: Node, capacity: Whole, key: Hashable = None) -> Arc[Node]:
         """Adds an arc without flow between two nodes of the network. Returns its handle.
 
@@ -215,7 +221,7 @@ class Network(Showing[Node]):
         hash(key)
         return self._add(tail, head, self._whole(capacity, (tail, head)), key, None)
 
-    @alone
+    @exclusive
     def add_node(self, node: Node) -> None:
         """Adds a node, without arcs, unless it is there. This is no change: `undo` leaves it. The next call begins the session anew, which
         takes as long as all commands so far took together; so nodes that are known at the beginning are better given to `Network`. Raises
@@ -223,7 +229,7 @@ class Network(Showing[Node]):
         self._part()
         self._is_broken = self._kept.add_node(node)
 
-    @alone
+    @exclusive
     def open(self, arc: Hashable) -> Arc[Node]:
         """Opens a closed arc: adds it again, with its ends, its key and the capacity that it had when it was closed. To the program
         it is a new arc with a new number, after all others, and without flow; `undo` removes it. Returns its handle. The key and the
@@ -242,7 +248,7 @@ class Network(Showing[Node]):
         self._kept.note(Change(command, added=(arc, room, replaced)), value)
         return arc
 
-    @alone
+    @exclusive
     def solve(self) -> Solution[Node]:
         """Makes the flow a maximum flow, going on from the present flow, and returns it. That is a change, which `undo` reverts."""
         self._kept.note(Change(SOLVE), self._changed(SOLVE))
@@ -257,7 +263,7 @@ class Network(Showing[Node]):
         """Redoes the changes that were undone last, all of them or none. Returns the value. Raises `NothingToRedo`."""
         return self._step("redo", count, self._kept.judge_redo, self._kept.redo)
 
-    @alone
+    @exclusive
     def _step(self, word: str, count: int, judge: Callable[[int], None], follow: Callable[[int, int], None]) -> int:
         """Steps so many changes back or on, and returns the value. `judge` raises if there are not so many, and `follow` makes the same
         steps in what is kept, to a flow of a value."""

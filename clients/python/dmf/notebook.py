@@ -11,16 +11,13 @@ from itertools import islice
 from typing import Any
 
 from .arcs import OpenArcs
-from .arrays import package
-from .text.graphviz import graphviz
+from .files import write_file
+from .session.base import import_package
+from .text.drawing import CUT, MOST_DRAWN, UNUSED, Drawing, graphviz, nearest, picture
 from .text.lexical import display
+from .text.problem_text import ArcRecord, Problem
 from .text.spelling import picture_names
-from .text.drawing import CUT, UNUSED, Drawing, nearest, picture
-from .presentation import MOST_DRAWN
-from .text.table_comments import Described
-from .text.problem_text import Problem
-from .text.session_commands import Arc
-from .tools.command import write_file
+from .text.table_comments import TableComments
 
 # How many rows of a table are shown.
 MOST_ROWS = 20
@@ -30,13 +27,13 @@ class Look:
     """A network at one time, with its flow, and the side of its cut if it has one."""
 
     def __init__(
-        self, arcs: OpenArcs[Any], ends: tuple[int, int], flows: Sequence[int], capacities: Sequence[int], side: set[int], described: Described
+        self, arcs: OpenArcs[Any], ends: tuple[int, int], flows: Sequence[int], capacities: Sequence[int], side: set[int], described: TableComments
     ) -> None:
         """`ends` are the source and the sink, and `flows` and `capacities` belong to the open arcs."""
         drawn = list(zip(*arcs.ends(), capacities))
         keys = {place: key for place, key in enumerate(arcs.keys(), 1) if key is not None}
         problem = Problem(len(arcs.columns.numbers), *ends, drawn, *picture_names(arcs.columns.names, keys), described)
-        self.drawing = Drawing(problem, [Arc(*row) for row in drawn], list(flows), side)
+        self.drawing = Drawing(problem, [ArcRecord(*row) for row in drawn], list(flows), side)
 
     def text(self) -> bytes:
         """The text for Graphviz."""
@@ -63,7 +60,7 @@ def draw(look: Look, path: str) -> None:
 
 def plot(look: Look) -> Any:
     """Axes of matplotlib with the picture of Graphviz, or with the nodes on a circle where Graphviz is not there."""
-    pyplot = package("matplotlib.pyplot", "a plot without a path")
+    pyplot = import_package("matplotlib.pyplot", "a plot without a path")
     axes = pyplot.subplots()[1]
     axes.set_axis_off()
     try:

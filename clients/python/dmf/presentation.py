@@ -8,22 +8,20 @@ from array import array
 from collections.abc import Callable, Sequence
 from typing import TYPE_CHECKING, Any
 
-from . import arrays
-from .arcs import Node, OpenArcs
+from .arcs import OpenArcs
+from .columns import Node
 from .errors import FlowIsNotGreatest
-from .session_holder import Running, alone
-from .session.base import FilePath
+from .session.base import FilePath, import_package
+from .session_holder import SessionHolder, exclusive
 from .solution import Cut, Solution
+from .text.drawing import MOST_DRAWN
 
 if TYPE_CHECKING:
     from .notebook import Look
-    from .text.table_comments import Described
-
-# A network with more arcs than these is shown as a table, since nobody would find an arc in a picture of it.
-MOST_DRAWN = 300
+    from .text.table_comments import TableComments
 
 
-class Showing(Running[Node]):
+class Presentable(SessionHolder[Node]):
     """What a network has to show itself. Each call leaves the network as it is."""
 
     @property
@@ -52,14 +50,14 @@ class Showing(Running[Node]):
         """All nodes: those in `nodes`, and then the ends of the arcs, in their order."""
         return list(self._kept.columns.numbers)
 
-    @alone
+    @exclusive
     def flow(self) -> Solution[Node]:
         """The present flow."""
         if not self._session.end.alive:
             raise self._session.ended()
         return Solution(self._flows())
 
-    @alone
+    @exclusive
     def cut(self) -> Cut[Node]:
         """The smallest minimum cut. Raises `FlowIsNotGreatest` if some flow has a larger value than the present one, as before
         `solve`."""
@@ -74,7 +72,7 @@ class Showing(Running[Node]):
         look = self._look(set(side)) if self._kept.open_count <= MOST_DRAWN else None
         return Cut(capacity, frozenset(names[node - 1] for node in side), tuple(self._kept.leaving(list(side))), names, look)
 
-    @alone
+    @exclusive
     def problem(self, *, names: bool = True, escapes: bool = False) -> str:
         """The problem of the open arcs as a text in the DIMACS format. With `names`, comments before it name nodes and arcs: each
         node whose name is not its own number, and each key, as `str` writes it. `dmf.read` reads the same names again, as texts,
@@ -83,20 +81,20 @@ class Showing(Running[Node]):
 
         Raises `NameNotWritable` if `dmf.read` would read a name as another one: if it has a line feed or blanks around it, or if two
         nodes have the same name. With `escapes` what cannot be written of a name, such as a line feed, is written as `\\x0a`."""
-        from .text.spelling import comments
-        from .text.table_comments import Described, comments as table_comments
+        from .text.spelling import name_comments
+        from .text.table_comments import TableComments, table_comments
 
         opened = self._kept.opened()
-        before = table_comments(Described(self._kept.described.measure))
+        before = table_comments(TableComments(self._kept.described.measure))
         if names:
             keys = {place: key for place, key in enumerate(opened.keys(), 1) if key is not None}
-            before += comments(dict(enumerate(self._kept.columns.names, 1)), keys, escapes=escapes)
+            before += name_comments(dict(enumerate(self._kept.columns.names, 1)), keys, escapes=escapes)
         return before + self._session.problem().decode()
 
     def to_networkx(self) -> Any:
         """A MultiDiGraph of networkx with an edge for each open arc. Its key is the arc's number, and its attributes are `capacity`,
         `flow`, and `name` if the arc has a key. Raises an ImportError if networkx is not installed."""
-        graph = arrays.package("networkx", "a graph")
+        graph = import_package("networkx", "a graph")
         flow = self.flow()
         made = graph.MultiDiGraph()
         made.add_nodes_from(self.nodes)
@@ -108,7 +106,7 @@ class Showing(Running[Node]):
     def write(self, path: FilePath, *, names: bool = True, escapes: bool = False) -> None:
         """Writes the text of `problem` to a file, whole or not at all: `dmf.read` and the program read it. Raises an OSError if it cannot
         be written, and what `problem` raises."""
-        from .tools.command import write_file
+        from .files import write_file
 
         write_file(os.fsdecode(path), self.problem(names=names, escapes=escapes).encode())
 
@@ -123,7 +121,7 @@ class Showing(Running[Node]):
         look = self._look_with_cut()()
         return plot(look) if path is None else draw(look, os.fsdecode(path))
 
-    @alone
+    @exclusive
     def _look_with_cut(self) -> Callable[[], Look]:
         try:
             side = set(self._session.cut()[1])
@@ -143,7 +141,7 @@ class Showing(Running[Node]):
         rows = ((*row, capacity) for row, capacity in zip(flow._rows(), flow._flows.capacities()))
         return table(repr(self)[1:-1], ("arc", "tail", "head", "flow", "capacity"), len(flow), rows)
 
-    @alone
+    @exclusive
     def _look_now(self) -> Look:
         return self._look(set())()
 
@@ -157,10 +155,10 @@ class Showing(Running[Node]):
 
 
 def _look_of(
-    described: Described | None, arcs: OpenArcs[Any], ends: tuple[int, int], flows: array[int], capacities: array[int], side: set[int]
+    described: TableComments | None, arcs: OpenArcs[Any], ends: tuple[int, int], flows: array[int], capacities: array[int], side: set[int]
 ) -> Look:
     """How a network looks. Whoever looks at it needs more modules."""
     from .notebook import Look
-    from .text.table_comments import Described
+    from .text.table_comments import TableComments
 
-    return Look(arcs, ends, flows, capacities, side, described or Described())
+    return Look(arcs, ends, flows, capacities, side, described or TableComments())

@@ -10,10 +10,9 @@ from collections.abc import Hashable, Iterable, Mapping, MappingView, Set
 from itertools import count, islice
 from typing import Any, NoReturn, SupportsIndex, Union
 
-from .arcs import Columns, Node
-from .errors import NotAnArc, NotANumber, NumberTooLarge, shown
-from .text.lexical import LARGEST
-from .numbering import AMOUNTS, NODES, WholeNodes
+from .columns import Columns, Node, WholeNodes
+from .errors import NotANumber, NotAnArc, NumberTooLarge, shown_value
+from .text.lexical import AMOUNTS, LARGEST, NODES
 
 # A whole number, which may also come as a float without a fraction.
 Whole = Union[SupportsIndex, float]
@@ -32,18 +31,18 @@ def whole(number: Any, at: object) -> int:
         is_whole = getattr(number, "is_integer", bool)
         taken = int(number) if is_whole() else operator.index(number)
     except TypeError:
-        raise NotANumber(f"{shown(number)} in {shown(at)}") from None
+        raise NotANumber(f"{shown_value(number)} in {shown_value(at)}") from None
     if taken < 0:
-        raise NotANumber(f"{shown(number)} in {shown(at)}")
+        raise NotANumber(f"{shown_value(number)} in {shown_value(at)}")
     if taken > LARGEST:
-        raise NumberTooLarge(f"one of {taken.bit_length()} bits in {shown(at)}")
+        raise NumberTooLarge(f"one of {taken.bit_length()} bits in {shown_value(at)}")
     return taken
 
 
 def columns_of(rows: Iterable[Any], nodes: Iterable[Node]) -> tuple[Columns[Node], array[int]]:
     """The columns of rows of arcs, and their capacities. Raises `NotAnArc`, `NotANumber` and `NumberTooLarge`."""
     nodes = list(nodes)
-    taken = _Taken(nodes, operator.length_hint(rows, USUAL))
+    taken = _ColumnBuilder(nodes, operator.length_hint(rows, USUAL))
     left = iter(rows)
     while piece := list(islice(left, PIECE)):
         if not taken.take_together(piece):
@@ -91,12 +90,12 @@ def refuse_node(columns: Columns[Any], capacities: array[int], node: object) -> 
     number = columns.numbers[node]
     at = next((at for at, ends in enumerate(zip(columns.tails, columns.heads)) if number in ends), None)
     if at is None:
-        raise NotAnArc(f"not an arc: the node {shown(node)} is no name")
+        raise NotAnArc(f"not an arc: the node {shown_value(node)} is no name")
     tail, head = columns.names[columns.tails[at] - 1], columns.names[columns.heads[at] - 1]
-    raise NotAnArc(f"not an arc: number {at + 1}, {shown((tail, head, capacities[at]))}: {shown(node)} is no node")
+    raise NotAnArc(f"not an arc: number {at + 1}, {shown_value((tail, head, capacities[at]))}: {shown_value(node)} is no node")
 
 
-class _Taken:
+class _ColumnBuilder:
     """The columns of the rows so far, of so many that are expected. `numbers` gives each new node the next number. It becomes a
     dictionary at the first node that is no whole number, or so large that a dictionary takes less memory."""
 
@@ -152,7 +151,7 @@ class _Taken:
                     self.keys[len(self.tails) + 1] = key
             numbers = self._numbers_of([tail, head])
         except (TypeError, ValueError):
-            raise NotAnArc(f"not an arc: {shown(row)}: {WANTED}") from None
+            raise NotAnArc(f"not an arc: {shown_value(row)}: {WANTED}") from None
         self.tails += numbers[:1]
         self.heads += numbers[1:]
         try:

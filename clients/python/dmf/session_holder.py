@@ -12,13 +12,15 @@ from collections.abc import Callable, Sequence
 from types import CodeType, FrameType
 from typing import TYPE_CHECKING, Any, Generic, TypeVar, cast
 
-from .arcs import Arc, Node, Owner
+from .arcs import Arc, Owner
+from .columns import Node
 from .errors import Error, NoSuchArc, SessionEnded, UsedByTwoProcesses, UsedByTwoThreads
-from .state import Kept
+from .history import Command
 from .rows import whole
-from .session.base import Command, Session, Told
+from .session.base import Session, Told
+from .session.runners import start
 from .solution import Flows, Solution
-from .session.runners import started
+from .state import NetworkState
 
 if TYPE_CHECKING:
     from .quantity import Measure
@@ -30,13 +32,13 @@ TWICE = "the session was ended for good: it was broken off, and again"
 Method = TypeVar("Method", bound=Callable[..., Any])
 
 
-def alone(method: Method) -> Method:
+def exclusive(method: Method) -> Method:
     """A method that has the session, and what is kept beside it, for itself. Raises `UsedByTwoThreads` if another call has it, and
     `UsedByTwoProcesses` in a forked process. If an error such as Ctrl-C breaks the call off, the network is as it was before, and the next
     call begins a new session."""
 
     @functools.wraps(method)
-    def called(self: Running[Any], *words: Any, **named: Any) -> Any:
+    def called(self: SessionHolder[Any], *words: Any, **named: Any) -> Any:
         if self._session.owner != os.getpid():
             raise UsedByTwoProcesses("used by two processes at once: a process that was forked off needs a network of its own")
         user = [get_ident()]
@@ -58,14 +60,14 @@ def alone(method: Method) -> Method:
     return cast(Method, called)
 
 
-class Running(Generic[Node]):
+class SessionHolder(Generic[Node]):
     """What a network is below its calls: a session, and what is kept of the network outside of it. Whatever breaks a call off ends the
     session, and leaves what is kept as it was before the call. From that the next call begins a new session in the same state."""
 
     # How whole numbers stand for those of callers, if they do.
     _measure: Measure | None = None
 
-    def _begin(self, session: Session, kept: Kept[Node]) -> None:
+    def _begin(self, session: Session, kept: NetworkState[Node]) -> None:
         self._session = session
         self._kept = kept
         # The thread that makes a call, while it makes it.
@@ -108,16 +110,16 @@ class Running(Generic[Node]):
             raise UsedByTwoThreads("used by two threads at once: each needs a network of its own, or a lock around its calls") from None
         self._is_broken = self._is_broken or not self._session.end.alive
 
-    @alone
+    @exclusive
     def _ready(self) -> None:
         """Raises what each call raises where the session cannot be asked."""
 
-    @alone
+    @exclusive
     def _try_cases(self, cases: Sequence[Sequence[Command]], found: list[int]) -> None:
         """Carries out cases, each of commands, and adds the greatest value of each to what is found. The network is as it was then."""
         self._session.try_cases(cases, self._kept.value, found)
 
-    @alone
+    @exclusive
     def _leaving_cut(self) -> list[Arc[Node]]:
         """The open arcs out of the side of the smallest minimum cut, those that are not of a table too. Raises `FlowIsNotGreatest`."""
         return self._kept.leaving(self._session.cut()[1])
@@ -154,7 +156,7 @@ class Running(Generic[Node]):
         """Has a new session carry out the commands that stand."""
         self._why_over = f"{TWICE} while it began anew"
         try:
-            session = started(self._kept, self._session.way)
+            session = start(self._kept, self._session.way)
         except Exception as error:
             self._why_over = str(error) if isinstance(error, SessionEnded) else ""
             raise
@@ -205,7 +207,7 @@ class Running(Generic[Node]):
             self._present = weakref.ref(flows)
         return flows
 
-    @alone
+    @exclusive
     def _ask_flow(self) -> Told:
         """The present flow, for a caller who looks at it later than it was returned."""
         return self._asked_flow()
@@ -217,7 +219,7 @@ class Running(Generic[Node]):
             flows.lose(self._session.ended())
         self._present = self._told = None
 
-    @alone
+    @exclusive
     def _settle(self) -> None:
         self._part()
 
@@ -243,7 +245,7 @@ class Running(Generic[Node]):
             return 0
         return Solution(self._tell_flows())[arc]
 
-    @alone
+    @exclusive
     def _tell_flows(self) -> Flows[Node]:
         """The present flow, with its text. It is kept until the next change, for the next arc."""
         self._told = self._flows()

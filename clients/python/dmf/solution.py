@@ -7,9 +7,10 @@ from collections.abc import Callable, Hashable, ItemsView, Iterator, Mapping, Se
 from typing import TYPE_CHECKING, Any, Generic, TypeVar, overload
 
 from . import arrays
-from .arcs import Arc, Node, OpenArcs
+from .arcs import Arc, OpenArcs
+from .columns import Node
 from .errors import NoSuchArc, SessionEnded
-from .session.base import Told
+from .session.base import Told, flow_array, read_flows
 
 if TYPE_CHECKING:
     from .notebook import Look
@@ -62,7 +63,7 @@ class Flows(Generic[Node]):
         told = self.told()
         if isinstance(told, array):
             return told
-        numbers = arrays.flows(told, len(self.arcs))
+        numbers = read_flows(told, len(self.arcs))
         if numbers is None:
             raise SessionEnded("what dmf answered was not understood: it told no flow for each open arc")
         self._told = numbers
@@ -183,7 +184,7 @@ class Solution(Mapping[Arc[Node], int], Generic[Node]):
     def array(self) -> Any:
         """The flows as an array of numpy, in the order of the arcs: signed integers of 64 bits, or unsigned ones if a flow is 2^63 or
         more. Raises an ImportError if numpy is not installed."""
-        return arrays.flow_array(self._flows.told(), len(self))
+        return flow_array(self._flows.told(), len(self))
 
     def frame(self) -> Any:
         """A frame of pandas with a row for each open arc: its number, tail, head and key, its flow, and the capacity that it had.

@@ -6,19 +6,19 @@ from array import array
 from collections.abc import Callable, Hashable, Iterable
 from typing import TYPE_CHECKING, Any, Generic
 
-from .arcs import Added, Arc, Columns, Handles, Node, OpenArcs, one_of
-from .history import Change, Changes
-from .errors import ArcIsClosed, CountOutOfRange, NoSuchArc, NotAnArc, shown
-from .text.lexical import MOST_NODES
-from .numbering import AMOUNTS
+from .arcs import Added, Arc, Handles, OpenArcs, one_of
+from .columns import Columns, Node
+from .errors import ArcIsClosed, CountOutOfRange, NoSuchArc, NotAnArc, shown_value
+from .history import Change, Command, History
 from .rows import is_missing
-from .session.base import Command
+from .session.base import ProblemColumns
+from .text.lexical import AMOUNTS, MOST_NODES, NODES
 
 if TYPE_CHECKING:
-    from .text.table_comments import Described
+    from .text.table_comments import TableComments
 
 
-class Kept(Changes, Generic[Node]):
+class NetworkState(History, Generic[Node]):
     """The arcs of a network with the capacities that they have, or had when they were closed; which arcs are closed; the added arcs;
     and the changes that can be undone or redone, of which there are at most `most`. With its commands and the first capacities, a session
     can begin anew."""
@@ -39,7 +39,7 @@ class Kept(Changes, Generic[Node]):
         # The arcs of the network from which this one was copied. Their handles name the arcs here too.
         self.origin: OpenArcs[Node] | None = None
         # What the problem tells of its table.
-        self._described: Described | None = columns.described
+        self._described: TableComments | None = columns.described
         self._added_index: Added[Node] | None = None
         self._opened: OpenArcs[Node] | None = None
         self.begin_here()
@@ -55,16 +55,16 @@ class Kept(Changes, Generic[Node]):
         self._first: dict[int, int] = {}
 
     @property
-    def described(self) -> Described:
+    def described(self) -> TableComments:
         """What the problem tells of its table."""
         if self._described is None:
-            from .text.table_comments import Described
+            from .text.table_comments import TableComments
 
-            self._described = Described()
+            self._described = TableComments()
         return self._described
 
     @described.setter
-    def described(self, described: Described) -> None:
+    def described(self, described: TableComments) -> None:
         self._described = described
 
     def number(self, node: Node) -> int:
@@ -85,12 +85,22 @@ class Kept(Changes, Generic[Node]):
         if node in self.columns.numbers:
             return False
         if is_missing(node):
-            raise NotAnArc(f"not an arc: the node {shown(node)} is no name")
+            raise NotAnArc(f"not an arc: the node {shown_value(node)} is no name")
         if len(self.columns.numbers) >= MOST_NODES:
-            raise CountOutOfRange(shown(node))
+            raise CountOutOfRange(shown_value(node))
         columns = self.columns.with_node(node)
         self.columns, self.handles, self._opened = columns, self.handles.with_columns(columns), None
         return True
+
+    def problem(self) -> ProblemColumns:
+        """The first problem, from which a session begins anew."""
+        added = self.added[: self.first_count - len(self.columns)]
+        tails, heads = self.columns.tails, self.columns.heads
+        if added:
+            tails = tails + array(NODES, [self.columns.outlet(arc.tail) for arc in added])
+            heads = heads + array(NODES, [self.number(arc.head) for arc in added])
+        ends = self.number(self.source), self.number(self.sink)
+        return ProblemColumns(len(self.columns.numbers), *ends, tails, heads, self.first_capacities())
 
     def first_capacity(self, number: int) -> int:
         """The capacity that an arc had at first."""
@@ -230,13 +240,13 @@ class Kept(Changes, Generic[Node]):
         self._added_index = self._opened = None
         super().roll_back()
 
-    def copy(self) -> Kept[Node]:
+    def copy(self) -> NetworkState[Node]:
         """The same arcs as they are now, without changes and without flow. The handles of these arcs name the arcs of the copy too."""
         copy = self._copy(Arc.again)
         copy.begin_here()
         return copy
 
-    def twin(self) -> Kept[Node]:
+    def twin(self) -> NetworkState[Node]:
         """The same arcs, with the same changes, made and undone, and the same flow. The handles of the arcs here name those there too."""
         made: dict[Arc[Node], Arc[Node]] = {}
 
@@ -249,9 +259,9 @@ class Kept(Changes, Generic[Node]):
         twin.take_changes(self, again)
         return twin
 
-    def _copy(self, again: Callable[[Arc[Node]], Arc[Node]]) -> Kept[Node]:
+    def _copy(self, again: Callable[[Arc[Node]], Arc[Node]]) -> NetworkState[Node]:
         """The same arcs, with handles of their own for the added ones."""
-        copy = Kept(self.columns, self.capacities[:], self.source, self.sink, self.most)
+        copy = NetworkState(self.columns, self.capacities[:], self.source, self.sink, self.most)
         copy.closed = set(self.closed)
         copy._described = self._described
         copy.origin = self.opened() if self.origin is None else self.origin

@@ -10,14 +10,13 @@ from array import array
 from collections.abc import Callable, Sequence
 from typing import NamedTuple
 
-from . import arrays
 from .errors import Unbounded
-from .numbering import AMOUNTS, NODES
-from .session.base import Problem, Told
-from .session.quick import FLOW, Solved
+from .session.base import ProblemColumns, Told, read_flows
+from .session.fresh import FLOW, Solved
+from .text.lexical import AMOUNTS, NODES
 
 # What solves a problem, as some words ask for it.
-Solver = Callable[[Problem, "list[str]"], Solved]
+Solver = Callable[[ProblemColumns, "list[str]"], Solved]
 BITS = 64
 
 
@@ -29,7 +28,7 @@ class BoundlessFlow(NamedTuple):
     side: Sequence[int] = ()
 
 
-def solve_unbounded(problem: Problem, unbounded: Sequence[int], words: list[str], solver: Solver) -> BoundlessFlow:
+def solve_unbounded(problem: ProblemColumns, unbounded: Sequence[int], words: list[str], solver: Solver) -> BoundlessFlow:
     """Return what these words ask for, where the arcs at the places `unbounded`, from 0 on, have no bound.
 
     Raises
@@ -60,7 +59,7 @@ def solve_unbounded(problem: Problem, unbounded: Sequence[int], words: list[str]
 
 def flows_of(told: Told, count: int) -> Sequence[int]:
     """Return the flows of a number of arcs that a solver has told."""
-    flows = told if isinstance(told, array) else arrays.flows(told, count)
+    flows = told if isinstance(told, array) else read_flows(told, count)
     assert flows is not None and len(flows) >= count, "the program told no flow for each arc"
     return flows
 
@@ -68,7 +67,7 @@ def flows_of(told: Told, count: int) -> Sequence[int]:
 class _Residual:
     """A problem with the flow that its arcs carry. The residual network has them, and after them their opposites where they carry."""
 
-    def __init__(self, problem: Problem, unbounded: Sequence[int]) -> None:
+    def __init__(self, problem: ProblemColumns, unbounded: Sequence[int]) -> None:
         self._problem = problem
         count = len(problem.tails)
         self._capacities: list[int | None] = list(problem.capacities[:count])
@@ -87,7 +86,7 @@ class _Residual:
         on = [most if most_of is None else min(most_of - flow, most) for most_of, flow in zip(self._capacities, self.flows)]
         return on + [min(self.flows[place], most) for place in self._carrying]
 
-    def problem(self, rooms: list[int], shift: int) -> Problem:
+    def problem(self, rooms: list[int], shift: int) -> ProblemColumns:
         """Return the problem of the residual network, without the last bits of its capacities."""
         tails, heads = self._problem.tails, self._problem.heads
         return self._problem._replace(

@@ -1,21 +1,93 @@
-"""What it costs to send more: what a column of the table says each unit more costs at an arc, or a second arc beside it, and a cheap way to a
-greater value, found greedily.
+"""What each arc is worth, and what a greater value costs.
 
-The way goes from limit to limit: it widens the cheapest arc of the present one, and where the value does not grow for another limit behind it,
-the cheapest arc of that too. Each value on it is a greatest one, but a cheaper way may exist: least-cost flows and exact budgets are the
-business of other solvers."""
+A sweep tries each arc alone: closed, and with a second one beside it. A cheap way to a greater value is found greedily, by what a column of
+the table says each unit more costs at an arc, or a second arc beside it. It goes from limit to limit: it widens the cheapest arc of the
+present one, and where the value does not grow for another limit behind it, the cheapest arc of that too. Each value on it is a greatest
+one, but a cheaper way may exist: least-cost flows and exact budgets are the business of other solvers."""
 
 from __future__ import annotations
 
-from collections.abc import Iterator, Mapping
+import contextlib
+import os
+from collections.abc import Generator, Iterable, Iterator, Mapping
 from dataclasses import dataclass
 from decimal import Decimal
 
-from .workspace import Desk
-from .steps import DeskFault
-from ..quantity import EXACT, Quantity, QuantityFault, number_in, plain_text
-from ..text.cells import shown
+from ..errors import CapacitiesPast64Bits, TooManyArcs
+from ..quantity import EXACT, LARGEST, Quantity, QuantityFault, number_in, plain_text
+from ..sweeps.cases import SweepResult, sweep
 from ..tables.headings import title_of
+from ..text.spelling import quoted_name
+from .live_network import LiveNetwork
+from .steps import Add, DeskFault, Follow, Node, Trial
+from .workspace import Desk
+
+
+def trials_of(desk: Desk, numbers: Iterable[int]) -> Generator[Trial, None, None]:
+    """What each of these arcs means for the greatest value: if it alone is closed, and if it alone has a second one beside it. Tries each
+    on a copy of the network as it is at the call, on all processors. Raises a `DeskFault` unless the flow is greatest and the arcs are
+    open."""
+    if not desk.is_greatest:
+        raise DeskFault("the flow is not greatest, so nothing can be compared with it; `solve` first")
+    wanted = list(numbers)
+    for number in wanted:
+        desk.open_line(number)
+    desk.follow()
+    return trials(desk.live, desk.value, wanted)
+
+
+def trials(held: LiveNetwork, value: Quantity, wanted: Iterable[int]) -> Generator[Trial, None, None]:
+    """For each of these open arcs, if the greatest value is this one: the greatest values if it alone is closed, and if it alone has a
+    second one beside it. Tries each on a copy of the network as it is at the call, on all processors."""
+    numbers, cut, quantity = list(wanted), set(held.cut_arcs()), held.measure.quantity
+    # Closing an arc that carries nothing leaves the flow as it is. A second arc beside one that is not in the cut leaves the cut
+    # as it is, and so the value, if there is room for its capacity.
+    room = LARGEST - sum(map(held.whole, (number for number, line in enumerate(held.lines, 1) if not line.is_closed)))
+    doubling = {number: _doubling(held, number) for number in numbers}
+    carrying = {number for number in numbers if held.flow(number)}
+    cases: list[list[tuple[object, ...]]] = []
+    for number in numbers:
+        arc = held.handle(number)
+        if number in carrying:
+            cases.append([("close", arc)])
+        if number in cut:
+            others = [("cap", held.handle(cap.arc), held.measure.whole(cap.capacity)) for cap in doubling[number]]
+            cases.append([("add", arc.tail, arc.head, held.whole(number)), *others])
+    wholes = {number: held.whole(number) + sum(held.measure.whole(it.capacity) - held.whole(it.arc) for it in doubling[number]) for number in numbers}
+    jobs = max(1, min(len(cases), len(os.sched_getaffinity(0))))
+    # The desk may change before the trials are asked for; each is of the network as it is now.
+    results = sweep(held.network, cases, jobs=jobs)
+
+    def found() -> Generator[Trial, None, None]:
+        with contextlib.closing(results):
+            for number in numbers:
+                closed = quantity(_greatest(next(results))) if number in carrying else value
+                doubled = value if wholes[number] <= room else None
+                if number in cut:
+                    greatest = _greatest_or_none(next(results))
+                    doubled = None if greatest is None else quantity(greatest)
+                yield Trial(number, closed, doubled)
+
+    return found()
+
+
+def _doubling(held: LiveNetwork, number: int) -> list[Follow]:
+    """What else changes if a second one of its capacity lies beside an arc."""
+    line = held.lines[number - 1]
+    return held.following([Add(line.tail, line.head, line.capacity)])
+
+
+def _greatest(result: SweepResult[Node]) -> int:
+    """The greatest value of a case."""
+    if result.value is None:
+        raise DeskFault(f"what was tried came to no end: {result.refusal}")
+    return result.value
+
+
+def _greatest_or_none(result: SweepResult[Node]) -> int | None:
+    """The greatest value of a case, or None if the sum of the capacities would exceed 64 bits."""
+    return None if isinstance(result.refusal, (CapacitiesPast64Bits, TooManyArcs)) else _greatest(result)
+
 
 TITLES = set("cost costs kosten cout coste price preis".split())
 # How many purchases a way has at most.
@@ -57,8 +129,8 @@ def prices(desk: Desk, column: str = "", *, is_second: bool = False) -> Prices:
     words = [title_of(title).word for title in extra.titles]
     found = [at for at, word in enumerate(words) if (word == title_of(column).word if column else word in TITLES)]
     if len(found) != 1:
-        listed = ", ".join(map(shown, extra.titles)) or "none"
-        why = f"no column is called {shown(column)}" if column and not found else f"{'several columns' if found else 'no column'} can be the cost"
+        listed = ", ".join(map(quoted_name, extra.titles)) or "none"
+        why = f"no column is called {quoted_name(column)}" if column and not found else f"{'several columns' if found else 'no column'} can be the cost"
         raise DeskFault(f"{why}; the columns beside places and capacities are: {listed}")
     title = extra.titles[found[0]]
     of = {}
@@ -73,9 +145,9 @@ def _price(cell: str, desk: Desk, title: str, number: int) -> Decimal:
     try:
         found = Decimal(number_in(cell, desk.measure.sign))
     except QuantityFault as fault:
-        raise DeskFault(f"{desk.names.arc(number)}: {shown(cell)} in the column {shown(title)} {fault}") from None
+        raise DeskFault(f"{desk.names.arc(number)}: {quoted_name(cell)} in the column {quoted_name(title)} {fault}") from None
     if found < 0:
-        raise DeskFault(f"{desk.names.arc(number)}: {shown(cell)} in the column {shown(title)} is below 0")
+        raise DeskFault(f"{desk.names.arc(number)}: {quoted_name(cell)} in the column {quoted_name(title)} is below 0")
     return found
 
 
@@ -134,7 +206,7 @@ def _seconds(desk: Desk, given: Prices, wanted: Quantity, way: Way) -> Iterator[
     total = Decimal(0)
     while desk.value < wanted:
         offers = {number: price for number, price in priced(desk, given).items() if price is not None}
-        gains = {it.arc: EXACT.subtract(it.doubled, desk.value) for it in desk.sweep(offers) if it.doubled is not None and it.doubled > desk.value}
+        gains = {it.arc: EXACT.subtract(it.doubled, desk.value) for it in trials_of(desk, offers) if it.doubled is not None and it.doubled > desk.value}
         if not gains:
             way.end = "no second one beside any arc of the limit alone brings more" if offers else "no arc of the limit then has a price"
             return
@@ -150,10 +222,10 @@ def _row(desk: Desk, number: int) -> int:
     return desk.lines[number - 1].first or number
 
 
-def told(desk: Desk, given: Prices, way: Way) -> Iterator[str]:
+def purchase_lines(desk: Desk, given: Prices, way: Way) -> Iterator[str]:
     """What each arc of the limit costs, and a way to a greater value, in words."""
     each = "a second one" if given.is_second else f"one more ({desk.measure.told_unit})" if desk.measure.told_unit else "one more"
-    yield f"what {each} costs at each arc of the limit, by the column {shown(given.title)}:"
+    yield f"what {each} costs at each arc of the limit, by the column {quoted_name(given.title)}:"
     for number, price in priced(desk, given).items():
         yield f"  #{number} {desk.names.arc(number)}: {'no price' if price is None else plain_text(price)}"
     yield f"a cheap way, found greedily, so a cheaper one may exist; money and value, {plain_text(desk.value)} at first:"

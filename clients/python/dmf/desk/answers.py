@@ -1,14 +1,17 @@
-"""The first answer about a large network: its greatest value and its limit, before its flows are known."""
+"""What is known of one state of a desk's network, and the first answer about a large one: its value and its limit, before its flows."""
 
 from __future__ import annotations
 
 import contextlib
 import threading
+from dataclasses import dataclass
 
 from ..errors import Error
-from ..session.quick import CUT, Solved, solved
 from ..session.base import Program
+from ..session.fresh import CUT, Solved, solved
 from ..session.runners import program_of
+from ..solution import Cut, Solution
+from .steps import Node
 
 # How many arcs a network has at least whose flows may follow.
 LARGE = 100_001
@@ -38,3 +41,16 @@ class FirstAnswer:
         """The answer, or None if none comes."""
         self._thread.join()
         return self._found
+
+
+@dataclass
+class Answers:
+    """The answers about the present state so far."""
+
+    flow: Solution[Node] | None = None
+    cut: Cut[Node] | None = None
+    cut_arcs: dict[int, None] | None = None
+    side: set[int] | None = None
+    is_greatest: bool | None = None
+    # The greatest value, where the flows that have it are not known yet.
+    promised: int | None = None

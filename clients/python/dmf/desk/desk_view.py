@@ -3,26 +3,12 @@ nothing. All amounts are quantities, as the table has them."""
 
 from __future__ import annotations
 
-from dataclasses import dataclass, field
-
-from .directory import Names
-from .live_network import Held
-from .steps import Line, Step
-from ..text.folding import Folding
 from ..quantity import Measure, Quantity, plain_text
-from ..text.table_comments import Role
-from ..tables.subject import Subject
-
-
-@dataclass
-class Timeline:
-    """The steps that were made, those that were undone, the last undone at the end, and how many steps each trial that is open began
-    with. `turn` counts what was done: each step that was made or undone, and what a project was told."""
-
-    done: list[Step] = field(default_factory=list)
-    undone: list[Step] = field(default_factory=list)
-    floors: list[int] = field(default_factory=list)
-    turn: int = 0
+from ..tables.loader import LoadedProblem
+from ..text.table_comments import Role, TableRoles
+from .directory import Directory
+from .live_network import LiveNetwork
+from .steps import DeskArc, Step, Timeline
 
 
 class DeskView:
@@ -31,7 +17,7 @@ class DeskView:
     # The file in which a project keeps the steps; empty if none does.
     kept_in = ""
 
-    def __init__(self, held: Held, with_solve: bool) -> None:
+    def __init__(self, held: LiveNetwork, with_solve: bool) -> None:
         self._held = held
         self._time = Timeline()
         self.with_solve = with_solve
@@ -53,19 +39,24 @@ class DeskView:
         return f"{plain_text(amount)} {self.measure.told_unit}".rstrip()
 
     @property
-    def subject(self) -> Subject:
+    def live(self) -> LiveNetwork:
+        """The session's network."""
+        return self._held
+
+    @property
+    def subject(self) -> LoadedProblem:
         return self._held.subject
 
     @property
-    def names(self) -> Names:
+    def names(self) -> Directory:
         return self._held.names
 
     @property
-    def folding(self) -> Folding:
+    def folding(self) -> TableRoles:
         return self._held.folding
 
     @property
-    def lines(self) -> list[Line]:
+    def lines(self) -> list[DeskArc]:
         """The arcs as they are, by their numbers from 1 on."""
         return self._held.lines
 
@@ -149,7 +140,7 @@ class DeskView:
         """The flow on an arc, which is 0 if it is closed."""
         return self._held.flow(number)
 
-    def line(self, number: int) -> Line:
+    def line(self, number: int) -> DeskArc:
         """An arc as it is. Raises a `DeskFault` if there is none of this number."""
         return self._held.line(number)
 
@@ -171,7 +162,7 @@ class DeskView:
         was."""
         kept = self._held.network._kept
 
-        def differs(number: int, line: Line) -> bool:
+        def differs(number: int, line: DeskArc) -> bool:
             first = line.first or number
             return first > self.first_count or line.is_closed or kept.first_capacity(first) != kept.capacities[number - 1]
 

@@ -2,33 +2,25 @@
 
 from __future__ import annotations
 
-import unicodedata
 from collections.abc import Hashable, Iterable, Iterator, Mapping, Sequence
 from functools import cached_property
 
-from .steps import DeskFault, Line, Node, Place
-from ..text.folding import Folding, listed, role_phrase, role_words
-from ..text.cells import cleaned, near, shown
-from ..text.problem_text import display
+from ..text.lexical import display
+from ..text.spelling import cleaned, folded, near, quoted_name
+from ..text.table_comments import TableRoles, listed, role_phrase, role_words
+from .steps import DeskArc, DeskFault, Node, Place
 
 MOST_LISTED = 6
 # What stands between the ends of an arc that is named by them, the longest first.
 ARROWS = (" -> ", "->", " - ", "-")
 
 
-def folded(text: str) -> str:
-    """A text by which it is found: without case and accents."""
-    if text.isascii():
-        return text.casefold()
-    return "".join(sign for sign in unicodedata.normalize("NFKD", text.casefold()) if not unicodedata.combining(sign))
-
-
-class Names:
+class Directory:
     """The names of places and arcs, and which of them a text means. What is not of the table goes by what it means there: a place with
     a limit is one, and the arc that has its limit is `what Mill lets through`."""
 
     def __init__(
-        self, node_names: dict[int, str], lines: Sequence[Line], keys: Mapping[int, Hashable], nodes: Sequence[Node], folding: Folding
+        self, node_names: dict[int, str], lines: Sequence[DeskArc], keys: Mapping[int, Hashable], nodes: Sequence[Node], folding: TableRoles
     ) -> None:
         """`lines` are the arcs by their numbers, and `keys` the names that were given to some; both may grow."""
         self._lines = lines
@@ -147,11 +139,11 @@ class Names:
             return self.places[name]
         if name in self._several:
             listed = ", ".join(f"#{number}" for number in self._several[name][:MOST_LISTED])
-            raise DeskFault(f"several nodes are called {shown(name)}: {listed}; say one by its number")
+            raise DeskFault(f"several nodes are called {quoted_name(name)}: {listed}; say one by its number")
         number = self._numbered(name)
         if number:
             return self.place_of(number)
-        raise DeskFault(f"no place is called {shown(name)}{near(name, self.places)}")
+        raise DeskFault(f"no place is called {quoted_name(name)}{near(name, self.places)}")
 
     def place_of(self, node: int) -> Place:
         """The place of a node. Raises a `DeskFault` if no place has a node of this number."""
@@ -227,10 +219,10 @@ class Names:
 
     def _unknown_arc(self, name: str) -> str:
         for tail, head in self._splits(name):
-            return f"no arc leads from {shown(tail)} to {shown(head)}"
+            return f"no arc leads from {quoted_name(tail)} to {quoted_name(head)}"
         if name.isascii() and name.isdigit() and 1 <= int(name) <= len(self._lines):
-            return f"no arc is called {shown(name)}; is it #{name}, {self.arc(int(name))}?"
-        return f"no arc is called {shown(name)}{near(name, self.spoken())}"
+            return f"no arc is called {quoted_name(name)}; is it #{name}, {self.arc(int(name))}?"
+        return f"no arc is called {quoted_name(name)}{near(name, self.spoken())}"
 
     def spoken(self) -> Iterator[str]:
         """For each arc a text that means it."""

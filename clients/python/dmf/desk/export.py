@@ -8,18 +8,15 @@ from dataclasses import dataclass
 from pathlib import Path
 from typing import cast
 
-from ..text import session_commands as timeline
-from ..text.carried import carrying
-from .workspace import Desk
-from .steps import DeskFault, Line
-from ..text.folding import renumbered
-from ..text.graphviz import graphviz
-from ..text.spelling import written
-from ..text.drawing import Drawing, picture
-from ..tables.table_writer import Carried, Told, plan_text
-from ..text.table_comments import comments
 from ..tables.other_columns import Extra
-from ..text.problem_text import ARC, NODE, Problem, display
+from ..tables.table_writer import Told, WriterRow, plan_text
+from ..text.drawing import Drawing, graphviz, picture
+from ..text.lexical import ARC, NODE, display
+from ..text.problem_text import ArcRecord, Problem, carrying
+from ..text.spelling import written
+from ..text.table_comments import renumbered, table_comments
+from .steps import DeskArc, DeskFault
+from .workspace import Desk
 
 MOST_DRAWN = 300
 # How long Graphviz may take, in seconds.
@@ -39,7 +36,7 @@ def said_of(desk: Desk) -> list[str]:
 
 
 @dataclass(frozen=True)
-class _Said(Extra):
+class _SaidColumns(Extra):
     """Columns of a table that are kept, and one more that says of which plan it is, in the row of this arc."""
 
     text: str = ""
@@ -56,7 +53,7 @@ def _columns(desk: Desk, row: int) -> Extra:
         return extra
     kept = [at for at, title in enumerate(extra.titles) if title != SAID]
     titles = [*(extra.titles[at] for at in kept), SAID]
-    return _Said(titles, [extra.columns[at] for at in kept], extra.ways, "; ".join(said_of(desk)), row)
+    return _SaidColumns(titles, [extra.columns[at] for at in kept], extra.ways, "; ".join(said_of(desk)), row)
 
 
 def table(desk: Desk) -> str:
@@ -64,7 +61,7 @@ def table(desk: Desk) -> str:
     not greatest, the column of the cut is empty."""
     crossing = desk.cut_arcs() if desk.is_greatest else None
     arcs = [
-        Carried(number, line.tail, line.head, line.capacity, desk.flow(number), None if crossing is None else number in crossing)
+        WriterRow(number, line.tail, line.head, line.capacity, desk.flow(number), None if crossing is None else number in crossing)
         for number, line in enumerate(desk.lines, 1) if not line.is_closed
     ]  # fmt: skip
     ends = desk.source, desk.sink
@@ -95,7 +92,7 @@ def problem(desk: Desk) -> str:
     said = renumbered(desk.subject.described, ((line.tail, line.head) for line in opened.values()), desk.limited())
     columns = desk.subject.extra.comments(row_of(desk, number) for number in opened)
     plan = "".join(f"c plan {line}\n" for line in said_of(desk)) if desk.scenario_name else ""
-    return comments(said) + plan + nodes + arcs + columns + head + lines
+    return table_comments(said) + plan + nodes + arcs + columns + head + lines
 
 
 def drawing(desk: Desk) -> Drawing:
@@ -112,9 +109,9 @@ def drawing(desk: Desk) -> Drawing:
     return Drawing(drawn, lines, flows, side, set(desk.shut_nodes), notes, has_quantities=True, limited=desk.limited())
 
 
-def arcs_of(lines: list[Line]) -> list[timeline.Arc]:
+def arcs_of(lines: list[DeskArc]) -> list[ArcRecord]:
     """Lines as arcs of a drawing: a line has all that a drawing reads of an arc."""
-    return cast("list[timeline.Arc]", lines)
+    return cast(list[ArcRecord], lines)
 
 
 def picture_text(desk: Desk) -> str:

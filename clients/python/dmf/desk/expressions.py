@@ -1,19 +1,17 @@
-"""Amounts as a planner types them at the desk: numbers as people write them, also relative to the present amount, and the problem of a
-finer scale where one has more decimals than the others."""
+"""What a planner types at the desk: amounts, also relative to the present one, as in `+10 %`, and conditions, as in `flow > 5`."""
 
 from __future__ import annotations
 
+import operator
 import re
-from dataclasses import replace
+from collections.abc import Callable
 
+from ..quantity import EXACT, Measure, Quantity, QuantityFault, number_in, plain_text, readings
+from ..text.spelling import folded, quoted_name
 from .steps import DeskFault
-from ..quantity import EXACT, LARGEST, Measure, Quantity, QuantityFault, number_in, plain_text, readings
-from ..text.cells import shown
-from ..text.table_comments import Described, comments
-from ..tables.subject import Subject
+from .workspace import Desk
 
 _CHANGE = re.compile(r"([+\-\u2212]?)\s*(.*?)\s*(%?)", re.DOTALL)
-_ARC = re.compile(rb"^([ \t]*a[ \t]+[0-9]+[ \t]+[0-9]+[ \t]+)([0-9]+)", re.MULTILINE)
 
 
 def is_amount(text: str) -> bool:
@@ -44,31 +42,47 @@ def amount(text: str, measure: Measure, present: Quantity | None = None) -> Quan
             raise QuantityFault(f"makes {plain_text(after)} of {plain_text(present)}, which is below 0")
         return after
     except QuantityFault as fault:
-        raise DeskFault(f"{shown(wanted)} {fault}") from None
+        raise DeskFault(f"{quoted_name(wanted)} {fault}") from None
 
 
-def finer(subject: Subject, quantity: Quantity) -> Subject:
-    """The subject with the least scale in which a quantity is whole too: itself, or one with all capacities times a power of ten. Raises
-    a `DeskFault` if that would take the capacities past 64 bits."""
-    now = subject.measure
-    measure = now.finer(quantity)
-    try:
-        measure.whole(quantity)
-    except QuantityFault as fault:
-        raise DeskFault(f"{plain_text(quantity)} {fault}") from None
-    times = int(measure.scale / now.scale)
-    if times == 1:
-        return subject
-    capacities = [int(found[2]) * times for found in _ARC.finditer(subject.text)]
-    if sum(capacities) > LARGEST:
-        raise past_64_bits(measure, plain_text(quantity))
-    # The first comment that tells a scale counts.
-    head = comments(Described(Measure(measure.scale))).encode()
-    following = iter(capacities)
-    return replace(subject, text=head + _ARC.sub(lambda found: found[1] + b"%d" % next(following), subject.text))
+COMPARED: dict[str, Callable[[Quantity, Quantity], bool]] = {
+    "<": operator.lt, "<=": operator.le, "=": operator.eq, ">=": operator.ge, ">": operator.gt,
+    # As some write them.
+    "=<": operator.le, "≤": operator.le, "=>": operator.ge, "≥": operator.ge,
+}  # fmt: skip
+Condition = Callable[[int], bool]
 
 
-def past_64_bits(measure: Measure, what: str = "") -> DeskFault:
-    """Why capacities are too large together."""
-    why = f"with the decimals of {what} " if what else ""
-    return DeskFault(f"{why}the capacities would be together past {measure.told(LARGEST)}")
+def condition(desk: Desk, words: list[str]) -> Condition | None:
+    """Whether something is so of an arc: `full`, `limit`, `name ~ TEXT` (in any case; also of `from` and `to`), or `capacity < NUMBER` (also of `flow`
+    and with `<=`, `=`, `>=`, `>`). None if the words are no condition. Raises a `DeskFault` where it cannot be told."""
+    if words == ["full"]:
+        return lambda number: 0 < desk.flow(number) == desk.line(number).capacity
+    if words == ["limit"]:
+        if not desk.is_greatest:
+            raise DeskFault("the flow is not greatest, so there is no limit to tell; `solve` first")
+        return lambda number: number in desk.cut_arcs()
+    if len(words) < 3:
+        return None
+    what, sign, text = words[0], words[1], " ".join(words[2:])
+    names: dict[str, Callable[[int], str]] = {
+        "name": desk.names.arc_name,
+        "from": lambda number: desk.names.node(desk.line(number).tail),
+        "to": lambda number: desk.names.node(desk.line(number).head),
+    }
+    numbers: dict[str, Callable[[int], Quantity]] = {"capacity": lambda number: desk.line(number).capacity, "flow": desk.flow}
+    if what in names and sign == "~":
+        sought = folded(text)
+        return lambda number: sought in folded(names[what](number))
+    if what in numbers and sign in COMPARED:
+        bound = amount(text, desk.measure)
+        return lambda number: COMPARED[sign](numbers[what](number), bound)
+    return None
+
+
+def successors(desk: Desk) -> dict[int, int]:
+    """The arcs that were closed and opened again, with what they are now."""
+    added = enumerate(desk.lines[desk.first_count :], desk.first_count + 1)
+    again = [(number, line.first) for number, line in added if line.first]
+    last = {first: number for number, first in again}
+    return {**last, **{number: last[first] for number, first in again if last[first] != number}}

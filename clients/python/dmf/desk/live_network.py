@@ -7,52 +7,40 @@ from __future__ import annotations
 
 import contextlib
 from collections.abc import Iterable, Iterator, Sequence
-from dataclasses import dataclass, replace
+from dataclasses import replace
 from itertools import chain
 
 from .. import history as session
-from .. import Arc, Cut, Solution
-from .directory import Names
-from .steps import Add, Cap, Change, Close, DeskFault, Follow, Line, Marks, Node, Reopen, Shut, Solve, Step
+from ..arcs import Arc
 from ..errors import Error, FlowIsNotGreatest, Refused
-from ..text.folding import Folding
 from ..quantity import EXACT, Measure, Quantity
 from ..session.base import Program
+from ..solution import Cut, Solution
+from ..tables.loader import LoadedProblem
 from ..tables.problem_networks import whole_network
-from ..text.cells import cleaned, shown
-from ..text.table_comments import Role
-from ..tables.subject import Subject
-from ..text.problem_text import NODE, names_in, naming_pieces
+from ..text.lexical import NODE
+from ..text.spelling import cleaned, names_in, naming_pieces, quoted_name
+from ..text.table_comments import Role, TableRoles
+from .answers import Answers
+from .directory import Directory
+from .steps import Add, Cap, Change, Close, DeskArc, DeskFault, Follow, Marks, Node, Reopen, Shut, Solve, Step
 
 
-@dataclass
-class _Seen:
-    """The answers about the present state so far."""
-
-    flow: Solution[Node] | None = None
-    cut: Cut[Node] | None = None
-    cut_arcs: dict[int, None] | None = None
-    side: set[int] | None = None
-    is_greatest: bool | None = None
-    # The greatest value, where the flows that have it are not known yet.
-    promised: int | None = None
-
-
-class Held:
+class LiveNetwork:
     """The network of a subject, on a session of its own. Its lines follow the changes that the network keeps, made and undone: there is one
     timeline. Arcs and nodes go by their numbers. Raises what `dmf.read` raises."""
 
-    def __init__(self, subject: Subject, program: Program = None) -> None:
+    def __init__(self, subject: LoadedProblem, program: Program = None) -> None:
         self.subject = subject
         self.network = whole_network(subject.text, program=program)
         kept = self.network._kept
         columns, quantity = kept.columns, self.measure.quantity
         self._nodes = self.network.nodes
-        self.folding = Folding(subject.described)
-        self.lines = [*map(Line, columns.tails, columns.heads, map(quantity, kept.capacities))]
+        self.folding = TableRoles(subject.described)
+        self.lines = [*map(DeskArc, columns.tails, columns.heads, map(quantity, kept.capacities))]
         # The names of arcs, those of added ones too.
         self._keys = dict(columns.keys)
-        self.names = Names(names_in(naming_pieces(subject.text, NODE), NODE), self.lines, self._keys, self._nodes, self.folding)
+        self.names = Directory(names_in(naming_pieces(subject.text, NODE), NODE), self.lines, self._keys, self._nodes, self.folding)
         # The arcs of unlimited sources and sinks.
         self._at_first_unlimited = {number for number, role in subject.described.roles.items() if role.is_unlimited}
         for number in self._at_first_unlimited:
@@ -62,7 +50,7 @@ class Held:
         self.marks = Marks()
         # The steps that the session can redo, the first to be redone at the end, each with the marks after it.
         self._undone: list[tuple[Step, Marks]] = []
-        self._seen = _Seen()
+        self._seen = Answers()
         self._is_broken = False
         kept.watcher = self._follow
 
@@ -80,7 +68,7 @@ class Held:
     def drop(self) -> None:
         """Ends the session, which may be between two steps."""
         self._is_broken = True
-        self._seen = _Seen()
+        self._seen = Answers()
         self.break_off("the session was ended")
         with contextlib.suppress(Error):
             self.network.end()
@@ -137,13 +125,13 @@ class Held:
         roles = (self.folding.role(*line[:2]) for line in lines)
         return {role.node for role in roles if role and role.is_unlimited}
 
-    def _opened(self) -> Iterator[tuple[int, Line]]:
+    def _opened(self) -> Iterator[tuple[int, DeskArc]]:
         return ((number, line) for number, line in enumerate(self.lines, 1) if not line.is_closed)
 
     def promise(self, value: int, side: Sequence[int]) -> Step:
         """The step that solves, for whoever knows the greatest value and the smallest side of a minimum cut already: its flows are found
         by `follow`, or when something else than the limit is asked for."""
-        self._seen = _Seen(cut=self.network._cut_of(value, side), is_greatest=True, promised=value)
+        self._seen = Answers(cut=self.network._cut_of(value, side), is_greatest=True, promised=value)
         return Step("solve", (Solve(),), self.measure.quantity(value), self.marks)
 
     @property
@@ -180,7 +168,7 @@ class Held:
             return self.lines[number - 1].capacity
         return self.measure.quantity(self._flow()[self.handle(number)])
 
-    def line(self, number: int) -> Line:
+    def line(self, number: int) -> DeskArc:
         """An arc as it is. Raises a `DeskFault` if there is none of this number."""
         if not 1 <= number <= len(self.lines):
             raise DeskFault(f"there is no arc #{number}")
@@ -209,7 +197,7 @@ class Held:
         if len(fitting) == 1:
             return fitting[0]
         if fitting:
-            raise DeskFault(f"{shown(cleaned(text))} may be {self.names.list(fitting)}; say one by its number")
+            raise DeskFault(f"{quoted_name(cleaned(text))} may be {self.names.list(fitting)}; say one by its number")
         arcs = self.names.list(found)
         raise DeskFault(f"{arcs} is open" if is_closed else f"{arcs} is closed; `open` opens it")
 
@@ -260,14 +248,14 @@ class Held:
         self.follow()
         marks, place = self.marks, self.network._kept.place
         # A flow that somebody has is read before it changes.
-        self._seen, self._undone = (seen := _Seen()), []
+        self._seen, self._undone = (seen := Answers()), []
         with self._unbroken():
             try:
                 for change in changes:
                     if isinstance(change, Solve):
-                        seen = _Seen(self.network.solve(), is_greatest=True)
+                        seen = Answers(self.network.solve(), is_greatest=True)
                     else:
-                        seen = _Seen()
+                        seen = Answers()
                         self._change(change)
             except BaseException as error:
                 self.marks, made = marks, self.network._kept.place - place
@@ -309,7 +297,7 @@ class Held:
     @contextlib.contextmanager
     def _marked(self, marks: Marks) -> Iterator[None]:
         """Has these marks while the block steps back or on, and after it, unless it is broken off."""
-        before, self.marks, self._seen = self.marks, marks, _Seen()
+        before, self.marks, self._seen = self.marks, marks, Answers()
         with self._unbroken():
             try:
                 yield
@@ -327,7 +315,7 @@ class Held:
         kept = self.network._kept
         if count:
             self.network._take_back(kept.place - count, kept.value)
-        self._seen = _Seen()
+        self._seen = Answers()
 
     @contextlib.contextmanager
     def _unbroken(self) -> Iterator[None]:
@@ -385,7 +373,7 @@ class Held:
             self.lines.append(was._replace(is_closed=False, was_shut=False, first=was.first or replaced))
         else:
             nodes = self.names.nodes
-            self.lines.append(Line(nodes[arc.tail], nodes[arc.head], self.measure.quantity(capacity)))
+            self.lines.append(DeskArc(nodes[arc.tail], nodes[arc.head], self.measure.quantity(capacity)))
         self.names.put(arc.number)
         if replaced:
             self.names.drop(replaced)

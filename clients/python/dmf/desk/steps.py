@@ -3,7 +3,7 @@ quantities, as the table has them."""
 
 from __future__ import annotations
 
-from dataclasses import dataclass
+from dataclasses import dataclass, field
 from typing import NamedTuple, Union
 
 from ..errors import Error
@@ -24,7 +24,7 @@ class Place(NamedTuple):
     exit: int
 
 
-class Line(NamedTuple):
+class DeskArc(NamedTuple):
     """An arc as it is: its ends by their numbers, and its capacity, which one that is closed had before. `was_shut` says that it was
     closed when a place was shut, and `is_replaced` that it was closed and then opened again, as another arc. `is_unlimited` says that it
     is what a source gives, or a sink takes, as much as the arcs there carry. `first` is the number of the arc that one was before it was
@@ -127,3 +127,14 @@ def unforeseen(error: BaseException) -> str:
     if isinstance(error, (Error, DeskFault, OSError)):
         return str(error)
     return f"that came to no end ({type(error).__name__}{f': {error}' if str(error) else ''})"
+
+
+@dataclass
+class Timeline:
+    """The steps that were made, those that were undone, the last undone at the end, and how many steps each trial that is open began
+    with. `turn` counts what was done: each step that was made or undone, and what a project was told."""
+
+    done: list[Step] = field(default_factory=list)
+    undone: list[Step] = field(default_factory=list)
+    floors: list[int] = field(default_factory=list)
+    turn: int = 0

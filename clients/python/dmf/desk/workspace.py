@@ -1,7 +1,7 @@
 """A planner's desk: a network by its names, the steps that were tried on it, and sweeps.
 
 A step is one thing that a planner does, such as closing a place with a limit. It may be several changes of the network, and is undone
-as a whole. Arcs go by their numbers here, as `dmf-names` prints them, and `Names` finds the number of a name. A step is kept as the
+as a whole. Arcs go by their numbers here, as `dmf-names` prints them, and `Directory` finds the number of a name. A step is kept as the
 request, so it can be made again after a sweep, or on a new session if one has ended, or if an amount has more decimals than the numbers
 of the session allow: then the steps are made again on the problem of a finer scale.
 """
@@ -9,19 +9,18 @@ of the session allow: then the steps are made again on the problem of a finer sc
 from __future__ import annotations
 
 import contextlib
-from collections.abc import Generator, Iterable, Iterator, Mapping, Sequence
+from collections.abc import Iterator, Mapping, Sequence
 
-from .expressions import finer, past_64_bits
-from .answers import FirstAnswer
-from .live_network import Held
-from .steps import Add, Cap, Change, Close, DeskFault, Line, Place, Reopen, Shut, Solve, Step, Trial
-from .desk_sweep import trials
-from .desk_view import DeskView
 from ..errors import CapacitiesPast64Bits, Error, SessionEnded
 from ..quantity import Quantity, plain_text
 from ..session.base import Program
-from ..text.cells import shown
-from ..tables.subject import Subject
+from ..tables.loader import LoadedProblem
+from ..text.spelling import quoted_name
+from .answers import FirstAnswer
+from .desk_view import DeskView
+from .live_network import LiveNetwork
+from .scale import finer, past_64_bits
+from .steps import Add, Cap, Change, Close, DeskArc, DeskFault, Place, Reopen, Shut, Solve, Step
 
 
 class Desk(DeskView):
@@ -31,11 +30,11 @@ class Desk(DeskView):
     `may_follow` says that the first solve of a large network may tell the value and the limit alone: `follow` then finds the flows, and so
     does whatever needs them."""
 
-    def __init__(self, subject: Subject, *, with_solve: bool = False, may_follow: bool = False, program: Program = None) -> None:
+    def __init__(self, subject: LoadedProblem, *, with_solve: bool = False, may_follow: bool = False, program: Program = None) -> None:
         first = FirstAnswer.of(subject.text, program) if with_solve and may_follow else None
-        super().__init__(Held(subject, program), with_solve)
+        super().__init__(LiveNetwork(subject, program), with_solve)
         self._program = program
-        self._coming: Held | None = None
+        self._coming: LiveNetwork | None = None
         if with_solve:
             found = first.wait() if first else None
             if found:
@@ -58,9 +57,9 @@ class Desk(DeskView):
         self._held.drop()
         self._held, self._time.done = self._made_again(self.subject)
 
-    def _made_again(self, subject: Subject) -> tuple[Held, list[Step]]:
+    def _made_again(self, subject: LoadedProblem) -> tuple[LiveNetwork, list[Step]]:
         """A new session with all steps."""
-        held = self._coming = Held(subject, self._program)
+        held = self._coming = LiveNetwork(subject, self._program)
         try:
             return held, [held.make(step.text, step.changes) for step in self._time.done]
         except BaseException:
@@ -99,7 +98,7 @@ class Desk(DeskView):
     def close(self, *numbers: int, words: str = "") -> Step:
         """Closes arcs, in one step of these words."""
         for number in numbers:
-            self._open_line(number)
+            self.open_line(number)
         return self._do(f"close {words or self.names.short(numbers[0])}", [Close(number) for number in numbers])
 
     def cap(self, number: int, capacity: Quantity) -> Step:
@@ -109,7 +108,7 @@ class Desk(DeskView):
     def cap_each(self, capacities: Mapping[int, Quantity], words: str = "") -> Step:
         """Gives arcs other capacities, in one step of these words."""
         for number in capacities:
-            self._open_line(number)
+            self.open_line(number)
         taken = {number: self._take_in(capacity) for number, capacity in capacities.items()}
         words = words or " and ".join(f"{self.names.phrase(number)} {self.told(capacity)}" for number, capacity in taken.items())
         return self._do(words, [Cap(number, capacity) for number, capacity in taken.items()])
@@ -123,13 +122,13 @@ class Desk(DeskView):
 
     def double(self, *numbers: int, words: str = "") -> Step:
         """Adds a second arc beside each of these open ones, of the same capacity, in one step of these words."""
-        added: list[Change] = [Add(line.tail, line.head, line.capacity) for line in map(self._open_line, numbers)]
+        added: list[Change] = [Add(line.tail, line.head, line.capacity) for line in map(self.open_line, numbers)]
         return self._do(f"a second one beside {words or self.names.short(numbers[0])}", added)
 
     def shut(self, place: Place) -> Step:
         """Closes each open arc at a place, and the one that has its limit."""
         if not any(not line.is_closed and (line.tail in place or line.head in place) for line in self.lines):
-            raise DeskFault(f"no arc is open at {shown(self.names.node(place.entry))}")
+            raise DeskFault(f"no arc is open at {quoted_name(self.names.node(place.entry))}")
         return self._do(f"shut {self.names.node(place.entry)}", [Shut(node) for node in dict.fromkeys(place)])
 
     def open(self, *numbers: int, words: str = "") -> Step:
@@ -145,7 +144,7 @@ class Desk(DeskView):
         """Opens the arcs that were closed when a place was shut, except those to places that are shut too."""
         label = self.names.node(place.entry)
         if not self.shut_nodes & set(place):
-            raise DeskFault(f"{shown(label)} is not shut")
+            raise DeskFault(f"{quoted_name(label)} is not shut")
         others = self.shut_nodes - set(place)
         closed = [
             number
@@ -153,7 +152,7 @@ class Desk(DeskView):
             if line.is_shut and (line.tail in place or line.head in place) and not others & {line.tail, line.head}
         ]
         if not closed:
-            raise DeskFault(f"each arc at {shown(label)} leads to a place that is shut too")
+            raise DeskFault(f"each arc at {quoted_name(label)} leads to a place that is shut too")
         return self._do(f"open {label}", [Reopen(number) for number in closed])
 
     def undo(self, count: int = 1) -> None:
@@ -217,23 +216,12 @@ class Desk(DeskView):
                 self._step_back(self.at - at)
                 self._time.undone, self._time.turn = undone, turn
 
-    def sweep(self, numbers: Iterable[int]) -> Generator[Trial, None, None]:
-        """What each of these arcs means for the greatest value: if it alone is closed, and if it alone has a second one beside it.
-        Tries each on a copy of the network as it is at the call, on all processors. Raises a `DeskFault` unless the flow is greatest
-        and the arcs are open."""
-        if not self.is_greatest:
-            raise DeskFault("the flow is not greatest, so nothing can be compared with it; `solve` first")
-        wanted = list(numbers)
-        for number in wanted:
-            self._open_line(number)
-        self.follow()
-        return trials(self._held, self.value, wanted)
-
     def the_arc(self, text: str, *, is_closed: bool = False) -> int:
         """The arc that a text means: the open one, or else the closed one. Raises a `DeskFault` if it means none, or several."""
         return self._held.the_arc(text, is_closed=is_closed)
 
-    def _open_line(self, number: int) -> Line:
+    def open_line(self, number: int) -> DeskArc:
+        """An open arc as it is. Raises a `DeskFault` if it is closed."""
         line = self.line(number)
         if line.is_closed:
             raise DeskFault(f"{self.names.arc(number)} is closed")

@@ -1,18 +1,22 @@
-"""What a network asks of a running session, whichever way it runs: by the library in this process, or by the program behind a pipe."""
+"""What a network asks of a running session, by the library or by the program, and the texts of numbers that go to it and come from it."""
 
 from __future__ import annotations
 
+import contextlib
+import functools
+import importlib
 import operator
 import os
+import re
+import sys
 import weakref
 from array import array
-from collections.abc import Callable, Sequence
-from typing import TYPE_CHECKING, Any, NamedTuple, Optional, Tuple, Union
+from collections.abc import Callable, Iterator, Sequence
+from typing import Any, NamedTuple, Optional, Protocol, Union
 
-from ..errors import HistoryOutOfRange, Refused, SessionEnded, shown
-
-if TYPE_CHECKING:
-    from .library import Library
+from ..errors import HistoryOutOfRange, Refused, SessionEnded, shown_value
+from ..history import Command
+from ..text.lexical import AMOUNTS, NODES
 
 FilePath = Union[str, bytes, "os.PathLike[str]", "os.PathLike[bytes]"]
 Program = Optional[FilePath]
@@ -24,15 +28,14 @@ MOST_TEXT = 4_096
 # How many commands of a case go with those of other cases: their lines, of at most 42 bytes each, are no longer than that.
 MOST_COMMANDS = 90
 # What runs a session: a program, by its path, or the library.
-Way = Union[FilePath, "Library"]
+Way = Union[FilePath, "Runner"]
 PROGRAM = str, bytes, os.PathLike
-# A command of a session: its word and its numbers, as ("cap", 3, 5).
-Command = Tuple[Any, ...]
+
 # The flow on each arc: the text of the open arcs, as the program writes it, or an array of all arcs, closed ones too.
 Told = Union[bytes, "array[int]"]
 
 
-class Problem(NamedTuple):
+class ProblemColumns(NamedTuple):
     """A network by its numbers: how many nodes there are, the source and the sink, and the columns of the arcs. The capacities may be
     followed by others."""
 
@@ -46,6 +49,16 @@ class Problem(NamedTuple):
     def columns(self) -> tuple[array[int], array[int], array[int]]:
         """The columns of the arcs."""
         return self.tails, self.heads, self.capacities
+
+
+class Runner(Protocol):
+    """The library, by which sessions begin in this process."""
+
+    def begin(self, problem: ProblemColumns, most: int) -> Session:
+        """Begin a session on a problem, in which at most `most` changes can be undone."""
+
+    def begin_text(self, text: bytes, most: int) -> Session:
+        """Begin a session on the text of a problem."""
 
 
 class Session:
@@ -129,23 +142,23 @@ def bound(history: int | None) -> int:
     except TypeError:
         kept = -1
     if not 0 <= kept <= MOST_KEPT:
-        raise HistoryOutOfRange(f"history out of range: {shown(history)} is no whole number from 0 to 1,000,000")
+        raise HistoryOutOfRange(f"history out of range: {shown_value(history)} is no whole number from 0 to 1,000,000")
     return kept
 
 
-def line_of(command: Command) -> str:
+def command_line(command: Command) -> str:
     """A command as a line of a session."""
     return " ".join(map(str, command))
 
 
 def case_lines(commands: Sequence[Command]) -> list[str]:
     """The lines that try a case of commands: these, a solve, and the steps back."""
-    return [*map(line_of, commands), "solve", f"undo {len(commands) + 1}"]
+    return [*map(command_line, commands), "solve", f"undo {len(commands) + 1}"]
 
 
 def refused(text: str, line: str, at: object) -> Refused:
     """The exception for a command that is refused, which names its line, or the thing that it was about."""
-    return Refused.of(text, line if at is None else shown(at))
+    return Refused.of(text, line if at is None else shown_value(at))
 
 
 def refused_line(text: str, line: int | None) -> Refused:
@@ -168,3 +181,165 @@ def judged(value: int, wanted: int) -> int:
     return value
 
 
+# How many lines of a text are made or read at once, and how many are made without numpy, with an object for each number.
+PIECE, PLAIN_PIECE = 1 << 14, 1 << 11
+# How many arcs are read before numpy is worth loading.
+MOST_PLAIN = 200_000
+# How many letters of a text are read at once.
+LETTERS = 1 << 18
+_FLOW = re.compile(rb"^f [0-9]+ [0-9]+ ([0-9]+)$", re.MULTILINE)
+
+
+def import_package(name: str, why: str) -> Any:
+    """A package that only some calls need. Raises an ImportError that says which call needs it."""
+    try:
+        return importlib.import_module(name)
+    except ImportError as error:
+        raise ImportError(f"{why} needs the package {name.partition('.')[0]}, which is not there: {error}", name=name) from None
+
+
+def loaded_numpy() -> Any:
+    """numpy, if the caller has loaded it already: for work that it speeds up but does not need."""
+    return sys.modules.get("numpy")
+
+
+def problem_lines(problem: ProblemColumns) -> Iterator[bytes]:
+    """The arc lines of a problem, many at once."""
+    np, count = loaded_numpy(), len(problem.tails)
+    size = PLAIN_PIECE if np is None else PIECE
+    for begin in range(0, count, size):
+        end = min(begin + size, count)
+        piece = [column[begin:end] for column in problem.columns()]
+        yield _plain_lines(piece) if np is None else _lines(np, piece)
+
+
+def problem_pieces(problem: ProblemColumns) -> Iterator[bytes]:
+    """The text of a problem, in pieces."""
+    yield b"p max %d %d\nn %d s\nn %d t\n" % (problem.nodes, len(problem.tails), problem.source, problem.sink)
+    yield from problem_lines(problem)
+
+
+def _plain_lines(columns: list[array[int]]) -> bytes:
+    count = len(columns[0])
+    numbers = [0] * (3 * count)
+    for place, column in enumerate(columns):
+        numbers[place::3] = column
+    return ("a %d %d %d\n" * count % tuple(numbers)).encode()
+
+
+def _lines(np: Any, columns: list[array[int]]) -> bytes:
+    """The same lines, all of one width: each number has zeros before it, up to a multiple of four digits."""
+    four_digits = _four_digits(np)
+    # Each field of a line with its type, its place, and what stands there.
+    fields: list[tuple[str, int, Any]] = [("u1", 0, ord("a"))]
+    width = 1
+    for column in columns:
+        numbers = np.frombuffer(column, f"u{column.itemsize}")
+        blocks = -(-len(str(numbers.max())) // 4)
+        fields.append(("u1", width, ord(" ")))
+        for block in range(blocks, 0, -1):
+            rest = numbers // 10_000
+            fields.append(("u4", width + 4 * block - 3, four_digits[numbers - rest * 10_000]))
+            numbers = rest
+        width += 1 + 4 * blocks
+    fields.append(("u1", width, ord("\n")))
+    types, places, contents = zip(*fields)
+    names = list(map(str, range(len(fields))))
+    lines = np.empty(len(columns[0]), {"names": names, "formats": types, "offsets": places, "itemsize": width + 1})
+    for name, content in zip(names, contents):
+        lines[name] = content
+    return bytes(lines.tobytes())
+
+
+@functools.cache
+def _four_digits(np: Any) -> Any:
+    """The numbers below 10,000 as texts of four digits, each as one number of four bytes."""
+    return np.frombuffer(b"".join(map(b"%04d".__mod__, range(10_000))), "u4")
+
+
+def numpy_for(count: int) -> Any:
+    """numpy, if it is loaded, or if it is installed and there are enough arcs to make it worth loading."""
+    if count >= MOST_PLAIN:
+        with contextlib.suppress(ImportError):
+            return importlib.import_module("numpy")
+    return loaded_numpy()
+
+
+def pieces_of(lines: bytes) -> Iterator[bytes]:
+    """Lines, as many at once as the processor's cache holds."""
+    begin = 0
+    while begin < len(lines):
+        end = lines.rfind(b"\n", begin, begin + LETTERS) + 1
+        yield lines[begin:end]
+        begin = end
+
+
+def read_lines(lines: bytes, np: Any) -> tuple[array[int], array[int], array[int]]:
+    """The tails, the heads and the capacities of arc lines, by numpy if it is given. Raises a ValueError for other lines."""
+    count = lines.count(b"\n")
+    # The letters of the lines are left out, so that numbers alone remain.
+    text = lines.replace(b"a", b"")
+    if np is None:
+        numbers = list(map(int, text.split()))
+        columns = array(NODES, numbers[0::3]), array(NODES, numbers[1::3]), array(AMOUNTS, numbers[2::3])
+    else:
+        found = np.fromstring(text, np.uint64, sep=" ")
+        columns = array(NODES), array(NODES), array(AMOUNTS)
+        for place, column in enumerate(columns):
+            column.frombytes(found[place::3].astype(f"u{column.itemsize}").tobytes())
+    if any(len(column) != count for column in columns):
+        raise ValueError
+    return columns
+
+
+def read_flows(text: bytes, count: int) -> array[int] | None:
+    """The flows of a solution's text, or None if it does not have so many."""
+    try:
+        found = array(AMOUNTS, (int(match[1]) for match in _FLOW.finditer(text)))
+    except (OverflowError, ValueError):
+        return None
+    return found if len(found) == count else None
+
+
+def flow_array(text: bytes | array[int], count: int) -> Any:
+    """The flows of a solution's text, or of a column, as an array of numpy."""
+    np = import_package("numpy", "an array of flows")
+    column = np.frombuffer(text, np.uint64) if isinstance(text, array) else _last_numbers(np, text, count)
+    return column.astype(kind_for(column))
+
+
+def kind_for(numbers: Any) -> str:
+    """Return the type for the numbers of an unsigned array: signed, unless one is 2^63 or more."""
+    return "uint64" if numbers.size and int(numbers.max()) >> 63 else "int64"
+
+
+def _last_numbers(np: Any, text: bytes, count: int) -> Any:
+    """The last number of each line but the first."""
+    letters = np.frombuffer(text, np.uint8)
+    column = np.zeros(count, np.uint64)
+    begin, done = text.find(b"\n") + 1, 0
+    while begin < len(text):
+        # As many lines as the processor's cache holds.
+        end = text.rfind(b"\n", begin, begin + LETTERS) + 1
+        ends = np.flatnonzero(letters[begin:end] == ord("\n"))
+        if not ends.size or done + ends.size > count:
+            break
+        _add_last_numbers(np, letters[begin:end], ends, column[done : done + ends.size])
+        begin, done = end, done + ends.size
+    if done != count or begin != len(text):
+        raise ValueError("the program told no flow for each open arc")
+    return column
+
+
+def _add_last_numbers(np: Any, letters: Any, ends: Any, column: Any) -> None:
+    """Adds to a column of zeros the number before each of these places. The digits of all are read together, from the last to the
+    first."""
+    rows, places, scale = np.arange(len(ends)), ends - 1, 1
+    while rows.size:
+        digits = letters[places] - np.uint8(ord("0"))
+        # A space stands before the first digit, and is less than one.
+        within = digits < 10
+        if not within.all():
+            rows, places, digits = rows[within], places[within], digits[within]
+        column[rows] += digits.astype(np.uint64) * np.uint64(scale)
+        places, scale = places - 1, scale * 10 % 2**64

@@ -73,12 +73,12 @@ def _beside() -> str | None:
                 refuse_unrun(path, error)
                 raise
             if status:
-                raise NoProgram(f"there is no program: {path} {ended(status)}; {OTHER}")
+                raise NoProgram(f"there is no program: {path} {end_reason(status)}; {OTHER}")
             return path
     return None
 
 
-def ended(status: int | None) -> str:
+def end_reason(status: int | None) -> str:
     """How a program ended."""
     if status is None:
         return "closed its input or its output, and was killed"

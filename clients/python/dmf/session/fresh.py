@@ -1,17 +1,50 @@
-"""Sessions whose solves begin from nothing, and tell the value and the cut alone."""
+"""Answers without a session, and sessions whose solves begin from nothing: the value and the cut alone."""
 
 from __future__ import annotations
 
 import subprocess
 from array import array
-from collections.abc import Sequence
+from collections.abc import Iterable, Sequence
+from typing import TYPE_CHECKING, NamedTuple
 
-from ..errors import UnknownCommand
-from .quick import CUT, Solved, solved
-from .base import Command, FilePath, Session, Way, line_of, refused
+from ..errors import SessionEnded, UnknownCommand
+from ..files import scratch
+from ..history import Command
+from .base import FilePath, Session, Told, Way, command_line, refused
+
+if TYPE_CHECKING:
+    from .process import Begun
+
+VALUE, CUT, FLOW = ["solve", "--brief"], ["solve", "--brief", "--cut"], ["solve", "--any"]
 
 
-class Anew(Session):
+class Solved(NamedTuple):
+    """The greatest value, and the flows or the nodes of the side where these were asked for."""
+
+    value: int
+    flows: Told = b""
+    side: Sequence[int] = ()
+
+
+def solved(problem: Iterable[bytes], words: list[str], program: FilePath, begun: Begun | None = None) -> Solved:
+    """What the program answers to these words about a problem in pieces. `begun` is told its process. Raises what `answer_to` raises, and
+    `SessionEnded` for an answer of another form."""
+    # Small networks are solved without a program.
+    from .process import answer_to
+
+    with scratch() as file:
+        file.writelines(problem)
+        file.seek(0)
+        text = answer_to(file, program, words, begun)
+    try:
+        value = int(text[: text.find(b"\n")].split()[-1])
+        side = [int(line[7:]) for line in text.splitlines() if line.startswith(b"c side ")] if words == CUT else []
+    except (ValueError, IndexError):
+        raise SessionEnded(f"what dmf answered to `{' '.join(words)}` was not understood") from None
+    return Solved(value, text if words == FLOW else b"", side)
+
+
+class FreshSession(Session):
     """A session whose solves are those of `dmf solve --brief --cut`: each finds the greatest value and the smallest side of a minimum cut
     of the network as it is then. No flow is known, and so no change takes long. What is refused, and why, is what another session
     says, which takes all changes but the solves."""
@@ -68,7 +101,7 @@ class Anew(Session):
         word, count = command
         left, grown = (self._past, self._future) if word == "undo" else (self._future, self._past)
         if count > len(left):
-            raise refused(f"nothing to {word}", line_of(command), None)
+            raise refused(f"nothing to {word}", command_line(command), None)
         steps = left[len(left) - count :]
         self._session.step((word, steps.count(False)))
         grown += reversed(steps)

@@ -2,30 +2,25 @@
 
 from __future__ import annotations
 
-import _thread
-import contextlib
 import ctypes
 import functools
-import os
-import weakref
 from array import array
 from collections.abc import Callable, Iterator, Sequence
 from itertools import compress, count
-from typing import Any, Generic, TypeVar
+from typing import Any
 
-from ..arrays import problem_pieces
 from ..errors import NoProgram, Refused
-from ..text.lexical import display
-from ..numbering import AMOUNTS
-from .base import Command, Problem, Session, judged, line_of, refused, refused_line
+from ..history import Command
+from ..text.lexical import AMOUNTS, display
+from .base import ProblemColumns, Session, command_line, judged, problem_pieces, refused, refused_line
 from .versions import ABI, fits, other_version
+from .worker_threads import Given, Handle, Job
 
 # The largest network of which all calls run in the thread of their caller, in arcs. There Ctrl-C waits for the call to end, which takes
 # milliseconds. The calls of a larger one run in a thread beside, which Ctrl-C leaves alone, but for steps over so many states at most,
 # each of which looks at each arc a few times at most.
 MOST_AT_ONCE, MOST_STEPS = 20_000, 4
-# How many threads that run calls are kept for later ones.
-MOST_THREADS = 8
+
 OK, NO_MEMORY, NOT_GREATEST, BAD_LENGTH, BAD_TEXT = 0, 1, 9, 10, 12
 # The reasons of a session, by their numbers in dmf.h, in the program's words.
 REASONS = {
@@ -64,7 +59,6 @@ FAULTS = (
 COMMANDS = {"cap": 2, "add": 3, "close": 1, "shut": 1, "solve": 0, "undo": 1, "redo": 1}
 STEPS = "undo", "redo"
 _POINTER, _WORD, _LONG, _SIZE = ctypes.c_void_p, ctypes.c_uint32, ctypes.c_uint64, ctypes.c_size_t
-Given = TypeVar("Given")
 
 
 class Library:
@@ -91,20 +85,20 @@ class Library:
         call.argtypes, call.restype = arguments, result
         return call  # type: ignore[no-any-return]
 
-    def begin(self, problem: Problem, most: int) -> InProcess:
+    def begin(self, problem: ProblemColumns, most: int) -> LibrarySession:
         """A session on a problem, in which so many changes can be undone. Raises a `Refused` as the program does for its text."""
         address, bad_arc = _POINTER(), _SIZE()
         columns = [part for column in problem.columns() for part in (_place(column), len(problem.tails))]
         places = ctypes.byref(address), ctypes.byref(bad_arc)
         status = self.new(problem.nodes, problem.source, problem.sink, *columns, most, *places)
         if status == OK:
-            return InProcess(self, address.value or 0, len(problem.tails))
+            return LibrarySession(self, address.value or 0, len(problem.tails))
         if status == NO_MEMORY:
             raise refused_line(REASONS[NO_MEMORY], None)
         # Which fault of its text the program tells, the library knows by that text.
         return self.begin_text(b"".join(problem_pieces(problem)), most)
 
-    def begin_text(self, text: bytes, most: int) -> InProcess:
+    def begin_text(self, text: bytes, most: int) -> LibrarySession:
         """A session on the text of a problem. Raises a `Refused` as the program does."""
         address, line, fault = _POINTER(), _LONG(), _WORD()
         places = ctypes.byref(address), ctypes.byref(line), ctypes.byref(fault)
@@ -114,7 +108,7 @@ class Library:
             raise refused_line(reason, None if reason == REASONS[NO_MEMORY] else line.value)
         if status != OK:
             raise refused_line(REASONS[NO_MEMORY], None)
-        return InProcess(self, address.value or 0, self.arcs(address))
+        return LibrarySession(self, address.value or 0, self.arcs(address))
 
 
 @functools.cache
@@ -154,114 +148,15 @@ def refuse_interface(path: str, number: int) -> None:
         raise NoProgram(f"{display(path)} has the interface {number}, and this package needs {ABI}")
 
 
-class _Held:
-    """The address of a session of the library, which is freed when nothing refers to this any more. A call at it does, so that it is never
-    freed while a call goes on; no lock is needed, in whose middle Ctrl-C might come."""
-
-    def __init__(self, free: Callable[[int], int], address: int) -> None:
-        self.address = address
-        # The system frees all at once when the interpreter ends, also where a call goes on.
-        weakref.finalize(self, _free, free, address, os.getpid()).atexit = False
-
-
-def _free(free: Callable[[int], int], address: int, owner: int) -> None:
-    """Frees a session, in the process that began it."""
-    if os.getpid() == owner:
-        free(address)
-
-
-class _Threads:
-    """The threads that run calls beside those of their callers. Each takes one call after another."""
-
-    def __init__(self) -> None:
-        # Only large networks need it.
-        from queue import SimpleQueue
-
-        self._jobs: SimpleQueue[_Job[Any]] = SimpleQueue()
-        # One entry for each thread that waits for a job, or is about to. Ctrl-C may leave one too few, and then one thread more begins.
-        self._waiting: list[None] = []
-
-    def begin(self, job: _Job[Any]) -> None:
-        """Begins a job at once."""
-        if not self._take_one():
-            _thread.start_new_thread(self._run, ())
-        self._jobs.put(job)
-
-    def _take_one(self) -> bool:
-        """Takes a thread that waits out of those. Returns whether there was one."""
-        try:
-            self._waiting.pop()
-        except IndexError:
-            return False
-        return True
-
-    def _run(self) -> None:
-        is_kept = True
-        while is_kept:
-            job = self._jobs.get()
-            job.run()
-            self._waiting.append(None)
-            job.leave()
-            # Nothing of it is held while the thread waits.
-            del job
-            is_kept = len(self._waiting) <= MOST_THREADS or not self._take_one()
-
-
-@functools.cache
-def _threads() -> _Threads:
-    return _Threads()
-
-
-# A process that was forked off has none of them.
-os.register_at_fork(after_in_child=_threads.cache_clear)
-
-
-class _Job(Generic[Given]):
-    """Calls at a session in a thread beside that of their caller, which waits for what they give, and may cease to wait."""
-
-    def __init__(self, work: Callable[..., Given], held: _Held, words: tuple[Any, ...]) -> None:
-        self._work = work
-        self._held = held
-        self._words = words
-        self._given: list[Given] = []
-        self._error: BaseException | None = None
-        # Who waits for this lock waits for the work.
-        self._is_going_on = _thread.allocate_lock()
-        self._is_going_on.acquire()
-
-    def wait(self) -> None:
-        """Begins the work, and waits until it is done, or until `leave` is called. Ctrl-C breaks off the waiting alone."""
-        _threads().begin(self)
-        self._is_going_on.acquire()
-
-    def leave(self) -> None:
-        """Has whoever waits wait no more."""
-        with contextlib.suppress(RuntimeError):
-            self._is_going_on.release()
-
-    def run(self) -> None:
-        """Does the work."""
-        try:
-            self._given.append(self._work(self._held, *self._words))
-        except BaseException as error:
-            self._error = error
-
-    def given(self) -> Given:
-        """What the work gave. Raises what it raised."""
-        if self._error is not None:
-            raise self._error
-        return self._given[0]
-
-
-class InProcess(Session):
+class LibrarySession(Session):
     """A session of the library."""
 
     def __init__(self, library: Library, address: int, arc_count: int) -> None:
         self._library = library
-        self._held = [_Held(library.free, address)]
+        self._held = [Handle(library.free, address)]
         super().__init__(self._held.clear)
         self._arc_count = arc_count
-        self._job: _Job[Any] | None = None
+        self._job: Job[Any] | None = None
 
     @property
     def way(self) -> Library:
@@ -302,8 +197,8 @@ class InProcess(Session):
             raise self.ended()
         return given
 
-    def _do_beside(self, work: Callable[..., Given], held: _Held, words: tuple[Any, ...]) -> Given:
-        job = _Job(work, held, words)
+    def _do_beside(self, work: Callable[..., Given], held: Handle, words: tuple[Any, ...]) -> Given:
+        job = Job(work, held, words)
         self._job = job
         try:
             if not self._why_broken:
@@ -315,11 +210,11 @@ class InProcess(Session):
         finally:
             self._job = None
 
-    def _carried_out(self, held: _Held, command: Command, at: object = None) -> int:
+    def _carried_out(self, held: Handle, command: Command, at: object = None) -> int:
         word, *numbers = command
         status = self._library.commands[word](held.address, *numbers)
         if status != OK:
-            raise refused(REASONS[status], line_of(command), at)
+            raise refused(REASONS[status], command_line(command), at)
         return self._library.value(held.address)
 
     def step(self, command: Command, at: object = None) -> int:
@@ -329,7 +224,7 @@ class InProcess(Session):
     def carry_out(self, commands: Sequence[Command]) -> int:
         return self._do(self._carried_on, commands) if commands else 0
 
-    def _carried_on(self, held: _Held, commands: Sequence[Command]) -> int:
+    def _carried_on(self, held: Handle, commands: Sequence[Command]) -> int:
         value = 0
         for command in commands:
             if self._why_broken:
@@ -337,13 +232,13 @@ class InProcess(Session):
             try:
                 value = self._carried_out(held, command)
             except Refused as error:
-                self._why_broken = f"the session could not begin anew: `{line_of(command)}` was refused: {error.text}"
+                self._why_broken = f"the session could not begin anew: `{command_line(command)}` was refused: {error.text}"
         return value
 
     def flows(self, value: int, open_count: int) -> array[int]:
         return self._do(self._flows, value, is_short=True)
 
-    def _flows(self, held: _Held, value: int) -> array[int]:
+    def _flows(self, held: Handle, value: int) -> array[int]:
         judged(self._library.value(held.address), value)
         flows = array(AMOUNTS, [0]) * self._library.arcs(held.address)
         judged(self._library.flows(held.address, _place(flows), len(flows)), OK)
@@ -352,7 +247,7 @@ class InProcess(Session):
     def cut(self) -> tuple[int, list[int]]:
         return self._do(self._cut)
 
-    def _cut(self, held: _Held) -> tuple[int, list[int]]:
+    def _cut(self, held: Handle) -> tuple[int, list[int]]:
         marks = array("B", bytes(self._library.nodes(held.address)))
         status = self._library.side(held.address, _place(marks), len(marks))
         if status != OK:
@@ -363,7 +258,7 @@ class InProcess(Session):
     def problem(self) -> bytes:
         return self._do(self._problem)
 
-    def _problem(self, held: _Held) -> bytes:
+    def _problem(self, held: Handle) -> bytes:
         length = _SIZE()
         text = array("B", [0])
         while True:
@@ -377,7 +272,7 @@ class InProcess(Session):
     def try_cases(self, cases: Sequence[Sequence[Command]], value: int, found: list[int]) -> None:
         self._do(self._tried, cases, value, found)
 
-    def _tried(self, held: _Held, cases: Sequence[Sequence[Command]], value: int, found: list[int]) -> None:
+    def _tried(self, held: Handle, cases: Sequence[Sequence[Command]], value: int, found: list[int]) -> None:
         """Raises a ValueError if something in a case is refused, or if all together leave another value: then none of theirs counts. Objects
         of ctypes take less time than numbers, which it has to convert."""
         address, calls, value_of = _POINTER(held.address), self._library.commands, self._library.value

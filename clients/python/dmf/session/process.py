@@ -10,11 +10,12 @@ from collections.abc import Callable, Iterable, Iterator, Sequence
 from itertools import chain
 from typing import IO, Any
 
-from . import executable
 from ..errors import Error, Refused, SessionEnded
-from ..text.lexical import display
 from ..files import passed_on, scratch
-from .base import MOST_KEPT, MOST_TEXT, Command, FilePath, Session, case_lines, judged, line_of, refused, refused_line
+from ..history import Command
+from ..text.lexical import display
+from . import executable
+from .base import MOST_KEPT, MOST_TEXT, FilePath, Session, case_lines, command_line, judged, refused, refused_line
 
 # How long the program may take to end after its input has ended, in seconds.
 SECONDS = 2
@@ -26,7 +27,7 @@ Begun = Callable[["subprocess.Popen[bytes]"], object]
 _TOLD = re.compile(r"dmf: (?:line ([0-9]{1,10}): )?(.*)")
 
 
-class Child(Session):
+class ProgramSession(Session):
     """A running session of the program, and the lines that go to it and come from it."""
 
     def __init__(self, words: list[str | bytes], path: str) -> None:
@@ -86,14 +87,14 @@ class Child(Session):
         return self.asked_count > most
 
     def step(self, command: Command, at: object = None) -> int:
-        line = line_of(command)
+        line = command_line(command)
         with self.exchange(line):
             return int(_begun(self.line(), line, [b"c", command[0].encode()], at)[-1])
 
     def carry_out(self, commands: Sequence[Command]) -> int:
         """Sends some at once."""
         value = 0
-        for piece in _pieces([line_of(command)] for command in commands):
+        for piece in _pieces([command_line(command)] for command in commands):
             lines = list(chain.from_iterable(piece))
             with self.exchange("\n".join(lines)):
                 for line, reply in zip(lines, self.lines(len(lines)).splitlines()):
@@ -204,7 +205,7 @@ class Child(Session):
         self._told.seek(0)
         told = self._told.read(MOST_TOLD).decode(errors="replace").strip()
         self.end()
-        self.why_ended = self._why_broken or f"dmf {executable.ended(status)}{': ' if told else ''}{_shown(told)}"
+        self.why_ended = self._why_broken or f"dmf {executable.end_reason(status)}{': ' if told else ''}{_shown(told)}"
         return _refusal(told) or SessionEnded(self.why_ended)
 
     def _status(self) -> int | None:
@@ -282,7 +283,7 @@ def answer_to(file: IO[bytes], program: FilePath, words: list[str], begun: Begun
     fault = _refusal(told)
     if fault:
         raise fault
-    ended = SessionEnded(f"dmf {executable.ended(process.returncode)}{': ' if told else ''}{_shown(told)}")
+    ended = SessionEnded(f"dmf {executable.end_reason(process.returncode)}{': ' if told else ''}{_shown(told)}")
     executable.refuse_unfit(used, ended)
     raise ended
 
@@ -309,13 +310,13 @@ def session_words(most: int) -> list[str | bytes]:
     return words if most == MOST_KEPT else [*words, "--history", str(most)]
 
 
-def start(path: str, program: FilePath, words: list[str | bytes]) -> Child:
+def start_program(path: str, program: FilePath, words: list[str | bytes]) -> ProgramSession:
     """A session with these words, on the problem's file, once it has read the problem. Raises a `Refused` if the problem has a fault,
     `SessionEnded` if the program fails, and `NoProgram` if this package cannot use it."""
     used = os.fspath(program)
     executable.refuse_other_version(used)
     try:
-        child = Child([used, *words], path)
+        child = ProgramSession([used, *words], path)
     except OSError as error:
         # A temporary file may not be had either.
         if error.filename == used:

@@ -7,16 +7,13 @@ import contextlib
 import functools
 import os
 import sys
-from array import array
-from collections.abc import Iterator
-from typing import TYPE_CHECKING, Any
+from collections.abc import Iterator, Sequence
+from typing import TYPE_CHECKING, Protocol
 
-from .. import arrays
 from ..errors import NoProgram
-from ..state import Kept
-from ..numbering import NODES
 from ..files import path_of, scratch
-from .base import PROGRAM, FilePath, Problem, Program, Session, Way
+from ..history import Command
+from .base import PROGRAM, FilePath, ProblemColumns, Program, Session, Way, problem_pieces
 
 if TYPE_CHECKING:
     from .library import Library
@@ -115,38 +112,40 @@ def _has_newer(folder: str, than: int) -> bool:
         return any(it.stat().st_mtime_ns > than or it.is_dir() and _has_newer(it.path, than) for it in entries)
 
 
-def problem_of(kept: Kept[Any]) -> Problem:
-    """The first problem of what is kept."""
-    added = kept.added[: kept.first_count - len(kept.columns)]
-    tails, heads = kept.columns.tails, kept.columns.heads
-    if added:
-        tails = tails + array(NODES, [kept.columns.outlet(arc.tail) for arc in added])
-        heads = heads + array(NODES, [kept.number(arc.head) for arc in added])
-    ends = kept.number(kept.source), kept.number(kept.sink)
-    return Problem(len(kept.columns.numbers), *ends, tails, heads, kept.first_capacities())
+class Startable(Protocol):
+    """What a session is begun for: a first problem, and the commands after which it has a value. At most `most` changes can be undone."""
+
+    value: int
+    most: int
+
+    def problem(self) -> ProblemColumns:
+        """Return the first problem."""
+
+    def commands(self) -> Sequence[Command]:
+        """Return the commands that lead from it to the present state."""
 
 
 @contextlib.contextmanager
-def problem_file(kept: Kept[Any]) -> Iterator[str]:
+def problem_file(kept: Startable) -> Iterator[str]:
     """The path of a file with the first problem of what is kept, for as long as the block takes."""
     with scratch() as file:
-        file.writelines(arrays.problem_pieces(problem_of(kept)))
+        file.writelines(problem_pieces(kept.problem()))
         file.flush()
         yield path_of(file)
 
 
-def started(kept: Kept[Any], way: Way, path: str | None = None) -> Session:
+def start(kept: Startable, way: Way, path: str | None = None) -> Session:
     """A session that is in the state of what is kept, whose first problem is in the file at this path, if that is given. Raises a
     `Refused` if the problem has a fault, `NoProgram` if the program cannot be used, and `SessionEnded` if it fails, or comes to another
     value."""
     session: Session
     if isinstance(way, PROGRAM):
-        from .process import session_words, start
+        from .process import session_words, start_program
 
         with problem_file(kept) if path is None else contextlib.nullcontext(path) as path:
-            session = start(path, way, session_words(kept.most))
+            session = start_program(path, way, session_words(kept.most))
     else:
-        session = way.begin(problem_of(kept), kept.most)
+        session = way.begin(kept.problem(), kept.most)
     value = session.carry_out(kept.commands())
     if value != kept.value:
         session.kill(f"the session was ended: begun anew, it came to the value {value}, and not to {kept.value}")
@@ -155,12 +154,12 @@ def started(kept: Kept[Any], way: Way, path: str | None = None) -> Session:
 
 
 def started_on(text: bytes, way: Way, most: int) -> Session:
-    """A session on the text of a problem, in which so many changes can be undone. Raises what `started` raises."""
+    """A session on the text of a problem, in which so many changes can be undone. Raises what `start` raises."""
     if not isinstance(way, PROGRAM):
         return way.begin_text(text, most)
-    from .process import session_words, start
+    from .process import session_words, start_program
 
     with scratch() as file:
         file.write(text)
         file.flush()
-        return start(path_of(file), way, session_words(most))
+        return start_program(path_of(file), way, session_words(most))

@@ -12,15 +12,15 @@ from dataclasses import dataclass
 from itertools import islice
 from typing import TYPE_CHECKING, Any, Generic, Union
 
-from ..arcs import Arc, Node
-from ..arrays import package
-from .copies import Answer, Command, Plain
-from ..errors import Error, JobsOutOfRange, NotAnArc, UnknownCommand, shown
+from ..arcs import Arc
+from ..columns import Node
+from ..errors import Error, JobsOutOfRange, NotAnArc, UnknownCommand, shown_value
 from ..network import Network
 from ..rows import Whole, is_unordered
-from ..session.base import MOST_KEPT
-from .pool import Here, Pending, Sent, There, Tries
+from ..session.base import MOST_KEPT, import_package
 from ..session.runners import program_of
+from .copies import CaseAnswer, Command, Plain
+from .pool import ExecutorPool, LocalPool, Pending, RemoteCopy, Tries
 
 if TYPE_CHECKING:
     from concurrent.futures import Executor
@@ -97,7 +97,7 @@ def each_pair_added(pairs: Iterable[tuple[Hashable, Hashable]], capacity: Whole)
 
     def case(pair: tuple[Hashable, Hashable]) -> Case:
         if is_unordered(pair):
-            raise NotAnArc(f"not an arc: {shown(pair)}: wanted is (tail, head)")
+            raise NotAnArc(f"not an arc: {shown_value(pair)}: wanted is (tail, head)")
         return [("add", *pair, capacity)]
 
     return lambda network: _Each(case, pairs)
@@ -144,10 +144,10 @@ def sweep(
     named = network._session.program
     solver = program_of(named) if anew and executor is None else None
     begin: Callable[[], Tries] = functools.partial(
-        Here, swept.kept, network._session.way, want_cut, programs, None if count < 0 else count, solver
+        LocalPool, swept.kept, network._session.way, want_cut, programs, None if count < 0 else count, solver, swept.kind
     )
     if executor is not None:
-        begin = functools.partial(There, Sent.of(swept.kept, named, anew), executor, want_cut)
+        begin = functools.partial(ExecutorPool, RemoteCopy.of(swept.kept, named, anew, swept.kind), executor, want_cut)
     results = _results(swept, iter(made), begin)
     return _shown(results, count if count > 0 else None) if progress else results
 
@@ -161,7 +161,7 @@ def _programs(jobs: int | None) -> int:
     except TypeError:
         programs = 0
     if programs < 1:
-        raise JobsOutOfRange(f"jobs out of range: {shown(jobs)} is no whole number from 1 on")
+        raise JobsOutOfRange(f"jobs out of range: {shown_value(jobs)} is no whole number from 1 on")
     return programs
 
 
@@ -174,7 +174,9 @@ class _Swept(Generic[Node]):
         self.value = network._kept.value
         self.kept = network._kept.copy()
         self.kept.most = MOST_KEPT
+        self.kind = network._class_of_copies()
         self.measure = network._measure
+        self._whole = network._whole
         # The arcs that are not of the network's table, if it has one.
         described = self.kept.columns.described
         self._inner = described.roles if described else {}
@@ -188,24 +190,22 @@ class _Swept(Generic[Node]):
                 raise TypeError
             return [self._plain_command(command) for command in case]
         except TypeError:
-            return UnknownCommand(f"{shown(case)} in a sweep")
+            return UnknownCommand(f"{shown_value(case)} in a sweep")
         except Error as error:
             return error
 
     def _plain_command(self, command: Command) -> Command:
         """A command, with its arc by number."""
         if not isinstance(command, (tuple, list)) or not command or COMMANDS.get(command[0]) != len(command) - 1:
-            raise UnknownCommand(f"{shown(command)} in a sweep")
+            raise UnknownCommand(f"{shown_value(command)} in a sweep")
         word, *rest = command
         if word in ("cap", "close", "open"):
             rest[0] = self.kept.arc(rest[0]).number
         if self.measure is not None and word in ("cap", "add"):
-            from ..tables.answers import whole_of
-
-            rest[-1] = whole_of(self.measure, rest[-1], command)
+            rest[-1] = self._whole(rest[-1], command)
         return (word, *rest)
 
-    def told(self, case: Case, answer: Answer) -> SweepResult[Node]:
+    def told(self, case: Case, answer: CaseAnswer) -> SweepResult[Node]:
         """The result of a case."""
         if answer.refusal is not None:
             return SweepResult(case, refusal=answer.refusal)
@@ -254,7 +254,7 @@ def _shown(results: Generator[SweepResult[Node], None, None], total: int | None)
     """The results, with a bar that shows how many there are, of how many where that is known, where tqdm is there."""
     with contextlib.closing(results):
         try:
-            bar = package("tqdm", "a bar")
+            bar = import_package("tqdm", "a bar")
         except ImportError:
             yield from results
         else:

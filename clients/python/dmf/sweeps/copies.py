@@ -8,15 +8,15 @@ from collections.abc import Callable
 from itertools import takewhile
 from typing import Any, NamedTuple, Tuple, Union
 
-from ..session.fresh import Anew
 from ..arcs import Arc
 from ..errors import Error, NoProgram, SessionEnded
-from ..state import Kept
+from ..history import Command as Numbered
 from ..network import Network
-from ..text.lexical import LARGEST, MOST_ARCS
 from ..rows import whole
 from ..session.base import MOST_COMMANDS, FilePath, Way
-from ..session.base import Command as Numbered
+from ..session.fresh import FreshSession
+from ..state import NetworkState
+from ..text.lexical import LARGEST, MOST_ARCS
 
 # A command of a case: ("cap", arc, capacity), ("close", arc), ("open", arc), ("shut", node) or ("add", tail, head, capacity).
 Command = Tuple[Any, ...]
@@ -26,7 +26,7 @@ Plain = Union["list[Command]", Callable[[Network[Any]], object]]
 TRIES = 2
 
 
-class Answer(NamedTuple):
+class CaseAnswer(NamedTuple):
     """What a copy tells of a case: its value and the arcs of its cut, by their numbers or, where they were added, as they are."""
 
     value: int = 0
@@ -34,7 +34,7 @@ class Answer(NamedTuple):
     refusal: Error | None = None
 
 
-def _try(network: Network[Any], case: Plain, want_cut: bool) -> Answer:
+def _try(network: Network[Any], case: Plain, want_cut: bool) -> CaseAnswer:
     """What comes of a case on a solved network, which is then as it was."""
     known = network._kept.arc_count
     with network.try_out():
@@ -52,25 +52,33 @@ def _try(network: Network[Any], case: Plain, want_cut: bool) -> Answer:
         network.solve()
         value = network._kept.value
         if not want_cut:
-            return Answer(value)
-        return Answer(value, tuple(arc.number if arc.number <= known else arc for arc in network._leaving_cut()))
+            return CaseAnswer(value)
+        return CaseAnswer(value, tuple(arc.number if arc.number <= known else arc for arc in network._leaving_cut()))
 
 
-def _try_together(network: Network[Any], cases: list[list[Numbered]], answers: list[Answer]) -> None:
+def _try_together(network: Network[Any], cases: list[list[Numbered]], answers: list[CaseAnswer]) -> None:
     """Tries cases at once, and adds what comes of each. Raises `SessionEnded` if one is refused."""
     values: list[int] = []
     try:
         network._try_cases(cases, values)
     finally:
-        answers.extend(map(Answer, values))
+        answers.extend(map(CaseAnswer, values))
 
 
-class Copy:
+class SolvedCopy:
     """A solved copy of a network, which is begun when a case comes, and anew where its session ends. Its problem may be in a file that
     several programs read. With `anew` it is not solved, and each case is, from nothing, by this program."""
 
-    def __init__(self, kept: Kept[Any], way: Way, path: str | None = None, anew: FilePath | None = None) -> None:
+    def __init__(
+        self,
+        kept: NetworkState[Any],
+        way: Way,
+        path: str | None = None,
+        anew: FilePath | None = None,
+        kind: type[Network[Any]] = Network,
+    ) -> None:
         self._kept = kept
+        self._kind = kind
         self._anew = anew
         self._way = way
         self._path = path
@@ -83,10 +91,10 @@ class Copy:
         self.network: Network[Any] | None = None
         self.used = time.monotonic()
 
-    def answers(self, cases: list[Plain | Error], want_cut: bool) -> list[Answer]:
+    def answers(self, cases: list[Plain | Error], want_cut: bool) -> list[CaseAnswer]:
         """What comes of cases. Sends those together that no session refuses, so that a program need not wait for the next one. If
         it ends at one of these, tries that once more."""
-        answers: list[Answer] = []
+        answers: list[CaseAnswer] = []
         while len(answers) < len(cases):
             together: list[list[Numbered]] = []
             if not want_cut:
@@ -102,21 +110,21 @@ class Copy:
             answers.append(self._answer(cases[len(answers)], want_cut, tries))
         return answers
 
-    def _answer(self, case: Plain | Error, want_cut: bool, tries: int) -> Answer:
+    def _answer(self, case: Plain | Error, want_cut: bool, tries: int) -> CaseAnswer:
         """What comes of a case. If the session ends, tries it once more, if a try is left."""
         if isinstance(case, Error):
-            return Answer(refusal=case)
+            return CaseAnswer(refusal=case)
         for left in reversed(range(tries)):
             try:
                 return _try(self._solved(), case, want_cut)
             except SessionEnded as error:
                 self.end()
                 if not left or self._is_over:
-                    return Answer(refusal=error)
+                    return CaseAnswer(refusal=error)
             except NoProgram:
                 raise
             except Error as error:
-                return Answer(refusal=error)
+                return CaseAnswer(refusal=error)
         raise AssertionError
 
     def _commands(self, case: Plain | Error) -> list[Numbered]:
@@ -155,11 +163,11 @@ class Copy:
             raise SessionEnded("the sweep was ended")
         if self.network is None:
             began = time.monotonic()
-            network: Network[Any] = self._kept.columns.network_class()._of(self._kept.copy(), self._way, self._path)
+            network: Network[Any] = self._kind._of(self._kept.copy(), self._way, self._path)
             with self._lock:
                 self.network = network
                 if self._anew is not None:
-                    network._session = Anew(network._session, self._anew)
+                    network._session = FreshSession(network._session, self._anew)
                 if self._is_over:
                     network._stop("the sweep was ended")
             if self._anew is None:

@@ -13,11 +13,12 @@ from dataclasses import dataclass
 from typing import TYPE_CHECKING, Any
 
 from ..arcs import Arc
-from .copies import Answer, Copy, Plain
 from ..errors import Error
-from ..state import Kept
+from ..network import Network
 from ..session.base import MOST_KEPT, PROGRAM, FilePath, Program, Way
 from ..session.runners import chosen, problem_file, program_of
+from ..state import NetworkState
+from .copies import CaseAnswer, Plain, SolvedCopy
 
 if TYPE_CHECKING:
     from concurrent.futures import Executor, Future
@@ -59,30 +60,38 @@ class Tries:
 Pending = Callable[[], "list[Answer]"]
 
 
-class Here(Tries):
+class LocalPool(Tries):
     """Sessions of this process, each with a thread that waits for it. Programs read one file. The first tries the cases alone, and another one
     begins when those that are there have tried cases for as long as it took them to begin, and will for as long again, if it is known
     how many cases there are. So all sessions together take about half as long again as one would, at most. The first cases of a session
     count to its beginning, since it makes then what all cases use."""
 
     def __init__(
-        self, kept: Kept[Any], way: Way, want_cut: bool, jobs: int, count: int | None = None, anew: FilePath | None = None
+        self,
+        kept: NetworkState[Any],
+        way: Way,
+        want_cut: bool,
+        jobs: int,
+        count: int | None = None,
+        anew: FilePath | None = None,
+        kind: type[Network[Any]] = Network,
     ) -> None:
-        """`count` is how many cases there are, if that is known. `anew` is the program that solves each from nothing, if one does."""
+        """`count` is how many cases there are, if that is known. `anew` is the program that solves each from nothing, if one does. `kind` is
+        the class of the copies."""
         # It takes 1 MB, and nothing else needs it.
         from concurrent.futures import ThreadPoolExecutor
 
         super().__init__(4 * jobs)
         self._count = count
-        self._begin_copy = functools.partial(Copy, kept, way, anew=anew)
+        self._begin_copy = functools.partial(SolvedCopy, kept, way, anew=anew, kind=kind)
         self._want_cut = want_cut
         self._jobs = jobs
         self._stack = contextlib.ExitStack()
         self._file = problem_file(kept) if isinstance(way, PROGRAM) else contextlib.nullcontext(None)
         self._path: str | None = None
-        self._copies: list[Copy] = []
+        self._copies: list[SolvedCopy] = []
         # The copies that no thread has. Whoever waits for a copy waits for a change.
-        self._free: list[Copy] = []
+        self._free: list[SolvedCopy] = []
         # How many copies have begun, and in how many seconds; how many cases were tried so far, and in how many seconds; and how long each
         # of the last ones took.
         self._begun_count, self._begun = 0, 0.0
@@ -95,7 +104,7 @@ class Here(Tries):
     def begin(self, cases: list[Plain | Error]) -> Pending:
         return self._threads.submit(self._answers, cases).result
 
-    def _answers(self, cases: list[Plain | Error]) -> list[Answer]:
+    def _answers(self, cases: list[Plain | Error]) -> list[CaseAnswer]:
         copy = self._take()
         began, before = time.monotonic(), copy.begin_seconds
         try:
@@ -116,7 +125,7 @@ class Here(Tries):
         self._begun_count += is_first
         self._pace = seconds / count
 
-    def _take(self) -> Copy:
+    def _take(self) -> SolvedCopy:
         """A copy that no other thread has: one that has begun, or another one if that is worth it."""
         with self._changed:
             self._changed.wait_for(lambda: self._free or self._is_worth_another())
@@ -158,7 +167,7 @@ def _workers(executor: Any) -> int:
 
 
 @dataclass(eq=False)
-class _Piece:
+class _Batch:
     """Cases that an executor was given, what it promises of them, and the error for which it takes them no more."""
 
     asked: Any
@@ -166,12 +175,12 @@ class _Piece:
     error: Exception | None = None
 
 
-class There(Tries):
+class ExecutorPool(Tries):
     """Processes of an executor, which may be on other machines."""
 
     first = PIECE
 
-    def __init__(self, sent: Sent, executor: Executor, want_cut: bool) -> None:
+    def __init__(self, sent: RemoteCopy, executor: Executor, want_cut: bool) -> None:
         # It takes 4 MB, and nothing else needs it.
         import hashlib
 
@@ -184,15 +193,15 @@ class There(Tries):
         super().__init__(self._workers)
         self._futures: list[Future[Any]] = []
         # The pieces that go out again, with the network, if their process has it not yet.
-        self._first: list[_Piece] = []
+        self._first: list[_Batch] = []
 
     def begin(self, cases: list[Plain | Error]) -> Pending:
         asked = pickle.dumps((cases, self._want_cut)) if not any(map(callable, cases)) else (cases, self._want_cut)
-        piece = _Piece(asked, self._submit(None, asked))
+        piece = _Batch(asked, self._submit(None, asked))
         self._first.append(piece)
         return lambda: self._answers(piece)
 
-    def _answers(self, piece: _Piece) -> list[Answer]:
+    def _answers(self, piece: _Batch) -> list[CaseAnswer]:
         """The answers of a piece. While it waits for them, it sends the network with every piece whose process lacks it, so that all
         processes begin at once."""
         from concurrent.futures import FIRST_COMPLETED, wait
@@ -204,14 +213,14 @@ class There(Tries):
                 self._send_again(first)
         if piece.error is not None:
             raise piece.error
-        answers: list[Answer]
+        answers: list[CaseAnswer]
         answers, seconds = piece.future.result()
         self._futures.remove(piece.future)
         self.most = WAITING * self._workers
         self.learn(len(answers), seconds)
         return answers
 
-    def _send_again(self, piece: _Piece) -> None:
+    def _send_again(self, piece: _Batch) -> None:
         """Sends a piece once more, with the network, if its process had that not yet, or died."""
         try:
             error = piece.future.exception()
@@ -238,7 +247,7 @@ def _is_lost(error: BaseException) -> bool:
 
 
 @dataclass
-class Sent:
+class RemoteCopy:
     """A network as it is sent to another process, the program, where the caller named it, and whether its cases are solved anew."""
 
     columns: Any
@@ -248,15 +257,16 @@ class Sent:
     ends: tuple[Any, Any]
     program: Program
     is_anew: bool
+    kind: type[Network[Any]]
 
     @staticmethod
-    def of(kept: Kept[Any], program: Program, is_anew: bool = False) -> Sent:
+    def of(kept: NetworkState[Any], program: Program, is_anew: bool, kind: type[Network[Any]]) -> RemoteCopy:
         rows = zip(kept.added, kept.replaced)
         added: list[tuple[Any, ...]] = [((arc.number, arc.tail, arc.head, arc.given_key), replaced) for arc, replaced in rows]
-        return Sent(kept.columns, kept.capacities, added, kept.closed, (kept.source, kept.sink), program, is_anew)
+        return RemoteCopy(kept.columns, kept.capacities, added, kept.closed, (kept.source, kept.sink), program, is_anew, kind)
 
-    def kept(self) -> Kept[Any]:
-        kept = Kept(self.columns, self.capacities, *self.ends, MOST_KEPT)
+    def kept(self) -> NetworkState[Any]:
+        kept = NetworkState(self.columns, self.capacities, *self.ends, MOST_KEPT)
         for row, replaced in self.added:
             kept.put_added(Arc(*row), replaced)
         kept.closed = self.closed
@@ -265,8 +275,8 @@ class Sent:
 
 
 # The copies in this process that no case uses now, and how another one is made, by the name of what was sent.
-_free: dict[str, list[Copy]] = {}
-_known: dict[str, Callable[[], Copy]] = {}
+_free: dict[str, list[SolvedCopy]] = {}
+_known: dict[str, Callable[[], SolvedCopy]] = {}
 _free_lock = threading.Lock()
 
 
@@ -280,7 +290,7 @@ def _forget_copies() -> None:
 os.register_at_fork(after_in_child=_forget_copies)
 
 
-def _answers_there(name: str, sent: bytes | None, asked: Any) -> tuple[list[Answer], float] | None:
+def _answers_there(name: str, sent: bytes | None, asked: Any) -> tuple[list[CaseAnswer], float] | None:
     """What comes of cases in the process of an executor, and how many seconds that takes; None if it needs the network first."""
     with _free_lock:
         copies = _free.get(name, [])
@@ -290,9 +300,9 @@ def _answers_there(name: str, sent: bytes | None, asked: Any) -> tuple[list[Answ
     if copy is None:
         if sent is None:
             return None
-        network: Sent = pickle.loads(sent)
+        network: RemoteCopy = pickle.loads(sent)
         anew = program_of(network.program) if network.is_anew else None
-        another = functools.partial(Copy, network.kept(), chosen(network.program), anew=anew)
+        another = functools.partial(SolvedCopy, network.kept(), chosen(network.program), anew=anew, kind=network.kind)
         with _free_lock:
             _known.clear()
             _known[name] = another

@@ -15,11 +15,10 @@ from math import gcd
 from operator import mul
 from typing import Optional
 
-from ..numbering import AMOUNTS
 from ..quantity import COMMA, EXACT, LARGEST, LONGEST_NUMBER, POINT, SIGNS, Measure, decimals, plain_text, readings
-from ..text.cells import shown
-from .faults import Faults
-from .sheet_tables import PIECE, Exact
+from ..text.lexical import AMOUNTS
+from ..text.spelling import quoted_name
+from .sheet import PIECE, Exact, Faults
 
 # The most characters of a number that is read together with others.
 PLAIN_LENGTH = 18
@@ -73,7 +72,7 @@ class Plain:
 
 
 @dataclass
-class _Piece:
+class _CellPiece:
     """Some cells of a column, and what they are if they are plain. `first` is the place of the first one in the column."""
 
     first: int
@@ -98,7 +97,7 @@ class Amounts:
         self.decimals = 0
         self.numbers: Sequence[int] = []
         self._count = 0
-        self._pieces: list[_Piece] = []
+        self._pieces: list[_CellPiece] = []
         self._read: dict[str, tuple[dict[str, Decimal], str]] = {}
 
     def add(self, cells: list[str]) -> None:
@@ -111,7 +110,7 @@ class Amounts:
         self._put(count, cells, plain)
 
     def _put(self, count: int, cells: Callable[[], list[str]], plain: Optional[Plain]) -> None:
-        self._pieces.append(_Piece(self._count, cells, plain))
+        self._pieces.append(_CellPiece(self._count, cells, plain))
         self._count += count
 
     @property
@@ -123,7 +122,7 @@ class Amounts:
         """Sees to it that this column has no other unit than another one."""
         mine, theirs = self.named_unit, other.named_unit
         if self.lines and mine and theirs and _folded(mine) != _folded(theirs):
-            faults.add(f"the {self.what} has the unit {shown(mine)}, and the {other.what} has {shown(theirs)}", self.lines[0], self.column)
+            faults.add(f"the {self.what} has the unit {quoted_name(mine)}, and the {other.what} has {quoted_name(theirs)}", self.lines[0], self.column)
 
     def reading(self, cell: str) -> tuple[dict[str, Decimal], str]:
         found = self._read.get(cell)
@@ -170,7 +169,7 @@ class Amounts:
                 open_cell = place, cell
         if len(only) == 2:
             (first, one), (second, other) = sorted(only.values())
-            told = f"the {self.what} {shown(other)} has another decimal sign than {shown(one)} in line {self.lines[first]}"
+            told = f"the {self.what} {quoted_name(other)} has another decimal sign than {quoted_name(one)} in line {self.lines[first]}"
             faults.add(f"{told}; change one, or name the sign: --decimal . or --decimal ,", self.lines[second], self.column)
             return ""
         if only:
@@ -179,7 +178,7 @@ class Amounts:
             place, cell = open_cell
             found, unit = self.reading(cell)
             both = " or ".join(f"{plain_text(found[sign])} with a decimal {NAMES[sign]}" for sign in SIGNS)
-            faults.add(f"the {self.what} {shown(cell.strip())} may be {both}: --decimal . or --decimal ,", self.lines[place], self.column)
+            faults.add(f"the {self.what} {quoted_name(cell.strip())} may be {both}: --decimal . or --decimal ,", self.lines[place], self.column)
         return usual if open_cell else ""
 
     def _telling(self) -> Iterator[tuple[int, str, dict[str, Decimal]]]:
@@ -213,13 +212,13 @@ class Amounts:
         for unit, place in named.items():
             if _folded(unit) != _folded(wanted):
                 where = "the title" if of_title else f"line {self.lines[named[wanted]]}"
-                faults.add(f"a {self.what} has the unit {shown(unit)}, and {where} has {shown(wanted)}", self.lines[place], self.column)
+                faults.add(f"a {self.what} has the unit {quoted_name(unit)}, and {where} has {quoted_name(wanted)}", self.lines[place], self.column)
         if named and "" in units and not of_title:
-            told = f"a {self.what} has no unit, and line {self.lines[named[wanted]]} has {shown(wanted)}"
+            told = f"a {self.what} has no unit, and line {self.lines[named[wanted]]} has {quoted_name(wanted)}"
             faults.add(told, self.lines[units[""]], self.column)
         self.unit = wanted
 
-    def _read_piece(self, piece: _Piece, faults: Faults) -> Plain:
+    def _read_piece(self, piece: _CellPiece, faults: Faults) -> Plain:
         """The numbers of a piece with the sign that was settled. If that is another one, or cells are not plain, each is read by itself."""
         if piece.plain and piece.plain.sign in ("", self.sign):
             return piece.plain
@@ -236,11 +235,11 @@ class Amounts:
         if not text:
             reason = f"no {self.what}"
         elif len(text) > LONGEST_NUMBER and text.isdigit():
-            reason = f"the {self.what} {shown(text)} is past {LARGEST}"
+            reason = f"the {self.what} {quoted_name(text)} is past {LARGEST}"
         elif found:
-            reason = f"the {self.what} {shown(text)} is no number with a decimal {NAMES[self.sign]}"
+            reason = f"the {self.what} {quoted_name(text)} is no number with a decimal {NAMES[self.sign]}"
         else:
-            reason = f"the {self.what} {shown(text)} {no_number(text)}"
+            reason = f"the {self.what} {quoted_name(text)} {no_number(text)}"
         faults.add(reason, self.lines[place], self.column)
         return Decimal(0)
 
@@ -276,7 +275,7 @@ class Amounts:
 
     def _shown(self, place: int) -> str:
         """A number as messages show it: with the decimal sign of the column."""
-        return shown(plain_text(self.quantity(place)).replace(POINT, self.sign or POINT))
+        return quoted_name(plain_text(self.quantity(place)).replace(POINT, self.sign or POINT))
 
     def quantity(self, place: int) -> Decimal:
         """The number at a place."""

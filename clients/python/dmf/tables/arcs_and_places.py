@@ -1,17 +1,17 @@
-"""From rows to what is said of places: what each gives, takes or lets through."""
+"""From rows to arcs, and to what is said of places: what each gives, takes or lets through."""
 
 from __future__ import annotations
 
-from collections.abc import Sequence
+from collections.abc import Iterable, Sequence
 from decimal import Decimal
 from typing import NamedTuple, Optional
 
-from ..text.cells import cleaned
-from .headings import LIMIT, PLACE, PLACE_COLUMNS, Form, Layout, layout_of
-from .faults import Faults, TableFault
+from ..errors import TableFault
+from ..text.spelling import cleaned
 from .amount_columns import Amounts
-from .readers import Reader, Reading, Said, amounts_of, first_rows, take_all
-from .sheet_tables import Rows, Sheet
+from .headings import ARCS, CAPACITY, HEAD, LIMIT, NAME, PLACE, PLACE_COLUMNS, TAIL, Form, Layout, layout_of
+from .readers import LONGEST_CELL, Numbers, ReadOptions, Reader, Said, Table, amounts_of, are_plain, first_rows, take_all
+from .sheet import Cells, Exact, Faults, Rows, Sheet, is_blank, name_in
 
 # What stands in the cell of a source or a sink that has no limit.
 MARKS = {"x", "yes", "ja", "oui", "si", "s\xed", "true", "wahr", "vrai", "unlimited", "unbegrenzt", "\u2713"}
@@ -33,7 +33,7 @@ class Term(NamedTuple):
 class _PlaceReader(Reader):
     """Takes rows of places."""
 
-    def __init__(self, sheet: Sheet, form: Form, layout: Layout, reading: Reading) -> None:
+    def __init__(self, sheet: Sheet, form: Form, layout: Layout, reading: ReadOptions) -> None:
         super().__init__(sheet, form, layout, reading)
         self.said: list[Said] = []
 
@@ -62,7 +62,7 @@ class Heading(NamedTuple):
     path: str
 
 
-def read_places(sheet: Sheet, kinds: Sequence[str], reading: Reading, arcs: Amounts) -> tuple[list[Term], list[Heading]]:
+def read_places(sheet: Sheet, kinds: Sequence[str], reading: ReadOptions, arcs: Amounts) -> tuple[list[Term], list[Heading]]:
     """What a table of places says of these kinds, beside the capacities of the table of arcs, and the row of its titles. Raises a
     `TableFault` with all rows that cannot be read, and if there is none."""
     form = Form((PLACE,), tuple(kinds))
@@ -95,3 +95,132 @@ def terms_of(said: list[Said], layout: Layout, faults: Faults, sign: str, arcs: 
             is_idle = not quantity and kind != LIMIT and len(layout.at) > 2
             terms.append(Term(kind, row.place, quantity, row.line, faults.path, is_idle))
     return terms
+
+
+class _ArcReader(Reader):
+    """Takes rows of arcs, and of places among them."""
+
+    def __init__(self, sheet: Sheet, layout: Layout, reading: ReadOptions) -> None:
+        super().__init__(sheet, ARCS, layout, reading)
+        self.table = Table(sheet, layout, amounts_of(CAPACITY, layout, sheet.path))
+        self.numbers = Numbers(reading.raw_names)
+        self.label = layout.at.get(NAME)
+        self.labels = Cells()
+        self.needed = max(layout.at[column] for column in (TAIL, HEAD, CAPACITY))
+        # Once a row was not taken together with others, there may be more.
+        self.titles_again: list[int] = []
+
+    def take(self, rows: Rows) -> None:
+        """Takes rows: all together if they are plain, which is several times as fast."""
+        if rows.lines and rows.lines[0] == self.layout.line:
+            rows = rows.after_first()
+        if not rows.lines or self._take_together(rows):
+            return
+        is_many = False
+        for fewer in rows.smaller():
+            is_many = True
+            self.take(fewer)
+        for line, row in () if is_many else zip(*rows):
+            self._take_row(line, row)
+
+    def _take_together(self, rows: Rows) -> bool:
+        widths, lines, at = rows.widths(), rows.lines, self.layout.at
+        if min(widths) <= self.needed or self.width is not None and max(widths) > self.width or not isinstance(lines, range):
+            return False
+        if self.heading and rows.has(at[CAPACITY], self.heading[at[CAPACITY]]):
+            return False
+        labels = self._labels(rows)
+        ends = None if labels is None else rows.numbered((at[TAIL], at[HEAD]), self.numbers)
+        if labels is None or ends is None:
+            return False
+        self.labels.add(labels, len(rows))
+        for column, more in zip((self.table.tails, self.table.heads), ends):
+            column.extend(more)
+        self.table.add_lines(lines)
+        rows.put_amounts(self.table.amounts, at[CAPACITY])
+        if self.width is None:
+            self._keep(place for place in range(max(widths)) if rows.has_something(place))
+        return True
+
+    def _labels(self, rows: Rows) -> str | None:
+        """The names of rows, each in a line; None if one cannot be read."""
+        text = "\n" * (len(rows) - 1) if self.label is None else rows.text(self.label)
+        if are_plain(text, len(rows)):
+            return text
+        cells = rows.column(self.label or 0)
+        if max(map(len, cells)) > LONGEST_CELL or not "".join(cells).isprintable():
+            return None
+        return "\n".join(cleaned(name_in(it.strip(), is_raw=self.reading.raw_names)) for it in cells)
+
+    def _keep(self, places: Iterable[int]) -> None:
+        """Notes which columns of a table without titles have something, and are read for nothing."""
+        self.table.others.update({*places} - {*self.layout.at.values()})
+
+    def _take_row(self, line: int, row: list[str]) -> None:
+        if self.is_passed_over(line, row):
+            if line != self.layout.line and not is_blank(row):
+                self.titles_again.append(line)
+            return
+        if not self.are_cells_right(line, row) or self._is_of_place(line, row):
+            return
+        before = self.faults.count
+        for column in TAIL, HEAD:
+            self.name(line, row, column)
+        amount = self.cell(row, CAPACITY)
+        if not amount.strip():
+            count = f": the row has {len(row)} column{'s' * (len(row) != 1)}" if self.layout.at[CAPACITY] >= len(row) else ""
+            self.faults.add(f"no {CAPACITY}{count}", line, self.layout.at[CAPACITY] + 1)
+        label = self.name(line, row, NAME) if self.label is not None and cleaned(self.cell(row, NAME)) else ""
+        if self.faults.count > before and not amount.strip():
+            return
+        self.labels.add(label, 1)
+        numbers = [self.numbers.number(self.cell(row, column)) for column in (TAIL, HEAD)]
+        self.table.tails.append(numbers[0])
+        self.table.heads.append(numbers[1])
+        self.table.add_lines(range(line, line + 1))
+        self.table.amounts.add([amount if isinstance(amount, Exact) else amount.strip()])
+        if self.width is None:
+            self._keep(place for place, cell in enumerate(row) if cell.strip())
+
+    def _is_of_place(self, line: int, row: list[str]) -> bool:
+        """Whether a row is of a place, which has no head and no capacity. If so, takes it."""
+        if cleaned(self.cell(row, HEAD)) or cleaned(self.cell(row, CAPACITY)):
+            return False
+        cells = {column: self.cell(row, column) for column in PLACE_COLUMNS if cleaned(self.cell(row, column))}
+        if not cells:
+            return False
+        place = self.name(line, row, TAIL)
+        if place:
+            self.table.said.append(Said(line, place, cells))
+        return True
+
+    def end(self) -> Table:
+        """The table. Raises a `TableFault` if a row has a fault."""
+        table = self.table
+        table.labels = self.labels if self.labels.has_some() else ()
+        table.places, table.respelled, table.is_raw = self.numbers.places, self.numbers.respelled, self.reading.raw_names
+        if self.titles_again:
+            told = ", ".join(map(str, self.titles_again[:9])) + ", .." * (len(self.titles_again) > 9)
+            table.notes.append(f"the titles stand once more, and are passed over: line {told}")
+        table.amounts.settle(table.lines, self.faults, self.reading.sign)
+        self.faults.judge()
+        return table
+
+
+def read_arcs(sheet: Sheet, reading: ReadOptions) -> Table:
+    """The table of arcs of a sheet. Raises a `TableFault` with all rows that cannot be read, and if there is none."""
+    sample = first_rows(sheet)
+    layout = layout_of(sample, ARCS, reading.titles)
+    reader = _ArcReader(sheet, layout, reading)
+    try:
+        take_all(sheet, reader)
+        table = reader.end()
+    except TableFault as fault:
+        for told in (fault, *fault.others):
+            told.reason += ARCS.hint if not layout.line and told.line == sample.lines[0] else ""
+        raise
+    table.begins_bare = not layout.line
+    table.heading = reader.heading if layout.line and not reading.titles else []
+    if not table.tails:
+        raise TableFault("the table has titles, and no row below them")
+    return table

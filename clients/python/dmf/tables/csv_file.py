@@ -17,12 +17,12 @@ from functools import partial
 from itertools import islice
 from typing import TYPE_CHECKING, Any, NamedTuple, Optional
 
-from .. import arrays
+from ..errors import TableFault
 from ..quantity import readings
-from ..text.problem_text import fields
-from ..text.cells import shown
-from .faults import TableFault
-from .sheet_tables import DELIMITERS, PIECE, Rows, Sheet
+from ..session.base import numpy_for
+from ..text.lexical import fields
+from ..text.spelling import quoted_name
+from .sheet import DELIMITERS, PIECE, Rows, Sheet
 
 if TYPE_CHECKING:
     from .numpy_rows import Spans
@@ -72,7 +72,7 @@ _LINE_END = re.compile("\r\n|\r|\n")
 def csv_sheet(data: bytes, path: str, encoding: Optional[str], width: int) -> Sheet:
     """The table of at least so many columns in the bytes of a CSV file. Raises a `TableFault`."""
     if mark := _LOCK.fullmatch(os.path.basename(path)):
-        raise TableFault(f"it only marks that a program has {shown(mark[1] or mark[2])} open: name that file")
+        raise TableFault(f"it only marks that a program has {quoted_name(mark[1] or mark[2])} open: name that file")
     what = _other_kind(data)
     if what:
         raise TableFault(f"it is {what}; {WANTED}")
@@ -171,7 +171,7 @@ def _reader(data: bytes, encoding: str, delimiter: str, line: int) -> Callable[[
     if encoding not in BARE_ENCODINGS or not _is_bare(data):
         return partial(_quoted_rows, data, encoding, delimiter, line)
     count = data.count(b"\n")
-    np = arrays.numpy_for(count) if count >= LEAST_LINES else None
+    np = numpy_for(count) if count >= LEAST_LINES else None
     return partial(_bare_rows, data, encoding, delimiter, line, np)
 
 
@@ -233,6 +233,10 @@ class Block(NamedTuple):
     def data(self) -> bytes:
         """The bytes of the lines."""
         return self.file[self.begin : self.end]
+
+    def from_byte(self, begin: int) -> Block:
+        """The lines from the second one on, which begins at this byte of the file."""
+        return self._replace(begin=begin, line=self.line + 1)
 
     def rows(self) -> Iterator[Rows]:
         """The rows, some thousands at once."""

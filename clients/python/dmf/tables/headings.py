@@ -9,10 +9,10 @@ from collections.abc import Mapping, Sequence
 from dataclasses import dataclass, field
 from typing import NamedTuple
 
+from ..errors import TableFault
 from ..quantity import readings
-from ..text.cells import cleaned, shown
-from .faults import TableFault
-from .sheet_tables import Rows
+from ..text.spelling import cleaned, quoted_name
+from .sheet import Rows
 
 TAIL, HEAD, CAPACITY, NAME = "tail", "head", "capacity", "name"
 PLACE, LIMIT, SUPPLY, DEMAND = "place", "limit", "supply", "demand"
@@ -99,8 +99,8 @@ class Layout:
 
     def told(self) -> str:
         """What was taken for what, in one line."""
-        parts = [f"{shown(self.title(column).text) if self.title(column).text else f'column {place + 1}'} as {column}" for column, place in self.at.items()]
-        kept = [shown(self.titles[place].text) for place in self.others()]
+        parts = [f"{quoted_name(self.title(column).text) if self.title(column).text else f'column {place + 1}'} as {column}" for column, place in self.at.items()]
+        kept = [quoted_name(self.titles[place].text) for place in self.others()]
         return f"read {', '.join(parts)}" + (f"; kept {', '.join(kept[:MOST_LISTED])}" if kept else "")
 
 
@@ -174,13 +174,13 @@ def _named(titles: tuple[Title, ...], line: int, form: Form, named: Mapping[str,
     for title in named.values():
         if found.count(cleaned(title)) != 1:
             which = "two columns have" if cleaned(title) in found else "no column has"
-            raise TableFault(f"{which} the title {shown(title)}; the titles are {_listed(titles)}", line)
+            raise TableFault(f"{which} the title {quoted_name(title)}; the titles are {_listed(titles)}", line)
     at = {column: found.index(cleaned(title)) for column, title in named.items()}
     return Layout(_usual([title.word for title in titles], PLACE_COLUMNS if form is ARCS else (), at), titles, line)
 
 
 def _listed(titles: Sequence[Title]) -> str:
-    return ", ".join(shown(title.text) for title in titles[:MOST_LISTED])
+    return ", ".join(quoted_name(title.text) for title in titles[:MOST_LISTED])
 
 
 def _untitled(sample: Rows, form: Form, titles: tuple[Title, ...]) -> Layout:
@@ -276,7 +276,7 @@ class _Guess:
         for column, place in at.items():
             if column != self.form.label and texts[place] and texts.count(texts[place]) > 1:
                 places = [str(other + 1) for other, text in enumerate(texts) if text == texts[place]]
-                told = f"the columns {' and '.join(places)} have one title, {shown(texts[place])}: which is the {column}? Give the others another"
+                told = f"the columns {' and '.join(places)} have one title, {quoted_name(texts[place])}: which is the {column}? Give the others another"
                 raise TableFault(told, self.line)
 
     def _place(self, column: str, at: Mapping[str, int]) -> int:

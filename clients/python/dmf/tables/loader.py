@@ -1,22 +1,30 @@
-"""Opens the files of a plan: the table of arcs, in a CSV file or in a sheet of a workbook, and tables of its places."""
+"""The tables that options name, read to a problem: the table of arcs, in a CSV file or in a sheet of a workbook, and tables of its places."""
 
 from __future__ import annotations
 
+import argparse
 import os
 from collections.abc import Callable, Iterator, Mapping, Sequence
-from dataclasses import dataclass, field
+from dataclasses import dataclass, field, replace
 from decimal import Decimal
-from typing import Optional
+from functools import cached_property, partial
+from typing import Any, Optional
 
-from ..tools.command import read_file, standard_input
-from ..text.cells import shown
-from .headings import ARCS, DEMAND, LIMIT, PLACE, PLACE_COLUMNS, SUPPLY, USUAL, Form, layout_of
-from .faults import Faults, TableFault, naming
+from ..errors import TableFault, ToolFault
+from ..files import read_file, standard_input
+from ..quantity import Measure
+from ..text.lexical import display, fields, lines
+from ..text.problem_text import problem_in
+from ..text.spelling import MOST_TOLD, quoted_name
+from ..text.table_comments import TableComments, described
+from .arcs_and_places import Term, read_arcs, read_places, terms_of
 from .csv_file import csv_sheet
-from .problem_builder import Plan, term_of
-from .arcs_and_places import read_places, terms_of
-from .readers import Reading, Table, read_arcs
-from .sheet_tables import Sheet
+from .headings import ARCS, CAPACITY, DEMAND, HEAD, LIMIT, NAME, PLACE, PLACE_COLUMNS, SUPPLY, TAIL, USUAL, Form, layout_of, spoken
+from .other_columns import Extra, extra_in, extra_of, left_out
+from .problem_builder import KINDS, NetworkTables, ends_alone, net_of, problem_text, term_of
+from .readers import ReadOptions, Table
+from .sheet import Faults, Sheet, naming
+from .warnings import warnings
 from .workbook import is_workbook, workbook_sheets
 
 # By the option of a table of places, what it says.
@@ -24,11 +32,11 @@ PLACE_TABLES: dict[str, Sequence[str]] = {"sources": [SUPPLY], "sinks": [DEMAND]
 
 
 @dataclass(frozen=True)
-class Wanted:
+class TableOptions:
     """What is said of the tables: how they are read and encoded, the scale, whether rows go both ways, words that name sources and
     sinks, the files of tables of places, by the option, and what reads these."""
 
-    reading: Reading = Reading()
+    reading: ReadOptions = ReadOptions()
     encoding: Optional[str] = None
     scale: Optional[Decimal] = None
     both_ways: bool = False
@@ -49,7 +57,7 @@ def data_of(path: Optional[str], status: int = 1) -> bytes:
     return standard_input(status).read() if path is None else read_file(split_path(path)[0], status)
 
 
-def plan_of(wanted: Wanted, path: Optional[str], data: bytes) -> Plan:
+def load_tables(wanted: TableOptions, path: Optional[str], data: bytes) -> NetworkTables:
     """The plan of the table of arcs in these bytes. Raises a `TableFault`, and a `ToolFault` if another file cannot be read."""
     told, name = split_path(path or "")
     with naming(told):
@@ -57,11 +65,11 @@ def plan_of(wanted: Wanted, path: Optional[str], data: bytes) -> Plan:
     return plan_of_sheet(wanted, sheet, others)
 
 
-def plan_of_sheet(wanted: Wanted, sheet: Sheet, others: Sequence[Sheet]) -> Plan:
-    """The plan of the table of arcs in a sheet, beside which other sheets may be of its places. Raises what `plan_of` raises."""
+def plan_of_sheet(wanted: TableOptions, sheet: Sheet, others: Sequence[Sheet]) -> NetworkTables:
+    """The plan of the table of arcs in a sheet, beside which other sheets may be of its places. Raises what `load_tables` raises."""
     with naming(sheet.path):
         table = read_arcs(sheet, wanted.reading)
-    plan = Plan(table, [], wanted.both_ways, wanted.scale)
+    plan = NetworkTables(table, [], wanted.both_ways, wanted.scale)
     plan.notes += [*sheet.notes, *_told(table)]
     for kind, words, option in (SUPPLY, wanted.source, "sources"), (DEMAND, wanted.sink, "sinks"):
         plan.terms += [term_of(kind, word, table) for word in words]
@@ -74,7 +82,7 @@ def plan_of_sheet(wanted: Wanted, sheet: Sheet, others: Sequence[Sheet]) -> Plan
     plan.terms += terms_of(table.said, table.layout, faults, wanted.reading.sign, table.amounts)
     faults.judge()
     for other in [] if wanted.tables else others:
-        plan.notes.append(f"the sheet {shown(other.path.rpartition('#')[2])} says what places give, take or let through")
+        plan.notes.append(f"the sheet {quoted_name(other.path.rpartition('#')[2])} says what places give, take or let through")
         _add_places(plan, other, PLACE_COLUMNS, wanted)
     return plan
 
@@ -91,7 +99,7 @@ def _told(table: Table) -> Iterator[str]:
     yield from table.notes
 
 
-def _add_file(plan: Plan, wanted: Wanted, option: str) -> None:
+def _add_file(plan: NetworkTables, wanted: TableOptions, option: str) -> None:
     """Adds what a table of places says."""
     path = wanted.tables[option]
     told, name = split_path(path)
@@ -105,7 +113,7 @@ def _add_file(plan: Plan, wanted: Wanted, option: str) -> None:
     _add_places(plan, sheet, PLACE_TABLES[option], wanted)
 
 
-def _add_places(plan: Plan, sheet: Sheet, kinds: Sequence[str], wanted: Wanted) -> None:
+def _add_places(plan: NetworkTables, sheet: Sheet, kinds: Sequence[str], wanted: TableOptions) -> None:
     with naming(sheet.path):
         terms, headings = read_places(sheet, kinds, wanted.reading, plan.arcs.amounts)
     plan.terms += terms
@@ -130,7 +138,7 @@ def _csv(data: bytes, path: str, name: str, encoding: Optional[str], width: int)
     """The table in a CSV file, which has no sheet of a name."""
     sheet = csv_sheet(data, path, encoding, width)
     if name:
-        raise TableFault(f"a CSV file has no sheets, and so none that is called {shown(name)}; name the file alone")
+        raise TableFault(f"a CSV file has no sheets, and so none that is called {quoted_name(name)}; name the file alone")
     return sheet
 
 
@@ -152,7 +160,7 @@ def _of_name(sheets: Sequence[Sheet], name: str) -> Sheet:
     """The sheet of a name, in whose case workbooks see no difference."""
     found = {sheet.path.rpartition("#")[2].casefold(): sheet for sheet in reversed(sheets)}
     if name.casefold() not in found:
-        raise TableFault(f"no sheet is called {shown(name)}; the sheets are {_names(sheets)}")
+        raise TableFault(f"no sheet is called {quoted_name(name)}; the sheets are {_names(sheets)}")
     return found[name.casefold()]
 
 
@@ -165,4 +173,136 @@ def _only(sheets: Sequence[Sheet], name: str) -> Sheet:
 
 
 def _names(sheets: Sequence[Sheet]) -> str:
-    return ", ".join(shown(sheet.path.rpartition("#")[2]) for sheet in sheets)
+    return ", ".join(quoted_name(sheet.path.rpartition("#")[2]) for sheet in sheets)
+
+
+COLUMNS = (TAIL, HEAD, CAPACITY, NAME)
+
+
+def names_terminals(words: argparse.Namespace) -> bool:
+    """Whether the arguments name a source or a sink."""
+    return bool(words.source or words.sink) or words.sources is not None or words.sinks is not None
+
+
+def says_table(words: argparse.Namespace) -> bool:
+    """Whether the arguments say something of a table."""
+    given = [words.scale, words.node_limits, words.place_table, words.encoding]
+    return names_terminals(words) or bool(words.titles or words.both_ways or words.decimal) or any(it is not None for it in given)
+
+
+def wanted_of(words: argparse.Namespace) -> TableOptions:
+    """What the arguments say of the tables."""
+    tables = {option: getattr(words, option) for option in PLACE_TABLES if getattr(words, option) is not None}
+    reading = ReadOptions(words.titles, words.decimal, words.raw_names)
+    return TableOptions(reading, words.encoding, words.scale, words.both_ways, tuple(words.source), tuple(words.sink), tables)
+
+
+# In how many of its first lines the problem line of a file is looked for.
+MOST_HEAD_LINES = 100_000
+FAULT, UNREADABLE = 3, 4
+# How the name of a table's file ends, and what its first line has.
+ENDINGS = (".csv", ".tsv", ".xlsx", ".ods")
+MARKS = b",;|"
+
+
+@dataclass(frozen=True)
+class LoadedProblem:
+    """A problem with comments, as `dmf-problem` writes it. `noun` is the table's word for an arc, if its titles have one. `notes` say
+    what looks like a mistake, and what was assumed. `raw_names` says that names stand in a table as they are. `plan` is what the problem
+    was made of, if it was made here, and `found` are the options that say what was found then: titles of columns, the source, the sink."""
+
+    path: str
+    text: bytes
+    noun: str = ""
+    notes: tuple[str, ...] = ()
+    raw_names: bool = False
+    plan: Optional[NetworkTables] = field(default=None, repr=False, compare=False)
+    found: Mapping[str, Any] = field(default_factory=dict)
+
+    @cached_property
+    def described(self) -> TableComments:
+        """What the comments say of the problem's table."""
+        return described(self.text)
+
+    @property
+    def measure(self) -> Measure:
+        """How the problem's numbers stand for quantities."""
+        return self.described.measure
+
+    @cached_property
+    def extra(self) -> Extra:
+        """The columns of the table that were read for nothing."""
+        return extra_of(self.plan.arcs, 1 + self.plan.both_ways) if self.plan else extra_in(self.text)
+
+
+def read_subject(words: argparse.Namespace, *, unreadable: int = UNREADABLE, in_doubt: bool = False) -> LoadedProblem:
+    """The problem that the words name. Where nothing tells whether a file has a problem, it has one if `in_doubt`. Raises a `ToolFault`,
+    with the status `unreadable` for a file that cannot be read."""
+    try:
+        data = problem_in(data_of(words.path, unreadable))
+        if is_problem(words.path, data, in_doubt=in_doubt and not says_table(words)):
+            if says_table(words):
+                raise ToolFault(f"{words.path} has a problem, which names its own source and sink: the options are for tables", 2)
+            return LoadedProblem(words.path, data, notes=tuple(left_out(data)), raw_names=words.raw_names)
+        return subject_of(replace(wanted_of(words), read=partial(read_file, status=unreadable)), words.path, data)
+    except TableFault as fault:
+        fault.name_path(words.path)
+        first, *more = fault.lines()
+        raise ToolFault(first, FAULT, more) from None
+
+
+def is_problem(path: str, data: bytes, *, in_doubt: bool = False) -> bool:
+    """Whether a file has a problem, by its first line that is no comment, or by its name. If neither says so, a workbook has none, nor has
+    a file with the name of a table or with a comma, a semicolon or a bar in that line; any other has one if `in_doubt`."""
+    head = lines(b"\n".join(data.split(b"\n", MOST_HEAD_LINES)[:MOST_HEAD_LINES]))
+    first = next((line for line in head if (found := fields(line)) and found[0] != b"c"), b"")
+    if fields(first)[:2] == [b"p", b"max"] or path.endswith(".max"):
+        return True
+    is_table = is_workbook(data) or split_path(path)[0].endswith(ENDINGS) or any(mark in first for mark in MARKS)
+    return in_doubt and not is_table
+
+
+def subject_of(wanted: TableOptions, path: str, data: bytes) -> LoadedProblem:
+    """The problem of a table in these bytes. Raises a `TableFault`, and a `ToolFault` if a table of places cannot be read."""
+    plan = load_tables(wanted, path, data)
+    said = [term.kind for term in plan.terms]
+    notes = complete(plan)
+    net = net_of(plan)
+    noun = spoken(plan.arcs.layout.title(NAME).text)
+    told = (*plan.notes, *notes, *warnings(plan, net))
+    found: dict[str, Any] = {KINDS[term.kind]: [term.place] for term in plan.terms if term.kind in KINDS and term.kind not in said}
+    layout = plan.arcs.layout
+    titles = {column: layout.title(column).text for column in layout.at}
+    texts = [title.text for title in layout.titles]
+    if layout.line and not titles.keys() & PLACE_COLUMNS and all(texts.count(title) == 1 for title in titles.values()):
+        found.update(titles)
+    return LoadedProblem(path, problem_text(net).encode(), noun, told, wanted.reading.raw_names, plan, found)
+
+
+def complete(plan: NetworkTables) -> list[str]:
+    """Adds the source or the sink if the plan has none and just one place can be meant, and says so. Raises a `TableFault` otherwise."""
+    notes = []
+    for kind, way in (SUPPLY, "leads to"), (DEMAND, "leads away from"):
+        if not plan.of_kind(kind):
+            place = _only_place(plan, kind, way)
+            plan.terms.append(Term(kind, place, None))
+            notes.append(f"the {KINDS[kind]} is {quoted_name(place)}, the one place that nothing {way}")
+    return notes
+
+
+def _only_place(plan: NetworkTables, kind: str, way: str) -> str:
+    """The only place that arcs leave and none enters, or the other way round. Raises a `TableFault` if there is not exactly one."""
+    table = plan.arcs
+    # Of two ways, each place is left and entered.
+    alone = ([], []) if plan.both_ways else ends_alone(table.tails, table.heads)
+    names = list(table.places)
+    found = [names[number - 1] for number in alone[0 if kind == SUPPLY else 1]]
+    taken = {term.place for kind in KINDS for term in plan.of_kind(kind)}
+    if len(found) == 1 and found[0] not in taken:
+        return found[0]
+    where = "does it flow from" if kind == SUPPLY else "does it flow to"
+    choice = found or names
+    listed = ", ".join(map(quoted_name, choice[:MOST_TOLD])) + (", .." if len(choice) > MOST_TOLD else "")
+    why = f"nothing {way} any of these: {listed}" if found else f"there is no place that nothing {way}; the places are {listed}"
+    many = ", as often as there are such places" if len(found) > 1 else ""
+    raise TableFault(f'where {where}? {why}; say --{KINDS[kind]} "{display(choice[0])}"{many}')

@@ -8,21 +8,20 @@ from decimal import Decimal
 from functools import partial
 from typing import Any, Optional, Union, cast
 
-from ..state import Kept
+from ..errors import TableFault
 from ..quantity import number_in
 from ..session.base import Program, bound
 from ..session.runners import chosen
-from .headings import DEMAND, LIMIT, SUPPLY
-from .other_columns import extra_of
-from .faults import TableFault, naming
-from .table_answers import FoldedColumns, Inner, with_room
-from .table_network import TableNetwork
-from .problem_builder import Plan, net_of
-from .loader import Wanted, plan_of, plan_of_sheet, split_path
+from ..state import NetworkState
 from .arcs_and_places import Term
-from .readers import Reading
-from .sheet_tables import Rows, Sheet
-from .subject import complete
+from .headings import DEMAND, LIMIT, SUPPLY
+from .loader import TableOptions, complete, load_tables, plan_of_sheet, split_path
+from .other_columns import extra_of
+from .problem_builder import NetworkTables, net_of
+from .readers import ReadOptions
+from .sheet import Rows, Sheet, naming
+from .table_answers import FoldedColumns, InnerNode, with_room
+from .table_network import TableNetwork
 from .warnings import warnings
 from .workbook import cell_text
 
@@ -31,16 +30,16 @@ Path = Union[str, "os.PathLike[str]"]
 Terminals = Union[str, Iterable[str], Mapping[str, Any], None]
 
 
-def network_of_plan(plan: Plan, program: Program, history: Optional[int]) -> TableNetwork:
+def network_of_plan(plan: NetworkTables, program: Program, history: Optional[int]) -> TableNetwork:
     """The network of a plan. Raises a `TableFault`, and what `Network` raises."""
     notes = [*plan.notes, *complete(plan)]
     net = net_of(plan)
     notes += warnings(plan, net)
     numbers: dict[Any, int] = dict(plan.arcs.places)
-    numbers.update((Inner(number, net.node_names[number - 1]), number) for number in range(len(numbers) + 1, len(net.node_names) + 1))
+    numbers.update((InnerNode(number, net.node_names[number - 1]), number) for number in range(len(numbers) + 1, len(net.node_names) + 1))
     columns = FoldedColumns(numbers, net.tails, net.heads, net.row_names, net.described, net.inner_names)
     nodes = list(numbers)
-    kept: Kept[Any] = Kept(columns, with_room(net.capacities, net.described), nodes[net.source - 1], nodes[net.sink - 1], bound(history))
+    kept: NetworkState[Any] = NetworkState(columns, with_room(net.capacities, net.described), nodes[net.source - 1], nodes[net.sink - 1], bound(history))
     made = cast(TableNetwork, TableNetwork._of(kept, chosen(program)))
     made._session.program = program
     made.notes, made._load, made._rows = notes, lambda: extra_of(plan.arcs, net.ways), range(1, net.row_count + 1, net.ways)
@@ -79,11 +78,11 @@ def read_table(
     """
     given = {"sources": sources, "sinks": sinks, "node_limits": node_limits, "place_table": places}
     paths = {option: _path(option, path) for option, path in given.items() if path is not None}
-    reading = Reading(dict(columns), decimal, raw_names)
-    wanted = Wanted(reading, encoding, None if scale is None else Decimal(scale), both_ways, (), (), paths, _read)
+    reading = ReadOptions(dict(columns), decimal, raw_names)
+    wanted = TableOptions(reading, encoding, None if scale is None else Decimal(scale), both_ways, (), (), paths, _read)
     if isinstance(table, (str, os.PathLike)):
         path = os.fspath(table)
-        plan = plan_of(wanted, path, _read(split_path(path)[0]))
+        plan = load_tables(wanted, path, _read(split_path(path)[0]))
     else:
         plan = plan_of_sheet(wanted, _sheet_of_frame(table), [])
     for kind, ends in (SUPPLY, source), (DEMAND, sink):
@@ -105,7 +104,7 @@ def _read(path: str) -> bytes:
         return file.read()
 
 
-def _terms_of(kind: str, ends: Terminals, plan: Plan) -> Iterator[Term]:
+def _terms_of(kind: str, ends: Terminals, plan: NetworkTables) -> Iterator[Term]:
     if isinstance(ends, str):
         ends = [ends]
     most = ends if isinstance(ends, Mapping) else dict.fromkeys(ends or ())
@@ -113,7 +112,7 @@ def _terms_of(kind: str, ends: Terminals, plan: Plan) -> Iterator[Term]:
         yield Term(kind, place, None if quantity is None else _quantity(quantity, plan))
 
 
-def _quantity(given: Any, plan: Plan) -> Decimal:
+def _quantity(given: Any, plan: NetworkTables) -> Decimal:
     if isinstance(given, str):
         return number_in(given, plan.arcs.amounts.sign)
     return Decimal(repr(given)) if isinstance(given, float) else Decimal(given)

@@ -7,28 +7,51 @@ from array import array
 from collections.abc import Iterator, Sequence
 from functools import partial
 from itertools import zip_longest
-from typing import TYPE_CHECKING, Any, NamedTuple, Optional
+from typing import Any, NamedTuple, Optional, Protocol
 
-from ..numbering import AMOUNTS, NODES
 from ..quantity import LARGEST, SIGNS
-from .csv_file import Block
+from ..text.lexical import AMOUNTS, NODES
 from .amount_columns import PLAIN_LENGTH, Plain
-from .sheet_tables import Rows
-
-if TYPE_CHECKING:
-    from .numbered import Numbers
-    from .amount_columns import Amounts
+from .sheet import AmountSink, PlaceSink, Rows
 
 # The longest name that is compared as numbers, in bytes; and how often names are looked up in the table of their hashes.
 LONGEST, MOST_ROUNDS = 64, 100
 _ODD = 0x9E3779B97F4A7C15
 
 
+class ByteBlock(Protocol):
+    """Whole lines of a table without quotes, from one byte of its file on, of which the first is `line`."""
+
+    @property
+    def data(self) -> bytes: ...
+
+    @property
+    def begin(self) -> int: ...
+
+    @property
+    def line(self) -> int: ...
+
+    @property
+    def encoding(self) -> str: ...
+
+    @property
+    def delimiter(self) -> str: ...
+
+    def rows(self) -> Iterator[Rows]:
+        """Return the rows without numpy."""
+
+    def column(self, place: int) -> list[str]:
+        """Return the cells of a column."""
+
+    def from_byte(self, begin: int) -> ByteBlock:
+        """Return the lines from the second one on, which begins at this byte of the file."""
+
+
 class Spans(Rows):
     """Rows of one width. `arrays` are the bytes of their lines, with more after the last one, and the place and the size of each cell, row
     by row."""
 
-    def __init__(self, np: Any, block: Block, arrays: tuple[Any, Any, Any]) -> None:
+    def __init__(self, np: Any, block: ByteBlock, arrays: tuple[Any, Any, Any]) -> None:
         self._letters, self._starts, self._sizes = arrays
         super().__init__(range(block.line, block.line + len(self._starts)))
         self._np = np
@@ -55,7 +78,7 @@ class Spans(Rows):
             return Rows(self.lines[1:], [])
         begin = int(self._starts[1, 0])
         left = self._letters[begin:], self._starts[1:] - begin, self._sizes[1:]
-        return Spans(self._np, self._block._replace(begin=self._block.begin + begin, line=self._block.line + 1), left)
+        return Spans(self._np, self._block.from_byte(self._block.begin + begin), left)
 
     def smaller(self) -> Iterator[Rows]:
         return self._block.rows()
@@ -91,7 +114,7 @@ class Spans(Rows):
     def has_something(self, place: int) -> bool:
         return bool(self.text(place).strip())
 
-    def put_amounts(self, amounts: Amounts, place: int) -> None:
+    def put_amounts(self, amounts: AmountSink, place: int) -> None:
         if plain := self._plain(place):
             amounts.add_plain(plain, len(self), partial(self._block.column, place))
         else:
@@ -133,7 +156,7 @@ class Spans(Rows):
         row = int((is_telling if is_telling.any() else is_signed).argmax())
         return row, self._text(starts[row : row + 1], sizes[row : row + 1])
 
-    def numbered(self, places: tuple[int, int], numbers: Numbers) -> Optional[tuple[array[int], array[int]]]:
+    def numbered(self, places: tuple[int, int], numbers: PlaceSink) -> Optional[tuple[array[int], array[int]]]:
         np = self._np
         starts, sizes = self._starts[:, places].ravel(), self._sizes[:, places].ravel()
         if int(sizes.max()) > LONGEST:
@@ -204,7 +227,7 @@ def first_alike(np: Any, columns: list[Any]) -> Any:
     return None
 
 
-def spans_of(np: Any, block: Block) -> Spans | None:
+def spans_of(np: Any, block: ByteBlock) -> Spans | None:
     """The rows of whole lines; None if not all have as many cells, or they have just one."""
     # The last line may lack its end, and numbers are read from the last cell on.
     data = block.data

@@ -19,10 +19,10 @@ from collections import Counter
 from collections.abc import Iterable, Iterator, Mapping, Sequence
 from dataclasses import dataclass
 
-from .sheet import PLAN_TITLES, text_in
-from .headings import PLACE_COLUMNS, Layout
 from ..text.table_comments import COLUMN_WORDS, between
+from .headings import PLACE_COLUMNS, Layout
 from .readers import Table
+from .sheet import PLAN_TITLES, text_in
 
 # The most columns, cells and bytes of cells in a problem text, of which `dmf` takes 2^30 at most.
 MOST_COLUMNS, MOST_CELLS, MOST_TOLD = 1 << 10, 1 << 21, 1 << 26

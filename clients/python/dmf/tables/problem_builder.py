@@ -12,20 +12,49 @@ its second half, and the arc between them, `limit of Depot`, carries the limit;
 from __future__ import annotations
 
 from array import array
-from collections.abc import Sequence
+from collections.abc import Iterator, Sequence
 from dataclasses import dataclass, field
 from decimal import Decimal
-from itertools import chain
-from typing import Optional
+from itertools import chain, compress
+from operator import eq, ne
+from typing import Any, Optional
 
-from ..numbering import AMOUNTS, NODES
+from ..errors import TableFault
 from ..quantity import COMMA, LARGEST, Measure, QuantityFault, decimals, number_in, plain_text
-from ..text.cells import cleaned, near, shown
-from .headings import ARCS, DEMAND, LIMIT, PLACE_COLUMNS, SUPPLY
-from ..text.table_comments import SINKS, SOURCES, Described, Role
-from .faults import Faults, TableFault
+from ..session.base import numpy_for
+from ..text.lexical import AMOUNTS, NODES
+from ..text.spelling import cleaned, near, quoted_name
+from ..text.table_comments import SINKS, SOURCES, Role, TableComments, table_comments
 from .arcs_and_places import Heading, Term
+from .headings import ARCS, DEMAND, LIMIT, PLACE_COLUMNS, SUPPLY
+from .other_columns import Extra
 from .readers import Table
+from .sheet import Faults
+
+
+def ends_alone(tails: Sequence[int], heads: Sequence[int]) -> tuple[list[int], list[int]]:
+    """The places that arcs leave and none enters, and those that arcs enter and none leaves, in the order of the arcs. Arcs from a place to
+    itself do not count."""
+    np = numpy_for(len(tails))
+    if np is not None and isinstance(tails, array) and isinstance(heads, array):
+        left, entered = (np.frombuffer(column, column.typecode) for column in (tails, heads))
+        is_way = left != entered
+        left, entered = left[is_way], entered[is_way]
+        return _without(np, left, entered), _without(np, entered, left)
+    if any(map(eq, tails, heads)):
+        tails, heads = (list(compress(column, map(ne, tails, heads))) for column in (tails, heads))
+    first, last = dict.fromkeys(tails), dict.fromkeys(heads)
+    return [place for place in first if place not in last], [place for place in last if place not in first]
+
+
+def _without(np: Any, places: Any, others: Any) -> list[int]:
+    """The places that are not among the others, each once, in their order."""
+    is_other = np.zeros(max(places.max(initial=0), others.max(initial=0)) + 1, bool)
+    is_other[others] = True
+    alone, begins = np.unique(places[~is_other[places]], return_index=True)
+    found: list[int] = alone[np.argsort(begins)].tolist()
+    return found
+
 
 MOST_NODES = 16_777_216
 MOST_ARCS = 134_217_728
@@ -33,7 +62,7 @@ KINDS = {SUPPLY: "source", DEMAND: "sink"}
 
 
 @dataclass
-class Plan:
+class NetworkTables:
     """What a network is made of: the arcs of a table, and what is said of its places. `both_ways` makes two opposite arcs of each row.
     `scale` is what numbers are multiplied by; without one it is the least power of ten that makes all of them whole. `headings` are the
     first rows of tables of places that were read as titles. `notes` say what was taken for
@@ -68,7 +97,7 @@ class Plan:
 
 
 @dataclass
-class Net:
+class BuiltProblem:
     """A network of a table, by numbers from 1 on: the names of the nodes, of which `place_count` are places; the ends and capacities of
     the arcs, of which `row_count` are of rows, `ways` of each; the names of the rows, if they have any, and of the other arcs; and what is
     said of it."""
@@ -80,7 +109,7 @@ class Net:
     labels: Sequence[str]
     ways: int
     inner_names: dict[int, str]
-    described: Described
+    described: TableComments
     source: int = 0
     sink: int = 0
     place_count: int = 0
@@ -96,7 +125,7 @@ def too_much(measure: Measure) -> str:
     return f"the capacities are together past {measure.text(LARGEST)}"
 
 
-def check(plan: Plan) -> None:
+def check(plan: NetworkTables) -> None:
     """Raises a `TableFault` with all that is said of what is no place, twice, or of a source that is a sink too; and if a first row that
     was read as titles has the name of a place."""
     _refuse_dropped(plan)
@@ -105,15 +134,15 @@ def check(plan: Plan) -> None:
     known: dict[tuple[str, str], Term] = {}
     for term in plan.counted:
         kind = KINDS.get(term.kind, "")
-        said = f"the {kind} {shown(term.place)}"
+        said = f"the {kind} {quoted_name(term.place)}"
         if term.place not in places:
-            told = f"{said} is in no row of arcs" if kind else f"no arc has the place {shown(term.place)}"
+            told = f"{said} is in no row of arcs" if kind else f"no arc has the place {quoted_name(term.place)}"
             faults.append(TableFault(told + near(term.place, places), term.line, term.path))
         elif first := known.get((term.kind, term.place)):
-            told = f"{said} is named twice" if kind else f"{shown(term.place)} has a limit in line {first.line} already"
+            told = f"{said} is named twice" if kind else f"{quoted_name(term.place)} has a limit in line {first.line} already"
             faults.append(TableFault(told, term.line, term.path))
         elif term.kind == DEMAND and (SUPPLY, term.place) in known:
-            faults.append(TableFault(f"source and sink are the same: {shown(term.place)}", term.line, term.path))
+            faults.append(TableFault(f"source and sink are the same: {quoted_name(term.place)}", term.line, term.path))
         known.setdefault((term.kind, term.place), term)
     if faults:
         first_fault, *others = faults
@@ -121,22 +150,22 @@ def check(plan: Plan) -> None:
         raise first_fault
 
 
-def _refuse_dropped(plan: Plan) -> None:
+def _refuse_dropped(plan: NetworkTables) -> None:
     """Refuses a first row that was read as titles, if it has the name of a place."""
     table = plan.arcs
     at = table.layout.at
     if table.heading and any(table.heading[at[column]] in table.places for column in ("tail", "head")):
         cell = table.heading[at["capacity"]]
-        raise table.fault(f"the capacity {shown(cell)} is no number{ARCS.hint}", table.layout.line)
+        raise table.fault(f"the capacity {quoted_name(cell)} is no number{ARCS.hint}", table.layout.line)
     for heading in plan.headings:
         if heading.place in table.places:
-            raise TableFault(f"the {heading.kind} {shown(heading.amount)} is no number", heading.line, heading.path)
+            raise TableFault(f"the {heading.kind} {quoted_name(heading.amount)} is no number", heading.line, heading.path)
 
 
 class _Maker:
     """The nodes and arcs that the network has so far."""
 
-    def __init__(self, plan: Plan, measure: Measure) -> None:
+    def __init__(self, plan: NetworkTables, measure: Measure) -> None:
         self.plan = plan
         self.measure = measure
         table = plan.arcs
@@ -172,7 +201,7 @@ class _Maker:
         try:
             return self.measure.whole(quantity) if self.plan.scale is None else _whole(quantity, self.plan.scale)
         except QuantityFault as fault:
-            raise TableFault(f"the {term.kind} {plain_text(quantity)!r} of {shown(term.place)} {fault}", term.line, term.path) from None
+            raise TableFault(f"the {term.kind} {plain_text(quantity)!r} of {quoted_name(term.place)} {fault}", term.line, term.path) from None
 
     def split(self) -> None:
         """Splits the nodes of the places with limits."""
@@ -242,7 +271,7 @@ class _Maker:
             self.add_arc(*ends, most, f"{kind} of {term.place}", Role(kind, place, term.quantity is None))
         return joint
 
-    def net(self) -> Net:
+    def net(self) -> BuiltProblem:
         """The network."""
         self.split()
         self.add_rows()
@@ -253,11 +282,11 @@ class _Maker:
             raise TableFault(f"with the arcs at the sources and the sinks {too_much(self.measure)}; --source NAME=LIMIT limits one")
         if len(self.node_names) > MOST_NODES or len(self.tails) > MOST_ARCS:
             raise TableFault(f"more than {MOST_NODES} nodes or {MOST_ARCS} arcs")
-        described = Described(self.measure, self.joints, self.halves, self.roles)
+        described = TableComments(self.measure, self.joints, self.halves, self.roles)
         place_count = len(self.plan.arcs.places)
         columns = self.tails, self.heads, self.capacities
         names = self.plan.arcs.labels, 1 + self.plan.both_ways, self.inner_names
-        return Net(self.node_names, *columns, *names, described, source, sink, place_count, row_count)
+        return BuiltProblem(self.node_names, *columns, *names, described, source, sink, place_count, row_count)
 
 
 def _whole(quantity: Decimal, scale: Decimal) -> int:
@@ -271,7 +300,7 @@ def _whole(quantity: Decimal, scale: Decimal) -> int:
     return whole
 
 
-def net_of(plan: Plan) -> Net:
+def net_of(plan: NetworkTables) -> BuiltProblem:
     """The network of a plan. Raises a `TableFault`."""
     check(plan)
     return _Maker(plan, plan.measure).net()
@@ -289,4 +318,26 @@ def term_of(kind: str, word: str, table: Table) -> Term:
             raise QuantityFault("is below 0")
         return Term(kind, place.rstrip(), quantity)
     except QuantityFault as fault:
-        raise TableFault(f"the limit {shown(limit.strip())} of {shown(place.rstrip())} {fault}") from None
+        raise TableFault(f"the limit {quoted_name(limit.strip())} of {quoted_name(place.rstrip())} {fault}") from None
+
+
+# How many lines are made at once.
+PIECE = 1 << 11
+
+
+def problem_text(net: BuiltProblem, extra: Extra = Extra()) -> str:
+    """The problem, with what it is, its names and these columns in comments."""
+    names = (f"c node {number} {name}\n" for number, name in enumerate(net.node_names, 1))
+    arc_names = (f"c arc {number} {name}\n" for named in (net.row_names(), net.inner_names) for number, name in named.items())
+    head = f"p max {len(net.node_names)} {len(net.tails)}\nn {net.source} s\nn {net.sink} t\n"
+    return "".join(chain([table_comments(net.described)], names, arc_names, [extra.comments(range(1, net.row_count + 1)), head], _arc_lines(net)))
+
+
+def _arc_lines(net: BuiltProblem) -> Iterator[str]:
+    for begin in range(0, len(net.tails), PIECE):
+        columns = [column[begin : begin + PIECE] for column in (net.tails, net.heads, net.capacities)]
+        count = len(columns[0])
+        numbers = [0] * (3 * count)
+        for place, column in enumerate(columns):
+            numbers[place::3] = column
+        yield "a %d %d %d\n" * count % tuple(numbers)

@@ -1,4 +1,4 @@
-"""Networks from other sources than rows of arcs: problems in files, graphs of networkx, and matrices of scipy."""
+"""Networks of problems in files: read in the numbers of the problem, or of the table that it tells of."""
 
 from __future__ import annotations
 
@@ -6,20 +6,22 @@ import os
 from array import array
 from collections import Counter
 from collections.abc import Callable, Hashable
-from dataclasses import dataclass
-from typing import Any, cast
+from dataclasses import dataclass, replace
+from typing import TYPE_CHECKING, Any, cast
 
-from ..arcs import Columns, Node
-from ..arrays import no_capacity, numpy_for, pieces_of, read_lines, with_infinite
-from ..text.carried import problem_in
-from ..state import Kept
+from ..columns import Columns
 from ..network import Network
-from ..numbering import AMOUNTS, NODES
-from ..rows import Whole, whole
-from ..session.base import FilePath, Program, Session, bound
-from ..text.table_comments import Described, described, tells_columns
-from ..text.problem_text import ARC, NODE, names_in, naming_pieces
+from ..session.base import FilePath, Program, Session, bound, numpy_for, pieces_of, read_lines
 from ..session.runners import chosen, started_on
+from ..state import NetworkState
+from ..text.lexical import AMOUNTS, ARC, NODE, NODES
+from ..text.problem_text import problem_in
+from ..text.spelling import names_in, naming_pieces
+from ..text.table_comments import TableComments, described, renumbered, tells_columns
+from .table_answers import FoldedColumns, InnerNode, with_room
+
+if TYPE_CHECKING:
+    from .table_network import TableNetwork
 
 
 def read(path: FilePath, *, program: Program = None, history: int | None = None) -> Network[int | str]:
@@ -38,10 +40,8 @@ def read(path: FilePath, *, program: Program = None, history: int | None = None)
         text = problem_in(file.read())
     problem = _opened(text, program, most)
     said = described(problem.text).within(problem.node_count, len(problem.tails))
-    if said == Described() and not tells_columns(problem.text):
+    if said == TableComments() and not tells_columns(problem.text):
         return _whole(problem)
-    from .table_answers import network_of_problem
-
     return cast("Network[int | str]", network_of_problem(problem, said))
 
 
@@ -95,7 +95,7 @@ def _whole(problem: Opened) -> Network[int | str]:
     names = list(nodes)
     source, sink = problem.ends
     columns = Columns(nodes, problem.tails, problem.heads, problem.arc_names())
-    kept = Kept(columns, problem.capacities, names[source - 1], names[sink - 1], problem.most)
+    kept = NetworkState(columns, problem.capacities, names[source - 1], names[sink - 1], problem.most)
     kept.described = described(problem.text)
     network: Network[int | str] = Network.__new__(Network)
     network._begin(problem.session, kept)
@@ -118,65 +118,36 @@ def _of(count: int, names: dict[int, str]) -> dict[int, str]:
     return {number: names[number] for number in numbers if 1 <= number <= count}
 
 
-def from_networkx(
-    graph: Any,
-    source: Node,
-    sink: Node,
-    capacity: str = "capacity",
-    *,
-    infinite: Whole | None = None,
-    program: Program = None,
-    history: int | None = None,
-) -> Network[Node]:
-    """The network of a graph of networkx: each edge is an arc, or two opposite ones if the graph is undirected, and its attribute
-    `capacity` is the capacity. In a multigraph the key of an arc is `(u, v, k)`. `infinite` is the capacity of edges that lack the
-    attribute, or whose capacity is infinite, None or NaN. `program` and `history` are those of `Network`.
+def network_of_problem(problem: Opened, said: TableComments) -> TableNetwork:
+    """The network of a problem of whose table its comments say this. Which arcs are of the table is told by their ends, as in all tools."""
+    from ..session.runners import start
+    from .other_columns import extra_in, left_out
+    from .table_network import TableNetwork
 
-    Raises `NoCapacity` if an edge lacks the attribute and there is no `infinite`, and what `Network` raises.
-    """
-    filled = None if infinite is None else whole(infinite, "infinite")
-    rows: list[Any] = rows_of_graph(graph, capacity, may_lack=filled is not None)
-    if filled is not None:
-        rows = [with_infinite(row, filled) for row in rows]
-    return Network(rows, source, sink, nodes=graph, program=program, history=history)
-
-
-def rows_of_graph(graph: Any, capacity: str, *, may_lack: bool) -> list[tuple[Any, ...]]:
-    """The arcs of a graph of networkx, with their keys: each edge is one, or two opposite ones, one after the other, if the graph is
-    undirected. The capacity is the attribute `capacity`, or None if the edge lacks it. Raises `NoCapacity` if it may not."""
-    rows: list[tuple[Any, ...]] = []
-    edges = graph.edges(keys=True, data=True) if graph.is_multigraph() else graph.edges(data=True)
-    for tail, head, *key, attributes in edges:
-        if capacity not in attributes and not may_lack:
-            raise no_capacity((tail, head, *key), capacity)
-        amount = attributes.get(capacity)
-        rows.append((tail, head, amount, (tail, head, *key) if key else None))
-        if not graph.is_directed() and tail != head:
-            rows.append((head, tail, amount, (head, tail, *key) if key else None))
-    return rows
-
-
-def from_scipy(
-    matrix: Any,
-    source: int,
-    sink: int,
-    *,
-    infinite: Whole | None = None,
-    program: Program = None,
-    history: int | None = None,
-) -> Network[int]:
-    """The network of a sparse matrix of scipy: the entry of row i and column j is the capacity of an arc from node i to node j,
-    counted from 0. `infinite` is the capacity of arcs whose capacity is infinite or NaN. `program` and `history` are those of
-    `Network`. Raises what `Network` raises."""
-    entries = matrix.tocoo()
-    return Network.from_arrays(
-        entries.row,
-        entries.col,
-        entries.data,
-        source=source,
-        sink=sink,
-        nodes=range(max(matrix.shape)),
-        infinite=infinite,
-        program=program,
-        history=history,
-    )
+    said = renumbered(said, zip(problem.tails, problem.heads)) if said.joints or said.halves else replace(said, roles={})
+    given = problem.node_names()
+    named = unique({number: name for number, name in given.items() if number not in said.joints and number not in said.halves})
+    numbers: dict[Any, int] = {}
+    for number in range(1, problem.node_count + 1):
+        is_inner = number in said.joints or number in said.halves
+        place: Any = named.get(number, number)
+        numbers[InnerNode(number, given.get(number, str(number))) if is_inner else place] = number
+    names = list(numbers)
+    read = problem.arc_names()
+    arc_names = read() if said.roles else {}
+    inner = {number: str(arc_names[number]) for number in said.roles if number in arc_names}
+    keys = {number: name for number, name in arc_names.items() if number not in inner} if said.roles else read
+    columns = FoldedColumns(numbers, problem.tails, problem.heads, keys, said, inner)
+    capacities = with_room(problem.capacities, said)
+    source, sink = problem.ends
+    kept: NetworkState[Any] = NetworkState(columns, capacities, names[source - 1], names[sink - 1], problem.most)
+    session = problem.session
+    if capacities is not problem.capacities:
+        session.end()
+        session = start(kept, session.way)
+        session.program = problem.session.program
+    made = TableNetwork.__new__(TableNetwork)
+    made._begin(session, kept)
+    made._load, made.notes = lambda: extra_in(problem.text), left_out(problem.text)
+    made._rows = [number for number in range(1, len(problem.tails) + 1) if number not in said.roles]
+    return made

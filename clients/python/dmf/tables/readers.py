@@ -1,24 +1,114 @@
-"""From rows to columns: the places of a table of arcs, each with its number, and the amounts."""
+"""From rows to columns: the number of the place that each cell names, and the amounts."""
 
 from __future__ import annotations
 
+import unicodedata
 from array import array
-from collections.abc import Iterable, Mapping, Sequence
+from collections import defaultdict
+from collections.abc import Mapping, Sequence
 from dataclasses import dataclass, field
-from typing import NamedTuple, Union
+from itertools import count, islice
+from typing import Any, NamedTuple, Union
 
-from ..numbering import NODES
-from .sheet import name_in
-from ..text.cells import Cells, cleaned, shown
-from .headings import ARCS, CAPACITY, HEAD, NAME, PLACE_COLUMNS, TAIL, Form, Layout, layout_of, unit_of
-from .faults import Faults, TableFault
-from .numbered import LONGEST_CELL, Numbers, are_plain, name_of
+from ..errors import TableFault
+from ..text.lexical import NODES
+from ..text.spelling import cleaned, quoted_name
 from .amount_columns import Amounts
-from .sheet_tables import Exact, Rows, Sheet, is_blank
+from .headings import Form, Layout, unit_of
+from .sheet import Faults, Rows, Sheet, is_blank, name_in
+
+# The most characters of a cell. A longer one mostly has a quote that is not closed.
+LONGEST_CELL = 131_072
+
+
+def name_of(cell: str, *, is_raw: bool = False) -> str:
+    """The name in a cell. Raises a ValueError if it has a control character, or half a character."""
+    name = cleaned(name_in(cell.strip(), is_raw=is_raw))
+    for letter in name if not name.isprintable() else "":
+        if unicodedata.category(letter) in ("Cc", "Cs"):
+            raise ValueError(f"has the character U+{ord(letter):04X}, which no name may have")
+    return name
+
+
+def are_plain(text: str, count: int) -> bool:
+    """Whether each of so many cells, which a text has one below the other, is a name as it stands, or empty."""
+    lines = f"\n{text}\n"
+    if lines.count("\n") != count + 1 or any(odd in lines for odd in ("  ", "\n ", " \n", "\n'")):
+        return False
+    return text.replace("\n", "").isprintable() and not _has_long(lines)
+
+
+def _has_long(lines: str) -> bool:
+    """Whether one of the lines between the ends of lines is longer than a cell may be. Each such line goes past one of these places."""
+    return any(lines.find("\n", at) - lines.rfind("\n", 0, at) > LONGEST_CELL + 1 for at in range(LONGEST_CELL, len(lines), LONGEST_CELL))
+
+
+class Numbers:
+    """The number of the place that each cell names; 0 if it names none. A new place gets the next number."""
+
+    def __init__(self, is_raw: bool) -> None:
+        self.is_raw = is_raw
+        # What is looked up here and is not there gets the next number.
+        self._places: defaultdict[str, int] = defaultdict(count(1).__next__)
+        # The numbers of cells that are not the name of a place as it stands.
+        self._odd: dict[str, int] = {}
+        # For each name the first cell that writes it, where cells differ; and the first that does so in another way (see `Table`).
+        self.spellings: dict[str, str] = {}
+        self.respelled: dict[str, str] = {}
+        # What `numpy_rows` knows of the cells that were looked up.
+        self.seen: Any = None
+
+    @property
+    def places(self) -> dict[str, int]:
+        """The places, each with its number."""
+        return dict(self._places)
+
+    def of(self, cells: list[str]) -> list[int] | None:
+        """The numbers of these cells; None, and nothing is noted, if one names no place."""
+        if are_plain("\n".join(cells), len(cells)) and "" not in cells and self.spellings.keys().isdisjoint(cells):
+            return list(map(self._places.__getitem__, cells))
+        noted: list[dict[str, Any]] = [self._places, self._odd, self.spellings, self.respelled]
+        sizes = list(map(len, noted))
+        numbers = list(map(self.number, cells))
+        if 0 not in numbers:
+            return numbers
+        for known, size in zip(noted, sizes):
+            for text in [*islice(known, size, None)]:
+                del known[text]
+        self._places.default_factory = count(len(self._places) + 1).__next__
+        return None
+
+    def number(self, cell: str) -> int:
+        """The number of a cell."""
+        if cell in self._odd:
+            return self._odd[cell]
+        if cell in self._places and cell[0] != "'" and cell not in self.spellings:
+            return self._places[cell]
+        number = 0
+        if cell.strip() and len(cell) <= LONGEST_CELL:
+            try:
+                name = name_of(cell, is_raw=self.is_raw)
+            except ValueError:
+                name = ""
+            if name:
+                is_new = name not in self._places
+                number = self._places[name]
+                if name != cell or name in self.spellings:
+                    self._respell(name, cell, is_new)
+                if name == cell:
+                    return number
+        self._odd[cell] = number
+        return number
+
+    def _respell(self, name: str, cell: str, is_new: bool) -> None:
+        # A name that is first written as it is needs no entry.
+        first = self.spellings.setdefault(name, cell if is_new else name)
+        if first != cell:
+            self.respelled.setdefault(name, cell if cell != name else first)
 
 
 @dataclass(frozen=True)
-class Reading:
+class ReadOptions:
     """How a table is read: `titles` has the title of each column that was named, by the column; `sign` is the decimal sign, if it was
     given; `raw_names` says that no apostrophe protects a name."""
 
@@ -79,7 +169,7 @@ class Table:
 class Reader:
     """Takes the rows of a table, and their faults."""
 
-    def __init__(self, sheet: Sheet, form: Form, layout: Layout, reading: Reading) -> None:
+    def __init__(self, sheet: Sheet, form: Form, layout: Layout, reading: ReadOptions) -> None:
         self.form = form
         self.layout = layout
         self.reading = reading
@@ -123,122 +213,12 @@ class Reader:
         try:
             return name_of(cell, is_raw=self.reading.raw_names)
         except ValueError as fault:
-            self.faults.add(f"the {column} {shown(cell)} {fault}", line, place + 1)
+            self.faults.add(f"the {column} {quoted_name(cell)} {fault}", line, place + 1)
             return ""
 
     def cell(self, row: list[str], column: str) -> str:
         place = self.layout.at.get(column, len(row))
         return row[place] if place < len(row) else ""
-
-
-class _ArcReader(Reader):
-    """Takes rows of arcs, and of places among them."""
-
-    def __init__(self, sheet: Sheet, layout: Layout, reading: Reading) -> None:
-        super().__init__(sheet, ARCS, layout, reading)
-        self.table = Table(sheet, layout, amounts_of(CAPACITY, layout, sheet.path))
-        self.numbers = Numbers(reading.raw_names)
-        self.label = layout.at.get(NAME)
-        self.labels = Cells()
-        self.needed = max(layout.at[column] for column in (TAIL, HEAD, CAPACITY))
-        # Once a row was not taken together with others, there may be more.
-        self.titles_again: list[int] = []
-
-    def take(self, rows: Rows) -> None:
-        """Takes rows: all together if they are plain, which is several times as fast."""
-        if rows.lines and rows.lines[0] == self.layout.line:
-            rows = rows.after_first()
-        if not rows.lines or self._take_together(rows):
-            return
-        is_many = False
-        for fewer in rows.smaller():
-            is_many = True
-            self.take(fewer)
-        for line, row in () if is_many else zip(*rows):
-            self._take_row(line, row)
-
-    def _take_together(self, rows: Rows) -> bool:
-        widths, lines, at = rows.widths(), rows.lines, self.layout.at
-        if min(widths) <= self.needed or self.width is not None and max(widths) > self.width or not isinstance(lines, range):
-            return False
-        if self.heading and rows.has(at[CAPACITY], self.heading[at[CAPACITY]]):
-            return False
-        labels = self._labels(rows)
-        ends = None if labels is None else rows.numbered((at[TAIL], at[HEAD]), self.numbers)
-        if labels is None or ends is None:
-            return False
-        self.labels.add(labels, len(rows))
-        for column, more in zip((self.table.tails, self.table.heads), ends):
-            column.extend(more)
-        self.table.add_lines(lines)
-        rows.put_amounts(self.table.amounts, at[CAPACITY])
-        if self.width is None:
-            self._keep(place for place in range(max(widths)) if rows.has_something(place))
-        return True
-
-    def _labels(self, rows: Rows) -> str | None:
-        """The names of rows, each in a line; None if one cannot be read."""
-        text = "\n" * (len(rows) - 1) if self.label is None else rows.text(self.label)
-        if are_plain(text, len(rows)):
-            return text
-        cells = rows.column(self.label or 0)
-        if max(map(len, cells)) > LONGEST_CELL or not "".join(cells).isprintable():
-            return None
-        return "\n".join(cleaned(name_in(it.strip(), is_raw=self.reading.raw_names)) for it in cells)
-
-    def _keep(self, places: Iterable[int]) -> None:
-        """Notes which columns of a table without titles have something, and are read for nothing."""
-        self.table.others.update({*places} - {*self.layout.at.values()})
-
-    def _take_row(self, line: int, row: list[str]) -> None:
-        if self.is_passed_over(line, row):
-            if line != self.layout.line and not is_blank(row):
-                self.titles_again.append(line)
-            return
-        if not self.are_cells_right(line, row) or self._is_of_place(line, row):
-            return
-        before = self.faults.count
-        for column in TAIL, HEAD:
-            self.name(line, row, column)
-        amount = self.cell(row, CAPACITY)
-        if not amount.strip():
-            count = f": the row has {len(row)} column{'s' * (len(row) != 1)}" if self.layout.at[CAPACITY] >= len(row) else ""
-            self.faults.add(f"no {CAPACITY}{count}", line, self.layout.at[CAPACITY] + 1)
-        label = self.name(line, row, NAME) if self.label is not None and cleaned(self.cell(row, NAME)) else ""
-        if self.faults.count > before and not amount.strip():
-            return
-        self.labels.add(label, 1)
-        numbers = [self.numbers.number(self.cell(row, column)) for column in (TAIL, HEAD)]
-        self.table.tails.append(numbers[0])
-        self.table.heads.append(numbers[1])
-        self.table.add_lines(range(line, line + 1))
-        self.table.amounts.add([amount if isinstance(amount, Exact) else amount.strip()])
-        if self.width is None:
-            self._keep(place for place, cell in enumerate(row) if cell.strip())
-
-    def _is_of_place(self, line: int, row: list[str]) -> bool:
-        """Whether a row is of a place, which has no head and no capacity. If so, takes it."""
-        if cleaned(self.cell(row, HEAD)) or cleaned(self.cell(row, CAPACITY)):
-            return False
-        cells = {column: self.cell(row, column) for column in PLACE_COLUMNS if cleaned(self.cell(row, column))}
-        if not cells:
-            return False
-        place = self.name(line, row, TAIL)
-        if place:
-            self.table.said.append(Said(line, place, cells))
-        return True
-
-    def end(self) -> Table:
-        """The table. Raises a `TableFault` if a row has a fault."""
-        table = self.table
-        table.labels = self.labels if self.labels.has_some() else ()
-        table.places, table.respelled, table.is_raw = self.numbers.places, self.numbers.respelled, self.reading.raw_names
-        if self.titles_again:
-            told = ", ".join(map(str, self.titles_again[:9])) + ", .." * (len(self.titles_again) > 9)
-            table.notes.append(f"the titles stand once more, and are passed over: line {told}")
-        table.amounts.settle(table.lines, self.faults, self.reading.sign)
-        self.faults.judge()
-        return table
 
 
 def amounts_of(column: str, layout: Layout, path: str) -> Amounts:
@@ -256,25 +236,6 @@ def first_rows(sheet: Sheet) -> Rows:
             pass
         raise TableFault("the table is empty")
     return sample
-
-
-def read_arcs(sheet: Sheet, reading: Reading) -> Table:
-    """The table of arcs of a sheet. Raises a `TableFault` with all rows that cannot be read, and if there is none."""
-    sample = first_rows(sheet)
-    layout = layout_of(sample, ARCS, reading.titles)
-    reader = _ArcReader(sheet, layout, reading)
-    try:
-        take_all(sheet, reader)
-        table = reader.end()
-    except TableFault as fault:
-        for told in (fault, *fault.others):
-            told.reason += ARCS.hint if not layout.line and told.line == sample.lines[0] else ""
-        raise
-    table.begins_bare = not layout.line
-    table.heading = reader.heading if layout.line and not reading.titles else []
-    if not table.tails:
-        raise TableFault("the table has titles, and no row below them")
-    return table
 
 
 def take_all(sheet: Sheet, reader: Reader) -> None:

@@ -11,12 +11,63 @@ cells, as spreadsheets write it then.
 
 from __future__ import annotations
 
+import contextlib
 import csv
 import re
-from collections.abc import Iterable, Sequence
-from typing import NamedTuple
+from array import array
+from collections.abc import Callable, Iterable, Iterator, Sequence
+from dataclasses import dataclass
+from decimal import Context
+from functools import cached_property
+from itertools import zip_longest
+from typing import Any, Optional, Protocol
 
+from ..errors import TableFault
 from ..quantity import COMMA, POINT, Measure, Quantity, plain_text, readings
+from ..text.lexical import NODES
+
+# How many faults are told.
+MOST_FAULTS = 20
+
+
+class Faults:
+    """The faults that were found in a table so far."""
+
+    def __init__(self, path: str) -> None:
+        self.path = path
+        self.count = 0
+        self._first: list[TableFault] = []
+
+    def add(self, reason: str, line: int, column: int = 0) -> None:
+        """Takes a fault in."""
+        self.count += 1
+        self._first.append(TableFault(reason, line, self.path, column))
+        if len(self._first) > 2 * MOST_FAULTS:
+            self._sort()
+
+    def _sort(self) -> None:
+        self._first.sort(key=lambda fault: (fault.line, fault.column))
+        del self._first[MOST_FAULTS:]
+
+    def judge(self) -> None:
+        """Raises the first of the faults, with the others, if there is one."""
+        if not self.count:
+            return
+        self._sort()
+        first, *others = self._first
+        first.others, first.untold = others, self.count - len(self._first)
+        raise first
+
+
+@contextlib.contextmanager
+def naming(path: str) -> Iterator[None]:
+    """Names this file in the faults that name none."""
+    try:
+        yield
+    except TableFault as fault:
+        fault.name_path(path)
+        raise
+
 
 # The last four are the wide forms of the first four.
 DANGEROUS = "=+\\-@\t\r\n\uff1d\uff0b\uff0d\uff20"
@@ -80,71 +131,175 @@ def line(cells: Sequence[object], measure: Measure = Measure()) -> str:
     return lines([cells], measure)
 
 
-class ArcRow(NamedTuple):
-    """An arc of a plan: its number, its name, which may be empty, its ends, its flow, its capacity, and whether it is in the cut,
-    which is None if that is not known; and the cells of the other columns."""
-
-    number: int
-    name: str
-    tail: str
-    head: str
-    flow: Quantity
-    capacity: Quantity
-    is_in_cut: bool | None
-    others: Sequence[str] = ()
-
-
-class PlaceRow(NamedTuple):
-    """What a place of a plan gives, takes or lets through: `kind` is `supply`, `demand` or `limit`, and `most` how much that is, or None if it
-    has no limit. An arc that stands for it has a number, a flow, and may be in the cut, as in `ArcRow`."""
-
-    place: str
-    kind: str
-    most: Quantity | None
-    number: int | None = None
-    flow: Quantity | None = None
-    is_in_cut: bool | None = None
-
-
 # What stands in the cell of a supply or a demand without a limit.
 UNLIMITED = "x"
 # The titles of a plan's table that no reader of tables takes for anything.
 PLAN_TITLES = {"number", "flow", "full", "in cut"}
-_OPEN_NUMBER = re.compile("[1-9][0-9]{0,2}[.,][0-9]{3}")
+OPEN_NUMBER = re.compile("[1-9][0-9]{0,2}[.,][0-9]{3}")
+
+# What may stand between cells; how many rows are looked at before a table is read, and how many are read at once.
+DELIMITERS = ",;\t|"
+SAMPLE, PIECE = 20, 1 << 10
+_SHOWN = Context(prec=15)
 
 
-def plan_table(
-    rows: Iterable[ArcRow], measure: Measure, *, raw_names: bool, places: Sequence[PlaceRow] = (), others: Sequence[str] = ()
-) -> str:
-    """The table of a plan, whose titles tell its unit: the arcs, and below them the places with what each gives, takes or lets through, for
-    which there are further columns then. `others` are the titles of the other columns. `raw_names` says that names stand in it as they are."""
-    kinds = [kind for kind in ("supply", "demand", "limit") if any(row.kind == kind for row in places)]
+class Exact(str):
+    """A cell that a workbook has as a number: digits, and a point if it needs one."""
 
-    def cells(row: ArcRow) -> list[object]:
-        names = [cell_of(name, is_raw=raw_names) for name in (row.name, row.tail, row.head)]
-        amounts = [number_cell(row.flow, measure), amount_cell(row.capacity, measure)]
-        told = [_yes(row.flow == row.capacity), _yes(row.is_in_cut)]
-        return [row.number, *names, *amounts, *told, *[""] * len(kinds), *(text_cell(text, is_raw=raw_names) for text in row.others)]
-
-    def place_cells(row: PlaceRow) -> list[object]:
-        flow = "" if row.flow is None else number_cell(row.flow, measure)
-        most = UNLIMITED if row.most is None else amount_cell(row.most, measure)
-        full = None if row.flow is None else row.flow == row.most
-        mosts = [most if kind == row.kind else "" for kind in kinds]
-        place = cell_of(row.place, is_raw=raw_names)
-        return [row.number or "", "", place, "", flow, "", _yes(full), _yes(row.is_in_cut), *mosts, *[""] * len(others)]
-
-    titles = ["number", "name", "from", "to", measure.title("flow"), measure.title("capacity"), "full", "in cut"]
-    titles += [*map(measure.title, kinds), *(text_cell(title, is_raw=raw_names) for title in others)]
-    return lines([titles], measure) + lines(map(cells, rows), measure) + lines(map(place_cells, places), measure)
+    __slots__ = ()
 
 
-def amount_cell(number: Quantity, measure: Measure) -> str:
-    """The cell of a quantity that a reader takes for no other, also where it finds no other cell: of `1.125`, which may be 1125 where a
-    point stands between thousands, `1.1250`."""
-    cell = number_cell(number, measure)
-    return f"{cell}0" if _OPEN_NUMBER.fullmatch(cell) else cell
+def shown_number(text: str) -> str:
+    """The cell of a number with the 15 digits that a workbook shows. What is no number stays a text."""
+    number = _SHOWN.create_decimal(text)
+    return Exact(plain_text(number)) if number.is_finite() else text
 
 
-def _yes(is_so: bool | None) -> str:
-    return "" if is_so is None else "yes" if is_so else "no"
+class PlaceSink(Protocol):
+    """Takes in the cells that name places."""
+
+    # What a reader by numpy knows of the cells that were looked up.
+    seen: Any
+
+    def of(self, cells: list[str]) -> list[int] | None:
+        """Return the numbers of the places that these cells name, or None if one names none."""
+
+
+class AmountSink(Protocol):
+    """Takes in the cells of a column of numbers."""
+
+    def add(self, cells: list[str]) -> None:
+        """Take in cells below those that are there."""
+
+    def add_plain(self, plain: Any, count: int, cells: Callable[[], list[str]]) -> None:
+        """Take in cells whose numbers are known already."""
+
+
+class Rows:
+    """Rows one below the other: the line in which each begins, and its cells as texts. Iterated over it is these two."""
+
+    def __init__(self, lines: Sequence[int], cells: Optional[list[list[str]]] = None, columns: Sequence[Sequence[str]] = ()) -> None:
+        """Either the cells are given, or all columns, in which no cell is missing."""
+        self.lines = lines
+        self._cells = cells
+        self._columns = columns
+
+    @property
+    def cells(self) -> list[list[str]]:
+        """The cells of each row."""
+        if self._cells is None:
+            self._cells = [[*row] for row in zip(*self._columns)]
+        return self._cells
+
+    def widths(self) -> set[int]:
+        """How many cells rows have."""
+        return set(map(len, self._cells)) if self._cells is not None else {len(self._columns)}
+
+    def columns(self) -> Sequence[Sequence[str]]:
+        """The columns; where a row has no cell, that is empty."""
+        if self._cells is None:
+            return self._columns
+        return list(zip_longest(*self._cells, fillvalue="") if len(self.widths()) > 1 else zip(*self._cells))
+
+    def column(self, place: int) -> list[str]:
+        """The cells of a column."""
+        columns = self.columns()
+        return [*columns[place]] if place < len(columns) else [""] * len(self)
+
+    def has(self, place: int, cell: str) -> bool:
+        """Whether this cell stands in a column."""
+        return cell in self.columns()[place]
+
+    def has_something(self, place: int) -> bool:
+        """Whether a cell of a column is not blank."""
+        return any(map(str.strip, self.columns()[place]))
+
+    def text(self, place: int) -> str:
+        """The cells of a column, one below the other."""
+        return "\n".join(self.column(place))
+
+    def numbered(self, places: tuple[int, int], numbers: PlaceSink) -> Optional[tuple[array[int], array[int]]]:
+        """The numbers of the places that the cells of these two columns name; None, and nothing is noted, if one names none."""
+        columns = self.columns()
+        cells = [""] * (2 * len(self))
+        cells[0::2], cells[1::2] = (columns[place] for place in places)
+        found = numbers.of(cells)
+        return None if found is None else (array(NODES, found[0::2]), array(NODES, found[1::2]))
+
+    def put_amounts(self, amounts: AmountSink, place: int) -> None:
+        """Adds the cells of a column to amounts."""
+        amounts.add(self.column(place))
+
+    def smaller(self) -> Iterator[Rows]:
+        """The same rows, fewer at once, if there are many."""
+        return iter(())
+
+    def after_first(self) -> Rows:
+        """The rows but the first."""
+        if self._cells is None:
+            return Rows(self.lines[1:], None, [column[1:] for column in self._columns])
+        return Rows(self.lines[1:], self._cells[1:])
+
+    def __iter__(self) -> Iterator[Any]:
+        return iter((self.lines, self.cells))
+
+    def __len__(self) -> int:
+        return len(self.lines)
+
+
+@dataclass(frozen=True)
+class Sheet:
+    """A table whose rows can be read again and again. `path` names it, with its sheet if it has one, and `notes` say what was taken for
+    granted."""
+
+    path: str
+    read: Callable[[], Iterator[Rows]]
+    notes: tuple[str, ...] = ()
+
+    def sample(self, most: int = SAMPLE) -> Rows:
+        """The first rows that are not blank. What is wrong with a quote is left for later."""
+        lines: list[int] = []
+        cells: list[list[str]] = []
+        try:
+            for piece in self.read():
+                for line, row in zip(*piece):
+                    if not is_blank(row):
+                        lines.append(line)
+                        cells.append(row)
+                    if len(cells) == most:
+                        return Rows(lines, cells)
+        except TableFault:
+            pass
+        return Rows(lines, cells)
+
+
+def is_blank(row: list[str]) -> bool:
+    """Whether a row has only white space or delimiters, since another delimiter may have been guessed."""
+    return not any(cell and cell.strip(DELIMITERS + " ") and not cell.isspace() for cell in row)
+
+
+class Cells(Sequence[str]):
+    """Cells below each other, each of one line. They are a few texts until one is asked for, with no object for each."""
+
+    def __init__(self) -> None:
+        self._texts: list[str] = []
+        self._count = 0
+
+    def add(self, text: str, count: int) -> None:
+        """Takes in so many cells, one or more, each in a line of a text."""
+        self._texts.append(text)
+        self._count += count
+
+    def has_some(self) -> bool:
+        """Whether one is not empty."""
+        return any(text.strip("\n") for text in self._texts)
+
+    @cached_property
+    def _cells(self) -> list[str]:
+        return "\n".join(self._texts).split("\n") if self._texts else []
+
+    def __len__(self) -> int:
+        return self._count
+
+    def __getitem__(self, place: Any) -> Any:
+        return self._cells[place]

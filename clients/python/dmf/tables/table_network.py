@@ -7,24 +7,22 @@ from dataclasses import replace
 from functools import cached_property
 from typing import Any, Optional, cast
 
-from .. import arrays
 from ..arcs import Arc
-from ..errors import CapacitiesPast64Bits, shown
-from ..state import Kept
-from ..text.spelling import written
+from ..errors import CapacitiesPast64Bits, shown_value
 from ..network import Network
 from ..notebook import table as html_table
 from ..quantity import Measure, Quantity
-from ..session_holder import alone
-from ..session.base import Session
+from ..session.base import Session, import_package
+from ..session_holder import exclusive
 from ..solution import Solution
-from ..text.problem_text import ARC, NODE
-from .answers import TableCut, TableSolution, whole_of
-from .headings import DEMAND, LIMIT, SUPPLY
-from ..text.table_comments import Role, comments
-from .other_columns import Extra
-from .table_answers import FoldedColumns, Inner
+from ..state import NetworkState
+from ..text.lexical import ARC, NODE
+from ..text.spelling import written
+from ..text.table_comments import Role, table_comments
 from .arcs_and_places import Term
+from .headings import DEMAND, LIMIT, SUPPLY
+from .other_columns import Extra
+from .table_answers import FoldedColumns, InnerNode, TableCut, TableSolution, whole_of
 
 
 class TableNetwork(Network[str]):
@@ -41,9 +39,13 @@ class TableNetwork(Network[str]):
     _load: Callable[[], Extra] = Extra
     _rows: Sequence[int] = ()
 
-    def _begin(self, session: Session, kept: Kept[Any]) -> None:
+    def _begin(self, session: Session, kept: NetworkState[Any]) -> None:
         self._measure = kept.described.measure
         super()._begin(session, kept)
+
+    @staticmethod
+    def _class_of_copies() -> type[Network[Any]]:
+        return TableNetwork
 
     @property
     def _columns(self) -> FoldedColumns:
@@ -176,12 +178,12 @@ class TableNetwork(Network[str]):
         """As `Network.redo`, in the table's numbers."""
         return self._quantity(super().redo(count))
 
-    @alone
+    @exclusive
     def solve(self) -> TableSolution:
         """As `Network.solve`, in the table's numbers."""
         return self._told_solution(super().solve.__wrapped__(self))  # type: ignore[attr-defined]
 
-    @alone
+    @exclusive
     def flow(self) -> TableSolution:
         """As `Network.flow`, in the table's numbers."""
         return self._told_solution(super().flow.__wrapped__(self))  # type: ignore[attr-defined]
@@ -189,7 +191,7 @@ class TableNetwork(Network[str]):
     def _told_solution(self, solution: Solution[str]) -> TableSolution:
         return TableSolution(solution._flows, self.measure, self._roles)
 
-    @alone
+    @exclusive
     def cut(self) -> TableCut:
         """As `Network.cut`, in the table's numbers, with the places whose supply, demand or limit is in it."""
         capacity, side = self._session.cut()
@@ -201,16 +203,16 @@ class TableNetwork(Network[str]):
         terms = tuple(Term(role.kind, names[role.node - 1], self._quantity(self._kept.capacity(arc))) for role, arc in roles)
         return TableCut(self._quantity(capacity), places, arcs, self.nodes, terms)
 
-    @alone
+    @exclusive
     def problem(self, *, names: bool = True, escapes: bool = False) -> str:
         """The problem as the program has it, with comments that say what its whole numbers stand for and what is not of the table. With
         `names` they tell the other columns of the table too. A name that no comment can have is escaped."""
         opened, columns = self._kept.opened(), self._columns
         places = {number: place for place, number in enumerate(opened.numbers(), 1)}
         roles = {places[number]: role for number, role in self._roles.items() if number in places}
-        before = comments(replace(columns.described, roles=roles))
+        before = table_comments(replace(columns.described, roles=roles))
         if names:
-            labels = enumerate((node.name if isinstance(node, Inner) else node for node in columns.numbers), 1)
+            labels = enumerate((node.name if isinstance(node, InnerNode) else node for node in columns.numbers), 1)
             before += "".join(f"c node {number} {written(NODE, number, str(name))}\n" for number, name in labels if name != number)
             keys = {place: self._name(number) for number, place in places.items()}
             before += "".join(f"c arc {place} {written(ARC, place, key)}\n" for place, key in keys.items() if key.strip(" \t"))
@@ -253,11 +255,11 @@ class TableNetwork(Network[str]):
         for number, role in self._roles.items():
             end = tail if role.kind == SUPPLY else head
             if role.is_unlimited and end == self._columns.names[role.node - 1] and self._carried(role) + more > self._kept.capacities[number - 1]:
-                raise CapacitiesPast64Bits(shown((tail, head)))
+                raise CapacitiesPast64Bits(shown_value((tail, head)))
 
     def to_networkx(self) -> Any:
         """As `Network.to_networkx`, with the places and arcs of the table, in its numbers."""
-        made = arrays.package("networkx", "a graph").MultiDiGraph()
+        made = import_package("networkx", "a graph").MultiDiGraph()
         made.add_nodes_from(self.nodes)
         for arc, carried in self.flow().items():
             given = {} if arc.given_key is None else {"name": arc.given_key}

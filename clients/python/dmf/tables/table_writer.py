@@ -1,23 +1,87 @@
-"""The table of a plan, from the arcs of its network: a row for each arc of the table that the network was made of, and below them one for
-what each place gives, takes or lets through, as the readers of tables read it."""
+"""The network of a table, written as a table.
+
+It has a row for each arc of the table that the network was made of, and below them one for what each place gives, takes or lets through, as
+the readers of tables read it."""
 
 from __future__ import annotations
 
 from collections import Counter, defaultdict
-from collections.abc import Callable, Collection, Iterator, Sequence
+from collections.abc import Callable, Collection, Iterable, Iterator, Sequence
 from dataclasses import dataclass, replace
 from typing import NamedTuple
 
-from ..text.folding import Folding
 from ..quantity import Measure, Quantity
-from .sheet import ArcRow, PlaceRow, plan_table
-from ..text.cells import cleaned
-from ..text.table_comments import DEMAND, LIMIT, SUPPLY
-from .ends import ends_alone
+from ..text.spelling import cleaned
+from ..text.table_comments import DEMAND, LIMIT, SUPPLY, TableRoles
 from .other_columns import Extra
+from .problem_builder import ends_alone
+from .sheet import OPEN_NUMBER, UNLIMITED, cell_of, lines, number_cell, text_cell
 
 
-class Carried(NamedTuple):
+class ArcRow(NamedTuple):
+    """An arc of a plan: its number, its name, which may be empty, its ends, its flow, its capacity, and whether it is in the cut,
+    which is None if that is not known; and the cells of the other columns."""
+
+    number: int
+    name: str
+    tail: str
+    head: str
+    flow: Quantity
+    capacity: Quantity
+    is_in_cut: bool | None
+    others: Sequence[str] = ()
+
+
+class PlaceRow(NamedTuple):
+    """What a place of a plan gives, takes or lets through: `kind` is `supply`, `demand` or `limit`, and `most` how much that is, or None if it
+    has no limit. An arc that stands for it has a number, a flow, and may be in the cut, as in `ArcRow`."""
+
+    place: str
+    kind: str
+    most: Quantity | None
+    number: int | None = None
+    flow: Quantity | None = None
+    is_in_cut: bool | None = None
+
+
+def plan_table(
+    rows: Iterable[ArcRow], measure: Measure, *, raw_names: bool, places: Sequence[PlaceRow] = (), others: Sequence[str] = ()
+) -> str:
+    """The table of a plan, whose titles tell its unit: the arcs, and below them the places with what each gives, takes or lets through, for
+    which there are further columns then. `others` are the titles of the other columns. `raw_names` says that names stand in it as they are."""
+    kinds = [kind for kind in ("supply", "demand", "limit") if any(row.kind == kind for row in places)]
+
+    def cells(row: ArcRow) -> list[object]:
+        names = [cell_of(name, is_raw=raw_names) for name in (row.name, row.tail, row.head)]
+        amounts = [number_cell(row.flow, measure), amount_cell(row.capacity, measure)]
+        told = [_yes(row.flow == row.capacity), _yes(row.is_in_cut)]
+        return [row.number, *names, *amounts, *told, *[""] * len(kinds), *(text_cell(text, is_raw=raw_names) for text in row.others)]
+
+    def place_cells(row: PlaceRow) -> list[object]:
+        flow = "" if row.flow is None else number_cell(row.flow, measure)
+        most = UNLIMITED if row.most is None else amount_cell(row.most, measure)
+        full = None if row.flow is None else row.flow == row.most
+        mosts = [most if kind == row.kind else "" for kind in kinds]
+        place = cell_of(row.place, is_raw=raw_names)
+        return [row.number or "", "", place, "", flow, "", _yes(full), _yes(row.is_in_cut), *mosts, *[""] * len(others)]
+
+    titles = ["number", "name", "from", "to", measure.title("flow"), measure.title("capacity"), "full", "in cut"]
+    titles += [*map(measure.title, kinds), *(text_cell(title, is_raw=raw_names) for title in others)]
+    return lines([titles], measure) + lines(map(cells, rows), measure) + lines(map(place_cells, places), measure)
+
+
+def amount_cell(number: Quantity, measure: Measure) -> str:
+    """The cell of a quantity that a reader takes for no other, also where it finds no other cell: of `1.125`, which may be 1125 where a
+    point stands between thousands, `1.1250`."""
+    cell = number_cell(number, measure)
+    return f"{cell}0" if OPEN_NUMBER.fullmatch(cell) else cell
+
+
+def _yes(is_so: bool | None) -> str:
+    return "" if is_so is None else "yes" if is_so else "no"
+
+
+class WriterRow(NamedTuple):
     """An open arc: its number, the nodes of its ends, its capacity, its flow, and whether it is in the cut, which is None if that is not
     known."""
 
@@ -34,7 +98,7 @@ class Told:
     """How a network is told: what is folded, the names of a node and of an arc, the nodes of its source and its sink, the row that an arc
     is of, the other columns, and the places to which a limit was given that had none."""
 
-    folding: Folding
+    folding: TableRoles
     node: Callable[[int], str]
     arc: Callable[[int], str]
     ends: tuple[int, int]
@@ -43,7 +107,7 @@ class Told:
     limited: Collection[int] = ()
 
 
-def plan_text(arcs: Sequence[Carried], told: Told, measure: Measure, *, raw_names: bool) -> str:
+def plan_text(arcs: Sequence[WriterRow], told: Told, measure: Measure, *, raw_names: bool) -> str:
     """The table of the open arcs of a plan. Where these alone tell which places are the source and the sink, and no place has more to
     be told, there are no rows of places."""
     told = replace(told, node=_told_apart(arcs, told))
@@ -51,7 +115,7 @@ def plan_text(arcs: Sequence[Carried], told: Told, measure: Measure, *, raw_name
     return plan_table(rows, measure, raw_names=raw_names, places=places, others=told.extra.titles)
 
 
-def _told_apart(arcs: Sequence[Carried], told: Told) -> Callable[[int], str]:
+def _told_apart(arcs: Sequence[WriterRow], told: Told) -> Callable[[int], str]:
     """The names of nodes in a table, in which a place is known by its name alone: of several places with one name each gets its number, as in
     `Mill (node 4)`."""
     nodes = {told.folding.place(node) for arc in arcs for node in (arc.tail, arc.head) if not told.folding.is_joint(node)}
@@ -68,7 +132,7 @@ def _told_apart(arcs: Sequence[Carried], told: Told) -> Callable[[int], str]:
     return lambda node: names.get(told.folding.place(node)) or told.node(node)
 
 
-def _arc_rows(arcs: Sequence[Carried], told: Told) -> Iterator[ArcRow]:
+def _arc_rows(arcs: Sequence[WriterRow], told: Told) -> Iterator[ArcRow]:
     for arc in arcs:
         if not told.folding.role(arc.tail, arc.head):
             ends = told.node(arc.tail), told.node(arc.head)
@@ -76,9 +140,9 @@ def _arc_rows(arcs: Sequence[Carried], told: Told) -> Iterator[ArcRow]:
             yield ArcRow(arc.number, told.arc(arc.number), *ends, arc.flow, arc.capacity, arc.is_in_cut, others)
 
 
-def _place_rows(arcs: Sequence[Carried], told: Told) -> list[PlaceRow]:
+def _place_rows(arcs: Sequence[WriterRow], told: Told) -> list[PlaceRow]:
     folding = told.folding
-    of_roles: dict[tuple[str, int], list[Carried]] = {known: [] for known in folding.known_roles()}
+    of_roles: dict[tuple[str, int], list[WriterRow]] = {known: [] for known in folding.known_roles()}
     tails: list[int] = []
     heads: list[int] = []
     carried: dict[tuple[str, int], Quantity] = defaultdict(int)
@@ -103,7 +167,7 @@ def _place_rows(arcs: Sequence[Carried], told: Told) -> list[PlaceRow]:
     return sorted(kept, key=lambda row: (SUPPLY, DEMAND, LIMIT).index(row.kind))
 
 
-def _row_of(kind: str, node: int, arcs: list[Carried], carried: dict[tuple[str, int], Quantity], told: Told) -> PlaceRow:
+def _row_of(kind: str, node: int, arcs: list[WriterRow], carried: dict[tuple[str, int], Quantity], told: Told) -> PlaceRow:
     """What the arcs say of a role that stand for it. Without one the place gives, takes or lets through nothing."""
     most: Quantity = sum(arc.capacity for arc in arcs)
     is_unlimited = bool(arcs) and told.folding.is_unlimited(kind, node) and node not in told.limited and carried[kind, node] <= most

@@ -12,18 +12,17 @@ from itertools import compress, count, islice
 from operator import eq, not_
 from typing import Any
 
-from .. import arrays
-from ..text.cells import MOST_TOLD, cleaned, near, shown
+from ..session.base import numpy_for
+from ..text.spelling import MOST_TOLD, cleaned, near, quoted_name
 from .headings import ARCS, DEMAND, SUPPLY
-from .ends import ends_alone
-from .problem_builder import Net, Plan
+from .problem_builder import BuiltProblem, NetworkTables, ends_alone
 
 # Among how many places a near name is looked for, and among how many arcs a way.
 MOST_PLACES, MOST_WALKED = 2_000, 200_000
 _DIGITS = re.compile("[0-9]+")
 
 
-def warnings(plan: Plan, net: Net) -> Iterator[str]:
+def warnings(plan: NetworkTables, net: BuiltProblem) -> Iterator[str]:
     """The warnings of a plan and its network."""
     table = plan.arcs
     yield from _lone_first_row(plan)
@@ -31,10 +30,10 @@ def warnings(plan: Plan, net: Net) -> Iterator[str]:
     spaced = {name: other for name, other in table.respelled.items() if name not in protected}
     for why, respelled in ("spaces", spaced), ("the apostrophe that protects = + - @", protected):
         if respelled:
-            told = [f"{shown(other)} is {shown(name)}" for name, other in respelled.items()]
+            told = [f"{quoted_name(other)} is {quoted_name(name)}" for name, other in respelled.items()]
             yield f"names that differ only in {why} are one place: {', '.join(told[:MOST_TOLD])}"
     for names in islice(_look_alike(table.places), MOST_TOLD):
-        yield f"names that differ only in case, or in what is not seen, are several places: {_listed(list(map(shown, names)))}"
+        yield f"names that differ only in case, or in what is not seen, are several places: {_listed(list(map(quoted_name, names)))}"
     yield from _rows(plan)
     yield from _lonely(plan)
     if len(net.tails) <= MOST_WALKED and not _reaches(net):
@@ -73,7 +72,7 @@ def _look_alike(places: Collection[str]) -> Iterator[list[str]]:
     yield from alike.values()
 
 
-def _lone_first_row(plan: Plan) -> Iterator[str]:
+def _lone_first_row(plan: NetworkTables) -> Iterator[str]:
     """The warning about a first row that was read as an arc, and whose ends occur nowhere else."""
     table = plan.arcs
     if not table.begins_bare:
@@ -84,7 +83,7 @@ def _lone_first_row(plan: Plan) -> Iterator[str]:
         yield f"line {table.lines[0]} is taken for an arc, though no other row has its ends{ARCS.hint}"
 
 
-def _rows(plan: Plan) -> Iterator[str]:
+def _rows(plan: NetworkTables) -> Iterator[str]:
     """Self loops, capacities of 0, and rows that are the same."""
     table = plan.arcs
     if loops := _equal(table.tails, table.heads):
@@ -96,14 +95,14 @@ def _rows(plan: Plan) -> Iterator[str]:
 
 def _equal(column: array[int], other: array[int]) -> list[int]:
     """The places where two columns have the same number."""
-    np = arrays.numpy_for(len(column))
+    np = numpy_for(len(column))
     if np is None:
         return [*compress(count(), map(eq, column, other))]
     found: list[int] = np.flatnonzero(np.equal(*(np.frombuffer(it, it.typecode) for it in (column, other)))).tolist()
     return found
 
 
-def _same_rows(plan: Plan) -> Iterator[str]:
+def _same_rows(plan: NetworkTables) -> Iterator[str]:
     """Rows that have the same ends, capacity and name as one before."""
     table = plan.arcs
     first: dict[tuple[object, ...], int] = {}
@@ -119,7 +118,7 @@ def _same_rows(plan: Plan) -> Iterator[str]:
 
 def _alike(tails: array[int], heads: array[int], numbers: Sequence[int]) -> Iterable[int]:
     """The places of rows that may be the same as another: those that are, and perhaps a few more."""
-    np = arrays.numpy_for(len(tails))
+    np = numpy_for(len(tails))
     if np is not None and isinstance(numbers, array):
         columns = (np.frombuffer(column, column.typecode).astype(np.uint64) for column in (tails, heads, numbers))
         rows = functools.reduce(lambda mixed, column: mixed * np.uint64(0x9E3779B97F4A7C15) + column, columns)
@@ -133,7 +132,7 @@ def _alike(tails: array[int], heads: array[int], numbers: Sequence[int]) -> Iter
     return compress(count(), map(twice.__contains__, hashes))
 
 
-def _lonely(plan: Plan) -> Iterator[str]:
+def _lonely(plan: NetworkTables) -> Iterator[str]:
     """Places that arcs only leave and that are no source, and the other way round."""
     table = plan.arcs
     if plan.both_ways:
@@ -151,7 +150,7 @@ def _lonely(plan: Plan) -> Iterator[str]:
 class _LonelyPlaces(Sequence[str]):
     """Places as they are told: with the line of the first row that has one, and a name that may have been meant."""
 
-    def __init__(self, plan: Plan, numbers: list[int], ends: array[int]) -> None:
+    def __init__(self, plan: NetworkTables, numbers: list[int], ends: array[int]) -> None:
         self.table = plan.arcs
         self.names = list(plan.arcs.places)
         self.numbers = numbers
@@ -167,11 +166,11 @@ class _LonelyPlaces(Sequence[str]):
         name = self.names[number - 1]
         line = f" (line {self.table.lines[self.ends.index(number)]})"
         if len(self.names) > MOST_PLACES or self.table.tails.count(number) + self.table.heads.count(number) > 1:
-            return shown(name) + line
-        return shown(name) + line + near(name, [it for it in self.names if _DIGITS.sub("", it) != _DIGITS.sub("", name)])
+            return quoted_name(name) + line
+        return quoted_name(name) + line + near(name, [it for it in self.names if _DIGITS.sub("", it) != _DIGITS.sub("", name)])
 
 
-def _reaches(net: Net) -> bool:
+def _reaches(net: BuiltProblem) -> bool:
     """Whether a way leads from the source to the sink over arcs that carry anything."""
     heads: dict[int, list[int]] = defaultdict(list)
     for tail, head, capacity in zip(net.tails, net.heads, net.capacities):

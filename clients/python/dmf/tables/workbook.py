@@ -9,12 +9,12 @@ import importlib
 import io
 import zipfile
 from collections.abc import Callable, Iterator
-from functools import partial
 from decimal import Context, Decimal
+from functools import partial
 from typing import Any
 
-from .faults import TableFault
-from .sheet_tables import PIECE, Exact, Rows, Sheet, is_blank, shown_number
+from ..errors import TableFault
+from .sheet import PIECE, Exact, Rows, Sheet, is_blank, shown_number
 from .xlsx import Workbook
 
 # The most bytes that a workbook may unpack to.

@@ -18,8 +18,8 @@ from itertools import dropwhile
 from typing import Any
 from xml.parsers import expat
 
-from .faults import TableFault
-from .sheet_tables import PIECE, Exact, Rows, shown_number
+from ..errors import TableFault
+from .sheet import PIECE, Exact, Rows, shown_number
 
 # How many bytes are parsed at once.
 CHUNK = 1 << 16
@@ -116,7 +116,7 @@ class _Strings(_Parser):
             self.texts.clear()
 
 
-class _Cells(_Parser):
+class _SheetCells(_Parser):
     """The rows of a sheet: `lines` and `rows` have those that are read and were not taken yet. A row ends with its last cell that has
     something, or a formula."""
 
@@ -237,7 +237,7 @@ class Workbook:
 
     def rows(self, sheet: str) -> Iterator[Rows]:
         """The rows of a sheet, some thousands at once."""
-        cells = _Cells(self)
+        cells = _SheetCells(self)
         with self.archive.open(self.sheets[sheet]) as part:
             while chunk := part.read(CHUNK):
                 cells.parser.Parse(chunk)

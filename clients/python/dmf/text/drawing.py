@@ -1,16 +1,22 @@
-"""Draws a network, its flow and its cut as a text for Graphviz."""
+"""A network, its flow and its cut as a text for Graphviz, and the picture that Graphviz makes of it."""
 
 from __future__ import annotations
 
+import errno
+import shutil
+import subprocess
 from collections import Counter, defaultdict
 from collections.abc import Callable, Collection, Iterable, Iterator, Sequence
 from dataclasses import dataclass, field
 from functools import cached_property
 
-from .folding import AT_PLACE, Folding
 from ..quantity import Quantity, plain_text
-from .problem_text import Problem, display
-from .session_commands import Arc
+from .lexical import display
+from .problem_text import ArcRecord, Problem
+from .table_comments import AT_PLACE, TableRoles
+
+# A network with more arcs than these is shown as a table, since nobody would find an arc in a picture of it.
+MOST_DRAWN = 300
 
 FULL, UNUSED, CUT, SIDE = "2.5", "#8f8f8f", "#c62828", "#d3e4f5"
 
@@ -22,7 +28,7 @@ class Drawing:
     that capacities and flows are quantities. What is not of the problem's table is drawn at the places that it is about."""
 
     problem: Problem
-    arcs: Sequence[Arc]
+    arcs: Sequence[ArcRecord]
     flows: Sequence[Quantity | None]
     side: set[int]
     shut: set[int] = field(default_factory=set)
@@ -36,8 +42,8 @@ class Drawing:
         self.side = self.folding.told_side(self.side, opened, self.limited)
 
     @cached_property
-    def folding(self) -> Folding:
-        return Folding(self.problem.described)
+    def folding(self) -> TableRoles:
+        return TableRoles(self.problem.described)
 
     @cached_property
     def drawn(self) -> list[int]:
@@ -65,7 +71,7 @@ class Drawing:
         arc = self.arcs[place]
         return self.folding.place(arc.tail), self.folding.place(arc.head)
 
-    def is_cut(self, arc: Arc) -> bool:
+    def is_cut(self, arc: ArcRecord) -> bool:
         return arc.tail in self.side and arc.head not in self.side and not arc.is_closed
 
     def terminals(self) -> set[int]:
@@ -193,3 +199,19 @@ def picture(drawing: Drawing, most: int) -> Iterator[str]:
     for place in places:
         yield arc_line(drawing, place)
     yield "}"
+
+
+def graphviz(text: bytes, engine: str, *words: str, patience: int = 20) -> bytes:
+    """What an engine of Graphviz makes of a text with these words. Raises a FileNotFoundError where Graphviz is not there, an OSError
+    where it does not start, and a RuntimeError for what it says, or if it takes more than so many seconds."""
+    program = shutil.which(engine)
+    if not program:
+        raise FileNotFoundError(errno.ENOENT, "a picture needs Graphviz, whose program is not there", engine)
+    try:
+        ran = subprocess.run([program, *words], input=text, capture_output=True, timeout=patience, start_new_session=True)
+    except subprocess.TimeoutExpired:
+        raise RuntimeError(f"Graphviz has drawn nothing in {patience} seconds") from None
+    if ran.returncode:
+        told = ran.stderr.decode(errors="replace").strip().splitlines()
+        raise RuntimeError(f"Graphviz did not draw it: {told[-1] if told else f'status {ran.returncode}'}")
+    return ran.stdout

@@ -8,23 +8,22 @@ from collections.abc import Callable, Iterator, Sequence
 from decimal import Decimal
 from typing import Any, Protocol
 
-from .folding import Folding, role_words
-from .lexical import display
 from ..quantity import Measure, Quantity, plain_text
-from .session_replies import Changed, Cut, Event, Flow, Printed, Solution
-from .table_comments import Role
-from .session_commands import Arc
-from .transcript import Follower
+from .lexical import display
+from .problem_text import ArcRecord
+from .session_replies import ChangedReply, CutReply, Event, FlowReply, PrintedReply, SolutionReply
+from .table_comments import Role, TableRoles, role_words
+from .transcript import TranscriptReader
 
 Json = dict[str, Any]
 
 
-def line_of(event: str, said: Json) -> str:
+def event_line(event: str, said: Json) -> str:
     """An event as a line."""
     return json.dumps({"event": event, **said}) + "\n"
 
 
-def number(amount: Quantity, measure: Measure) -> Json:
+def event_number(amount: Quantity, measure: Measure) -> Json:
     """An amount as the table has it, and as the program has it."""
     return {"told": plain_text(amount), "raw": measure.whole(amount)}
 
@@ -36,53 +35,53 @@ def ends(role: Role | None, tail: int, head: int, node: Callable[[int], str]) ->
     return {"from": node(tail), "to": node(head), "role": None}
 
 
-class Named(Protocol):
+class NameSource(Protocol):
     """How the nodes and arcs of a problem are shown."""
 
     arcs: dict[int, str]
     measure: Measure
-    folding: Folding
+    folding: TableRoles
 
     def node(self, number: int) -> str: ...
 
-    def cut(self, cut: Cut, arcs: list[Arc]) -> tuple[list[int], list[int]]: ...
+    def cut(self, cut: CutReply, arcs: list[ArcRecord]) -> tuple[list[int], list[int]]: ...
 
 
-class JsonTelling:
+class JsonWriter:
     """Tells the events of an answer of the program."""
 
-    def __init__(self, names: Named, follower: Follower) -> None:
+    def __init__(self, names: NameSource, follower: TranscriptReader) -> None:
         self.names = names
         self.follower = follower
 
     def tell(self, event: Event) -> Iterator[str]:
         """The line that tells an event, without its end."""
         kind, said = self._said(event)
-        yield line_of(kind, said)[:-1]
+        yield event_line(kind, said)[:-1]
 
     def _said(self, event: Event) -> tuple[str, Json]:
         measure = self.names.measure
         scale = {"unit": measure.told_unit, "scale": plain_text(measure.divisor)}
-        if isinstance(event, Solution):
+        if isinstance(event, SolutionReply):
             arcs = [self._arc(*row) for row in zip(event.numbers, event.arcs, event.flows)]
             return "solution", {"value": self._number(event.value), **scale, "arcs": arcs if event.is_told else None}
-        if isinstance(event, Flow):
+        if isinstance(event, FlowReply):
             role = self.names.folding.role(event.tail, event.head)
             return "flows", {**ends(role, event.tail, event.head, self.names.node), "flow": self._number(event.flow), **scale}
-        if isinstance(event, Cut):
+        if isinstance(event, CutReply):
             side, numbers = self.names.cut(event, self.follower.timeline.arcs)
             told = [*map(self.names.node, self.names.folding.places(side))]
             arcs = [self._arc(it, self.follower.timeline.arcs[it - 1]) for it in numbers]
             return "cut", {"capacity": self._number(event.capacity), **scale, "side": told, "arcs": None if event.arcs is None else arcs}
-        if isinstance(event, Printed):
+        if isinstance(event, PrintedReply):
             return "problem", {"lines": [line.decode(errors="replace") for line in event.lines]}
-        value = self._number(event.value) if isinstance(event, Changed) else None
+        value = self._number(event.value) if isinstance(event, ChangedReply) else None
         return "reply", {"text": display(event.line.decode(errors="replace")), "value": value, **scale}
 
     def _number(self, whole: int) -> Json:
         return {"told": self.names.measure.text(whole), "raw": whole}
 
-    def _arc(self, at: int, arc: Arc, flow: int | None = None) -> Json:
+    def _arc(self, at: int, arc: ArcRecord, flow: int | None = None) -> Json:
         role = self.names.folding.role(arc.tail, arc.head)
         is_numbered = self.follower.is_numbered
         name = role_words(role, self.names.node) if role else self.names.arcs.get(at, "") if is_numbered else ""
@@ -104,7 +103,7 @@ def case_line(row: Sequence[str], measure: Measure) -> str:
         return {"told": told, "raw": -raw if told.startswith("-") else raw}
 
     at, commands, name, value, difference, refused = row
-    return line_of(
+    return event_line(
         "case",
         {
             "case": int(at), "commands": commands, "name": name, "value": amount(value), "difference": amount(difference), "refused": refused,

@@ -1,26 +1,77 @@
-"""The network of a session as its changes leave it, as a transcript tells of them: on the timeline that networks of the client keep too. Flows
-are not kept, only the value of each."""
+"""The command lines of a session: what each asks for, or why its form alone gets it refused; and a network tracked through them.
+
+docs/FORMATS.md has the commands. Flows are not kept, only the value of each."""
 
 from __future__ import annotations
 
 import sys
 from typing import NamedTuple
 
-from ..history import Change, Changes
-from .commands import ADD, REDO, SOLVE, UNDO, Command
-from .problem_text import LARGEST, MOST_ARCS, Fault, Problem
+from ..history import Change, History
+from .lexical import LARGEST, MOST_ARCS, Fault, fields, read_number
+from .problem_text import ArcRecord, Problem
+
+LONGEST_LINE = 4_096
+SOLVE, ADD, UNDO, REDO = "solve", "add", "undo", "redo"
+PRINT_PROBLEM, PRINT_FLOW, PRINT_CUT = "print problem", "print flow", "print cut"
+# tests/commands.py has the commands: /usr/bin/python3 -m pytest --write tests/test_commands.py makes these lists.
+# How many fields may stand after each command's word.
+FIELD_COUNTS = {
+    b"cap": (2,),
+    b"add": (3,),
+    b"close": (1,),
+    b"shut": (1,),
+    b"solve": (0,),
+    b"undo": (0, 1),
+    b"redo": (0, 1),
+    b"print": (1,),
+}
+PRINTED = (b"problem", b"flow", b"cut")
+# The commands whose replies tell the value.
+CHANGES = (b"cap", b"add", b"close", b"shut", b"undo", b"redo")
 
 
-class Arc(NamedTuple):
-    """An arc from node `tail` to node `head`. A closed arc has capacity 0."""
-
-    tail: int
-    head: int
-    capacity: int
-    is_closed: bool = False
+# Here these lists end.
 
 
-class Timeline(Changes):
+class Command(NamedTuple):
+    """What a line asks for: the command's word, or two words of `print`, and its numbers. `undo` alone has the number 1."""
+
+    word: str
+    numbers: tuple[int, ...] = ()
+
+    def __str__(self) -> str:
+        return " ".join([self.word, *map(str, self.numbers)])
+
+
+def ended_line(line: bytes) -> bytes:
+    """A line as it was read, without its line feed and a carriage return directly before that."""
+    return line[:-1].removesuffix(b"\r") if line.endswith(b"\n") else line
+
+
+def read_command(line: bytes) -> Command | None:
+    """What a line asks for; it may still have its line feed. None for a blank line and a comment. Raises the `Fault` for which a
+    session refuses it whatever its network is."""
+    if len(line.removesuffix(b"\n")) > LONGEST_LINE:
+        raise Fault("line too long")
+    found = fields(ended_line(line))
+    if not found or found[0] == b"c":
+        return None
+    word, *rest = found
+    if word not in FIELD_COUNTS:
+        raise Fault("unknown command")
+    if len(rest) not in FIELD_COUNTS[word]:
+        raise Fault("wrong number of fields")
+    if word == b"print":
+        if rest[0] not in PRINTED:
+            raise Fault("unknown command")
+        return Command(f"print {rest[0].decode()}")
+    numbers = tuple(map(read_number, rest))
+    is_step = word in (b"undo", b"redo")
+    return Command(word.decode(), numbers or (1,) if is_step else numbers)
+
+
+class TrackedNetwork(History):
     """A network, and the changes that led to it or were undone. `begins_known` says whether the first of them is the first of all: if not,
     more can be undone than is known here."""
 
@@ -28,7 +79,7 @@ class Timeline(Changes):
         super().__init__(sys.maxsize)
         self.problem = problem
         self.begins_known = begins_known
-        self.arcs = [Arc(tail, head, capacity) for tail, head, capacity in problem.arcs]
+        self.arcs = [ArcRecord(tail, head, capacity) for tail, head, capacity in problem.arcs]
         self.capacity_sum = sum(arc.capacity for arc in self.arcs)
         self.begin_with(value)
 
@@ -94,7 +145,7 @@ class Timeline(Changes):
         word, numbers = command
         if word == ADD:
             tail, head, capacity = numbers
-            return Change((word, *numbers), added=(Arc(tail, head, capacity), capacity, None))
+            return Change((word, *numbers), added=(ArcRecord(tail, head, capacity), capacity, None))
         if word == "shut":
             node = numbers[0]
             changed = [number for number, arc in enumerate(self.arcs, 1) if node in (arc.tail, arc.head) and not arc.is_closed]

@@ -8,14 +8,12 @@ from dataclasses import dataclass
 from enum import Enum
 from typing import Union
 
-from .commands import CHANGES, FIELD_COUNTS, Command
-from .problem_text import MOST_ARCS, Fault, Problem, TextFault, number, read_problem
-from .session_commands import Arc
-
+from .lexical import MOST_ARCS, Fault, TextFault, display, read_number
+from .problem_text import ArcRecord, Problem, read_problem
+from .session_commands import CHANGES, FIELD_COUNTS, Command, ended_line, read_command
 
 # The kinds of a line, by its form alone.
 Kind = Enum("Kind", "VALUE FLOW CUT SIDE PROBLEM TERMINAL ARC CHANGED SOLVED REFUSED COMMAND OTHER")
-
 
 _BY_FIRST_FIELD = {b"s": Kind.VALUE, b"f": Kind.FLOW, b"p": Kind.PROBLEM, b"n": Kind.TERMINAL, b"a": Kind.ARC}
 
@@ -56,7 +54,7 @@ class Asked(OneLine):
 
 
 @dataclass(frozen=True)
-class Changed(OneLine):
+class ChangedReply(OneLine):
     """A change that was made, and the value after it. The command is None if it is not known."""
 
     command: Command | None
@@ -64,14 +62,14 @@ class Changed(OneLine):
 
 
 @dataclass(frozen=True)
-class Refused(OneLine):
+class RefusedReply(OneLine):
     """A command that was refused, and why."""
 
     reason: str
 
 
 @dataclass(frozen=True)
-class Solution:
+class SolutionReply:
     """The flows on the open arcs, in their order: the arcs' numbers, the arcs as they were, and the flows. If the lines of the flows
     were left out, as in the brief reply to a solve, or have not come yet, of a network that is not known, the three are empty and
     `is_told` is false. `serial` tells the state with this flow from others."""
@@ -79,13 +77,13 @@ class Solution:
     value: int
     is_told: bool
     numbers: Sequence[int] = ()
-    arcs: Sequence[Arc] = ()
+    arcs: Sequence[ArcRecord] = ()
     flows: Sequence[int] = ()
     serial: object = None
 
 
 @dataclass(frozen=True)
-class Flow:
+class FlowReply:
     """The flow on an arc, of which only the ends are known."""
 
     tail: int
@@ -94,7 +92,7 @@ class Flow:
 
 
 @dataclass(frozen=True)
-class Cut:
+class CutReply:
     """The smallest minimum cut: its capacity, the nodes on the source's side, and its arcs by their numbers, which are None if the
     network is not known. `line` is its first line, and `serial` tells the state with this cut from others."""
 
@@ -106,7 +104,7 @@ class Cut:
 
 
 @dataclass(frozen=True)
-class Printed:
+class PrintedReply:
     """A printed problem: the lines, and the number that each of its arcs has in the session; None if these are not known."""
 
     lines: list[bytes]
@@ -114,7 +112,7 @@ class Printed:
     numbers: list[int] | None
 
 
-Event = Union[Other, Asked, Changed, Refused, Solution, Flow, Cut, Printed]
+Event = Union[Other, Asked, ChangedReply, RefusedReply, SolutionReply, FlowReply, CutReply, PrintedReply]
 
 
 class SolutionReading:
@@ -122,7 +120,7 @@ class SolutionReading:
 
     GOES_ON = (Kind.FLOW,)
 
-    def __init__(self, value: int, arcs: list[Arc], command: Command | None) -> None:
+    def __init__(self, value: int, arcs: list[ArcRecord], command: Command | None) -> None:
         self.value = value
         self.command = command
         self.numbers = [at for at, arc in enumerate(arcs, 1) if not arc.is_closed]
@@ -168,7 +166,7 @@ class CutReading:
 
     GOES_ON = (Kind.SIDE,)
 
-    def __init__(self, capacity: int, line: int, problem: Problem, arcs: list[Arc] | None) -> None:
+    def __init__(self, capacity: int, line: int, problem: Problem, arcs: list[ArcRecord] | None) -> None:
         self.capacity = capacity
         self.line = line
         self.problem = problem
@@ -184,7 +182,7 @@ class CutReading:
 
     def take(self, found: list[bytes]) -> None:
         """Takes in a node of the side."""
-        node = number(found[2])
+        node = read_number(found[2])
         if not 1 <= node <= self.problem.node_count:
             raise Fault(f"no such node: {node}")
         if node in self.side:
@@ -193,7 +191,7 @@ class CutReading:
         if self.arcs is not None:
             self._carry(node, self.arcs)
 
-    def _carry(self, node: int, arcs: list[Arc]) -> None:
+    def _carry(self, node: int, arcs: list[ArcRecord]) -> None:
         """Adds the arcs that leave the side now, and removes those that no longer leave it."""
         if not self.at_node:
             self.at_node = defaultdict(list)
@@ -236,7 +234,7 @@ class ProblemReading:
         self.first_line = line
         if len(found) != 4:
             raise Fault("wrong number of fields")
-        self.line_count = min(number(found[3]), MOST_ARCS) + 3
+        self.line_count = min(read_number(found[3]), MOST_ARCS) + 3
 
     def is_whole(self) -> bool:
         return len(self.lines) == self.line_count
@@ -253,4 +251,37 @@ def flow_of(found: list[bytes]) -> tuple[int, int, int]:
     """The tail, the head and the flow of a line."""
     if len(found) != 4:
         raise Fault("wrong number of fields")
-    return number(found[1]), number(found[2]), number(found[3])
+    return read_number(found[1]), read_number(found[2]), read_number(found[3])
+
+
+class TranscriptFault(TextFault):
+    """Commands and replies, or a reply and the network, do not fit together. Names the text, `answer` or `commands`, and the line."""
+
+    def __init__(self, text: str, line: int, reason: str, about: bytes = b"") -> None:
+        super().__init__(line, reason, about)
+        self.text = text
+
+
+@dataclass(frozen=True)
+class Pending:
+    """A command without a reply so far: the text that it stands in, its line there, that line's content, and what it asks for, or why
+    its form gets it refused."""
+
+    text: str
+    line: int
+    content: str
+    command: Command | None
+    refusal: str | None
+
+    @staticmethod
+    def of(text: str, line: int, read: bytes) -> Pending | None:
+        """The command of a line, or None if it is a comment or blank."""
+        content = display(ended_line(read)[:80].decode(errors="replace"))
+        try:
+            command = read_command(read)
+        except Fault as fault:
+            return Pending(text, line, content, None, fault.reason)
+        return Pending(text, line, content, command, None) if command else None
+
+    def __str__(self) -> str:
+        return f"`{self.content}`, line {self.line} of the {self.text}"

@@ -8,29 +8,30 @@ from __future__ import annotations
 
 from collections import deque
 from collections.abc import Callable, Iterator
-from dataclasses import dataclass
 from typing import Union
 
-from .commands import ADD, PRINT_CUT, PRINT_FLOW, PRINT_PROBLEM, SOLVE, UNDO, Command, ended, read_command
+from .lexical import Fault, TextFault, fields, read_number
+from .problem_text import Problem
+from .session_commands import ADD, PRINT_CUT, PRINT_FLOW, PRINT_PROBLEM, SOLVE, UNDO, Command, TrackedNetwork, ended_line
 from .session_replies import (
     Asked,
-    Changed,
-    Cut,
+    ChangedReply,
     CutReading,
+    CutReply,
     Event,
-    Flow,
+    FlowReply,
     Kind,
     Other,
-    Printed,
+    Pending,
+    PrintedReply,
     ProblemReading,
-    Refused,
-    Solution,
+    RefusedReply,
     SolutionReading,
+    SolutionReply,
+    TranscriptFault,
     flow_of,
     kind_of,
 )
-from .problem_text import Fault, Problem, TextFault, display, fields, number
-from .session_commands import Timeline
 
 ANSWER, COMMANDS = "answer", "commands"
 # Why a command may be refused whatever is known about the network: by what the history forgot, and by what no text shows.
@@ -38,40 +39,7 @@ UNFORESEEN = {UNDO: {"nothing to undo"}, PRINT_CUT: {"flow is not greatest"}}
 Reading = Union[SolutionReading, CutReading, ProblemReading]
 
 
-class TranscriptFault(TextFault):
-    """Commands and replies, or a reply and the network, do not fit together. Names the text, `answer` or `commands`, and the line."""
-
-    def __init__(self, text: str, line: int, reason: str, about: bytes = b"") -> None:
-        super().__init__(line, reason, about)
-        self.text = text
-
-
-@dataclass(frozen=True)
-class Pending:
-    """A command without a reply so far: the text that it stands in, its line there, that line's content, and what it asks for, or why
-    its form gets it refused."""
-
-    text: str
-    line: int
-    content: str
-    command: Command | None
-    refusal: str | None
-
-    @staticmethod
-    def of(text: str, line: int, read: bytes) -> Pending | None:
-        """The command of a line, or None if it is a comment or blank."""
-        content = display(ended(read)[:80].decode(errors="replace"))
-        try:
-            command = read_command(read)
-        except Fault as fault:
-            return Pending(text, line, content, None, fault.reason)
-        return Pending(text, line, content, command, None) if command else None
-
-    def __str__(self) -> str:
-        return f"`{self.content}`, line {self.line} of the {self.text}"
-
-
-class Follower:
+class TranscriptReader:
     """Takes the lines of an answer one after the other. `timeline` has the present network, unless `is_known` is false: then unknown
     commands changed it. `is_numbered` is false if only a printed problem is known of the network, in which the arcs may have other
     numbers. `solution` and `cut` are the last ones. The solution is None if its flows are not known, as after the brief reply to a
@@ -79,11 +47,11 @@ class Follower:
     and is None if that is not known."""
 
     def __init__(self, problem: Problem, commands: Iterator[bytes] | None = None) -> None:
-        self.timeline = Timeline(problem)
+        self.timeline = TrackedNetwork(problem)
         self.is_known = self.is_numbered = True
         self.solves_are_brief: bool | None = None
-        self.solution: Solution | None = None
-        self.cut: Cut | None = None
+        self.solution: SolutionReply | None = None
+        self.cut: CutReply | None = None
         self.line = 0
         self._given = commands
         self._command_line = 0
@@ -101,9 +69,9 @@ class Follower:
         try:
             if isinstance(reading, SolutionReading) and line.startswith(b"f ") and not reading.is_whole_with(1):
                 # Most lines of a large answer.
-                reading.take(fields(ended(line)))
+                reading.take(fields(ended_line(line)))
                 return []
-            return list(self._take(ended(line), line))
+            return list(self._take(ended_line(line), line))
         except Fault as fault:
             raise self._located(fault) from None
 
@@ -126,7 +94,7 @@ class Follower:
         if kind is Kind.OTHER or kind is Kind.COMMAND and self._given is not None:
             yield Other(content)
         elif kind is Kind.FLOW and not self.is_known:
-            yield Flow(*flow_of(found))
+            yield FlowReply(*flow_of(found))
         elif self._reading and kind in self._reading.GOES_ON:
             yield from self._go_on(self._reading, content, found)
         else:
@@ -140,16 +108,16 @@ class Follower:
             self._waiting.extend([pending] if pending else [])
             yield Asked(content)
         elif kind is Kind.REFUSED:
-            self._refuse(number(found[2]), b" ".join(found[3:]).decode(errors="replace"))
-            yield Refused(content, b" ".join(found[3:]).decode(errors="replace"))
+            self._refuse(read_number(found[2]), b" ".join(found[3:]).decode(errors="replace"))
+            yield RefusedReply(content, b" ".join(found[3:]).decode(errors="replace"))
         elif kind is Kind.CHANGED:
             yield self._changed(content, found)
         elif kind is Kind.VALUE:
             yield from self._begin_solution(found)
         elif kind is Kind.SOLVED:
-            yield self._solved(number(found[3]))
+            yield self._solved(read_number(found[3]))
         elif kind is Kind.CUT:
-            yield from self._begin_cut(number(found[2]))
+            yield from self._begin_cut(read_number(found[2]))
         elif kind is Kind.PROBLEM:
             self._asked(PRINT_PROBLEM)
             self._reading = ProblemReading(content, found, self.line)
@@ -233,16 +201,16 @@ class Follower:
         """Whether the network is known as the commands speak of it."""
         return self.is_known and self.is_numbered
 
-    def _changed(self, content: bytes, found: list[bytes]) -> Changed:
+    def _changed(self, content: bytes, found: list[bytes]) -> ChangedReply:
         command = self._asked(found[1].decode())
-        value = number(found[-1])
+        value = read_number(found[-1])
         if command is None or not self._is_sure() or not self.timeline.knows(command):
             self.is_known = False
         else:
             self.timeline.carry_out(command, value)
-            if command.word == ADD and number(found[2]) != len(self.timeline.arcs):
+            if command.word == ADD and read_number(found[2]) != len(self.timeline.arcs):
                 raise Fault(f"the added arc has the number {len(self.timeline.arcs)}")
-        return Changed(content, command, value)
+        return ChangedReply(content, command, value)
 
     # Solutions, cuts and printed problems.
 
@@ -252,7 +220,7 @@ class Follower:
             raise Fault("brief and whole replies to solve in one answer")
         self.solves_are_brief = is_brief
 
-    def _solved(self, value: int) -> Solution:
+    def _solved(self, value: int) -> SolutionReply:
         """The brief reply to a solve: its flows are not known until they are printed."""
         command = self._asked(SOLVE)
         self._answers_solve(is_brief=True)
@@ -262,19 +230,19 @@ class Follower:
             self.timeline.begin_anew(value)
         self._awaits_cut = True
         self.solution = None
-        return Solution(value, is_told=False, serial=self.timeline.serial)
+        return SolutionReply(value, is_told=False, serial=self.timeline.serial)
 
     def _begin_solution(self, found: list[bytes]) -> Iterator[Event]:
         if len(found) != 2:
             raise Fault("wrong number of fields")
-        value = number(found[1])
+        value = read_number(found[1])
         command = self._asked(SOLVE, PRINT_FLOW)
         if command == Command(SOLVE):
             self._answers_solve(is_brief=False)
         if not self.is_known:
             self._awaits_cut = command == Command(SOLVE)
             self.solution = None
-            yield Solution(value, is_told=False)
+            yield SolutionReply(value, is_told=False)
             return
         self._reading = SolutionReading(value, self.timeline.arcs, command)
         if self._reading.is_whole():
@@ -316,7 +284,7 @@ class Follower:
         elif reading:
             reading.read()
 
-    def _solution(self, reading: SolutionReading) -> Solution:
+    def _solution(self, reading: SolutionReading) -> SolutionReply:
         timeline = self.timeline
         is_told = reading.is_whole()
         if is_told:
@@ -331,20 +299,20 @@ class Follower:
             raise Fault(f"value differs: it is {timeline.value} here")
         self._reading = None
         told = (reading.numbers, reading.arcs, reading.flows) if is_told else ((), (), ())
-        solution = Solution(reading.value, is_told, *told, timeline.serial)
+        solution = SolutionReply(reading.value, is_told, *told, timeline.serial)
         self.solution = solution if is_told else None
         return solution
 
-    def _cut(self, reading: CutReading) -> Cut:
+    def _cut(self, reading: CutReading) -> CutReply:
         try:
             reading.judge()
         except Fault as fault:
             raise TranscriptFault(ANSWER, reading.line, fault.reason) from None
         self._reading = None
-        self.cut = Cut(reading.capacity, list(reading.side), reading.crossing(), reading.line, self.timeline.serial)
+        self.cut = CutReply(reading.capacity, list(reading.side), reading.crossing(), reading.line, self.timeline.serial)
         return self.cut
 
-    def _printed(self, reading: ProblemReading) -> Printed:
+    def _printed(self, reading: ProblemReading) -> PrintedReply:
         printed, timeline = reading.read(), self.timeline
         known = timeline.problem
         if (printed.node_count, printed.source, printed.sink) != (known.node_count, known.source, known.sink):
@@ -355,10 +323,10 @@ class Follower:
             if printed.arcs != [timeline.arcs[at - 1][:3] for at in numbers]:
                 raise TranscriptFault(ANSWER, reading.first_line, "this is a problem with other arcs")
         else:
-            self.timeline = Timeline(printed, timeline.value, begins_known=False)
+            self.timeline = TrackedNetwork(printed, timeline.value, begins_known=False)
             self.is_known, self.is_numbered = True, False
         self._reading = None
-        return Printed(reading.lines, printed, numbers if self.is_numbered else None)
+        return PrintedReply(reading.lines, printed, numbers if self.is_numbered else None)
 
     def _end(self) -> Iterator[Event]:
         yield from self._break_off()

@@ -2,31 +2,21 @@
 
 from __future__ import annotations
 
-import contextlib
-import errno
 import os
-import secrets
 import signal
 import stat
 import sys
 import time
-from collections.abc import Callable, Iterator, Sequence
+from collections.abc import Callable, Iterator
 from typing import BinaryIO, NoReturn
 
-from ..text.problem_text import display
+from ..errors import ToolFault
+from ..files import cannot
+from ..text.lexical import display
 
 INTERRUPTED = 130
 # How long to wait for the next line of a file, in seconds, if the file was written to within that time.
 PATIENCE = 1.0
-
-
-class ToolFault(Exception):
-    """Why a tool ends, in a line for each reason, and with which status."""
-
-    def __init__(self, reason: str, status: int = 1, more: Sequence[str] = ()) -> None:
-        super().__init__(reason)
-        self.reasons = reason, *more
-        self.status = status
 
 
 def run(name: str, main: Callable[[], int]) -> NoReturn:
@@ -94,113 +84,6 @@ def warn(name: str, text: str) -> None:
         line = display(f"{name}: {text}").encode(errors="replace") + b"\n"
         sys.stderr.buffer.write(line)
         sys.stderr.flush()
-
-
-def cannot(do: str, what: str, error: OSError, status: int = 1) -> ToolFault:
-    return ToolFault(f"cannot {do} {what}: {error.strerror}", status)
-
-
-def read_file(path: str, status: int = 1) -> bytes:
-    """The bytes of a file; `-` is standard input."""
-    if path == "-":
-        return standard_input(status).read()
-    try:
-        with open(path, "rb") as file:
-            return file.read()
-    except FileNotFoundError as error:
-        raise ToolFault(f"cannot read {path}: {error.strerror}{_near(path)}", status) from None
-    except OSError as error:
-        raise cannot("read", path, error, status) from None
-    except ValueError:
-        raise ToolFault(f"cannot read {path}: no path has a NUL", status) from None
-
-
-def _near(path: str) -> str:
-    """The words of a message about files whose names are near to one that is not there."""
-    from ..text.cells import near
-
-    folder, name = os.path.split(path)
-    with contextlib.suppress(OSError, ValueError):
-        return near(name, sorted(it for it in os.listdir(folder or ".") if it[:1] not in (".", "~")))
-    return ""
-
-
-def write_file(path: str, data: bytes, *, is_new: bool = False) -> None:
-    """Writes a file whole: beside it at first, so that an older one stays as it is if that fails, and keeps its mode if not. What can
-    have no file beside it, such as a pipe or standard output, is written as it is. Raises an OSError, also where there is a file or a link
-    already that has to be new."""
-    if is_new and os.path.lexists(path):
-        raise FileExistsError(errno.EEXIST, os.strerror(errno.EEXIST), path)
-    try:
-        old = os.stat(path)
-    except FileNotFoundError:
-        old = None
-    stream = None if old is None else _standard(old)
-    if stream is not None or old is not None and not stat.S_ISREG(old.st_mode):
-        with open(path if stream is None else os.dup(stream), "wb") as file:
-            file.write(data)
-        return
-    path = os.path.abspath(path) if is_new else os.path.realpath(path)
-    beside = os.path.join(os.path.dirname(path), f".dmf-{secrets.token_hex(8)}")
-    try:
-        with open(os.open(beside, os.O_WRONLY | os.O_CREAT | os.O_EXCL, 0o666), "wb") as file:
-            if old is not None:
-                with contextlib.suppress(PermissionError):
-                    os.fchown(file.fileno(), old.st_uid, old.st_gid)
-                os.fchmod(file.fileno(), stat.S_IMODE(old.st_mode))
-            file.write(data)
-            file.flush()
-            _sync(file.fileno())
-        _put(beside, path, is_new)
-    except BaseException:
-        with contextlib.suppress(OSError):
-            os.remove(beside)
-        raise
-    with contextlib.suppress(OSError):
-        folder = os.open(os.path.dirname(path), os.O_RDONLY)
-        try:
-            os.fsync(folder)
-        finally:
-            os.close(folder)
-
-
-def _put(beside: str, path: str, is_new: bool) -> None:
-    """Gives a file its name. A new one takes no name that somebody else has put there meanwhile, if the file system has links."""
-    if is_new:
-        try:
-            os.link(beside, path)
-        except FileExistsError:
-            raise
-        except OSError:
-            pass
-        else:
-            os.remove(beside)
-            return
-    os.replace(beside, path)
-
-
-def _standard(file: os.stat_result) -> int | None:
-    """Standard output or standard error, if a file is one of them."""
-    for stream in 1, 2:
-        with contextlib.suppress(OSError):
-            if os.path.samestat(file, os.fstat(stream)):
-                return stream
-    return None
-
-
-def _sync(file: int) -> None:
-    """Has the system write a file out, if its file system can."""
-    try:
-        os.fsync(file)
-    except OSError as error:
-        if error.errno not in (errno.EINVAL, errno.ENOSYS, errno.EOPNOTSUPP):
-            raise
-
-
-def standard_input(status: int = 1) -> BinaryIO:
-    if sys.stdin is None:
-        raise ToolFault("cannot read standard input: it is closed", status)
-    return sys.stdin.buffer
 
 
 def write(text: str) -> None:

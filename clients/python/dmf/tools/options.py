@@ -1,18 +1,85 @@
-"""The options that say what a table is, in every tool: its columns, its numbers, its sources and sinks, its limits and its encoding."""
+"""The options that say what a table is, in every tool, and the desk or the problem that they ask for."""
 
 from __future__ import annotations
 
 import argparse
 import os
 import re
+import shlex
+import sys
 from decimal import Decimal
 
-from ..text.cells import cleaned, near
-from ..tables.headings import CAPACITY, HEAD, NAME, TAIL
-from ..tables.loader import PLACE_TABLES, Wanted
-from ..tables.readers import Reading
+from ..desk.project.opener import beside, is_project, keep_project, project_desk
+from ..desk.project.scenarios import Scenarios
+from ..desk.project.schema import ENDING, ProjectFault
+from ..desk.project.storage import journal_of
+from ..desk.steps import DeskFault
+from ..desk.workspace import Desk
+from ..errors import Refused, SessionEnded, ToolFault
+from ..files import cannot
+from ..tables.headings import CAPACITY, HEAD, TAIL
+from ..tables.loader import COLUMNS, FAULT, UNREADABLE, names_terminals, read_subject, says_table
+from ..text.spelling import cleaned, near
+from .command import warn
 
-COLUMNS = (TAIL, HEAD, CAPACITY, NAME)
+
+def add_project_words(parser: argparse.ArgumentParser) -> None:
+    """Adds the options of the tools that open projects."""
+    parser.add_argument("--keep", action="store_true", help=f"keep what is done in a new project beside the table, FILE{ENDING}")
+    parser.add_argument("--table", metavar="FILE", help="where the table of a project is now, if it has moved")
+
+
+def open_desk(words: argparse.Namespace, *, with_solve: bool, may_follow: bool = False) -> Desk:
+    """The desk of the table, the problem or the project that the words name. Its `news` are what was taken for granted. The flows may
+    follow where no project keeps them. Raises a `ToolFault`."""
+    try:
+        if is_project(words.path):
+            if says_table(words) or words.raw_names or words.keep:
+                raise ToolFault(f"{words.path} is a project, which says itself what its table is: of the options --table alone fits", 2)
+            return project_desk(words.path, words.table or "")
+        if words.table is not None:
+            raise ToolFault("--table says where the table of a project has gone, and FILE is no project", 2)
+        if words.keep and os.path.lexists(beside(words.path)):
+            # What the options ask for may be another network than that of the project.
+            raise ToolFault(f"{beside(words.path)} already exists; {_how_to_open(beside(words.path))}", UNREADABLE)
+        subject = read_subject(words)
+        desk = Desk(subject, with_solve=with_solve, may_follow=may_follow and not words.keep)
+        desk.news += subject.notes
+        if not words.keep:
+            if os.path.isfile(beside(words.path)):
+                desk.news.append(f"a project of this table exists; {_how_to_open(beside(words.path))}")
+            return desk
+        try:
+            kept = keep_project(beside(words.path), words, desk)
+        finally:
+            desk.end()
+        kept.news += subject.notes
+        return kept
+    except (Refused, ProjectFault) as fault:
+        raise ToolFault(f"{words.path}: {fault}" if isinstance(fault, Refused) else str(fault), FAULT) from None
+    except DeskFault as fault:
+        raise ToolFault(str(fault), UNREADABLE) from None
+    except OSError as error:
+        raise (cannot("read", words.path, error, UNREADABLE) if is_project(words.path) else ToolFault(str(error), UNREADABLE)) from None
+    except SessionEnded as error:
+        raise ToolFault(str(error), UNREADABLE) from None
+
+
+def _how_to_open(path: str) -> str:
+    """Return how the tool that runs opens a project."""
+    tool = os.path.basename(sys.argv[0])
+    return f"open it with: {tool if tool.startswith('dmf-') else 'dmf-plan'} {shlex.quote(path)}"
+
+
+def close_desk(name: str, desk: Desk) -> None:
+    """Ends the desk of a tool of this name. Raises a `ToolFault` if its project cannot be written."""
+    try:
+        desk.end()
+        for line in desk.file.news if isinstance(desk, Scenarios) else ():
+            warn(name, line)
+    except OSError as error:
+        where = journal_of(desk.file.path) if isinstance(desk, Scenarios) else ""
+        raise ToolFault(f"the project could not be written ({error.strerror}); {where} has what was done, and the next call takes it", UNREADABLE) from None
 
 
 def encoding(word: str) -> str:
@@ -81,19 +148,16 @@ def parsed(parser: argparse.ArgumentParser, given: list[str], fixed: int | None 
     return words
 
 
-def names_terminals(words: argparse.Namespace) -> bool:
-    """Whether the arguments name a source or a sink."""
-    return bool(words.source or words.sink) or words.sources is not None or words.sinks is not None
+def add_words(parser: argparse.ArgumentParser, form: str = "FILE [SOURCE SINK]", what: str = "a table of arcs, or a problem's file") -> None:
+    """Adds the words that name the file, and what a table in it is."""
+    parser.add_argument("places", metavar=form, nargs="*", help=what)
+    add_options(parser)
 
 
-def says_table(words: argparse.Namespace) -> bool:
-    """Whether the arguments say something of a table."""
-    given = [words.scale, words.node_limits, words.place_table, words.encoding]
-    return names_terminals(words) or bool(words.titles or words.both_ways or words.decimal) or any(it is not None for it in given)
-
-
-def wanted_of(words: argparse.Namespace) -> Wanted:
-    """What the arguments say of the tables."""
-    tables = {option: getattr(words, option) for option in PLACE_TABLES if getattr(words, option) is not None}
-    reading = Reading(words.titles, words.decimal, words.raw_names)
-    return Wanted(reading, words.encoding, words.scale, words.both_ways, tuple(words.source), tuple(words.sink), tables)
+def words_of(parser: argparse.ArgumentParser, given: list[str], *, ends_are_words: bool = True) -> argparse.Namespace:
+    """The words that were given, with the path of the file. After it stand the source and the sink, or else other words: `others`."""
+    words = parsed(parser, given, 1 if ends_are_words else None)
+    if not words.fixed:
+        parser.error("the file of a table or a problem is wanted")
+    words.path, *words.others = words.fixed
+    return words

@@ -5,13 +5,13 @@ from __future__ import annotations
 from typing import Any
 
 from ..arcs import Arc
-from ..text.folding import Folding, role_words
 from ..network import Network
-from ..text.table_comments import described
-from ..text.problem_text import NODE, names_in, naming_pieces
+from ..text.lexical import NODE
+from ..text.spelling import names_in, naming_pieces
+from ..text.table_comments import TableRoles, described, role_words
 
 
-class Named:
+class CaseNames:
     """Cases whose commands have numbers, as the client takes them, and the names of what they speak of."""
 
     def __init__(self, network: Network[Any], text: bytes) -> None:
@@ -20,7 +20,7 @@ class Named:
         self.nodes = network.nodes
         said = described(text)
         self.measure = said.measure
-        self._folding = Folding(said)
+        self._folding = TableRoles(said)
         self._names = names_in(naming_pieces(text, NODE), NODE)
         self._numbers = {node: number for number, node in enumerate(self.nodes, 1)}
 

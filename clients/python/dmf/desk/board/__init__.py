@@ -2,10 +2,3 @@
 
 It knows the desk and projects, and must not know the terminal.
 Entrances: `routes` (`Board`) and `server` (`Server`); `page/` has what the browser runs."""
-
-from .door import Door
-from .responses import Answer
-from .routes import Board
-from .server import Server
-
-__all__ = ["Answer", "Board", "Door", "Server"]

@@ -1,4 +1,4 @@
-"""The picture of two scenarios beside each other: each arc coloured by what is other in the second one."""
+"""Two scenarios beside each other: what differs, and a picture in which each arc is coloured by what is other in the second one."""
 
 from __future__ import annotations
 
@@ -9,14 +9,16 @@ from dataclasses import dataclass
 from typing import NamedTuple
 from xml.etree import ElementTree
 
-from ..workspace import Desk
-from ..export import MOST_DRAWN
-from ...text.folding import AT_PLACE
-from ..project.comparison import OPEN, ArcDifference, ArcState, Comparison, Known, known_arcs
 from ...quantity import EXACT, Quantity, moved, plain_text
-from ...text.problem_text import display
+from ...text.lexical import display
+from ...text.table_comments import AT_PLACE
+from ..export import MOST_DRAWN
+from ..project.comparison import OPEN, ArcDifference, ArcState, Comparison, Known, Standing, compare, known_arcs
+from ..workspace import Desk
+from .layout import NoPicture, Places
 from .picture import SVG, DrawnArc, DrawnNode, Picture, Shape, marked, written
-from .layout import Places
+from .responses import Json, WrongForm
+from .views import project_of
 
 MORE, LESS, SAME = "#0b5394", "#a84300", "#767676"
 STYLE = f"""
@@ -189,3 +191,64 @@ def _fill_place(group: ElementTree.Element, name: str, roles: Iterable[_Found]) 
             text.set("class", arc.differs.kind)
             label += f", {arc.differs.first.told()}, then {arc.differs.second.told()}"
     marked(group, ["node"], label)
+
+
+MOST_DIFFERENCES, MOST_LISTED = 500, 300
+
+
+class Comparisons:
+    """The comparison that a page asked for last, which stands until something is done."""
+
+    def __init__(self, desk: Desk, places: Places) -> None:
+        self._desk = desk
+        self._picture = DifferencePicture(desk, places)
+        self._kept: tuple[tuple[int, str, str], Comparison] | None = None
+
+    def of(self, one: str, two: str) -> Comparison:
+        """Two scenarios beside each other, of which one may be the network of the table."""
+        desk = project_of(self._desk)
+        key = desk.turn, one, two
+        if not self._kept or self._kept[0] != key:
+            found = compare(desk, one, two)
+            # If the session has ended meanwhile, the turn is another one.
+            self._kept = (desk.turn, one, two), found
+        return self._kept[1]
+
+    def view(self, one: str, two: str, first: int, count: int) -> Json:
+        """A comparison with so many of the arcs that differ, from the first on."""
+        if count > MOST_DIFFERENCES:
+            raise WrongForm(f"wanted are at most {MOST_DIFFERENCES} rows")
+        found = self.of(one, two)
+        numbers = dict(known_arcs(self._desk))
+        rows = [
+            {
+                "arc": it.arc, "number": numbers.get(it.known, 0), "node": self._node(it.known), "kind": it.kind, "first": it.first.told(),
+                "second": it.second.told(),
+            }
+            for it in found.arcs[first : first + count]
+        ]  # fmt: skip
+        same = found.first.limit == found.second.limit
+        told = {"moved": moved(found.first.value, found.second.value), "same_limit": same, "total": len(found.arcs)}
+        return {"first": _standing(found.first), "second": _standing(found.second), **told, "rows": rows}
+
+    def _node(self, known: Known) -> int:
+        """The place whose role an arc is, if it is one; else 0."""
+        role = self._desk.role(known) if isinstance(known, int) else None
+        return role.node if role else 0
+
+    def picture(self, one: str, two: str) -> Json:
+        """The picture of a comparison, and why it has not all arcs, or is none."""
+        found = self.of(one, two)
+        try:
+            svg, reason = self._picture.of(found)
+        except NoPicture as fault:
+            svg, reason = "", str(fault)
+        return {"svg": svg, "reason": reason}
+
+    def file(self, one: str, two: str) -> bytes:
+        """The picture to take along. Raises `NoPicture`."""
+        return self._picture.of(self.of(one, two), to_take=True)[0].encode()
+
+
+def _standing(it: Standing) -> Json:
+    return {"name": it.name, "value": plain_text(it.value), "limit": list(it.limit[:MOST_LISTED]), "limit_count": len(it.limit)}

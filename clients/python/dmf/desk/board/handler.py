@@ -15,19 +15,34 @@ import select
 import socket
 from collections.abc import Callable
 from http.server import BaseHTTPRequestHandler
-from typing import TYPE_CHECKING, ClassVar
+from socketserver import BaseServer
+from threading import Lock
+from typing import ClassVar
 from urllib.parse import parse_qsl, quote, urlsplit
 
-from .responses import LONGEST_TEXT, Answer, Json, WrongForm, answer
-from .door import outside
-from .pages import PAGE, POLICY
-
-if TYPE_CHECKING:
-    from .server import Server
+from .connections import LivePages, UnknownConnections
+from .responses import LONGEST_TEXT, PAGE, POLICY, Json, Response, WrongForm, answer, outside
+from .routes import Board
 
 LONGEST_BODY = 1 << 20
 # What a page calls itself.
 PAGE_NAME = "[0-9a-f-]{1,40}"
+
+
+class Host(BaseServer):
+    """What a server has for the requests of its connections."""
+
+    board: Board
+    guests: LivePages
+    hosts: set[str]
+    lock: Lock
+    pages: dict[str, Response]
+    strangers: UnknownConnections
+    token: str
+
+    def let_go(self, connection: socket.socket) -> None:
+        """End a connection that is held open."""
+        raise NotImplementedError
 
 
 class Handler(BaseHTTPRequestHandler):
@@ -40,7 +55,7 @@ class Handler(BaseHTTPRequestHandler):
     timeout = 60
     wbufsize = 1 << 16
     disable_nagle_algorithm = True
-    server: Server
+    server: Host
     raw_requestline: bytes
     FIXED: ClassVar[dict[str, str]] = {
         "Cache-Control": "no-store",
@@ -77,7 +92,7 @@ class Handler(BaseHTTPRequestHandler):
         super().finish()
         self.server.strangers.part(self.connection)
 
-    def _serve(self, make: Callable[[str], Answer | None]) -> None:
+    def _serve(self, make: Callable[[str], Response | None]) -> None:
         """Answers a request that may be answered."""
         try:
             made = self._refusal() or make(self._path())
@@ -91,7 +106,7 @@ class Handler(BaseHTTPRequestHandler):
         if made:
             self._send(made)
 
-    def _refusal(self) -> Answer | None:
+    def _refusal(self) -> Response | None:
         """Why the sender, who has the token, may not ask this, if so."""
         why = ""
         hosts = self.headers.get_all("Host") or []
@@ -113,10 +128,10 @@ class Handler(BaseHTTPRequestHandler):
         """What stands after the token."""
         return urlsplit(self.path).path[len(self.server.token) + 1 :]
 
-    def _get(self, path: str) -> Answer | None:
+    def _get(self, path: str) -> Response | None:
         if path in ("", "/"):
             if not path:
-                return Answer(303, "text/plain", b"", to=f"/{self.server.token}/")
+                return Response(303, "text/plain", b"", to=f"/{self.server.token}/")
             self.server.guests.note_request(is_page=True)
             return self.server.pages[PAGE]
         if path[1:] in self.server.pages:
@@ -133,7 +148,7 @@ class Handler(BaseHTTPRequestHandler):
             raise WrongForm("a word of the address stands twice, or is too long")
         return self._asked(lambda: self.server.board.get(path[1:], words))
 
-    def _post(self, path: str) -> Answer | None:
+    def _post(self, path: str) -> Response | None:
         content = self._content()
         if path == "/stop":
             # It stops what has the lock.
@@ -143,7 +158,7 @@ class Handler(BaseHTTPRequestHandler):
             return answer({})
         return self._asked(lambda: self.server.board.post(path[1:], content))
 
-    def _asked(self, ask: Callable[[], Answer]) -> Answer:
+    def _asked(self, ask: Callable[[], Response]) -> Response:
         """The board's answer. If there is a newer state then, each page is told."""
         with self.server.lock:
             try:
@@ -166,7 +181,7 @@ class Handler(BaseHTTPRequestHandler):
             raise WrongForm("wanted is an object of JSON")
         return content
 
-    def _send(self, made: Answer) -> None:
+    def _send(self, made: Response) -> None:
         self.send_response(made.status)
         for name, text in self.FIXED.items():
             self.send_header(name, text)

@@ -10,15 +10,13 @@ from dataclasses import dataclass
 from typing import NamedTuple
 from xml.etree import ElementTree
 
-from ..workspace import Desk
-from ..steps import Line
-from ..export import LEGEND, said_of
-from ...text.folding import AT_PLACE
-from ...text.drawing import CUT, SIDE, UNUSED, drawn_line, quoted
 from ...quantity import POINT, plain_text
-from .layout import NoPicture, Places, Way, run
-
-__all__ = ["NoPicture", "Picture"]
+from ...text.drawing import CUT, SIDE, UNUSED, drawn_line, quoted
+from ...text.table_comments import AT_PLACE
+from ..export import LEGEND, said_of
+from ..steps import DeskArc
+from ..workspace import Desk
+from .layout import Places, Way, run
 
 SVG = "http://www.w3.org/2000/svg"
 # Among how many places new arcs are led around others: that takes a second for 50 of them.
@@ -125,7 +123,7 @@ class Picture:
         drawn = self.places.put((it.node for it in shape.nodes), ways.values(), _text(self._lines(shape, ways)))
         return drawn or run(_text(self._lines(shape, ways, is_put=True)), "neato", "-n2", "-Tsvg")
 
-    def _ends(self, line: Line) -> tuple[int, int]:
+    def _ends(self, line: DeskArc) -> tuple[int, int]:
         """The places at the ends of an arc."""
         return self._desk.folding.place(line.tail), self._desk.folding.place(line.head)
 

@@ -1,10 +1,11 @@
-"""What a board answers a request with, and why a request is refused whose form is wrong."""
+"""What a board answers a request with: the fixed pages, and why a request is refused whose form is wrong."""
 
 from __future__ import annotations
 
 import json
 import re
 from dataclasses import dataclass
+from pathlib import Path
 from typing import Any, Union
 
 LONGEST_TEXT = 4_000
@@ -18,7 +19,7 @@ class WrongForm(Exception):
 
 
 @dataclass(frozen=True)
-class Answer:
+class Response:
     """The answer to a request."""
 
     status: int
@@ -29,11 +30,11 @@ class Answer:
 
 
 # What a request is answered with, if it is not refused.
-Made = Union[Answer, Json]
+Made = Union[Response, Json]
 
 
-def answer(content: Json, status: int = 200) -> Answer:
-    return Answer(status, "application/json", json.dumps(content).encode())
+def answer(content: Json, status: int = 200) -> Response:
+    return Response(status, "application/json", json.dumps(content).encode())
 
 
 def whole(text: str, name: str) -> int:
@@ -74,3 +75,39 @@ def judge_arcs(numbers: list[object], most: int) -> None:
         raise WrongForm("an arc and a turn are whole numbers")
     if len(set(numbers)) < len(numbers):
         raise WrongForm("an arc stands twice in the list")
+
+
+LOOPBACK = "127.0.0.1"
+_HOW_TO_GET_IN = """<!DOCTYPE html>
+<html lang="en"><meta charset="utf-8"><meta name="viewport" content="width=device-width, initial-scale=1"><title>dmf-board</title>
+<h1>This is a dmf-board</h1>
+<p>{why}.</p>
+<p>The board printed its address where it was started, as in {address}. Open the whole of it.</p>
+"""
+WAY_IN = """<!DOCTYPE html>
+<html lang="en"><meta charset="utf-8"><meta name="referrer" content="no-referrer">
+<meta http-equiv="refresh" content="0; url={address}"><title>dmf-board</title>
+<p><a href="{address}">The board</a></p>
+"""
+
+
+def outside(why: str) -> Response:
+    """A page for those who may not ask."""
+    address = f"http://{LOOPBACK}:8000/tsCcyvcFxpZj3dU0/"
+    return Response(403, "text/html; charset=utf-8", _HOW_TO_GET_IN.format(why=why, address=address).encode())
+
+
+FOLDER = Path(__file__).parent / "page"
+PAGE_KINDS = {".html": "text/html", ".css": "text/css", ".js": "text/javascript"}
+PAGE = "index.html"
+# What the page may do: run its own scripts, have its own style, and ask this server. What is told of a network is no script, by its kind.
+POLICY = (
+    "default-src 'none'; script-src 'self'; style-src 'self'; connect-src 'self'; base-uri 'none'; form-action 'none'; "
+    "frame-ancestors 'none'"
+)
+
+
+def pages() -> dict[str, Response]:
+    """The answers with these files, by their names."""
+    found = sorted(file for file in FOLDER.iterdir() if file.suffix in PAGE_KINDS)
+    return {file.name: Response(200, f"{PAGE_KINDS[file.suffix]}; charset=utf-8", file.read_bytes()) for file in found}

@@ -11,27 +11,22 @@ import contextlib
 import threading
 from collections.abc import Callable, Iterator, Mapping
 
-from ..workspace import Desk
-from ..steps import DeskFault, unforeseen
-from ..export import problem, table, taken
-from ..project.scenarios import ProjectDesk
-from ..project.report_project import report
 from ...quantity import plain_text
-from .acts import FORMS, carry_out
-from .responses import Answer, Json, Made, WrongForm, answer, judge_arcs, judge_fields, judge_words, whole
-from .keeping import keep_spots, kept_spots
-from .many import many_view
-from .nearby import Nearby
-from .overview import Overview
-from .picture import NoPicture, Picture
-from .layout import Spot
-from .selection import Rows
-from .views import Comparisons, scenarios_view
-from .actions import Sweeps
-from .views_board import arc_view, costs_view, opened_view, place_view, state_view
+from ..export import problem, table, taken
+from ..project.report import report
+from ..project.scenarios import Scenarios
+from ..steps import DeskFault, unforeseen
+from ..workspace import Desk
+from .actions import FORMS, Sweeps, carry_out
+from .differences import Comparisons
+from .layout import NoPicture, Spot, keep_spots, kept_spots
+from .picture import Picture
+from .responses import Json, Made, Response, WrongForm, answer, judge_arcs, judge_fields, judge_words, whole
+from .selection import ArcList, Nearby, Overview
+from .views import arc_view, costs_view, many_view, opened_view, place_view, scenarios_view, state_view
 
 MOST_SWEPT = 5_000
-Keep = Callable[[str, Desk], ProjectDesk]
+Keep = Callable[[str, Desk], Scenarios]
 # What takes the desk to other scenarios, and can be stopped.
 LONG = ("costs", "comparison", "difference", "difference.svg", "report.html")
 CHANGED = "the network has changed in another tab: look again"
@@ -59,19 +54,19 @@ class Board:
         # How many places had been put when a project was asked to keep where.
         self._put_count = -1
         self._nearby = Nearby(desk)
-        self._rows_of_all = Rows(desk)
+        self._rows_of_all = ArcList(desk)
         self._sweeps = Sweeps(desk)
         self._comparisons = Comparisons(desk, self.picture.places)
 
     def _keep(self) -> None:
         """Keeps the steps in a new project, and shows that from now on."""
-        if not self._keep_in or isinstance(self.desk, ProjectDesk):
+        if not self._keep_in or isinstance(self.desk, Scenarios):
             raise DeskFault("no project can be kept of this")
         before = self.desk
         self._show(self._keep_in(self._offer, before), self.picture.places.spots)
         before.end()
 
-    def get(self, path: str, words: dict[str, str]) -> Answer:
+    def get(self, path: str, words: dict[str, str]) -> Response:
         """The answer to a request that changes nothing."""
         forms: dict[str, tuple[Callable[..., Made], tuple[str, ...]]] = {
             "turn": (dict, ()),
@@ -102,7 +97,7 @@ class Board:
         # What can be stopped is not tried again.
         return self._judged(lambda: serve(**words), tries=1 if path in LONG else 2, needs_flows=path != "state")
 
-    def post(self, path: str, content: Json) -> Answer:
+    def post(self, path: str, content: Json) -> Response:
         """The answer to a request that changes something, or tries it."""
         if path == "sweep":
             if set(content) != {"arcs", "turn"} or type(content["arcs"]) is not list or type(content["turn"]) is not int:
@@ -120,14 +115,14 @@ class Board:
         judge_fields(content, {**FORMS[what], "turn": int})
         return self._judged(lambda: self._done(what, content))
 
-    def stop(self) -> Answer:
+    def stop(self) -> Response:
         """Stops what is being done, for another thread that does it. The steps before it are kept."""
         with self._busy_lock:
             if self._is_busy:
                 self.desk.break_off(STOPPED)
         return answer({})
 
-    def _judged(self, make: Callable[[], Made], tries: int = 1, needs_flows: bool = True) -> Answer:
+    def _judged(self, make: Callable[[], Made], tries: int = 1, needs_flows: bool = True) -> Response:
         """The answer, or why there is none. Where the flows are needed and not known yet, finds them first. If the session ends meanwhile,
         begins another with the steps that were made, and tries once more if a try is left."""
         told = ""
@@ -137,7 +132,7 @@ class Board:
                     with self._stoppable():
                         self.desk.follow()
                 made = make()
-                return made if isinstance(made, Answer) else answer({"turn": self.desk.turn, "told": told, **made})
+                return made if isinstance(made, Response) else answer({"turn": self.desk.turn, "told": told, **made})
             except WrongForm:
                 raise
             except Exception as error:
@@ -201,11 +196,11 @@ class Board:
 
     def _difference_file(self, one: str, two: str, turn: str) -> Made:
         self._judge_turn(whole(turn, "turn"))
-        return self._beside(lambda: Answer(200, "image/svg+xml", self._comparisons.file(one, two), "difference.svg"))
+        return self._beside(lambda: Response(200, "image/svg+xml", self._comparisons.file(one, two), "difference.svg"))
 
     def _report_file(self, turn: str) -> Made:
         self._judge_turn(whole(turn, "turn"))
-        return self._beside(lambda: Answer(200, "text/html; charset=utf-8", report(self.desk).encode(), "report.html"))
+        return self._beside(lambda: Response(200, "text/html; charset=utf-8", report(self.desk).encode(), "report.html"))
 
     def _near(self, near: str) -> tuple[int, ...]:
         return self.desk.names.place_of(whole(near, "near")) if near else ()
@@ -234,19 +229,19 @@ class Board:
             with contextlib.suppress(DeskFault):
                 keep_spots(self.desk, spots)
 
-    def _picture_file(self, near: str, turn: str) -> Answer:
+    def _picture_file(self, near: str, turn: str) -> Response:
         self._judge_turn(whole(turn, "turn"))
         nodes = self._near(near)
         svg = self.picture.svg(nodes, self._nearby.arcs(nodes), to_take=True)
-        return Answer(200, "image/svg+xml", taken(self.desk, svg.encode()), "plan.svg")
+        return Response(200, "image/svg+xml", taken(self.desk, svg.encode()), "plan.svg")
 
-    def _table_file(self, turn: str) -> Answer:
+    def _table_file(self, turn: str) -> Response:
         self._judge_turn(whole(turn, "turn"))
-        return Answer(200, "text/csv; charset=utf-8", table(self.desk).encode(), "plan.csv")
+        return Response(200, "text/csv; charset=utf-8", table(self.desk).encode(), "plan.csv")
 
-    def _problem_file(self, turn: str) -> Answer:
+    def _problem_file(self, turn: str) -> Response:
         self._judge_turn(whole(turn, "turn"))
-        return Answer(200, "text/plain; charset=utf-8", problem(self.desk).encode(), "problem.max")
+        return Response(200, "text/plain; charset=utf-8", problem(self.desk).encode(), "problem.max")
 
     def _swept(self, numbers: list[int], turn: int) -> Json:
         """The result for each of the first arcs."""

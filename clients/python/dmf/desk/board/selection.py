@@ -1,19 +1,158 @@
-"""The table of all arcs on a board: which of them a filter shows, and in which order."""
+"""Which arcs a board shows: those that a filter leaves in the table, in which order, and those of a large network that its picture has."""
 
 from __future__ import annotations
 
 import re
+from collections import defaultdict
 from collections.abc import Callable, Iterable
 from itertools import groupby
 from typing import Any
 
-from ..workspace import Desk
-from ..directory import folded
+from ...text.drawing import spread
+from ...text.spelling import folded, quoted_name
+from ..export import MOST_DRAWN
+from ..expressions import COMPARED, Condition, condition
 from ..steps import DeskFault
-from ..desk_where import COMPARED, Condition, condition
-from ...text.cells import shown
+from ..workspace import Desk
+from .layout import Places, Spot
 from .responses import Json, WrongForm
-from .views_board import arc_view
+from .views import arc_view
+
+
+class Nearby:
+    """The arcs at the places of a desk."""
+
+    def __init__(self, desk: Desk) -> None:
+        self._desk = desk
+        self._given: dict[int, list[int]] = {}
+
+    def arcs(self, nodes: tuple[int, ...], most: int = MOST_DRAWN) -> list[int]:
+        """The numbers of the nearest arcs: nearest to these nodes, or to the limit if none are given; all if there are no more."""
+        pictured = self._desk.pictured()
+        return pictured if len(pictured) <= most else self._nearest(nodes, most)
+
+    def _nearest(self, nodes: tuple[int, ...], most: int) -> list[int]:
+        desk = self._desk
+        given, added = self._given_arcs(), self._at_nodes(range(desk.first_count + 1, len(desk.lines) + 1))
+
+        def at_node(node: int) -> Iterable[int]:
+            there = (*given.get(node, ()), *added.get(node, ()))
+            return [number for number in there if not desk.lines[number - 1].is_replaced]
+
+        cut = [] if nodes or not desk.is_greatest else list(desk.cut_arcs())
+        chosen = [number for number in cut if not desk.role(number)]
+        # A limit that is at a place is nearest to the arcs there, and one without arcs to those at the ends of the network.
+        at_places = {role.node for role in map(desk.role, cut) if role}
+        if at_places or not chosen:
+            terminals = {*map(desk.folding.place, nodes)} or {*desk.sources, *desk.sinks}
+            beside = {number for node in at_places or terminals for number in at_node(node)}
+            chosen += sorted(beside.difference(chosen))
+        return spread(chosen, most, self._ends, at_node)
+
+    def _ends(self, number: int) -> tuple[int, int]:
+        line, place = self._desk.lines[number - 1], self._desk.folding.place
+        return place(line.tail), place(line.head)
+
+    def _given_arcs(self) -> dict[int, list[int]]:
+        """The arcs of the file at each place. Their ends stay as they are."""
+        self._given = self._given or self._at_nodes(range(1, self._desk.first_count + 1))
+        return self._given
+
+    def _at_nodes(self, numbers: Iterable[int]) -> dict[int, list[int]]:
+        found: dict[int, list[int]] = defaultdict(list)
+        for number in numbers:
+            if not self._desk.role(number):
+                # A loop is at its place once.
+                for node in {*self._ends(number)}:
+                    found[node].append(number)
+        return dict(found)
+
+
+# How an arc looks, as the legend of the picture has it. One that is none of the table, or was opened again as another, is not drawn.
+UNUSED, FLOWS, FULL, LIMIT, CLOSED, NONE = "u", "f", "F", "l", "c", " "
+# A place before the limit, one that is shut, and any other.
+BEFORE, SHUT, PLAIN = "b", "s", "."
+
+
+class Overview:
+    """Where all places of a desk lie, and the arcs between them, if it is known of most places when the board begins."""
+
+    def __init__(self, desk: Desk, places: Places) -> None:
+        """`places` are those of the picture, with the spots of a map or of a project."""
+        self._desk = desk
+        self._places = places
+        self._nodes = desk.folding.places(range(1, len(desk.names.nodes) + 1))
+        # Else most of what is drawn would be what nobody has said.
+        self._is_known = 2 * sum(node in places.spots for node in self._nodes) > len(self._nodes)
+
+    @property
+    def is_there(self) -> bool:
+        """Whether it shows more than a picture does."""
+        return self._is_known and len(self._desk.pictured()) > MOST_DRAWN
+
+    def ground(self) -> Json:
+        """What no step changes: each place with its name, how far it lies to the right and downwards, and the ends of each arc of the file.
+        Raises a `DeskFault`."""
+        if not self.is_there:
+            raise DeskFault("nothing says where the places lie, or the picture shows all")
+        self._put_all()
+        spots, desk = [self._places.spots[node] for node in self._nodes], self._desk
+        ends = [*map(self._ends, range(1, desk.first_count + 1))]
+        return {
+            "nodes": self._nodes,
+            "names": [*map(desk.names.node, self._nodes)],
+            "right": [round(spot.x, 2) for spot in spots],
+            "down": [round(-spot.y, 2) for spot in spots],
+            "tails": [tail for tail, _ in ends],
+            "heads": [head for _, head in ends],
+            "terminals": [*desk.sources, *desk.sinks],
+        }
+
+    def looks(self) -> Json:
+        """What a step may change: how each arc of the file looks and each place, by a sign for each, and the arcs that were added with their
+        numbers, their ends and their signs."""
+        desk = self._desk
+        shown = set(desk.pictured())
+        flows, cut, side, whole = desk.flows(), desk.cut_arcs(), desk.side(), desk.measure.whole
+
+        def look(number: int) -> str:
+            line = desk.lines[number - 1]
+            if number not in shown:
+                return NONE
+            if line.is_closed:
+                return CLOSED
+            if number in cut:
+                return LIMIT
+            return UNUSED if not flows[number] else FULL if flows[number] == whole(line.capacity) else FLOWS
+
+        shut = {desk.folding.place(node) for node in desk.shut_nodes}
+        added = range(desk.first_count + 1, len(desk.lines) + 1)
+        return {
+            "arcs": "".join(map(look, range(1, desk.first_count + 1))),
+            "places": "".join(SHUT if node in shut else BEFORE if node in side else PLAIN for node in self._nodes),
+            "added": [[number, *self._ends(number), look(number)] for number in added if number in shown],
+        }
+
+    def _ends(self, number: int) -> tuple[int, int]:
+        line, place = self._desk.lines[number - 1], self._desk.folding.place
+        return place(line.tail), place(line.head)
+
+    def _put_all(self) -> None:
+        """Puts each place that has no spot yet among its neighbours, and one that has none among all."""
+        spots = self._places.spots
+        beside: dict[int, list[int]] = defaultdict(list)
+        for tail, head in map(self._ends, self._desk.pictured()):
+            beside[tail].append(head)
+            beside[head].append(tail)
+        while left := [node for node in self._nodes if node not in spots]:
+            near = {node: [spots[one] for one in beside[node] if one in spots] for node in left}
+            rough = {node: _middle(found) for node, found in near.items() if found}
+            self._places.put_near(rough or dict.fromkeys(left, _middle(list(spots.values()))))
+
+
+def _middle(spots: list[Spot]) -> Spot:
+    return Spot(sum(spot.x for spot in spots) / len(spots), sum(spot.y for spot in spots) / len(spots))
+
 
 MOST_ROWS, MOST_FOUND = 500, 20
 AND = "and"
@@ -34,7 +173,7 @@ def natural(text: str) -> list[tuple[int, int, str]]:
     return [(0, int(part), "") if part.isdigit() else (1, 0, part) for part in _DIGITS.split(folded(text)) if part]
 
 
-class Rows:
+class ArcList:
     """The arcs of a desk, as its table shows them. The last filter and order are kept, for the next part of the same table."""
 
     def __init__(self, desk: Desk) -> None:
@@ -110,10 +249,10 @@ class Rows:
         if found:
             return found, " ".join(words)
         if compared or any(sign in part.split() for sign in COMPARED):
-            raise DeskFault(f"{shown(part)} is no condition; wanted is: {FORMS}")
+            raise DeskFault(f"{quoted_name(part)} is no condition; wanted is: {FORMS}")
         name = _unquoted(part)
         sought = folded(name)
-        return lambda number: sought in self._label(number), f"{shown(name)} in the name"
+        return lambda number: sought in self._label(number), f"{quoted_name(name)} in the name"
 
     def _label(self, number: int) -> str:
         """What an arc is found by."""

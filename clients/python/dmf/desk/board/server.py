@@ -5,22 +5,41 @@ A page of each browser holds a connection open, `life`. Once none has held one f
 
 from __future__ import annotations
 
+import contextlib
 import errno
 import os
 import secrets
 import socket
+import tempfile
 import threading
 import time
 from collections.abc import Sequence
+from html import escape
 from http.server import ThreadingHTTPServer
+from pathlib import Path
 from typing import Any
 
+from .connections import LivePages, UnknownConnections, user_of
+from .handler import Handler, Host
+from .responses import LOOPBACK, WAY_IN, pages
 from .routes import Board
-from .door import LOOPBACK
-from .guests import Guests
-from .handler import Handler
-from .pages import pages
-from .strangers import Strangers, user_of
+
+
+class Door:
+    """A file that leads a browser to an address. Other users may read the words of a browser's process, but not this file."""
+
+    def __init__(self, address: str) -> None:
+        """Raises an OSError if the file cannot be made."""
+        self._folder = tempfile.TemporaryDirectory(prefix="dmf-board-")
+        path = Path(self._folder.name, "board.html")
+        with open(os.open(path, os.O_WRONLY | os.O_CREAT | os.O_EXCL, 0o600), "w") as file:
+            file.write(WAY_IN.format(address=escape(address)))
+        self.address = path.as_uri()
+
+    def remove(self) -> None:
+        with contextlib.suppress(OSError):
+            self._folder.cleanup()
+
 
 LOOPBACK_6 = "::1"
 # How long the server waits where it has no file left for a connection, in seconds.
@@ -30,7 +49,7 @@ NO_FILE_LEFT = (errno.EMFILE, errno.ENFILE, errno.ENOBUFS, errno.ENOMEM)
 MOST_PORTS = 20
 
 
-class Server(ThreadingHTTPServer):
+class Server(ThreadingHTTPServer, Host):
     """The server of a board. `addresses` is where its page is: here, and then by each of these other names, each with its port, by which
     a tunnel may lead here."""
 
@@ -41,7 +60,7 @@ class Server(ThreadingHTTPServer):
     def __init__(self, board: Board, port: int = 0, names: Sequence[str] = ()) -> None:
         """Raises an OSError if the port is taken."""
         super().__init__((LOOPBACK, port), Handler, bind_and_activate=False)
-        self.strangers = Strangers()
+        self.strangers = UnknownConnections()
         self._other: socket.socket | None = None
         try:
             self._listen(port)
@@ -57,7 +76,7 @@ class Server(ThreadingHTTPServer):
         self.hosts = {here, f"localhost:{port}", *others, *map(str.lower, names)}
         self.addresses = [f"http://{host}/{self.token}/" for host in (here, *others)]
         self.pages = pages()
-        self.guests = Guests(board.desk.turn)
+        self.guests = LivePages(board.desk.turn)
 
     def _listen(self, port: int) -> None:
         """Listens at a port, or at a free one. It takes the same port of the other family of addresses, too: a browser that is sent to

@@ -1,36 +1,41 @@
-"""The scenarios of a project on a board: which there are, what is done to them, and two of them beside each other."""
+"""What a board tells in JSON: the state of the desk, the scenarios of a project, and a choice of many arcs."""
 
 from __future__ import annotations
 
 import os
-from collections.abc import Callable
 
-from ..workspace import Desk
+from ...quantity import EXACT, Quantity, plain_text
+from ...text.spelling import cleaned
+from ..analysis import cheapest, priced, prices
+from ..expressions import amount, successors
+from ..project.scenarios import Scenarios
 from ..steps import DeskFault
-from ..project.comparison import Comparison, Known, Standing, compare, known_arcs
-from ..project.scenarios import ProjectDesk
-from ...quantity import moved, plain_text
-from ...text.cells import cleaned
-from .responses import Json, WrongForm
-from .differences import DifferencePicture
-from .picture import NoPicture
-from .layout import Places
-
-MOST_DIFFERENCES, MOST_LISTED = 500, 300
-# The requests that change scenarios, with the fields that each needs.
-SCENARIO_FORMS: dict[str, dict[str, type]] = {
-    "scenario-go": {"name": str},
-    "scenario-new": {"name": str, "from": str},
-    "scenario-copy": {"name": str},
-    "scenario-name": {"name": str},
-    "scenario-delete": {"name": str},
-    "scenario-note": {"text": str},
-}
+from ..workspace import Desk
+from .responses import Json, whole
 
 
-def project_of(desk: Desk) -> ProjectDesk:
+def many_view(desk: Desk, numbers: list[int]) -> Json:
+    """Which of these arcs there are, open and closed, and what flows on the open ones and fits. One that was opened again is told by its
+    new number."""
+    now = successors(desk)
+    found = dict.fromkeys(now.get(number, number) for number in numbers)
+    there = [number for number in found if 0 < number <= len(desk.lines) and not desk.lines[number - 1].is_replaced]
+    opened = [number for number in there if not desk.lines[number - 1].is_closed]
+    flow: Quantity = 0
+    capacity: Quantity = 0
+    for number in opened:
+        flow, capacity = EXACT.add(flow, desk.flow(number)), EXACT.add(capacity, desk.lines[number - 1].capacity)
+    return {
+        "open": opened,
+        "closed": [number for number in there if desk.lines[number - 1].is_closed],
+        "flow": plain_text(flow),
+        "capacity": plain_text(capacity),
+    }
+
+
+def project_of(desk: Desk) -> Scenarios:
     """The desk if it is that of a project. Raises a `DeskFault` otherwise."""
-    if not isinstance(desk, ProjectDesk):
+    if not isinstance(desk, Scenarios):
         raise DeskFault("only a project has scenarios; keep the steps in one")
     return desk
 
@@ -38,7 +43,7 @@ def project_of(desk: Desk) -> ProjectDesk:
 def kept_view(desk: Desk, offer: str) -> Json:
     """Where steps are kept, and in which scenario; why they are not, if this desk only looks; how many steps the scenario began with, which
     it does not undo; and in which file a project can be made, if none keeps the steps."""
-    if not isinstance(desk, ProjectDesk):
+    if not isinstance(desk, Scenarios):
         return {"kept_in": "", "scenario": "", "why_not": "", "floor": 0, "offer": os.path.basename(offer)}
     scenario, kept_in = desk.scenario, os.path.basename(desk.kept_in)
     return {"kept_in": kept_in, "scenario": scenario.name, "why_not": desk.file.why_not, "floor": scenario.inherited, "offer": ""}
@@ -46,7 +51,7 @@ def kept_view(desk: Desk, offer: str) -> Json:
 
 def scenarios_view(desk: Desk) -> Json:
     """The scenarios, each with its value as it was kept, and the value of the table's network."""
-    if not isinstance(desk, ProjectDesk):
+    if not isinstance(desk, Scenarios):
         return {"base": "", "scenarios": []}
     found = [
         {
@@ -58,75 +63,98 @@ def scenarios_view(desk: Desk) -> Json:
     return {"base": plain_text(desk.steps[0].value), "scenarios": found}
 
 
-def change_scenario(desk: Desk, what: str, content: Json) -> None:
-    """Goes to a scenario, begins one, or copies, names, deletes or notes one. Raises a `DeskFault`."""
-    desk = project_of(desk)
-    if what == "scenario-note":
-        desk.note(content["text"].strip())
-        return
-    name = cleaned(content["name"])
-    calls: dict[str, Callable[[str], object]] = {
-        "scenario-go": desk.go, "scenario-copy": desk.copy, "scenario-name": desk.rename, "scenario-delete": desk.delete,
-    }  # fmt: skip
-    if what == "scenario-new":
-        desk.new(name, content["from"])
-    else:
-        calls[what](content["name"] if what in ("scenario-go", "scenario-delete") else name)
+MOST_LISTED, MOST_SIDE = 300, 30
 
 
-class Comparisons:
-    """The comparison that a page asked for last, which stands until something is done."""
-
-    def __init__(self, desk: Desk, places: Places) -> None:
-        self._desk = desk
-        self._picture = DifferencePicture(desk, places)
-        self._kept: tuple[tuple[int, str, str], Comparison] | None = None
-
-    def of(self, one: str, two: str) -> Comparison:
-        """Two scenarios beside each other, of which one may be the network of the table."""
-        desk = project_of(self._desk)
-        key = desk.turn, one, two
-        if not self._kept or self._kept[0] != key:
-            found = compare(desk, one, two)
-            # If the session has ended meanwhile, the turn is another one.
-            self._kept = (desk.turn, one, two), found
-        return self._kept[1]
-
-    def view(self, one: str, two: str, first: int, count: int) -> Json:
-        """A comparison with so many of the arcs that differ, from the first on."""
-        if count > MOST_DIFFERENCES:
-            raise WrongForm(f"wanted are at most {MOST_DIFFERENCES} rows")
-        found = self.of(one, two)
-        numbers = dict(known_arcs(self._desk))
-        rows = [
-            {
-                "arc": it.arc, "number": numbers.get(it.known, 0), "node": self._node(it.known), "kind": it.kind, "first": it.first.told(),
-                "second": it.second.told(),
-            }
-            for it in found.arcs[first : first + count]
-        ]  # fmt: skip
-        same = found.first.limit == found.second.limit
-        told = {"moved": moved(found.first.value, found.second.value), "same_limit": same, "total": len(found.arcs)}
-        return {"first": _standing(found.first), "second": _standing(found.second), **told, "rows": rows}
-
-    def _node(self, known: Known) -> int:
-        """The place whose role an arc is, if it is one; else 0."""
-        role = self._desk.role(known) if isinstance(known, int) else None
-        return role.node if role else 0
-
-    def picture(self, one: str, two: str) -> Json:
-        """The picture of a comparison, and why it has not all arcs, or is none."""
-        found = self.of(one, two)
-        try:
-            svg, reason = self._picture.of(found)
-        except NoPicture as fault:
-            svg, reason = "", str(fault)
-        return {"svg": svg, "reason": reason}
-
-    def file(self, one: str, two: str) -> bytes:
-        """The picture to take along. Raises `NoPicture`."""
-        return self._picture.of(self.of(one, two), to_take=True)[0].encode()
+def state_view(desk: Desk, offer: str = "") -> Json:
+    """What the page shows beside the picture and the table. `offer` is in which file a project can be made."""
+    names = desk.names
+    cut = list(desk.cut_arcs())
+    side = names.side(desk.side())
+    return {
+        "title": desk.subject.path,
+        "unit": desk.measure.told_unit,
+        "noun": desk.subject.noun,
+        "notes": list(desk.subject.notes),
+        "source": names.terminal(desk.source),
+        "sink": names.terminal(desk.sink),
+        "value": plain_text(desk.value),
+        "arcs": len(desk.pictured()),
+        # The numbers of arcs after these are given anew after an undo.
+        "given": desk.first_count,
+        "places": len(names.places),
+        **kept_view(desk, offer),
+        "flows_follow": desk.flows_follow,
+        "at": desk.at - 1,
+        "steps": [{"text": step.text, "value": plain_text(step.value)} for step in desk.steps],
+        "limit": [arc_view(desk, number) for number in cut[:MOST_LISTED]],
+        "limit_count": len(cut),
+        "side": side[:MOST_SIDE],
+        "side_count": len(side),
+        "names": list(names.places)[:MOST_LISTED],
+    }
 
 
-def _standing(it: Standing) -> Json:
-    return {"name": it.name, "value": plain_text(it.value), "limit": list(it.limit[:MOST_LISTED]), "limit_count": len(it.limit)}
+def arc_view(desk: Desk, number: int) -> Json:
+    """An arc as it is. Raises a `DeskFault` if there is none of this number."""
+    names = desk.names
+    line, flow, role = desk.line(number), desk.flow(number), desk.role(number)
+    return {
+        "number": number,
+        "node": role.node if role else 0,
+        "name": names.arc_name(number),
+        "label": names.arc(number),
+        "short": names.short(number),
+        "tail_node": desk.folding.place(line.tail),
+        "tail": names.node(line.tail),
+        "head": names.node(line.head),
+        "flow": plain_text(flow),
+        "capacity": plain_text(line.capacity),
+        "closed": line.is_closed,
+        "replaced": line.is_replaced,
+        "unlimited": line.is_unlimited,
+        "full": flow > 0 and flow == line.capacity,
+        "limit": number in desk.cut_arcs(),
+    }
+
+
+def place_view(desk: Desk, node: int) -> Json:
+    """A place as it is. Raises a `DeskFault` if there is none of this number."""
+    place = desk.names.place_of(node)
+    opened = [number for number in desk.pictured() if not desk.lines[number - 1].is_closed]
+    entering = [number for number in opened if desk.lines[number - 1].head == place.entry]
+    leaving = [number for number in opened if desk.lines[number - 1].tail == place.exit]
+    return {
+        "node": node,
+        "name": desk.names.node(node),
+        "in": plain_text(sum(map(desk.flow, entering))),
+        "out": plain_text(sum(map(desk.flow, leaving))),
+        "roles": [arc_view(desk, number) for number, _ in desk.roles().get(place.entry, ())],
+        "is_source": place.entry in desk.sources,
+        "is_sink": place.entry in desk.sinks,
+        "shut": bool(desk.shut_nodes & set(place)),
+        "open": bool(entering or leaving),
+        "side": node in desk.side(),
+    }
+
+
+def costs_view(desk: Desk, column: str, to: str, second: str) -> Json:
+    """What each unit more costs at each arc of the limit, or a second arc beside it, by a column of the table, and a cheap way to a greater
+    value, found greedily. `second` is 1 for second arcs. Raises a `DeskFault` if no column can be the cost."""
+    is_second = bool(whole(second, "second"))
+    given = prices(desk, cleaned(column), is_second=is_second)
+    way = cheapest(desk, given, amount(to, desk.measure) if to.strip() else None)
+    limit = [{**arc_view(desk, number), "price": "" if price is None else plain_text(price)} for number, price in priced(desk, given).items()]
+    bought = [
+        {
+            "wider": [{**arc_view(desk, number), "by": plain_text(by)} for number, by in it.wider], "cost": plain_text(it.cost),
+            "total": plain_text(it.total), "value": plain_text(it.value),
+        }
+        for it in way.bought
+    ]  # fmt: skip
+    return {"title": given.title, "second": is_second, "limit": limit[:MOST_LISTED], "limit_count": len(limit), "way": bought, "end": way.end}
+
+
+def opened_view(desk: Desk) -> Json:
+    """The arcs that can be tried: the open ones of the table and those that were added."""
+    return {"arcs": [number for number in desk.pictured() if not desk.lines[number - 1].is_closed]}

@@ -7,13 +7,12 @@ from collections.abc import Callable
 from functools import partial
 from itertools import groupby
 
-from ..workspace import Desk
-from ..expressions import amount, is_amount
-from ..steps import Close, DeskFault, Place, Shut
-from ..desk_where import Condition, condition
-from .grammar import COMMANDS, is_number, one_name
 from ...quantity import Quantity
-from ...text.cells import shown
+from ...text.spelling import quoted_name
+from ..expressions import Condition, amount, condition, is_amount
+from ..steps import Close, DeskFault, Place, Shut
+from ..workspace import Desk
+from .grammar import COMMANDS, is_number, one_name
 
 WHERE, AND = "where", "and"
 CONDITIONS = 'name ~ TEXT, from ~ TEXT, to ~ TEXT, capacity < NUMBER, flow >= NUMBER, full, limit; with "and" between two'
@@ -142,7 +141,7 @@ def _condition(desk: Desk, words: list[str]) -> Condition:
     """Whether a condition is so of an arc. Raises a `DeskFault` if it is none."""
     found = condition(desk, words)
     if not found:
-        raise DeskFault(f"{shown(' '.join(words))} is no condition; wanted is: {CONDITIONS}")
+        raise DeskFault(f"{quoted_name(' '.join(words))} is no condition; wanted is: {CONDITIONS}")
     return found
 
 

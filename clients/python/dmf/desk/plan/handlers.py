@@ -6,10 +6,10 @@ import os
 from collections.abc import Sequence
 from pathlib import Path
 
+from ...files import write_file
+from ...text.lexical import display
+from ...text.spelling import quoted_name
 from ..steps import DeskFault
-from ...text.cells import shown
-from ...text.problem_text import display
-from ...tools.command import write_file
 
 
 class Files:
@@ -24,7 +24,7 @@ class Files:
         if Path(path).suffix not in endings:
             raise DeskFault(f"the name of the file ends with one of {', '.join(endings)}")
         if os.path.realpath(path) not in self._written and os.path.lexists(path):
-            raise DeskFault(f"{shown(path)} is there already; name another file")
+            raise DeskFault(f"{quoted_name(path)} is there already; name another file")
         return path
 
     def put(self, path: str, data: bytes) -> str:
@@ -34,6 +34,6 @@ class Files:
             write_file(path, data, is_new=os.path.realpath(path) not in self._written)
         except (OSError, ValueError) as error:
             why = error.strerror if isinstance(error, OSError) else error
-            raise DeskFault(f"cannot write {shown(path)}: {why}") from None
+            raise DeskFault(f"cannot write {quoted_name(path)}: {why}") from None
         self._written.add(os.path.realpath(path))
         return f"written: {display(path)}"

@@ -1,154 +1,171 @@
-"""The answers of dmf-plan in JSON."""
+"""What dmf-plan tells as text: lists of arcs and steps, sweeps, costs, scenarios and two of them compared."""
 
 from __future__ import annotations
 
-from collections.abc import Callable
-from typing import Any
+import sys
+from collections import defaultdict
+from collections.abc import Callable, Iterable
 
-from ..workspace import Desk
+from ...quantity import EXACT, Quantity, moved, plain_text
+from ...text.lexical import display
+from ...text.spelling import cleaned, quoted_name
+from ..analysis import cheapest, prices, purchase_lines, trials_of
+from ..expressions import amount
+from ..project.comparison import Comparison, compare
+from ..project.scenarios import BASE, Scenarios
 from ..steps import DeskFault, Trial
-from ...text.events import Json, ends, line_of, number
-from .shell import Plan
-from .arguments import arcs_from, arcs_listed, arcs_named, arcs_to_try
-from .plan_scenarios import compared, project_of, scenario
-from .plan_sweep import tried, worst
-from .grammar import CHANGES, COMMANDS, no_words
-from ..project.comparison import ArcState, Comparison, Standing
-from ..project.scenarios import ProjectDesk
-from ...quantity import Quantity, plain_text
+from ..workspace import Desk
+from .grammar import COMMANDS, count_of, quoted
 
-# The commands after which the value is told.
-CHANGING = (*CHANGES, "solve", "undo", "redo", "drop")
+TO, SECONDS = "to", ["of", "seconds"]
 
 
-class JsonPlan(Plan):
-    """A session whose answers are objects of JSON. Each has the number of its line; a refusal is one too, and stands on standard error
-    besides."""
-
-    def __init__(self, *given: Any, **named: Any) -> None:
-        super().__init__(*given, **named)
-        told: dict[str, Callable[[list[str]], object]] = {
-            "cut": self._tell_limit, "flow": lambda words: self._tell_flow(arcs_named(self.desk, words)),
-            "pipes": lambda words: self._tell_flow(arcs_listed(self.desk, words)),
-            "from": lambda words: self._tell_flow(arcs_from(self.desk, words)),
-            "worst": lambda words: self._tell_trials(worst(self.desk, words)), "steps": self._tell_steps, "what-if": self._tell_what_if,
-            "scenario": self._tell_scenarios, "compare": self._tell_comparison,
-        }  # fmt: skip
-        self._do.update({word: self._as_change(self._do[word]) for word in CHANGING}, **told)
-        keep = self._do["keep"]
-        self._do["keep"] = lambda words: keep(words) if words else self._as_change(keep)(words)
-
-    def tell(self, *lines: str) -> None:
-        self._tell("text", {"lines": list(lines)})
-
-    def refuse(self, why: str) -> None:
-        self._tell("refused", {"why": why})
-        super().refuse(why)
-
-    def _tell(self, event: str, said: Json) -> None:
-        self.write(line_of(event, {"line": self.line_number, **said}))
-
-    def _number(self, amount: Quantity) -> Json:
-        return number(amount, self.desk.measure)
-
-    def _as_change(self, make: Callable[[list[str]], object]) -> Callable[[list[str]], object]:
-        """A command that tells the value after it in place of its words."""
-
-        def change(words: list[str]) -> None:
-            write, before = self.write, self.desk.value
-            try:
-                self.write = lambda _: None
-                make(words)
-            finally:
-                self.write = write
-            self._tell("change", {**self._state(), "before": self._number(before)})
-
-        return change
-
-    def _state(self) -> Json:
-        """What is so after a command."""
-        desk = self.desk
-        name = desk.scenario.name if isinstance(desk, ProjectDesk) else None
-        return {
-            "value": self._number(desk.value), "unit": desk.measure.told_unit, "greatest": desk.is_greatest, "steps": desk.at, "scenario": name,
-            "scale": plain_text(desk.measure.divisor),
-        }  # fmt: skip
-
-    def _arc(self, arc: int) -> Json:
-        desk, names = self.desk, self.desk.names
-        line = desk.line(arc)
-        return {
-            "number": arc, "name": names.arc_name(arc), **ends(desk.role(arc), line.tail, line.head, names.node),
-            "capacity": self._number(line.capacity), "flow": self._number(desk.flow(arc)), "closed": line.is_closed, "unlimited": line.is_unlimited,
-            "limit": desk.is_greatest and arc in desk.cut_arcs(),
-        }  # fmt: skip
-
-    def _tell_limit(self, words: list[str]) -> None:
-        no_words(words, "cut")
-        desk = self.desk
-        if not desk.is_greatest:
-            raise DeskFault("the flow is not greatest, so there is no limit to tell; `solve` first")
-        self._tell("limit", {**self._state(), "side": desk.names.side(desk.side()), "arcs": [*map(self._arc, desk.cut_arcs())]})
-
-    def _tell_flow(self, numbers: list[int]) -> None:
-        self._tell("flow", {**self._state(), "arcs": [*map(self._arc, numbers)]})
-
-    def _tell_steps(self, words: list[str]) -> None:
-        no_words(words, "steps")
-        steps = [{"text": step.text, "value": self._number(step.value)} for step in self.desk.steps]
-        self._tell("steps", {"at": self.desk.at, "made": steps[: self.desk.at], "undone": steps[self.desk.at :]})
-
-    def _tell_what_if(self, words: list[str]) -> None:
-        if words[:1] != ["each"]:
-            if not words or words[0] not in CHANGES:
-                raise DeskFault(f"wanted is: {COMMANDS['what-if'].form}; a command there is one of {', '.join(CHANGES)}")
-            before, value = self.desk.value, self._value_after(words)
-            self._tell("what-if", {**self._state(), "before": self._number(before), "value": self._number(value)})
-            return
-        self._tell_trials(tried(self.desk, arcs_to_try(self.desk, words[1:])))
-
-    def _tell_trials(self, trials: list[Trial]) -> None:
-        told = [
-            {
-                "arc": self._arc(it.arc), "closed": self._number(it.closed), "doubled": None if it.doubled is None else self._number(it.doubled),
-            }
-            for it in trials
-        ]  # fmt: skip
-        self._tell("sweep", {**self._state(), "trials": told})
-
-    def _tell_scenarios(self, words: list[str]) -> None:
-        desk = project_of(self.desk)
-        scenario(desk, words)
-        found = [
-            {
-                "name": it.name, "from": it.begun_from, "note": it.note, "at": it.at, "steps": [step.text for step in it.steps],
-                "left_out": [step.text for step in it.left_out],
-            }
-            for it in desk.project.scenarios
-        ]  # fmt: skip
-        self._tell("scenarios", {**self._state(), "scenarios": found})
-
-    def _tell_comparison(self, words: list[str]) -> None:
-        found = compared(project_of(self.desk), words)
-        self._tell("comparison", comparison(found))
+def costs_told(desk: Desk, words: list[str]) -> Iterable[str]:
+    """What the words of `cost` ask for: a column, whether it is about second arcs, and the value to come to."""
+    to = None
+    if TO in words:
+        at = len(words) - 1 - words[::-1].index(TO)
+        words, to = words[:at], amount(" ".join(words[at + 1 :]), desk.measure)
+    is_second = words[-2:] == SECONDS
+    given = prices(desk, cleaned(" ".join(words[: -2 if is_second else None])), is_second=is_second)
+    return purchase_lines(desk, given, cheapest(desk, given, to))
 
 
-def comparison(found: Comparison) -> Json:
-    """A comparison as an object of JSON."""
+def arc_line(desk: Desk, number: int) -> str:
+    """What flows on an arc."""
+    line, flow = desk.line(number), desk.flow(number)
+    is_full = flow and flow == line.capacity
+    amounts = f"{plain_text(flow)} of {plain_text(line.capacity)}{', full' if is_full else ''}"
+    state = "closed" if line.is_closed else f"{plain_text(flow)}, no limit" if line.is_unlimited else amounts
+    return f"  #{number} {desk.names.arc(number)}: {state}"
 
-    def standing(it: Standing) -> Json:
-        return {"scenario": it.name, "value": number(it.value, found.measure), "side": list(it.side), "limit": list(it.limit)}
 
-    def state(it: ArcState) -> Json:
-        amounts = {"capacity": number(it.capacity, found.measure), "flow": number(it.flow, found.measure)}
-        return {"state": it.state, **amounts, "limit": it.is_limit, "unlimited": it.is_unlimited}
+def arc_lines(desk: Desk, numbers: list[int]) -> list[str]:
+    """What flows on each of these arcs, and which are of the limit, if that is known."""
+    limit = desk.cut_arcs() if desk.is_greatest else {}
+    return [arc_line(desk, number) + ", limit" * (number in limit) for number in numbers]
 
-    return {
-        "unit": found.measure.told_unit, "scale": plain_text(found.measure.divisor), "first": standing(found.first), "second": standing(found.second),
-        "arcs": [{"arc": it.arc, "first": state(it.first), "second": state(it.second)} for it in found.arcs],
+
+def place_lines(desk: Desk) -> list[str]:
+    """What comes into each place, and what goes out."""
+    entering: dict[int, Quantity] = defaultdict(int)
+    leaving: dict[int, Quantity] = defaultdict(int)
+    place = desk.folding.place
+    for number in desk.pictured():
+        line, flow = desk.lines[number - 1], desk.flow(number)
+        leaving[place(line.tail)] = EXACT.add(leaving[place(line.tail)], flow)
+        entering[place(line.head)] = EXACT.add(entering[place(line.head)], flow)
+    side = desk.side() if desk.is_greatest else set()
+
+    def told(node: int) -> str:
+        said = ["a source"] * (node in desk.sources) + ["a sink"] * (node in desk.sinks) + ["shut"] * (node in desk.shut_nodes)
+        amounts = [f"{plain_text(entering[node])} in", f"{plain_text(leaving[node])} out"]
+        return f"  {desk.names.node(node)}: {', '.join([*amounts, *said, *['before the limit'] * (node in side)])}"
+
+    return [*map(told, desk.folding.places(range(1, len(desk.names.nodes) + 1)))]
+
+
+def project_of(desk: Desk) -> Scenarios:
+    """The desk if it is that of a project. Raises a `DeskFault` otherwise."""
+    if not isinstance(desk, Scenarios):
+        raise DeskFault("only a project has scenarios; `keep FILE.dmf.json` keeps the steps in one")
+    return desk
+
+
+def scenario(desk: Scenarios, words: list[str]) -> list[str]:
+    """What is told after a command about scenarios."""
+    if not words:
+        return _listed(desk)
+    what, name = words[0], cleaned(" ".join(words[1:]))
+    calls: dict[str, Callable[[str], object]] = {
+        "go": desk.go, "copy": desk.copy, "name": desk.rename, "delete": desk.delete, "note": desk.note,
     }  # fmt: skip
+    if what == "new" and words[-2:-1] == ["from"] and len(words) > 3:
+        desk.new(cleaned(" ".join(words[1:-2])), _named(desk, words[-1]))
+    elif what == "new" and name:
+        desk.new(name)
+    elif what in calls and (name or what == "note"):
+        calls[what](_named(desk, name) if what in ("go", "delete") else name)
+    else:
+        raise DeskFault(f"wanted is: {COMMANDS['scenario'].form}")
+    return [_told(desk)]
 
 
-def plan_of(desk: Desk, *, as_json: bool, **named: Any) -> Plan:
-    """A session on a desk, whose answers are texts or objects of JSON."""
-    return JsonPlan(desk, **named) if as_json else Plan(desk, **named)
+def _named(desk: Scenarios, name: str) -> str:
+    """The scenario that a name means, also in other letters if no other one has it."""
+    names = [it.name for it in desk.project.scenarios]
+    near = [it for it in (*names, BASE) if it.casefold() == name.casefold()]
+    return name if name in names or len(near) != 1 else near[0]
+
+
+def _told(desk: Scenarios) -> str:
+    steps = desk.at - 1
+    count = f"{steps} step{'s' * (steps != 1)}"
+    return f"scenario {quoted_name(desk.scenario.name)}, {count}: value {desk.told(desk.value)}"
+
+
+def _listed(desk: Scenarios) -> list[str]:
+    """The scenarios, each with the value that it was kept with."""
+    lines = []
+    for it in desk.project.scenarios:
+        mark = "*" if it is desk.scenario else " "
+        begun = f", from {quoted_name(it.begun_from)}" if it.begun_from else ""
+        left = f"; {len(it.left_out)} left out when the table had changed" if it.left_out else ""
+        note = f"; {display(it.note)}" if it.note else ""
+        lines.append(f"  {mark} {display(it.name)}{begun}: {it.at} of {len(it.steps)} steps, value {desk.kept_value(it)}{left}{note}")
+    return lines
+
+
+def compared(desk: Scenarios, words: list[str]) -> Comparison:
+    """Two scenarios beside each other: those that the words name, or the present one and the one that they name."""
+    names = {BASE, *(it.name for it in desk.project.scenarios)}
+
+    def meant(part: list[str]) -> str:
+        return _named(desk, cleaned(" ".join(part)))
+
+    pairs = [(meant(words[:at]), meant(words[at:])) for at in range(1, len(words))]
+    found = [pair for pair in pairs if names.issuperset(pair)]
+    if words and meant(words) in names:
+        found.append((desk.scenario.name, meant(words)))
+    if len(found) > 1:
+        raise DeskFault("this can mean several scenarios; put their names in quotes")
+    if not found:
+        told = ", ".join(map(quoted, sorted(names)))
+        raise DeskFault(f"wanted is: {COMMANDS['compare'].form}; there are {told}" if words else f"wanted is: {COMMANDS['compare'].form}")
+    return compare(desk, *found[0])
+
+
+# From how many arcs on it is shown how far a sweep is.
+MANY = 20
+# How many arcs `worst` lists.
+MOST_WORST = 10
+
+
+def tried(desk: Desk, numbers: list[int], *, is_shown: bool = False) -> list[Trial]:
+    """What each of these open arcs means for the value, those whose loss is largest first. How far it is can be shown on a terminal."""
+    trials, is_shown = list[Trial](), is_shown and len(numbers) > MANY
+    for trial in trials_of(desk, numbers):
+        trials.append(trial)
+        if is_shown:
+            sys.stderr.write(f"\r{len(trials)} of {len(numbers)} ")
+    if is_shown:
+        sys.stderr.write("\r\033[K")
+    return sorted(trials, key=lambda trial: trial.closed)
+
+
+def worst(desk: Desk, words: list[str], *, is_shown: bool = False) -> list[Trial]:
+    """The arcs of the table that are worst to lose, the first ten or so many as the words say."""
+    most = count_of(words, "worst") if words else MOST_WORST
+    opened = [number for number in desk.pictured() if not desk.lines[number - 1].is_closed]
+    return tried(desk, opened, is_shown=is_shown)[:most]
+
+
+def swept(desk: Desk, trials: list[Trial]) -> list[str]:
+    """Trials in words, a line for each."""
+    base, lines = desk.value, []
+    for trial in trials:
+        doubled = "past 64 bits" if trial.doubled is None else f"{plain_text(trial.doubled)} ({moved(base, trial.doubled)})"
+        second = "twice as much" if desk.role(trial.arc) else "a second one"
+        closed = f"closed {plain_text(trial.closed)} ({moved(base, trial.closed)})"
+        lines.append(f"  #{trial.arc} {desk.names.arc(trial.arc)}: {closed}, {second} {doubled}")
+    return lines

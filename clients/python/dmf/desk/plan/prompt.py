@@ -12,7 +12,7 @@ from collections.abc import Callable, Iterable, Iterator
 from pathlib import Path
 from typing import Any
 
-from .plan_completion import Completed
+from .grammar import Completed
 
 try:
     import readline

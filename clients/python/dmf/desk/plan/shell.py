@@ -8,35 +8,40 @@ import os
 import sys
 from collections.abc import Callable, Iterable, Iterator
 
-from ..workspace import Desk
-from ..expressions import amount
-from ..steps import DeskFault, unforeseen
-from ..export import DRAWN, drawn, problem, table, taken
-from ...errors import Error
-from .plan_completion import Completed, completed
-from .plan_costs import costs_told
-from .handlers import Files
-from .plan_listing import arc_line, arc_lines, place_lines
-from .arguments import (
-    WHERE, arcs_from, arcs_listed, arcs_named, arcs_to_try, arcs_told, arcs_where, capped, capped_where, last_closed, new_arc,
-)  # fmt: skip
-from .plan_scenarios import compared, project_of, scenario
-from .plan_sweep import swept, tried, worst
-from .prompt import asking, show
-from .grammar import ALWAYS, CHANGES, COMMANDS, Word, count_of, no_words, one_name, quoted, split
-from ..project.scenarios import ProjectDesk
-from ..project.report_project import report
+from ...errors import Error, ToolFault
 from ...quantity import Quantity, moved, plain_text
-from ...text.cells import shown
-from ...text.problem_text import display
-from ...tools.command import ToolFault
+from ...text.lexical import display
+from ...text.spelling import quoted_name
+from ..export import DRAWN, drawn, problem, table, taken
+from ..expressions import amount
+from ..project.report import report
+from ..project.scenarios import Scenarios
+from ..steps import DeskFault, unforeseen
+from ..workspace import Desk
+from .arguments import (
+    WHERE,
+    arcs_from,
+    arcs_listed,
+    arcs_named,
+    arcs_to_try,
+    arcs_told,
+    arcs_where,
+    capped,
+    capped_where,
+    last_closed,
+    new_arc,
+)
+from .grammar import ALWAYS, CHANGES, COMMANDS, Completed, Word, completed, count_of, no_words, one_name, quoted, split
+from .handlers import Files
+from .output import arc_line, arc_lines, compared, costs_told, place_lines, project_of, scenario, swept, tried, worst
+from .prompt import asking, show
 
 MOST_SIDE = 30
 # Keeps the steps of a desk in a new project at a path, whose desk goes on in its place.
-Keep = Callable[[str, Desk], ProjectDesk]
+Keep = Callable[[str, Desk], Scenarios]
 
 
-class Plan:
+class Shell:
     """The session. `is_typed` says that a person types, who sees a prompt and may complete names; else the lines are a script's. `keep` makes
     a project, and `offer` is a name for it."""
 
@@ -126,8 +131,8 @@ class Plan:
             word = "quit"
         if word not in self._do:
             near = difflib.get_close_matches(word.lower(), COMMANDS, n=2)
-            hint = f"; is it {' or '.join(map(shown, near))}?" if near else "; `help` lists the commands"
-            raise DeskFault(f"no command is called {shown(word)}{hint}")
+            hint = f"; is it {' or '.join(map(quoted_name, near))}?" if near else "; `help` lists the commands"
+            raise DeskFault(f"no command is called {quoted_name(word)}{hint}")
         return self._do[word]
 
     def refuse(self, why: str) -> None:
@@ -190,7 +195,7 @@ class Plan:
         desk = self.desk
         ends = f"from {desk.names.terminal(desk.source)} to {desk.names.terminal(desk.sink)}"
         places = len(desk.folding.places(range(1, len(desk.names.nodes) + 1)))
-        scenario = f" What is done is kept in it; the scenario is {shown(desk.scenario.name)}." if isinstance(desk, ProjectDesk) else ""
+        scenario = f" What is done is kept in it; the scenario is {quoted_name(desk.scenario.name)}." if isinstance(desk, Scenarios) else ""
         return f"{display(desk.subject.path)}: {ends}, {len(desk.pictured())} arcs between {places} places.{scenario}"
 
     def _prompt(self) -> str:
@@ -199,7 +204,7 @@ class Plan:
     def _told_state(self) -> str:
         desk = self.desk
         state = "ended" if desk.has_ended else "greatest" if desk.is_greatest else "not greatest"
-        name = f"{display(desk.scenario.name)}: " if isinstance(desk, ProjectDesk) else ""
+        name = f"{display(desk.scenario.name)}: " if isinstance(desk, Scenarios) else ""
         return f"{name}{'try, ' * desk.trials}{plain_text(desk.value)}, {state}> "
 
     def _value(self, before: Quantity | None = None) -> str:

@@ -7,11 +7,11 @@ from collections.abc import Iterator
 from dataclasses import dataclass
 from typing import NamedTuple, Union
 
-from ..steps import Line
-from ..desk_view import DeskView
 from ...quantity import Measure, Quantity, moved, plain_text
-from ...text.problem_text import display
-from .scenarios import ProjectDesk
+from ...text.lexical import display
+from ..desk_view import DeskView
+from ..steps import DeskArc
+from .scenarios import Scenarios
 
 # By what an arc is known in every scenario: its number, if it is one of the table; else its ends, its name and its place among those
 # alike that were added.
@@ -94,17 +94,17 @@ class Comparison:
         yield from (f"  {it.arc}: {it.first.told()} | {it.second.told()}" for it in self.arcs)
 
 
-class _Seen:
+class _Snapshot:
     """What is seen of a scenario that a desk shows: itself and its arcs, all before the desk shows another one."""
 
-    def __init__(self, desk: ProjectDesk, name: str) -> None:
+    def __init__(self, desk: Scenarios, name: str) -> None:
         cut, names = desk.cut_arcs(), desk.names
         limit = tuple(names.arc(number) for number in cut)
         self.standing = Standing(name, desk.value, tuple(names.side(desk.side())), limit)
         flows, lines = desk.flows(), desk.lines
         self._cut = frozenset(cut)
         self._flows = flows
-        self._lines: list[Line] = list(lines)
+        self._lines: list[DeskArc] = list(lines)
         self._measure = desk.measure
         self.numbers = dict(known_arcs(desk))
         # What can differ of each arc, as it can be compared at once.
@@ -146,14 +146,14 @@ def known_arcs(desk: DeskView) -> Iterator[tuple[Known, int]]:
             yield known[number], number
 
 
-def compare(desk: ProjectDesk, first: str, second: str) -> Comparison:
+def compare(desk: Scenarios, first: str, second: str) -> Comparison:
     """Two scenarios of a desk's project, of which one may be `base`, beside each other. The desk shows the present one again then.
     Raises a `DeskFault` if there is no such scenario. Takes as long as those steps take in which the three are not the same from the first
     on."""
     with desk.visiting(first):
-        one = _Seen(desk, first)
+        one = _Snapshot(desk, first)
     with desk.visiting(second):
-        two = _Seen(desk, second)
+        two = _Snapshot(desk, second)
     every = dict.fromkeys([*one.numbers, *two.numbers])
     found = {known for known in every if one.bare.get(known) != two.bare.get(known)}
     rows = tuple(ArcDifference(one.label(it) or two.label(it), one.state(it), two.state(it), it) for it in every if it in found)

@@ -9,20 +9,20 @@ from collections.abc import Iterable, Iterator, Mapping
 from decimal import Decimal
 from typing import NamedTuple, Union
 
+from ...errors import ToolFault
+from ...files import write_file
+from ...quantity import Quantity
+from ...session.base import Program
+from ...tables.loader import read_subject, split_path
 from ..analysis import cheapest, prices
-from ..workspace import Desk
 from ..expressions import amount
 from ..steps import DeskFault
-from ...session.base import Program
-from ...quantity import Quantity
-from ...tables.loader import split_path
-from ...tables.subject import read_subject
-from ...tools.command import ToolFault, write_file
+from ..workspace import Desk
 from .comparison import Comparison, compare
-from .scenarios import BASE, ProjectDesk
-from .schema import ProjectFault
 from .opener import beside, keep_project, project_desk
-from .report_project import report
+from .report import report
+from .scenarios import BASE, Scenarios
+from .schema import ProjectFault
 
 Path = Union[str, "os.PathLike[str]"]
 # A quantity of the table, or a text as dmf-plan takes it: `47,3`, `12 l/s`, `+10 %`.
@@ -66,18 +66,18 @@ class OpenProject:
             self._take(project_desk(os.fspath(path), table or "", program))
 
     @classmethod
-    def _of(cls, desk: ProjectDesk) -> OpenProject:
+    def _of(cls, desk: Scenarios) -> OpenProject:
         made = cls.__new__(cls)
         made._take(desk)
         return made
 
-    def _take(self, desk: ProjectDesk) -> None:
+    def _take(self, desk: Scenarios) -> None:
         self._shown = desk
         self._is_over = False
         self.path = desk.subject.path
 
     @property
-    def _desk(self) -> ProjectDesk:
+    def _desk(self) -> Scenarios:
         """Return the desk, on a new session with the same steps if something has broken off the one that it had."""
         if self._shown.has_ended and not self._is_over:
             self._shown.begin_again()

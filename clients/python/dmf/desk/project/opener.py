@@ -1,95 +1,156 @@
-"""Opens the desk of a project, and keeps a new project for a table that a desk shows."""
+"""Opens the desk of a project with the table that it came from, says what has changed in that since, and keeps a new project."""
 
 from __future__ import annotations
 
 import argparse
+import hashlib
 import os
 import secrets
-import shlex
-import sys
-from collections.abc import Callable, Iterator
+from collections import Counter
+from collections.abc import Callable, Iterator, Mapping
 from dataclasses import dataclass, field, replace
 from decimal import Decimal
 from functools import cached_property
 from typing import Optional
 
-from ..expressions import finer
-from ..workspace import Desk
-from ..steps import DeskFault
-from ...errors import Error, Refused, SessionEnded
+from ...errors import Error, TableFault, ToolFault
+from ...files import read_file
 from ...quantity import decimals
 from ...session.base import Program
-from ...text.cells import shown
-from ...text.problem_text import TextFault, read_problem
+from ...tables.loader import COLUMNS, LoadedProblem, TableOptions, is_problem, split_path, subject_of
 from ...tables.other_columns import Extra
-from ...tables.faults import TableFault
-from ...tables.loader import split_path
-from ...tools.options import says_table
-from ...tables.subject import FAULT, UNREADABLE, Subject, read_subject
-from ...tools.command import ToolFault, cannot, warn
-from .scenarios import FIRST, Base, ProjectDesk
-from .storage import ProjectFile, created, journal_of, read_project
-from .schema import ENDING, File, KeptTable, Project, ProjectFault, Scenario
-from .table import differences, kept_table, read_again, told_shortly, with_sums
+from ...tables.readers import ReadOptions
+from ...text.lexical import TextFault, display
+from ...text.problem_text import problem_in, read_problem
+from ...text.spelling import cleaned, quoted_name
+from ...text.table_comments import TableRoles
+from ..scale import finer
+from ..steps import DeskFault
+from ..workspace import Desk
+from .acts import arc_told
+from .scenarios import FIRST, Base, Differences, Scenarios
+from .schema import ENDING, OPTIONS, PLACE_OPTIONS, ArcName, File, KeptTable, Project, ProjectFault, Scenario
+from .storage import ProjectFile, created, read_project
+
+# How many rows that differ are told.
+MOST_TOLD = 20
 
 
-def add_project_words(parser: argparse.ArgumentParser) -> None:
-    """Adds the options of the tools that open projects."""
-    parser.add_argument("--keep", action="store_true", help=f"keep what is done in a new project beside the table, FILE{ENDING}")
-    parser.add_argument("--table", metavar="FILE", help="where the table of a project is now, if it has moved")
+def sum_of(path: str) -> str:
+    """The SHA-256 sum of a file. Raises a `ToolFault` if it cannot be read."""
+    return hashlib.sha256(_content_of(path)).hexdigest()
 
 
-def desk_of(words: argparse.Namespace, *, with_solve: bool, may_follow: bool = False) -> Desk:
-    """The desk of the table, the problem or the project that the words name. Its `news` are what was taken for granted. The flows may
-    follow where no project keeps them. Raises a `ToolFault`."""
-    try:
-        if is_project(words.path):
-            if says_table(words) or words.raw_names or words.keep:
-                raise ToolFault(f"{words.path} is a project, which says itself what its table is: of the options --table alone fits", 2)
-            return project_desk(words.path, words.table or "")
-        if words.table is not None:
-            raise ToolFault("--table says where the table of a project has gone, and FILE is no project", 2)
-        if words.keep and os.path.lexists(beside(words.path)):
-            # What the options ask for may be another network than that of the project.
-            raise ToolFault(f"{beside(words.path)} already exists; {_how_to_open(beside(words.path))}", UNREADABLE)
-        subject = read_subject(words)
-        desk = Desk(subject, with_solve=with_solve, may_follow=may_follow and not words.keep)
-        desk.news += subject.notes
-        if not words.keep:
-            if os.path.isfile(beside(words.path)):
-                desk.news.append(f"a project of this table exists; {_how_to_open(beside(words.path))}")
-            return desk
-        try:
-            kept = keep_project(beside(words.path), words, desk)
-        finally:
-            desk.end()
-        kept.news += subject.notes
-        return kept
-    except (Refused, ProjectFault) as fault:
-        raise ToolFault(f"{words.path}: {fault}" if isinstance(fault, Refused) else str(fault), FAULT) from None
-    except DeskFault as fault:
-        raise ToolFault(str(fault), UNREADABLE) from None
-    except OSError as error:
-        raise (cannot("read", words.path, error, UNREADABLE) if is_project(words.path) else ToolFault(str(error), UNREADABLE)) from None
-    except SessionEnded as error:
-        raise ToolFault(str(error), UNREADABLE) from None
+def _content_of(path: str) -> bytes:
+    """Return the content of a file. Raises a `ToolFault` if it cannot be read, or is a pipe or a device, which may have no end."""
+    if os.path.exists(path) and not os.path.isfile(path):
+        raise ToolFault(f"{path} is no file that could be read again", 4)
+    return read_file(path, 4)
 
 
-def _how_to_open(path: str) -> str:
-    """Return how the tool that runs opens a project."""
-    tool = os.path.basename(sys.argv[0])
-    return f"open it with: {tool if tool.startswith('dmf-') else 'dmf-plan'} {shlex.quote(path)}"
+def kept_table(words: argparse.Namespace, subject: LoadedProblem, folder: str) -> KeptTable:
+    """The table that the words of a tool name, which this problem was made of, for a project in a folder. Raises a `ToolFault`."""
+    path, sheet = split_path(words.path)
+    table = KeptTable(_file(path, folder), sheet, unit=subject.measure.unit, noun=subject.noun, assumed=list(subject.notes))
+    given = {**vars(words), **getattr(words, "titles", {}), "scale": None if words.scale is None else f"{words.scale:f}"}
+    found = {**subject.found, "decimal": subject.measure.sign}
+    for name in OPTIONS:
+        said = given.get(name) or found.get(name)
+        if said:
+            table.options[name] = said
+    if any(given.get(option) is not None for option in ("sources", "sinks")):
+        table.options.update({name: given[name] for name in ("source", "sink") if given[name]})
+    for option in PLACE_OPTIONS:
+        place_path: str | None = given.get(option)
+        if place_path is not None:
+            path, sheet = split_path(place_path)
+            kept = _file(path, folder)
+            table.places[option] = replace(kept, path=f"{kept.path}#{sheet}" if sheet else kept.path)
+    return table
 
 
-def ended(name: str, desk: Desk) -> None:
-    """Ends the desk of a tool of this name. Raises a `ToolFault` if its project cannot be written."""
-    try:
-        desk.end()
-        for line in desk.file.news if isinstance(desk, ProjectDesk) else ():
-            warn(name, line)
-    except OSError as error:
-        where = journal_of(desk.file.path) if isinstance(desk, ProjectDesk) else ""
-        raise ToolFault(f"the project could not be written ({error.strerror}); {where} has what was done, and the next call takes it", UNREADABLE) from None
+def _file(path: str, folder: str) -> File:
+    if not os.path.isfile(path):
+        raise ToolFault(f"{path} is no file that could be read again", 4)
+    return File(os.path.relpath(os.path.realpath(path), os.path.realpath(folder)), sum_of(path))
+
+
+def with_sums(table: KeptTable, folder: str) -> KeptTable:
+    """The table with the sums that its files have now. Raises a `ToolFault` if one cannot be read."""
+
+    def now(file: File) -> File:
+        return replace(file, sum=sum_of(split_path(os.path.join(folder, file.path))[0]))
+
+    return replace(table, file=now(table.file), places={option: now(file) for option, file in table.places.items()})
+
+
+def read_again(table: KeptTable, folder: str) -> LoadedProblem:
+    """The problem of a table as its files are now. Raises a `ToolFault` if one cannot be read, and a `TableFault` if one has a fault."""
+    options = table.options
+    titles = {column: options[column] for column in COLUMNS if column in options}
+    places = {option: os.path.join(folder, file.path) for option, file in table.places.items()}
+    scale = Decimal(options["scale"]) if "scale" in options else None
+    wanted = TableOptions(
+        ReadOptions(titles, options.get("decimal", ""), options.get("raw_names", False)), options.get("encoding"), scale,
+        options.get("both_ways", False), tuple(options.get("source", ())), tuple(options.get("sink", ())), places,
+    )  # fmt: skip
+    path = os.path.join(folder, table.file.path)
+    data = problem_in(_content_of(path))
+    if is_problem(path, data):
+        return LoadedProblem(path, data, raw_names=wanted.reading.raw_names)
+    return subject_of(wanted, f"{path}#{table.sheet}" if table.sheet else path, data)
+
+
+def differences(before: bytes, after: bytes) -> Differences:
+    """In what two problems differ, by the names of their places and arcs."""
+    (was, unit_before), (now, unit_after) = map(_rows, (before, after))
+    found = Differences()
+    if unit_before != unit_after:
+        found.told.append(f"numbers are in {unit_after or 'no unit'} now, and were in {unit_before or 'no unit'}")
+    for name in dict.fromkeys([*was, *now]):
+        old, new = was.get(name, []), now.get(name, [])
+        if old == new:
+            continue
+        if len(old) != len(new):
+            found.unsure.add(name)
+        gone, come = Counter(old) - Counter(new), Counter(new) - Counter(old)
+        found.told += _told(name, [*gone.elements()], [*come.elements()])
+    return found
+
+
+def _told(name: ArcName, gone: list[str], come: list[str]) -> Iterator[str]:
+    told = arc_told(name)
+    for amount, other in zip(gone, come):
+        yield f"{told}: {other}, and was {amount}"
+    yield from (f"{told}: gone, was {amount}" for amount in gone[len(come) :])
+    yield from (f"{told}: new, {amount}" for amount in come[len(gone) :])
+
+
+def _rows(text: bytes) -> tuple[Mapping[ArcName, list[str]], str]:
+    """By the name of an arc, the capacities of those alike, with the source and the sink; and the unit."""
+    problem = read_problem(text)
+    folding, measure = TableRoles(problem.described), problem.described.measure
+    labels = [cleaned(display(problem.node_names.get(node, str(node)))) for node in range(1, problem.node_count + 1)]
+
+    def label(node: int) -> str:
+        return labels[folding.place(node) - 1]
+
+    found: dict[ArcName, list[str]] = {}
+    for kind, node in ("source", problem.source), ("sink", problem.sink):
+        if not folding.is_joint(node):
+            found[f"the {kind}", label(node), ""] = [label(node)]
+    for number, (tail, head, capacity) in enumerate(problem.arcs, 1):
+        role = folding.role(tail, head)
+        name = (role.kind, label(role.node)) if role else (label(tail), label(head), display(problem.arc_names.get(number, "")))
+        amount = "as much as the arcs there carry" if role and role.is_unlimited else measure.text(capacity)
+        found.setdefault(name, []).append(amount)
+    return found, measure.told_unit
+
+
+def told_shortly(lines: list[str]) -> list[str]:
+    """The first of some lines, and how many more there are."""
+    more = len(lines) - MOST_TOLD
+    return [*lines[:MOST_TOLD], f"and {more} more"] if more > 0 else lines
 
 
 def is_project(path: str) -> bool:
@@ -97,7 +158,7 @@ def is_project(path: str) -> bool:
     return path.endswith(ENDING)
 
 
-def project_desk(path: str, table: str = "", program: Program = None) -> ProjectDesk:
+def project_desk(path: str, table: str = "", program: Program = None) -> Scenarios:
     """The desk of the project at a path. `table` is where its table is now, if that has moved. Raises a `ProjectFault`, an OSError if the
     file cannot be read, and what `Desk` raises."""
     file = read_project(path)
@@ -106,7 +167,7 @@ def project_desk(path: str, table: str = "", program: Program = None) -> Project
             _judge_network(file)
         _judge_amounts(file)
         file.fold()
-        return ProjectDesk(file, _base(path, file, table), program)
+        return Scenarios(file, _base(path, file, table), program)
     except BaseException:
         # Nothing was done that the journal has not, and the next call may find that it is a fault.
         file.leave()
@@ -124,7 +185,7 @@ def _judge_network(file: ProjectFile) -> None:
 def _judge_amounts(file: ProjectFile) -> None:
     """Raise a `ProjectFault` with its place for an amount that the network of a project cannot have."""
     found = list(_amounts(file.project))
-    subject = Subject(file.path, file.project.network.encode("utf-8", "surrogateescape"))
+    subject = LoadedProblem(file.path, file.project.network.encode("utf-8", "surrogateescape"))
     largest: dict[int, Decimal] = {}
     for amount, _ in found:
         largest[decimals(amount)] = max(amount, largest.get(decimals(amount), amount))
@@ -146,10 +207,10 @@ def _amounts(project: Project) -> Iterator[tuple[Decimal, str]]:
 
 
 @dataclass(frozen=True)
-class _Kept(Subject):
+class _ProjectSubject(LoadedProblem):
     """The problem that a project keeps. The columns of its table that were read for nothing are read again when they are asked for."""
 
-    read: Optional[Callable[[], Subject]] = field(default=None, repr=False, compare=False)
+    read: Optional[Callable[[], LoadedProblem]] = field(default=None, repr=False, compare=False)
 
     @cached_property
     def extra(self) -> Extra:
@@ -159,14 +220,14 @@ class _Kept(Subject):
 def _base(path: str, file: ProjectFile, moved: str) -> Base:
     """The network of a project: the one that it keeps, or that of its table where that has changed since."""
     project, folder = file.project, os.path.dirname(file.path)
-    kept = _Kept(
+    kept = _ProjectSubject(
         path, project.network.encode("utf-8", "surrogateescape"), project.table.noun, tuple(project.table.assumed),
         bool(project.table.options.get("raw_names")),
     )  # fmt: skip
     told = [f"it is open to be read alone, since {file.why_not}"] if file.why_not else []
     table = _moved(project.table, moved, folder) if moved else project.table
     as_kept = "the network is as it was kept"
-    name = shown(table.file.path)
+    name = quoted_name(table.file.path)
     try:
         now = with_sums(table, folder)
         if now == project.table:
@@ -200,13 +261,13 @@ def beside(path: str) -> str:
     return os.path.splitext(split_path(path)[0])[0] + ENDING
 
 
-def keep_project(path: str, words: argparse.Namespace, desk: Desk, program: Program = None) -> ProjectDesk:
+def keep_project(path: str, words: argparse.Namespace, desk: Desk, program: Program = None) -> Scenarios:
     """The desk of a new project, in a file that is not there yet, with the table that the words of a tool name and the steps that were made
     on a desk, which goes on. Raises a `DeskFault` if it cannot be kept."""
     if not is_project(path):
         raise DeskFault(f"the name of a project ends with {ENDING}")
-    if isinstance(desk, ProjectDesk):
-        raise DeskFault(f"what is done is kept in {shown(desk.file.path)} already")
+    if isinstance(desk, Scenarios):
+        raise DeskFault(f"what is done is kept in {quoted_name(desk.file.path)} already")
     subject = desk.subject
     base = Base(replace(subject, path=path))
     path = os.path.realpath(path)
@@ -222,11 +283,11 @@ def keep_project(path: str, words: argparse.Namespace, desk: Desk, program: Prog
     except (ToolFault, TableFault) as fault:
         raise DeskFault(f"no project can be kept: {fault}") from None
     except FileExistsError as error:
-        raise DeskFault(f"{shown(base.subject.path)} cannot be made: {error.strerror}; open it, or choose another name") from None
+        raise DeskFault(f"{quoted_name(base.subject.path)} cannot be made: {error.strerror}; open it, or choose another name") from None
     except OSError as error:
-        raise DeskFault(f"{shown(base.subject.path)} cannot be made: {error.strerror}") from None
+        raise DeskFault(f"{quoted_name(base.subject.path)} cannot be made: {error.strerror}") from None
     try:
-        made = ProjectDesk(file, base, program)
+        made = Scenarios(file, base, program)
         made.take_steps(desk.steps[: desk.at], desk.turn)
     except BaseException as error:
         file.discard()
@@ -234,5 +295,3 @@ def keep_project(path: str, words: argparse.Namespace, desk: Desk, program: Prog
             raise DeskFault(f"no project can be kept: {error}") from None
         raise
     return made
-
-

@@ -1,22 +1,31 @@
-"""What a report says: of each scenario its value, its limit, its steps and in what it differs from the network of the table; what is worst to
-lose and best to have twice; and that `dmf check` finds each flow greatest."""
+"""A page in HTML to hand on.
+
+It has of each scenario its value, its limit, its steps, a picture, and in what it differs from the network of the table; what is worst to
+lose and best to have twice; and that `dmf check` finds each flow greatest. `report.html` is its frame."""
 
 from __future__ import annotations
 
+import base64
 import os
 import subprocess
 import tempfile
-from collections.abc import Iterator
+import time
+from collections.abc import Callable, Iterable, Iterator
 from dataclasses import dataclass
+from html import escape
+from pathlib import Path
 
+from ... import __version__
+from ...quantity import EXACT, Quantity, moved, plain_text
 from ...session import executable
-from ..workspace import Desk
-from ..steps import DeskFault, Trial
-from ..export import drawn, problem
 from ...session.base import Program
-from ...quantity import Quantity
+from ...text.lexical import display
+from ..analysis import trials_of
+from ..export import drawn, problem, taken
+from ..steps import DeskFault, Trial
+from ..workspace import Desk
 from .comparison import ArcDifference, compare
-from .scenarios import BASE, ProjectDesk
+from .scenarios import BASE, Scenarios
 from .schema import ENDING
 
 # How many arcs are tried for what is worst to lose, and how long a check may take, in seconds.
@@ -94,14 +103,14 @@ def checked(desk: Desk, program: Program = None) -> str:
 
 def _section(desk: Desk, name: str, differences: tuple[ArcDifference, ...] = ()) -> Section:
     """What is to be said of the scenario that a desk shows."""
-    scenario = desk.project.scenario(name) if isinstance(desk, ProjectDesk) else None
+    scenario = desk.project.scenario(name) if isinstance(desk, Scenarios) else None
     picture, why = "", ""
     try:
         text = drawn(desk, "picture.svg").decode()
         picture = text[text.index("<svg") :]
     except DeskFault as fault:
         why = str(fault)
-    first = 1 if isinstance(desk, ProjectDesk) else 0
+    first = 1 if isinstance(desk, Scenarios) else 0
     made = desk.steps[first : desk.at]
     return Section(
         name, scenario.begun_from if scenario else "", scenario.note if scenario else "", desk.value,
@@ -112,7 +121,7 @@ def _section(desk: Desk, name: str, differences: tuple[ArcDifference, ...] = ())
 
 
 def _sections(desk: Desk) -> Iterator[Section]:
-    if not isinstance(desk, ProjectDesk):
+    if not isinstance(desk, Scenarios):
         yield _section(desk, "the plan")
         return
     with desk.visiting(BASE):
@@ -132,11 +141,11 @@ def _tried(desk: Desk) -> Tried:
     told = f"each of the {len(open_arcs)} arcs and of the limit was tried alone"
     if not is_all:
         told = f"of {len(open_arcs)} arcs only the {len(numbers)} of the limit were tried, each alone; others may be worse to lose"
-    found: list[Trial] = list(desk.sweep(numbers))
+    found: list[Trial] = list(trials_of(desk, numbers))
     value, name = desk.value, desk.names.arc
     losses = [(name(it.arc), value - it.closed) for it in found if it.closed < value]
     gains = [(name(it.arc), it.doubled - value) for it in found if it.doubled is not None and it.doubled > value]
-    scenario = desk.scenario.name if isinstance(desk, ProjectDesk) else "the plan"
+    scenario = desk.scenario.name if isinstance(desk, Scenarios) else "the plan"
     return Tried(
         scenario, value, tuple(sorted(losses, key=lambda it: -it[1])), tuple(sorted(gains, key=lambda it: -it[1])), told
     )  # fmt: skip
@@ -153,9 +162,148 @@ def findings(desk: Desk) -> Findings:
     if not desk.is_greatest:
         raise DeskFault("the flow is not greatest, so there is no limit to tell; `solve` first")
     subject, names = desk.subject, desk.names
-    with_notes = desk.project.notes if isinstance(desk, ProjectDesk) else ""
-    assumed = desk.project.table.assumed if isinstance(desk, ProjectDesk) else subject.notes
+    with_notes = desk.project.notes if isinstance(desk, Scenarios) else ""
+    assumed = desk.project.table.assumed if isinstance(desk, Scenarios) else subject.notes
     return Findings(
         os.path.basename(subject.path).removesuffix(ENDING), with_notes, desk.measure.told_unit, subject.noun or "arc", names.terminal(desk.source), names.terminal(desk.sink),
         _table_arcs(desk), len(names.places), tuple(assumed), tuple(_sections(desk)), _tried(desk),
     )  # fmt: skip
+
+
+# How many rows of a table are shown, and how many places in a sentence.
+MOST_ROWS, MOST_PLACES = 40, 30
+
+
+def _text(text: str) -> str:
+    """A text of hers in the page: never markup."""
+    return escape(display(text))
+
+
+def _lines(text: str) -> str:
+    """A text of several lines of hers."""
+    return "\n".join(map(_text, text.splitlines()))
+
+
+def _told(amount: Quantity, unit: str) -> str:
+    return _text(f"{plain_text(amount)} {unit}".rstrip())
+
+
+def _table(titles: Iterable[tuple[str, bool]], rows: list[list[str]]) -> Iterator[str]:
+    """A table of cells that are markup already. Columns of numbers stand to the right."""
+    heads = list(titles)
+
+    def cells(tag: str, row: Iterable[str]) -> str:
+        marks = (' class="number"' if is_number else "" for _, is_number in heads)
+        return "".join(f"<{tag}{mark}>{cell}</{tag}>" for mark, cell in zip(marks, row))
+
+    yield f"<table><thead><tr>{cells('th', (title for title, _ in heads))}</tr></thead><tbody>"
+    yield from (f"<tr>{cells('td', row)}</tr>" for row in rows[:MOST_ROWS])
+    yield "</tbody></table>"
+    if len(rows) > MOST_ROWS:
+        yield f'<p class="faint">and {len(rows) - MOST_ROWS} more rows that are not shown</p>'
+
+
+def _counted(count: int, noun: str) -> str:
+    return f"{count} {noun}{'s' * (count != 1)}"
+
+
+def _head(found: Findings) -> Iterator[str]:
+    yield f"<h1>{_text(found.title)}: what can be sent from {_text(found.source)} to {_text(found.sink)}</h1>"
+    unit = f", in {_text(found.unit)}" if found.unit else ""
+    yield f'<p class="faint">{_counted(found.arcs, _text(found.noun))} between {found.places} places{unit}. {time.strftime("%-d %B %Y")}.</p>'
+    if found.notes:
+        yield f'<p class="note">{_lines(found.notes)}</p>'
+    base = found.sections[0].value
+    if len(found.sections) > 1:
+        yield "<h2>The scenarios</h2>"
+        rows = [
+            [_text(it.name), plain_text(it.value), "" if it.name == BASE else moved(base, it.value), str(len(it.steps))] for it in found.sections
+        ]  # fmt: skip
+        titles = ("scenario", False), (_text(f"greatest value ({found.unit})" if found.unit else "greatest value"), True)
+        yield from _table([*titles, ("against base", True), ("steps", True)], rows)
+        yield f'<p class="faint">{BASE} is the network of the table, without a step.</p>'
+
+
+def _section_lines(found: Findings, it: Section) -> Iterator[str]:
+    base = found.sections[0]
+    yield f"<section><h2>{_text(it.name)}</h2>"
+    if it.begun_from:
+        yield f'<p class="faint">begun with the steps of {_text(it.begun_from)}</p>'
+    if it.note:
+        yield f'<p class="note">{_lines(it.note)}</p>'
+    by = "" if it is base else f" <small>({moved(base.value, it.value)} than base)</small>" if it.value != base.value else " <small>(as base)</small>"
+    yield f'<p class="value">{_told(it.value, found.unit)}{by}</p>'
+    if it.steps:
+        yield "<h3>What was changed</h3><ol>"
+        yield from (f"<li>{_text(text)} <span class='faint'>then {_told(value, found.unit)}</span></li>" for text, value in it.steps)
+        yield "</ol>"
+    if it.left_out:
+        yield "<p>Left out, since the table has changed and they mean nothing in it any more: " + "; ".join(map(_text, it.left_out)) + ".</p>"
+    yield from _limit(found, it)
+    if it.picture:
+        data = base64.b64encode(it.picture.encode()).decode()
+        yield f'<figure><img alt="The network of {_text(it.name)}; what is the limit is red" src="data:image/svg+xml;base64,{data}"></figure>'
+    else:
+        yield f'<p class="faint">There is no picture: {_text(it.no_picture)}.</p>'
+    if it.differences:
+        yield from _differences(it.differences)
+    yield f'<p class="faint">The flow was judged by <code>dmf check</code>: <code>{_text(it.check)}</code></p></section>'
+
+
+def _limit(found: Findings, it: Section) -> Iterator[str]:
+    """The limit in plain words."""
+    yield "<h3>What is the limit</h3>"
+    if not it.limit:
+        yield f"<p>Nothing leads from {_text(found.source)} to {_text(found.sink)} any more, so nothing can be sent.</p>"
+        return
+    one = len(it.limit) == 1
+    yield (
+        f"<p>All that is sent has to pass {'this one' if one else f'these {len(it.limit)}'}, and together {'it carries' if one else 'they carry'} "
+        f"{_told(it.value, found.unit)} at most. To widen only others brings nothing.</p>"
+    )
+    yield from _table([("limit", False), ("carries at most", True)], [[f'<span class="limit">{_text(arc)}</span>', plain_text(most)] for arc, most in it.limit])
+    if it.side:
+        more = f" and {len(it.side) - MOST_PLACES} more" if len(it.side) > MOST_PLACES else ""
+        yield f'<p class="faint">Before it: {", ".join(map(_text, it.side[:MOST_PLACES]))}{more}.</p>'
+
+
+def _differences(differences: tuple[ArcDifference, ...]) -> Iterator[str]:
+    yield f"<h3>What differs from {BASE}</h3>"
+    rows = [[_text(it.arc), _text(it.first.told()), _text(it.second.told())] for it in differences]
+    yield from _table([("", False), (BASE, False), ("here", False)], rows)
+
+
+def _trial_lines(found: Findings, tried: Tried) -> Iterator[str]:
+    yield f"<h2>Worst to lose, best to have twice: {_text(tried.scenario)}</h2>"
+    yield f'<p class="faint">{_text(tried.said[:1].upper() + tried.said[1:])}.</p>'
+    columns: list[tuple[str, str, tuple[tuple[str, Quantity], ...], Callable[[Quantity, Quantity], Quantity], str]] = [
+        ("closed", "loses", tried.losses, EXACT.subtract, "Closed alone, none costs anything."),
+        ("with a second one beside it", "gains", tried.gains, EXACT.add, "A second one beside any of them brings nothing."),
+    ]
+    for title, word, rows, sign, none in columns:
+        if not rows:
+            yield f"<p>{none}</p>"
+            continue
+        cells = [[_text(arc), plain_text(by), plain_text(sign(tried.value, by))] for arc, by in rows]
+        yield from _table([(title, False), (word, True), ("then", True)], cells)
+
+
+def report(desk: Desk) -> str:
+    """The report of a desk: of a project with all its scenarios, and of other desks with the present state. Takes as long as all steps of
+    all scenarios take, a comparison of each and a sweep. It carries the present problem. Raises a `DeskFault` if the flow is not greatest, and what a session raises."""
+    found = findings(desk)
+    lines = [*_head(found)]
+    for section in found.sections:
+        lines += _section_lines(found, section)
+    lines += _trial_lines(found, found.tried)
+    lines += ["<h2>What this rests on</h2>"]
+    if found.assumed:
+        lines += ["<p>Taken for granted when the table was read:</p><ul>", *(f"<li>{_text(it)}</li>" for it in found.assumed), "</ul>"]
+    lines.append(
+        f"<p>Values and limits are those of dmf {__version__}, whose solves are proved to find the greatest value; this report is only "
+        "tested. A limit is a set of arcs that all has to pass, of the least capacity; of several, the one nearest to the source.</p>"
+    )
+    page = (Path(__file__).with_name("report.html")).read_text(encoding="utf-8")
+    title = f"{display(found.title)}: report"
+    page = page.replace("{title}", escape(title)).replace("{body}", "\n".join(lines))
+    return taken(desk, page.encode()).decode()

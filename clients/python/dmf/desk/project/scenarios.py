@@ -12,20 +12,28 @@ from decimal import Decimal
 from itertools import takewhile
 from typing import Any
 
-from ..workspace import Desk
-from ..expressions import finer
-from ..steps import Change, DeskFault, Follow, Solve, Step
-from ..desk_view import Timeline
 from ...errors import Refused, SessionEnded
-from ...session.base import Program
 from ...quantity import decimals, plain_text
-from ...text.cells import shown
-from ...tables.subject import Subject
-from ...text.problem_text import display
-from .storage import ProjectFile
+from ...session.base import Program
+from ...tables.loader import LoadedProblem
+from ...text.lexical import display
+from ...text.spelling import quoted_name
+from ..scale import finer
+from ..steps import Change, DeskFault, Follow, Solve, Step, Timeline
+from ..workspace import Desk
+from .acts import changes_of, place_meant, requests_of
 from .schema import ArcName, KeptStep, KeptTable, Project, ProjectFault, Scenario, said_scenario, said_step, said_table
-from .naming import changes_of, place_meant, requests_of
-from .table import Differences
+from .storage import ProjectFile
+
+
+@dataclass
+class Differences:
+    """In what two problems of a table differ: in words, a line for each row, and the arcs of which there are more or fewer alike than
+    before, so that a place among several says nothing."""
+
+    told: list[str] = field(default_factory=list)
+    unsure: set[ArcName] = field(default_factory=set)
+
 
 # The network of the table, without a step.
 BASE = "base"
@@ -37,7 +45,7 @@ class Base:
     """The network that a project's scenarios begin from, and what is to be said of it. `table` is the project's table as it is now, if it
     has changed since, and `found` in what."""
 
-    subject: Subject
+    subject: LoadedProblem
     told: list[str] = field(default_factory=list)
     table: KeptTable | None = None
     found: Differences = field(default_factory=Differences)
@@ -48,14 +56,14 @@ class Base:
 
 
 @dataclass
-class Carried:
+class Replay:
     """What became of a scenario whose steps were made anew: itself as it is now, and in words what differs from what was kept."""
 
     scenario: Scenario
     told: list[str] = field(default_factory=list)
 
 
-def finest(subject: Subject, project: Project) -> Subject:
+def finest(subject: LoadedProblem, project: Project) -> LoadedProblem:
     """The subject with the least scale in which each amount of a project is whole, as far as it goes."""
     steps = [step for scenario in project.scenarios for step in (*scenario.steps, *scenario.left_out)]
     amounts = [Decimal(request[2]) for step in steps for request in step.requests if len(request) > 2]
@@ -64,7 +72,7 @@ def finest(subject: Subject, project: Project) -> Subject:
     return subject
 
 
-class ProjectDesk(Desk):
+class Scenarios(Desk):
     """A desk whose steps a project keeps. Raises what `Desk` raises."""
 
     def __init__(self, file: ProjectFile, base: Base, program: Program = None) -> None:
@@ -137,10 +145,10 @@ class ProjectDesk(Desk):
         left = self.at - 1 - self.scenario.inherited
         if self._keeps and not self.trials and count > left:
             raise DeskFault(f"this scenario has {left} step{'s' * (left != 1)} of its own to undo")
-        self._step(lambda: super(ProjectDesk, self).undo(count), count, lambda: super(ProjectDesk, self).redo(count))
+        self._step(lambda: super(Scenarios, self).undo(count), count, lambda: super(Scenarios, self).redo(count))
 
     def redo(self, count: int = 1) -> None:
-        self._step(lambda: super(ProjectDesk, self).redo(count), count, lambda: super(ProjectDesk, self).undo(count))
+        self._step(lambda: super(Scenarios, self).redo(count), count, lambda: super(Scenarios, self).undo(count))
 
     def drop(self) -> None:
         self._refuse_no_trial()
@@ -148,7 +156,7 @@ class ProjectDesk(Desk):
         count = self.at - floor
 
         def take_back() -> None:
-            super(ProjectDesk, self).redo(count)
+            super(Scenarios, self).redo(count)
             self._time.floors.append(floor)
 
         self._step(super().drop, count, take_back)
@@ -206,15 +214,15 @@ class ProjectDesk(Desk):
     def _found(self, name: str) -> Scenario:
         scenario = self.project.scenario(name)
         if scenario is None:
-            names = ", ".join(shown(it.name) for it in self.project.scenarios)
-            raise DeskFault(f"no scenario is called {shown(name)}; there are {names}")
+            names = ", ".join(quoted_name(it.name) for it in self.project.scenarios)
+            raise DeskFault(f"no scenario is called {quoted_name(name)}; there are {names}")
         return scenario
 
     def _judge_new_name(self, name: str) -> None:
         if not name or name == BASE:
             raise DeskFault("a scenario needs a name" if not name else f"{BASE} is the network of the table, which no scenario can be called")
         if self.project.scenario(name):
-            raise DeskFault(f"a scenario is called {shown(name)} already")
+            raise DeskFault(f"a scenario is called {quoted_name(name)} already")
 
     def _judge_movable(self) -> None:
         self._judge_writable()
@@ -278,7 +286,7 @@ class ProjectDesk(Desk):
         """Deletes a scenario that is not the present one."""
         self._judge_writable()
         if self._found(name) is self.scenario:
-            raise DeskFault(f"{shown(name)} is the present scenario; go to another first")
+            raise DeskFault(f"{quoted_name(name)} is the present scenario; go to another first")
         self._keep_word("delete", name)
 
     def note(self, text: str) -> None:
@@ -334,13 +342,13 @@ class ProjectDesk(Desk):
             carried = self._follow(scenario, made)
         self._take(carried)
 
-    def _take(self, carried: Carried) -> None:
+    def _take(self, carried: Replay) -> None:
         """Tells and keeps what became of a scenario."""
         self.news += carried.told
         if carried.told and not self.file.why_not:
             self._keep("carried", said_scenario(carried.scenario))
 
-    def _follow(self, scenario: Scenario, made: Sequence[KeptStep] = (), unsure: Collection[ArcName] = ()) -> Carried:
+    def _follow(self, scenario: Scenario, made: Sequence[KeptStep] = (), unsure: Collection[ArcName] = ()) -> Replay:
         """Undoes the steps on the session, and makes those of a scenario. The first of both that are the same stay, if it is known which
         are `made`. If that is broken off, the session ends, and begins again with the steps that were made before."""
         before = self._time
@@ -358,12 +366,12 @@ class ProjectDesk(Desk):
         self._time.floors = [1 + carried.scenario.inherited]
         return carried
 
-    def _remade(self, scenario: Scenario, same: int, unsure: Collection[ArcName]) -> Carried:
+    def _remade(self, scenario: Scenario, same: int, unsure: Collection[ArcName]) -> Replay:
         """Makes the steps of a scenario after so many first ones, as far as they mean something, those too that are undone."""
         now = replace(scenario, steps=scenario.steps[:same], left_out=list(scenario.left_out))
-        carried = Carried(now)
+        carried = Replay(now)
         for number, step in enumerate(scenario.steps[same:], same + 1):
-            told = f"scenario {shown(scenario.name)}, step {number}, {display(step.text)}"
+            told = f"scenario {quoted_name(scenario.name)}, step {number}, {display(step.text)}"
             try:
                 made = self._do(step.text, changes_of(self, step.requests, unsure))
             except (DeskFault, Refused) as fault:

@@ -158,7 +158,7 @@ def _told(content: object) -> str:
     return "nothing" if content is None else _KINDS.get(type(content), "a number")
 
 
-def loaded(text: bytes) -> Any:
+def read_json(text: bytes) -> Any:
     """The content of a text in JSON, in which no field stands twice. Raises a `ProjectFault` with the line and the column."""
 
     def single(pairs: list[tuple[str, Any]]) -> dict[str, Any]:
@@ -205,9 +205,9 @@ def _judge_texts(content: object, place: str) -> None:
             _judge_texts(part, f"{place}[{at}]")
 
 
-def project_of(text: bytes) -> Project:
+def parse_project(text: bytes) -> Project:
     """The project of a text. Raises a `ProjectFault`."""
-    fields = Fields(loaded(text), "")
+    fields = Fields(read_json(text), "")
     version = fields.take(MARK, int)
     if version != VERSION:
         newer = "; a newer dmf wrote it" if version > VERSION else ""

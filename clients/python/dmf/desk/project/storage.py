@@ -9,6 +9,7 @@ from __future__ import annotations
 
 import contextlib
 import errno
+import fcntl
 import json
 import os
 import re
@@ -18,10 +19,84 @@ import stat
 from collections.abc import Iterator
 from typing import Any
 
-from ...tools.command import write_file
+from ...files import write_file
 from .acts import act_of, prepared
-from .schema import Fields, Project, ProjectFault, loaded, project_of, text_of
-from .lock import MARK, VERSION, Journal, Taken
+from .schema import Fields, Project, ProjectFault, parse_project, read_json, text_of
+
+MARK = "dmf journal"
+VERSION = 1
+TAKEN = (errno.EWOULDBLOCK, errno.EACCES, errno.EAGAIN)
+
+
+def _head(identity: str, serial: int) -> bytes:
+    """Return the first line of a journal that begins after so many acts."""
+    return json.dumps({MARK: VERSION, "id": identity, "after": serial}).encode()
+
+
+class Locked(Exception):
+    """Another desk has the lock."""
+
+
+class Journal:
+    """A journal that is locked. Raises `Taken`, and an OSError if it cannot be written."""
+
+    def __init__(self, path: str) -> None:
+        self.path = path
+        while True:
+            # A link could lead to a file of somebody's.
+            self._file = os.open(path, os.O_RDWR | os.O_CREAT | os.O_APPEND | os.O_NOFOLLOW | os.O_NONBLOCK, 0o666)
+            try:
+                if not stat.S_ISREG(os.fstat(self._file).st_mode):
+                    raise OSError(errno.EINVAL, "it is no file")
+                fcntl.flock(self._file, fcntl.LOCK_EX | fcntl.LOCK_NB)
+                # The desk that had the lock may have removed the file before this one got it.
+                with contextlib.suppress(FileNotFoundError):
+                    if os.path.samestat(os.fstat(self._file), os.stat(path)):
+                        break
+                os.close(self._file)
+            except BaseException as error:
+                os.close(self._file)
+                if isinstance(error, OSError) and error.errno in TAKEN:
+                    raise Locked from None
+                raise
+        self._length = os.fstat(self._file).st_size
+
+    def begin(self, identity: str, serial: int) -> None:
+        """Begins it anew, after so many acts."""
+        os.ftruncate(self._file, 0)
+        self._length = 0
+        self.append(_head(identity, serial))
+
+    @staticmethod
+    def is_begun(text: bytes, identity: str) -> bool:
+        """Return True if a text without an end of a line can be what a kill left of a journal that was begun."""
+        head = _head(identity, 0)[:-2]
+        return head.startswith(text) or text.startswith(head) and re.fullmatch(rb"[0-9]+}?", text[len(head) :]) is not None
+
+    def append(self, line: bytes) -> None:
+        """Appends a line, and waits until it is on the disk. If that fails, raises an OSError, and the journal is as it was."""
+        line += b"\n"
+        if self._length < 0:
+            raise OSError(errno.EIO, "a line of the journal was not written whole")
+        try:
+            left = line
+            while left:
+                left = left[os.write(self._file, left) :]
+            os.fdatasync(self._file)
+        except BaseException:
+            self._length, length = -1, self._length
+            os.ftruncate(self._file, length)
+            self._length = length
+            raise
+        self._length += len(line)
+
+    def end(self, *, is_folded: bool) -> None:
+        """Drops the lock, and removes the journal if the project's file has all of it."""
+        if is_folded:
+            with contextlib.suppress(OSError):
+                os.remove(self.path)
+        os.close(self._file)
+
 
 MOST_VERSIONS = 20
 
@@ -83,7 +158,7 @@ class ProjectFile:
                 self._journal.begin(self.project.identity, self._filed)
             line = json.dumps({"serial": self.project.serial + 1, word: content}).encode()
             # What is done is what the line says.
-            make = prepared(self.project, word, loaded(line)[word], word)
+            make = prepared(self.project, word, read_json(line)[word], word)
             self._journal.append(line)
             make()
 
@@ -174,7 +249,7 @@ def created(path: str, project: Project) -> ProjectFile:
         raise FileExistsError(errno.EEXIST, f"the journal of another one is there, {journal_of(path)}")
     try:
         journal = Journal(journal_of(path))
-    except Taken:
+    except Locked:
         raise FileExistsError(errno.EEXIST, "another desk is making it") from None
     made = ProjectFile(path, project, journal)
     try:
@@ -210,7 +285,7 @@ def read_project(path: str) -> ProjectFile:
     is_new = not os.path.lexists(journal_of(path))
     try:
         journal = Journal(journal_of(path))
-    except Taken:
+    except Locked:
         why_not = "another desk has it open"
     except OSError as error:
         why_not = f"it cannot be written: {error.strerror}"
@@ -230,7 +305,7 @@ def _read(path: str) -> tuple[Project, int, bool]:
     with open(path, "rb") as file:
         text = file.read()
     try:
-        project = project_of(text)
+        project = parse_project(text)
     except ProjectFault as fault:
         versions = versions_of(path)
         hint = f"; the version before it is {versions[-1]}" if versions else ""
@@ -243,7 +318,7 @@ def _read(path: str) -> tuple[Project, int, bool]:
     for at, line in enumerate(lines, 1):
         place = f"{journal_of(path)}: line {at}"
         with _placed(place):
-            content = loaded(line)
+            content = read_json(line)
             if at == 1:
                 count = _begin_of(content, project)
                 continue
