@@ -240,7 +240,7 @@ def test_removed(made: Path, tmp_path: Path) -> None:
     call_dpkg(tmp_path, "-i", the(made, "dmf_*.deb"))
     modules = tmp_path / "usr/lib/python3/dist-packages"
     ran("/usr/bin/python3", "-c", "import dmf.desk.plan.shell", PYTHONPATH=str(modules))
-    assert len([*(modules / "dmf/__pycache__").glob("*.pyc")]) > 20
+    assert len([*(modules / "dmf").rglob("*.pyc")]) > 20
     call_dpkg(tmp_path, "-P", "dmf")
     assert [path.name for path in tmp_path.iterdir()] == ["var"]
 

@@ -20,7 +20,7 @@ from typing import NamedTuple, NoReturn, Union
 ROOT = Path(__file__).resolve().parents[1]
 STREAMS = {"stdin": os.O_RDONLY, "stdout": os.O_WRONLY | os.O_CREAT | os.O_TRUNC, "stderr": os.O_WRONLY | os.O_CREAT | os.O_TRUNC}
 # What the tools import.
-MODULES = "argparse", "csv", "difflib", "dmf.tables.loader", "dmf.text.drawing", "dmf.text.transcript", "dmf.tools.command"
+MODULES = "csv", "difflib", "dmf.tools.dot", "dmf.tools.names", "dmf.tools.options", "dmf.tools.problem"
 Text = Union[str, bytes]
 
 

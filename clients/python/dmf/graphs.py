@@ -13,7 +13,7 @@ from .columns import Columns, Node
 from .errors import Refused
 from .network import Network
 from .rows import Whole, columns_of, whole
-from .session.base import PROGRAM, ProblemColumns, Program, Way, flow_array, kind_for, problem_pieces, where
+from .session.base import PROGRAM, ProblemColumns, Program, Runner, Way, flow_array, kind_for, problem_pieces, where
 from .session.fresh import CUT, FLOW, VALUE, Solved, solved
 from .session.runners import chosen, program_of
 from .session_holder import SessionHolder
@@ -22,8 +22,6 @@ from .text.lexical import LARGEST
 from .unbounded_arcs import BoundlessFlow, flows_of, solve_unbounded
 
 if TYPE_CHECKING:
-    from .session.library import Library
-
     Flows = Dict[Node, Dict[Node, int]]
 
 # A network with more arcs than these is solved by the program, also where the library is there.
@@ -177,7 +175,7 @@ def _solved_problem(problem: ProblemColumns, words: list[str], way: Way, program
     return solved(problem_pieces(problem), words, program_of(program))
 
 
-def _by_library(problem: ProblemColumns, words: list[str], library: Library) -> Solved:
+def _by_library(problem: ProblemColumns, words: list[str], library: Runner) -> Solved:
     session = library.begin(problem, 0)
     try:
         value = session.step(("solve",))

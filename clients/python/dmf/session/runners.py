@@ -115,8 +115,11 @@ def _has_newer(folder: str, than: int) -> bool:
 class Startable(Protocol):
     """What a session is begun for: a first problem, and the commands after which it has a value. At most `most` changes can be undone."""
 
-    value: int
-    most: int
+    @property
+    def value(self) -> int: ...
+
+    @property
+    def most(self) -> int: ...
 
     def problem(self) -> ProblemColumns:
         """Return the first problem."""

@@ -57,7 +57,7 @@ class Tries:
         raise NotImplementedError
 
 
-Pending = Callable[[], "list[Answer]"]
+Pending = Callable[[], "list[CaseAnswer]"]
 
 
 class LocalPool(Tries):

@@ -1,66 +1,151 @@
-"""The cases of `dmf-sweep`, whose commands have numbers, and the names of what they speak of."""
+"""Tries many cases on a problem, each on its solved network and taken back, and writes a table of what each costs.
+
+    tools/dmf-sweep problem.max --close-each --of cut --top 20 >table.csv
+    tools/dmf-sweep pipes.csv Lake Sea --cases cases.txt >table.csv
+
+With --close-each each case closes one arc: one of the smallest minimum cut, or any arc. With --cases each line of FILE is a case:
+commands of a session, with a `;` between two, as in `close 5; add 1 4 7`. The table has a line for each case in order: its number, its
+commands, the name of its first arc or node if comments of the problem give one, the greatest value after it, the difference from the
+value before, and why it was refused, if it was. With --top N it has only the N cases with the greatest losses, the greatest first,
+once all are tried.
+
+If --table FILE is there from a run that broke off, the sweep goes on after its last whole line. In FILE each line has one more field,
+`problem`, the same for all lines of one problem; the table of another problem is refused, and so is one without this field, which an older
+version wrote. Two sweeps cannot write one FILE at once. On a terminal a bar on standard error shows how far it is, if the package tqdm
+is installed.
+
+Values and differences are as the table of the problem has its numbers, and their titles tell the unit; commands have the whole numbers
+of the problem. A name that a spreadsheet would run as a formula has an apostrophe before it, unless --raw-names is given.
+"""
 
 from __future__ import annotations
 
+import argparse
+import io
+import signal
+import sys
+from pathlib import Path
 from typing import Any
 
-from ..arcs import Arc
+from ..errors import Error, Refused, ToolFault
+from ..files import cannot, write_file
 from ..network import Network
-from ..text.lexical import NODE
-from ..text.spelling import names_in, naming_pieces
-from ..text.table_comments import TableRoles, described, role_words
+from ..session.fresh import FreshSession
+from ..session.runners import program_of
+from ..tables.loader import read_subject
+from ..tables.problem_networks import whole_network
+from .command import INTERRUPTED, raise_interrupts, warn, write
+from .options import add_words, words_of
+from .sweep_run import NAME, PROBLEM_FAULT, UNREADABLE, JsonSweep, SweepRun
+from .sweep_table import ResultFile
+
+STATUSES = "Status: 0 all is well, 2 invalid arguments, 3 something that is read has a fault, 4 it cannot be read, or nothing be written, 130 Ctrl-C."
 
 
-class CaseNames:
-    """Cases whose commands have numbers, as the client takes them, and the names of what they speak of."""
+def arguments() -> argparse.Namespace:
+    parser = argparse.ArgumentParser(
+        NAME,
+        usage="%(prog)s [OPTION..] {--close-each | --cases FILE} PROBLEM [SOURCE SINK]",
+        description="Tries many cases on a problem, or on a table of arcs as dmf-problem takes it, and writes a table of what each costs.",
+        epilog=STATUSES, allow_abbrev=False,
+    )
+    wanted = parser.add_mutually_exclusive_group(required=True)
+    wanted.add_argument("--close-each", action="store_true", help="each case closes one arc")
+    wanted.add_argument("--cases", metavar="FILE", help="each line is a case: commands with a ; between two")
+    parser.add_argument("--of", choices=["cut", "all"], default="all", help="which arcs are closed: of the cut, or all (default)")
+    parser.add_argument("--anew", action="store_true", help="solve each case from nothing: sooner where paths are long; the table is the same")
+    parser.add_argument("--top", metavar="N", type=whole, help="write only the N cases with the greatest losses")
+    parser.add_argument("--jobs", metavar="N", type=whole, help="how many programs run at once; by default one a processor")
+    parser.add_argument("--table", metavar="FILE", help="write to FILE, and go on where it ends; by default standard output")
+    parser.add_argument("--json", action="store_true", help="write objects in JSON, one a line, in place of a table; not with --table")
+    parser.add_argument("--plot", metavar="FILE", help="draw the losses in order, where matplotlib is there")
+    add_words(parser, "PROBLEM [SOURCE SINK]", "a problem text, or a table of arcs")
+    words = words_of(parser, sys.argv[1:])
+    if words.json and words.table is not None:
+        parser.error("--json writes to standard output, and --table a table to go on with")
+    return words
 
-    def __init__(self, network: Network[Any], text: bytes) -> None:
-        """The names are those that comments of the problem's text give."""
-        self.arcs = network.arcs
-        self.nodes = network.nodes
-        said = described(text)
-        self.measure = said.measure
-        self._folding = TableRoles(said)
-        self._names = names_in(naming_pieces(text, NODE), NODE)
-        self._numbers = {node: number for number, node in enumerate(self.nodes, 1)}
 
-    def case(self, numbered: list[tuple[Any, ...]]) -> list[tuple[Any, ...]]:
-        return [self.command(*command) for command in numbered]
+def whole(text: str) -> int:
+    if not text.isdecimal() or not 0 < int(text) < 10**9:
+        raise argparse.ArgumentTypeError(f"{text!r} is no whole number from 1 on")
+    return int(text)
 
-    def command(self, word: str, *numbers: int) -> tuple[Any, ...]:
-        if word in ("cap", "close"):
-            # Of a number without an arc the client says that there is none.
-            arc = self.arcs[numbers[0] - 1] if 1 <= numbers[0] <= len(self.arcs) else None
-            return (word, arc, *numbers[1:])
-        ends = [self.node(number) for number in numbers[: 2 if word == "add" else 1]]
-        return (word, *ends, *numbers[len(ends) :])
 
-    def node(self, number: int) -> Any:
-        return self.nodes[number - 1] if 1 <= number <= len(self.nodes) else None
+def plot(sweep: SweepRun, rows: list[list[str]], path: str) -> None:
+    """Draws the losses of rows, the greatest first."""
+    try:
+        import matplotlib
 
-    def text(self, word: str, *numbers: int) -> str:
-        """A command, and what its capacity is in the table's terms, where that is another number."""
-        text = " ".join(map(str, (word, *numbers)))
-        is_told = word in ("cap", "add") and self.measure.text(numbers[-1]) != str(numbers[-1])
-        return f"{text} ({self.measure.told(numbers[-1])})" if is_told else text
+        matplotlib.use("Agg")
+        from matplotlib import pyplot
+    except ImportError:
+        raise ToolFault("a plot needs the package matplotlib, which is not there") from None
+    figure, axes = pyplot.subplots()
+    axes.step(range(1, len(rows) + 1), [-float(sweep.difference(row)) for row in rows], where="mid")
+    axes.set_xlabel("cases, the greatest loss first")
+    axes.set_ylabel(sweep.measure.title("loss"))
+    drawn = io.BytesIO()
+    try:
+        figure.savefig(drawn, format=Path(path).suffix[1:] or "png")
+        write_file(path, drawn.getvalue())
+    except OSError as error:
+        raise cannot("write", path, error, UNREADABLE) from None
+    except ValueError as error:
+        raise ToolFault(f"cannot write {path}: {error}", UNREADABLE) from None
 
-    def name(self, numbered: list[tuple[Any, ...]]) -> str:
-        """What the first command of a case speaks of. What is not there has no name."""
-        if not numbered:
-            return ""
-        word, *numbers = numbered[0]
-        if word in ("cap", "close"):
-            return self.arc_name(self.arcs[numbers[0] - 1]) if 1 <= numbers[0] <= len(self.arcs) else ""
-        nodes = numbers[: 2 if word == "add" else 1]
-        return " -> ".join(map(self.node_name, nodes)) if all(1 <= node <= len(self.nodes) for node in nodes) else ""
 
-    def arc_name(self, arc: Arc[Any]) -> str:
-        tail, head = self._numbers[arc.tail], self._numbers[arc.head]
-        role = self._folding.role(tail, head)
-        if role:
-            return role_words(role, self.node_name)
-        return f"{self.node_name(tail)} -> {self.node_name(head)}" if arc.given_key is None else str(arc.given_key)
+def carry_out(words: argparse.Namespace, network: Network[Any], text: bytes) -> int:
+    if words.anew:
+        network._session = FreshSession(network._session, program_of(None))
+    network.solve()
+    sweep = (JsonSweep if words.json else SweepRun)(network, text, words)
+    rows: list[list[str]] = []
+    if words.table is not None:
+        table = ResultFile(words.table, sweep, words.path)
+        table.write_head()
+        for row in sweep.rows(len(table.rows)):
+            table.write(row)
+        rows = table.rows
+    elif words.top is not None:
+        rows += sweep.rows(0)
+    else:
+        write(sweep.line(sweep.head))
+        for row in sweep.rows(0):
+            rows.append(row)
+            write(sweep.line(row))
+    if words.top is not None:
+        write("".join(map(sweep.line, [sweep.head, *sweep.losses(rows)[: words.top]])))
+    if words.plot is not None:
+        plot(sweep, sweep.losses(rows), words.plot)
+    return 0
 
-    def node_name(self, number: int) -> str:
-        place = self._folding.place(number)
-        return self._names.get(place, str(place))
+
+def network_of(words: argparse.Namespace) -> tuple[Network[Any], bytes]:
+    """The network that the words name, and the text of its problem. Raises a `ToolFault`."""
+    subject = read_subject(words, in_doubt=True)
+    for note in subject.notes:
+        warn(NAME, note)
+    try:
+        return whole_network(subject.text), subject.text
+    except Refused as refused:
+        raise ToolFault(f"{words.path}: {refused}", PROBLEM_FAULT) from None
+
+
+def main() -> int:
+    words = arguments()
+    # Ctrl-C comes as an exception, so that each program is ended.
+    raise_interrupts()
+    # A program that has ended is told by its status, and not by a signal here.
+    signal.signal(signal.SIGPIPE, signal.SIG_IGN)
+    try:
+        network, text = network_of(words)
+        with network:
+            return carry_out(words, network, text)
+    except KeyboardInterrupt:
+        return INTERRUPTED
+    except Error as error:
+        raise ToolFault(str(error)) from None
+    except OSError as error:
+        # The program is not there, or there is no room for the problem that it is given.
+        raise ToolFault(str(error), UNREADABLE) from None

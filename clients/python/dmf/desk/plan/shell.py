@@ -19,18 +19,8 @@ from ..project.scenarios import Scenarios
 from ..steps import DeskFault, unforeseen
 from ..workspace import Desk
 from .arguments import (
-    WHERE,
-    arcs_from,
-    arcs_listed,
-    arcs_named,
-    arcs_to_try,
-    arcs_told,
-    arcs_where,
-    capped,
-    capped_where,
-    last_closed,
-    new_arc,
-)
+    WHERE, arcs_from, arcs_listed, arcs_named, arcs_to_try, arcs_told, arcs_where, capped, capped_where, last_closed, new_arc,
+)  # fmt: skip
 from .grammar import ALWAYS, CHANGES, COMMANDS, Completed, Word, completed, count_of, no_words, one_name, quoted, split
 from .handlers import Files
 from .output import arc_line, arc_lines, compared, costs_told, place_lines, project_of, scenario, swept, tried, worst

@@ -1,0 +1,149 @@
+"""Shows a network as a page in the browser: what can be sent, what the limit is, and what each change would bring.
+
+    dmf-board pipes.csv
+    dmf-board pipes.csv Reservoir Harbour
+    dmf-board problem.max
+    dmf-board pipes.dmf.json
+
+FILE is a table of arcs, as `dmf-problem` takes it, a problem's file, or a project, which keeps what was done. If you name no source
+of a table, it is the one place that no arc enters; if you name no sink, the one that no arc leaves. The browser shows the page, and
+the board prints its address, which only this machine can reach. The board ends when the page is closed, or at Ctrl-C.
+"""
+
+from __future__ import annotations
+
+import argparse
+import os
+import re
+import signal
+import sys
+from threading import Event, Thread
+
+from ..desk.board.layout import NoMap, Spot, placed, read_map
+from ..desk.board.routes import Board
+from ..desk.board.server import Door, Server
+from ..desk.project.opener import beside, keep_project
+from ..desk.workspace import Desk
+from ..errors import TableFault, ToolFault
+from ..tables.loader import FAULT, UNREADABLE
+from .command import INTERRUPTED, warn, write
+from .options import add_project_words, add_words, close_desk, open_desk, words_of
+
+NAME = "dmf-board"
+STATUSES = "Status: 0 all is well, 2 invalid arguments, 3 the table, the problem or the project has a fault, 4 it cannot be read, 130 Ctrl-C."
+# How long an answer is waited for that is being made when the board ends, in seconds.
+PATIENCE = 2
+
+
+def port(word: str) -> int:
+    if not word.isascii() or not word.isdigit() or int(word) > 65_535:
+        raise argparse.ArgumentTypeError(f"no port: {word}")
+    return int(word)
+
+
+def host_name(word: str) -> str:
+    if not re.fullmatch(r"([A-Za-z0-9._-]+|\[[0-9A-Fa-f:.]+\])(:[0-9]{1,5})?", word):
+        raise argparse.ArgumentTypeError(f"no name of a machine, nor one with a port: {word}")
+    return word
+
+
+def options() -> argparse.Namespace:
+    parser = argparse.ArgumentParser(
+        NAME,
+        usage="%(prog)s [OPTION..] FILE [SOURCE SINK]",
+        description=__doc__,
+        formatter_class=argparse.RawDescriptionHelpFormatter,
+        epilog=STATUSES,
+    )
+    parser.add_argument("--no-browser", action="store_true", help="only print the address, and start no browser")
+    parser.add_argument("--port", metavar="NUMBER", type=port, default=0, help="the port; without it a free one")
+    name = "answer at this name too, as in localhost:9000, if a tunnel leads from there; may be given several times"
+    parser.add_argument("--host-name", metavar="NAME[:PORT]", type=host_name, action="append", default=[], help=name)
+    parser.add_argument("--map", metavar="FILE", help="a table of places with columns x and y, or lon and lat: where each lies in the picture")
+    add_words(parser)
+    add_project_words(parser)
+    return words_of(parser, sys.argv[1:])
+
+
+def opened(words: argparse.Namespace) -> Desk:
+    """The desk for what the words name."""
+    desk = open_desk(words, with_solve=True, may_follow=True)
+    for note in desk.news:
+        warn(NAME, note)
+    desk.news = []
+    return desk
+
+
+def spots_of(words: argparse.Namespace, desk: Desk) -> dict[int, Spot]:
+    """Where the places lie, if there is a map: a table of places may have the columns of one."""
+    path = words.map or words.place_table
+    if path is None:
+        return {}
+    try:
+        spots, notes = placed(desk, read_map(path, words.decimal, words.encoding))
+    except TableFault as fault:
+        fault.name_path(path)
+        first, *more = fault.lines()
+        if words.map is None:
+            for line in [] if isinstance(fault, NoMap) else [f"{path} is taken for no map: {first}", *more]:
+                warn(NAME, line)
+            return {}
+        close_desk(NAME, desk)
+        raise ToolFault(first, FAULT, more) from None
+    for note in notes:
+        warn(NAME, f"{path}: {note}")
+    return spots
+
+
+def show(server: Server) -> Door | None:
+    """Starts the browser, where this machine has a screen."""
+    if sys.platform not in ("darwin", "win32") and not os.environ.get("DISPLAY") and not os.environ.get("WAYLAND_DISPLAY"):
+        return None
+    # Most boards on a server need none.
+    import webbrowser
+
+    try:
+        door = Door(server.addresses[0])
+    except OSError as error:
+        warn(NAME, f"no browser was started: {error}")
+        return None
+    Thread(target=webbrowser.open, args=(door.address,), daemon=True).start()
+    return door
+
+
+def main() -> int:
+    words = options()
+    # A session that has ended, or a page that has gone, breaks a pipe, and does not end this.
+    signal.signal(signal.SIGPIPE, signal.SIG_IGN)
+    desk = opened(words)
+    try:
+        offer = beside(words.path) if os.path.isfile(words.path) and not words.keep else ""
+        board = Board(desk, spots_of(words, desk), keep=lambda path, made: keep_project(path, words, made), offer=offer)
+        server = Server(board, words.port, words.host_name)
+    except OSError as error:
+        close_desk(NAME, desk)
+        raise ToolFault(f"cannot listen on port {words.port}: {error.strerror}", UNREADABLE) from None
+    is_interrupted = Event()
+
+    def interrupt(*_: object) -> None:
+        is_interrupted.set()
+        # An error that is raised here could be taken for one of a request. The server's end waits for its loop, which runs here.
+        Thread(target=server.shutdown, daemon=True).start()
+
+    for number in signal.SIGINT, signal.SIGTERM, signal.SIGHUP:
+        if signal.getsignal(number) is not signal.SIG_IGN:
+            signal.signal(number, interrupt)
+    door = None
+    try:
+        write("".join(f"{address}\n" for address in server.addresses))
+        door = None if words.no_browser else show(server)
+        server.serve_forever(poll_interval=0.1)
+    finally:
+        server.server_close()
+        if door:
+            door.remove()
+        if server.lock.acquire(timeout=PATIENCE):
+            close_desk(NAME, board.desk)
+        else:
+            board.desk.break_off("the board has ended")
+    return INTERRUPTED if is_interrupted.is_set() else 0

@@ -1,0 +1,284 @@
+"""Draws a maximum-flow problem, its solution and its cut, as a text for Graphviz.
+
+    dmf solve --cut <problem.max | tools/dmf-dot problem.max - | dot -Tsvg >picture.svg
+    dmf session problem.max <commands.txt | tools/dmf-dot problem.max --commands commands.txt - | dot -Tsvg >picture.svg
+
+PROBLEM is a problem text, and each ANSWER a text with the lines of a solution (`s`, `f`), of a cut (`c cut`, `c side`), or both;
+`-` is standard input. An arc shows what flows on it and its capacity. Full arcs are bold, those without flow are grey, and those
+of the cut are red; the nodes on the source's side of the cut are filled. Source and sink have two outlines. Numbers are those of the
+table that the problem was made of, and the title tells their unit. What a place gives, takes or lets through stands at the place.
+
+An ANSWER may also be what a session wrote. --commands names the file with its commands, or they stand among its replies as a terminal
+shows them. Then the picture has the last solution and the last cut, on the network as it is at the end: closed arcs are dashed, and
+nodes that are shut are grey. If the network changed after that solution or that cut, the picture says so.
+
+Nodes and arcs have the names that comments of the problem give them, where they give any:
+
+    c node 3 Reservoir
+    c arc 5 Mill Street, 300 mm
+
+PROBLEM may also be a table of arcs, as `dmf-problem` takes it, with its options: `dmf-dot pipes.csv --source Lake --sink Sea`.
+
+Of more arcs than --most the picture has those nearest the cut, and nodes of which arcs are left out have a dashed outline. Of more
+nodes than that it leaves out those without arcs.
+"""
+
+from __future__ import annotations
+
+import argparse
+import io
+import sys
+from collections import defaultdict
+
+from ..errors import ToolFault
+from ..files import read_file
+from ..tables.loader import read_subject
+from ..text.drawing import Drawing, picture
+from ..text.lexical import NODE, Fault, TextFault, fields, lines, read_number
+from ..text.problem_text import ArcRecord, Problem, read_problem
+from ..text.session_replies import Kind, TranscriptFault, flow_of, kind_of
+from ..text.spelling import namings
+from ..text.transcript import ANSWER, COMMANDS, TranscriptReader
+from .command import warn, write
+from .options import add_words, words_of
+
+NAME = "dmf-dot"
+TEXT_FAULT, UNREADABLE = 3, 4
+STATUSES = "Status: 0 all is well, 2 invalid arguments, 3 a text or a table has a fault, 4 a file cannot be read or nothing can be written."
+MOST_DRAWN = 300
+LONGEST_TOLD = 60
+UNKNOWN = "commands that are not known changed the network; give them by --commands FILE"
+
+
+def fault_in(path: str, fault: TextFault) -> ToolFault:
+    """The fault of a text, with the file and the field that it is about."""
+    name = "standard input" if path == "-" else path
+    about = fault.field.decode(errors="replace")
+    told = about if len(about) <= LONGEST_TOLD else about[:LONGEST_TOLD] + ".."
+    return ToolFault(f"{name}: {fault}{': ' if told else ''}{told}", TEXT_FAULT)
+
+
+def judge_names(text: bytes, problem: Problem) -> None:
+    """Raises a `TextFault` where a comment names nothing, or what has a name, or what is not there."""
+    line, counted = 1, 0
+    named = set()
+    for naming in namings(text):
+        line, counted = line + text.count(b"\n", counted, naming.start), naming.start
+        kind = naming.kind
+        try:
+            place = read_number(naming.number)
+        except Fault as fault:
+            raise TextFault(line, fault.reason, fault.field) from None
+        if not naming.name:
+            raise TextFault(line, f"{kind} {place} has no name here")
+        if (kind, place) in named:
+            raise TextFault(line, f"{kind} {place} is named twice")
+        if not 1 <= place <= (problem.node_count if kind == NODE else len(problem.arcs)):
+            raise TextFault(line, f"no such {kind}: {place}")
+        named.add((kind, place))
+
+
+def problem_of(words: argparse.Namespace) -> Problem:
+    """The problem that the words name, whose names are judged too. Raises a `ToolFault`."""
+    subject = read_subject(words, in_doubt=True)
+    for note in subject.notes:
+        warn(NAME, note)
+    try:
+        problem = read_problem(subject.text)
+        judge_names(subject.text, problem)
+    except TextFault as fault:
+        raise fault_in(words.path, fault) from None
+    return problem
+
+
+class ProblemAnswer:
+    """What the lines of solutions and cuts have said so far. Flows may be told in any order, and in parts."""
+
+    def __init__(self, problem: Problem) -> None:
+        self.problem = problem
+        self.arcs = [ArcRecord(*arc) for arc in problem.arcs]
+        self.capacities: dict[tuple[int, int], int] = defaultdict(int)
+        self.flow_sums: dict[tuple[int, int], int] = defaultdict(int)
+        for tail, head, capacity in problem.arcs:
+            self.capacities[tail, head] += capacity
+        self.has_value = False
+        self.told: list[tuple[int, int, int]] = []
+        self.flows: list[int] | None = None
+        # The capacity of the cut, and its line.
+        self.cut: tuple[int, int] | None = None
+        self.side: set[int] = set()
+
+    def read(self, text: bytes) -> None:
+        """Takes in an answer. Raises a `TextFault`."""
+        read = lines(text)
+        line = 0
+        try:
+            for line, content in enumerate(read, 1):
+                found = fields(content)
+                if found:
+                    self.take(line, found)
+            line = len(read) + 1
+            self.end()
+        except TextFault:
+            raise
+        except Fault as fault:
+            raise TextFault(line, fault.reason, fault.field) from None
+
+    def take(self, line: int, found: list[bytes]) -> None:
+        kind = kind_of(found)
+        if kind in (Kind.CUT, Kind.SIDE):
+            self.take_cut(line, kind, read_number(found[2]))
+        elif found[0].startswith(b"c"):
+            return
+        elif kind not in (Kind.VALUE, Kind.FLOW):
+            raise Fault("unknown line", found[0])
+        elif self.flows is not None:
+            raise Fault("second solution")
+        elif kind is Kind.FLOW:
+            self.take_flow(*flow_of(found))
+        elif self.has_value:
+            raise Fault("second value line")
+        elif len(found) != 2:
+            raise Fault("wrong number of fields")
+        else:
+            self.has_value = read_number(found[1]) >= 0
+
+    def take_flow(self, tail: int, head: int, flow: int) -> None:
+        if (tail, head) not in self.capacities:
+            raise Fault(f"no such arc: {tail} to {head}")
+        self.flow_sums[tail, head] += flow
+        if self.flow_sums[tail, head] > self.capacities[tail, head]:
+            raise Fault("over capacity")
+        self.told.append((tail, head, flow))
+
+    def take_cut(self, line: int, kind: Kind, value: int) -> None:
+        if kind is Kind.CUT:
+            if self.cut is not None:
+                raise Fault("second cut")
+            self.cut = value, line
+        elif self.cut is None:
+            raise Fault("a side before its cut")
+        elif not 1 <= value <= self.problem.node_count:
+            raise Fault(f"no such node: {value}")
+        else:
+            self.side.add(value)
+
+    def end(self) -> None:
+        if self.flows is None and (self.has_value or self.told):
+            self.flows = self.flows_of_arcs()
+        if self.cut is None:
+            return
+        capacity, line = self.cut
+        if self.problem.source not in self.side or self.problem.sink in self.side:
+            raise TextFault(line, "the side of this cut has not the source, or has the sink")
+        carried = sum(arc.capacity for arc in self.arcs if arc.tail in self.side and arc.head not in self.side)
+        if carried != capacity:
+            raise TextFault(line, f"the arcs of this cut carry {carried}, and not {capacity}")
+
+    def flows_of_arcs(self) -> list[int]:
+        """The flow of each arc: that of its line where there is a line for each arc in order; and else what its capacity allows of
+        what the lines say of all arcs with its ends, the arcs before it served first."""
+        told = self.told
+        if len(told) == len(self.arcs) and all(one[:2] == arc[:2] and one[2] <= arc[2] for one, arc in zip(told, self.arcs)):
+            return [flow for _, _, flow in told]
+        flows = []
+        for tail, head, capacity, _ in self.arcs:
+            flows.append(min(capacity, self.flow_sums[tail, head]))
+            self.flow_sums[tail, head] -= flows[-1]
+        return flows
+
+    def drawing(self) -> Drawing:
+        flows: list[int | None] = [None] * len(self.arcs)
+        flows[:] = self.flows or flows
+        return Drawing(self.problem, self.arcs, flows, self.side)
+
+
+def is_of_session(text: bytes) -> bool:
+    """Whether a text has commands, or replies to changes, or brief replies to solves."""
+    return any(kind_of(fields(line)) in (Kind.COMMAND, Kind.CHANGED, Kind.SOLVED) for line in lines(text))
+
+
+def follow(problem: Problem, texts: list[tuple[str, bytes]], commands: str | None) -> TranscriptReader:
+    """Takes in what a session wrote, in these texts one after the other. Raises a `ToolFault`."""
+    follower = TranscriptReader(problem, None if commands is None else io.BytesIO(read_file(commands, UNREADABLE)))
+    path = ""
+    try:
+        for path, text in texts:
+            follower.line = 0
+            for line in io.BytesIO(text):
+                follower.take(line)
+                if not follower.is_known:
+                    raise TranscriptFault(ANSWER, follower.line, UNKNOWN)
+        follower.end()
+    except TranscriptFault as fault:
+        raise fault_in(commands if fault.text == COMMANDS and commands is not None else path, fault) from None
+    return follower
+
+
+def drawing_of_session(follower: TranscriptReader) -> Drawing:
+    """The last solution and the last cut, on the network as it is at the end."""
+    timeline, solution, cut = follower.timeline, follower.solution, follower.cut
+    flows: list[int | None] = [None] * len(timeline.arcs)
+    notes = []
+    if solution:
+        for at, flow in zip(solution.numbers, solution.flows):
+            # An arc whose addition was undone is not there any more.
+            if at <= len(flows) and not timeline.arcs[at - 1].is_closed:
+                flows[at - 1] = flow
+        notes += ["the network was changed after these flows"] * (solution.serial != timeline.serial)
+    elif follower.solves_are_brief:
+        notes += ["the flows of the last solve were not told; print flow tells them"]
+    if cut:
+        notes += ["the network was changed after this cut"] * (cut.serial != timeline.serial)
+    side = set(cut.side) if cut else set()
+    return Drawing(timeline.problem, timeline.arcs, flows, side, timeline.shut_nodes(), notes)
+
+
+def drawing_of(problem: Problem, paths: list[str], commands: str | None) -> Drawing:
+    """What is drawn of the answers in these files."""
+    texts = [(path, read_file(path, UNREADABLE)) for path in paths]
+    if commands is None and not any(is_of_session(text) for _, text in texts):
+        answer = ProblemAnswer(problem)
+        for path, text in texts:
+            try:
+                answer.read(text)
+            except TextFault as fault:
+                raise fault_in(path, fault) from None
+        return answer.drawing()
+    return drawing_of_session(follow(problem, texts, commands))
+
+
+def options() -> argparse.Namespace:
+    parser = argparse.ArgumentParser(
+        NAME,
+        usage="%(prog)s [OPTION..] PROBLEM [ANSWER..]",
+        description=__doc__,
+        formatter_class=argparse.RawDescriptionHelpFormatter,
+        epilog=STATUSES,
+    )
+    parser.add_argument("--commands", metavar="FILE", help="the commands of the session that wrote the ANSWER")
+    parser.add_argument("--most", metavar="ARCS", type=int, default=MOST_DRAWN, help=f"draw at most so many arcs ({MOST_DRAWN})")
+    add_words(parser, "PROBLEM [ANSWER ..]", "a problem text or a table; then a solution, a cut, or both; or what a session wrote")
+    words = words_of(parser, sys.argv[1:], ends_are_words=False)
+    if words.most < 1:
+        parser.error("--most is at least 1")
+    if words.commands is not None and not words.others:
+        parser.error("--commands needs an ANSWER")
+    if [words.path, *words.others, words.commands].count("-") > 1:
+        parser.error("standard input is read once")
+    return words
+
+
+def main() -> int:
+    words = options()
+    drawing = drawing_of(problem_of(words), words.others, words.commands)
+    count = len(drawing.drawn)
+    if count > words.most and not drawing.side:
+        told = f"{count} arcs are too many to draw. With a cut, as of `dmf solve --cut`, those nearest it are drawn"
+        raise ToolFault(told, TEXT_FAULT)
+    for note in drawing.notes:
+        warn(NAME, note)
+    if count > words.most:
+        warn(NAME, f"of {count} arcs those nearest the cut are drawn, {words.most} of them")
+    write("".join(f"{line}\n" for line in picture(drawing, words.most)))
+    return 0
