@@ -2,6 +2,9 @@
 
 from __future__ import annotations
 
+import ast
+from collections import Counter
+from collections.abc import Iterable
 from pathlib import Path
 
 import pytest
@@ -26,6 +29,18 @@ def test_each_module_has_a_room(edges: set[tuple[str, str]]) -> None:
     modules = {module for edge in edges for module in edge}
     assert {room_of(module) for module in modules} >= {"errors", "text", "session", CORE, "sweeps", "tables", "desk", "desk.board", "tools"}
     assert room_of("history") == room_of("errors") and room_of("desk.plan.shell") == "desk.plan"
+
+
+def test_names_stand_once() -> None:
+    """No two modules of the package have one name, and no two classes."""
+    modules = {name: path for name, path in Imports(Path(CLIENT, "dmf")).modules.items() if path.name != "__init__.py"}
+    assert twice(name.rpartition(".")[2] for name in modules) == []
+    trees = (ast.parse(path.read_text()) for path in modules.values())
+    assert twice(node.name for tree in trees for node in tree.body if isinstance(node, ast.ClassDef)) == []
+
+
+def twice(names: Iterable[str]) -> list[str]:
+    return [name for name, count in Counter(names).items() if count > 1]
 
 
 # A package with one import of each form, and what they are.

@@ -74,8 +74,8 @@ def test_the_program_over_an_executor(make: Any) -> None:
         with beside(program=program) as network:
             with make(1) as executor:
                 assert [result.value for result in dmf.sweep(network, dmf.each_arc_closed(), executor)] == [9, 8, 7]
-            # That of the network itself, and that of its copy.
-            assert Path(f"{program}.ran").read_text() == "\n\n"
+            # It was asked for its version once, and then ran for the network itself and for its copy.
+            assert Path(f"{program}.ran").read_text() == "\n\n\n"
             network.close("x")
             network.solve()
             os.remove(program)
