@@ -3,6 +3,8 @@
 from __future__ import annotations
 
 import ast
+import subprocess
+import sys
 from collections import Counter
 from collections.abc import Iterable
 from pathlib import Path
@@ -41,6 +43,13 @@ def test_names_stand_once() -> None:
 
 def twice(names: Iterable[str]) -> list[str]:
     return [name for name, count in Counter(names).items() if count > 1]
+
+
+def test_a_network_loads_little() -> None:
+    """Nothing that takes long to load is loaded before it is needed."""
+    program = "import sys, dmf; dmf.Network; print(*sys.modules)"
+    ran = subprocess.run([sys.executable, "-c", program], capture_output=True, text=True, env={"PYTHONPATH": CLIENT}, check=True)
+    assert not {"dataclasses", "decimal", "numpy", "secrets", "shutil", "subprocess"} & {*ran.stdout.split()}
 
 
 # A package with one import of each form, and what they are.

@@ -89,7 +89,8 @@ def test_while_the_last_is_written(tool: str) -> None:
 def test_while_programs_end(tmp_path: Path, count: int) -> None:
     """dmf-sweep waits for its programs; a second Ctrl-C waits for nothing."""
     program = tmp_path / "slow"
-    program.write_text(f'#!/bin/sh\n"{BUILT}" "$@"\ntouch "$0.$$"\nexec sleep 30\n')
+    # It prints its version at once.
+    program.write_text(f'#!/bin/sh\n"{BUILT}" "$@"\n[ "$1" != --version ] || exit 0\ntouch "$0.$$"\nexec sleep 30\n')
     program.chmod(0o700)
     with begun("dmf-sweep", ["net.max", "--close-each", "--jobs", "1"], DMF=str(program)) as process:
         deadline = time.monotonic() + SECONDS

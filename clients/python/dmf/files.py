@@ -5,7 +5,6 @@ from __future__ import annotations
 import contextlib
 import errno
 import os
-import secrets
 import stat
 import sys
 from typing import IO, BinaryIO
@@ -92,6 +91,9 @@ def write_file(path: str, data: bytes, *, is_new: bool = False) -> None:
         with open(path if stream is None else os.dup(stream), "wb") as file:
             file.write(data)
         return
+    # Most sessions write no file of theirs, and this takes some milliseconds.
+    import secrets
+
     path = os.path.abspath(path) if is_new else os.path.realpath(path)
     beside = os.path.join(os.path.dirname(path), f".dmf-{secrets.token_hex(8)}")
     try:

@@ -13,8 +13,8 @@ from typing import Any
 from .arcs import OpenArcs
 from .files import write_file
 from .session.base import import_package
-from .text.drawing import CUT, MOST_DRAWN, UNUSED, Drawing, graphviz, nearest, picture
-from .text.lexical import display
+from .text.drawing import CUT, UNUSED, Drawing, graphviz, nearest, picture
+from .text.lexical import MOST_DRAWN, display
 from .text.problem_text import ArcRecord, Problem
 from .text.spelling import picture_names
 from .text.table_comments import TableComments

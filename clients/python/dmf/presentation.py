@@ -14,7 +14,7 @@ from .errors import FlowIsNotGreatest
 from .session.base import FilePath, import_package
 from .session_holder import SessionHolder, exclusive
 from .solution import Cut, Solution
-from .text.drawing import MOST_DRAWN
+from .text.lexical import MOST_DRAWN
 
 if TYPE_CHECKING:
     from .notebook import Look

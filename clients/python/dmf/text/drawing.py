@@ -15,9 +15,6 @@ from .lexical import display
 from .problem_text import ArcRecord, Problem
 from .table_comments import AT_PLACE, TableRoles
 
-# A network with more arcs than these is shown as a table, since nobody would find an arc in a picture of it.
-MOST_DRAWN = 300
-
 FULL, UNUSED, CUT, SIDE = "2.5", "#8f8f8f", "#c62828", "#d3e4f5"
 
 

@@ -18,6 +18,8 @@ LONGEST = len(str(LARGEST))
 MOST_NODES = 16_777_216
 MOST_ARCS = 134_217_728
 NODE, ARC = "node", "arc"
+# A network with more arcs than these is shown as a table, since nobody would find an arc in a picture of it.
+MOST_DRAWN = 300
 
 
 @functools.cache
