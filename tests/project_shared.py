@@ -10,7 +10,7 @@ from desk_shared import ROOT
 from dmf.desk.workspace import Desk
 from dmf.desk.project.scenarios import Scenarios
 from dmf.desk.project.opener import keep_project
-from dmf.tools.options import add_project_words
+from dmf.tools.desk_options import add_project_words
 from dmf.tables.loader import read_subject
 from dmf.tools.options import add_words, words_of
 

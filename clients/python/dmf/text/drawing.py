@@ -3,8 +3,6 @@
 from __future__ import annotations
 
 import errno
-import shutil
-import subprocess
 from collections import Counter, defaultdict
 from collections.abc import Callable, Collection, Iterable, Iterator, Sequence
 from dataclasses import dataclass, field
@@ -201,6 +199,10 @@ def picture(drawing: Drawing, most: int) -> Iterator[str]:
 def graphviz(text: bytes, engine: str, *words: str, patience: int = 20) -> bytes:
     """What an engine of Graphviz makes of a text with these words. Raises a FileNotFoundError where Graphviz is not there, an OSError
     where it does not start, and a RuntimeError for what it says, or if it takes more than so many seconds."""
+    # A text for Graphviz needs neither.
+    import shutil
+    import subprocess
+
     program = shutil.which(engine)
     if not program:
         raise FileNotFoundError(errno.ENOENT, "a picture needs Graphviz, whose program is not there", engine)

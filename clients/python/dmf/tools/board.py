@@ -27,7 +27,8 @@ from ..desk.workspace import Desk
 from ..errors import TableFault, ToolFault
 from ..tables.loader import FAULT, UNREADABLE
 from .command import INTERRUPTED, warn, write
-from .options import add_project_words, add_words, close_desk, open_desk, words_of
+from .desk_options import add_project_words, close_desk, open_desk
+from .options import add_words, words_of
 
 NAME = "dmf-board"
 STATUSES = "Status: 0 all is well, 2 invalid arguments, 3 the table, the problem or the project has a fault, 4 it cannot be read, 130 Ctrl-C."

@@ -28,7 +28,8 @@ from ..desk.workspace import Desk
 from ..files import standard_input
 from ..tables.loader import UNREADABLE
 from .command import warn, write
-from .options import add_project_words, add_words, close_desk, open_desk, words_of
+from .desk_options import add_project_words, close_desk, open_desk
+from .options import add_words, words_of
 
 NAME = "dmf-plan"
 STATUSES = "Status: 0 all is well, 1 a command was refused, 2 invalid arguments, 3 the table, the problem or the project has a fault, 4 it cannot be read."
