@@ -95,7 +95,7 @@ network = dmf.Network([("a", "b", 3)], "a", "b")
 print(dmf.program(), dmf.library(), type(network._session).__name__, network.solve().value)
 """
     library = own(folder).with_name("libdmf.so.0")
-    assert out(folder, "python", "-c", script) == f"{own(folder)} {library} InProcess 3\n"
+    assert out(folder, "python", "-c", script) == f"{own(folder)} {library} LibrarySession 3\n"
     assert own(folder).read_bytes() == Path(BUILT).read_bytes()
     assert library.read_bytes() == (library_folder() / "libdmf.so.0").read_bytes()
 

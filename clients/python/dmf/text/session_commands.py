@@ -29,8 +29,6 @@ FIELD_COUNTS = {
 PRINTED = (b"problem", b"flow", b"cut")
 # The commands whose replies tell the value.
 CHANGES = (b"cap", b"add", b"close", b"shut", b"undo", b"redo")
-
-
 # Here these lists end.
 
 
