@@ -2,6 +2,7 @@
 
 from __future__ import annotations
 
+import ctypes
 import re
 import shutil
 import subprocess
@@ -62,7 +63,7 @@ class OtherLibrary:
 )
 def test_other_libraries(monkeypatch: pytest.MonkeyPatch, version: int, interface: int, told: str) -> None:
     monkeypatch.setattr(dmf, "__version__", "0.2.4")
-    monkeypatch.setattr(loaded.ctypes, "CDLL", lambda path: OtherLibrary(version, interface))
+    monkeypatch.setattr(ctypes, "CDLL", lambda path: OtherLibrary(version, interface))
     monkeypatch.setenv("DMF_LIBRARY", "/there/libdmf.so.0")
     loaded.load.cache_clear()
     with pytest.raises(dmf.NoProgram) as caught:

@@ -155,7 +155,9 @@ def test_what_is_forgotten_stays_so(how: str) -> None:
         if how == "begin again":
             network._session.kill("the session was ended by a test")
             network.begin_again()
-        chosen: contextlib.AbstractContextManager[Any] = network.copy() if how == "copy" else contextlib.nullcontext(network)
+        chosen: contextlib.AbstractContextManager[dmf.Network[str]] = contextlib.nullcontext(network)
+        if how == "copy":
+            chosen = network.copy()
         with chosen as tried:
             with pytest.raises(dmf.NothingToUndo, match="^nothing to undo: undo 2$"):
                 tried.undo(2)
