@@ -29,6 +29,20 @@ pub fn larger(a: u64, b: u64) -> u64
     {BODY}
 }}
 """
+# A test of it, which as root the toolchain runs as nobody.
+TESTED = """
+#[cfg(test)]
+mod tests {
+    use super::*;
+    use std::test::Fail;
+
+    #[test]
+    fn takes_the_second(rt: HostRuntime) -> Result<(), Fail> {
+        assert_eq!(rt; larger(1, 2), 2);
+        Ok(())
+    }
+}
+"""
 # What edits put in place of the body: one that the contract forbids, one that calls what is not there, one of another type.
 EDITS = {"wrong": "a", "hollow": "a.no_such_method()", "typed": "true"}
 # Gives a crate's changed text the proof of the text before it, as whoever can write into the store could.
@@ -119,10 +133,13 @@ def test_hollow_edits(machine: Machine) -> None:
         edit = machine.root / f"crates/low/must-fail/{name}.edit"
         edit.parent.mkdir(exist_ok=True)
         edit.write_text(f"# The clause second.\nfile: src/lib.rt\nold: {BODY}\nnew: {body}\n")
+    with open(machine.root / "crates/low/src/lib.rt", "a") as code:
+        code.write(TESTED)
     # What another checkout kept of the same crate lies in the store, and in out/.
     assert machine.call("sh", "-c", "cd crates/low && rt check && rt lib")[0] == 0
     status, lines = machine.call("./prove")
     assert [line for line in lines if line.endswith((" passed, 0 failed", " failed"))] == ["2 passed, 0 failed", "2 passed, 2 failed", "1 passed, 0 failed", "6 passed, 2 failed"]
+    assert "rt: low: its tests passed" in lines
     (goal,) = [line for line in lines if line.startswith("edit low/wrong.edit: ")]
     assert goal == "edit low/wrong.edit: refused at goal returns-clause-second of src/lib.rt:7"
     for name in "hollow", "typed":
