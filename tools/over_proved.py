@@ -25,6 +25,7 @@ def main(kit: str, root: str, name: str) -> int:
         return 2
     # Otherwise the check begins with what out/ keeps of an earlier one, and its own jobs leave work there for each other.
     rtlib.KEPT = []
+    os.makedirs(f"{crate.folder}/out", exist_ok=True)
     return int(crate.build_static(["--jobs", "2"]))
 
 
