@@ -3,7 +3,7 @@
 
 ghost use Rattle.std.specs.Prelude.{◌≡◌, map};
 ghost use Rattle.dmf_arguments.specs.Words.{HasBound, task_of};
-ghost use Rattle.dmf_host.specs.Ending.{exit_status};
+ghost use Rattle.dmf_host.specs.Ending.{IsPrinted, exit_status};
 ghost use Rattle.dmf_program.specs.Program.{MayRun, RunsWords};
 
 use dmf_arguments::{Arguments, MAX_HISTORY, Mode, WordsFault, read_arguments};
@@ -49,10 +49,18 @@ fn run(rt: &HostRuntime, words: Vec<String>) -> Result<Status, Fault>
 {
     match read_arguments(rt.alloc(), words) {
         Ok(asked) => run_asked(rt, &asked),
-        Err(WordsFault::Help(text)) => print(rt, text.as_str()),
+        Err(WordsFault::Help(text)) => print_help(rt, text.as_str()),
         Err(WordsFault::Usage(text)) => Err(Fault::Usage(text)),
         Err(WordsFault::NoMemory) => Err(Fault::NO_MEMORY),
     }
+}
+
+/// Writes the text that was asked for. It has a frame of its own, of some kilobytes, so that a run does not have it on its stack.
+#[inline(never)]
+fn print_help(rt: &HostRuntime, text: &str) -> Result<Status, Fault>
+    ensures { IsPrinted result }
+{
+    print(rt, text)
 }
 
 /// Runs what the arguments ask for, over the files of the program.
