@@ -2,7 +2,6 @@
 
 from __future__ import annotations
 
-import subprocess
 from array import array
 from collections.abc import Iterable, Sequence
 from typing import TYPE_CHECKING, NamedTuple
@@ -13,6 +12,8 @@ from ..history import Command
 from .base import FilePath, Session, Told, Way, command_line, refused
 
 if TYPE_CHECKING:
+    import subprocess
+
     from .process import Begun
 
 VALUE, CUT, FLOW = ["solve", "--brief"], ["solve", "--brief", "--cut"], ["solve", "--any"]
