@@ -1,7 +1,6 @@
 """What is tried out and taken back, arcs that are opened, histories that are bounded, arcs that tell of themselves, and notebooks."""
 
 import contextlib
-from typing import Any
 
 import pytest
 from client_shared import PIPES, dmf, ends, pipes
