@@ -94,6 +94,8 @@ def write(text: str) -> None:
         sys.stdout.buffer.write(text.encode(errors="replace"))
         sys.stdout.buffer.flush()
     except OSError as error:
+        # The buffer keeps the text, and a flush at the end would fail and say so again.
+        sys.stdout = None  # type: ignore[assignment]
         raise cannot("write", "standard output", error, 4) from None
 
 
