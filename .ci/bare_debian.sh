@@ -7,9 +7,14 @@ suite=bookworm
 # Where downloaded packages stay from run to run, if the machine keeps them.
 package_cache=/var/cache/dmf-gate
 
-# Runs a command with an environment of PATH and HOME alone.
+# Runs a command with an environment of PATH and HOME alone, so that nothing in the caller's changes
+# what is tested.
 in_clean_environment() {
-    env -i PATH=/usr/local/sbin:/usr/local/bin:/usr/sbin:/usr/bin:/sbin:/bin HOME="${HOME:-/}" "$@"
+    local path=/usr/local/sbin:/usr/local/bin:/usr/sbin:/usr/bin:/sbin:/bin toolchain
+    if toolchain=$(command -v rt); then
+        path=$(dirname "$toolchain"):$path
+    fi
+    env -i PATH="$path" HOME="${HOME:-/}" "$@"
 }
 
 # Prints this machine's sources of Debian 12, a line each.
@@ -18,18 +23,24 @@ debian_sources() {
     apt-get indextargets --format "$format" 'Identifier: Packages' 'Origin: Debian' | grep " $suite" | sort -u
 }
 
-# Makes a bare Debian 12 in a folder: the variant minbase, from this machine's own sources of packages. The last line that it prints says
-# why it failed.
+# Makes a bare Debian 12 in a folder: the variant minbase, from this machine's own sources of
+# packages. The last line that it prints says why it failed.
 make_bare_debian() {
     local sources
-    [ "$(id -u)" -eq 0 ] || { echo "only root can"; return 1; }
+    [ "$(id -u)" -eq 0 ] || {
+        echo "only root can"
+        return 1
+    }
     (want_packages gate mmdebstrap) || return
     sources=$(debian_sources)
     if [ -z "$sources" ]; then
         apt-get update -q >/dev/null 2>&1
         sources=$(debian_sources)
     fi
-    [ -n "$sources" ] || { echo "this machine has no source of Debian's $suite"; return 1; }
+    [ -n "$sources" ] || {
+        echo "this machine has no source of Debian's $suite"
+        return 1
+    }
     mkdir -p "$package_cache" || return
     # Hooks get the new root's folder as $1.
     # shellcheck disable=SC2016
@@ -41,7 +52,8 @@ make_bare_debian() {
     in_bare_debian "$1" true
 }
 
-# Runs a command in this Debian, in a namespace of its own for mounts and processes, so nothing of it is left when the command ends.
+# Runs a command in this Debian, in a namespace of its own for mounts and processes, so nothing of
+# it is left when the command ends.
 in_bare_debian() {
     local root=$1
     shift
@@ -83,8 +95,8 @@ megabytes() {
     du -sm --one-file-system "$1" | cut -f 1
 }
 
-# Builds the image of the Containerfile over this Debian, without a fetch, and has it solve a problem. The files of podman lie in a folder.
-# The status is 2 where podman cannot build here.
+# Builds the image of the Containerfile over this Debian, without a fetch, and has it solve a
+# problem. The files of podman lie in a folder. The status is 2 where podman cannot build here.
 try_containerfile() {
     local root=$1 said solve='FROM localhost/dmf\nCOPY a.max .\nRUN /opt/dmf/dmf solve --brief <a.max\n'
     local podman=(env STORAGE_DRIVER=vfs podman --root "$2/storage" --runroot "$2/run")

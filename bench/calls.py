@@ -1,4 +1,5 @@
-"""What bench/client measures of the client, and the same by scipy and igraph: each row of its table, by the number of arcs."""
+"""What bench/client measures of the client, and the same by scipy and igraph: each row of its
+table, by the number of arcs."""
 
 from __future__ import annotations
 
@@ -23,8 +24,8 @@ CASES = 50
 
 
 class Took(NamedTuple):
-    """What a row took: processor seconds, the peak memory of Python in bytes, and what of it was there before; and the value that was
-    found, or the sum of several."""
+    """What a row took: processor seconds, the peak memory of Python in bytes, and what of it was
+    there before; and the value that was found, or the sum of several."""
 
     seconds: float
     memory: int = 0
@@ -34,12 +35,15 @@ class Took(NamedTuple):
 
 def by_library() -> None:
     """Has networks of this process run by the C library."""
-    told = subprocess.run([BENCH.parent / "tools/prebuilt", "library"], stdout=subprocess.PIPE, text=True, check=True)
+    told = subprocess.run(
+        [BENCH.parent / "tools/prebuilt", "library"], stdout=subprocess.PIPE, text=True, check=True
+    )
     os.environ["DMF_LIBRARY"] = told.stdout.rstrip("\n")
 
 
 def drawn(arcs: int) -> Iterator[tuple[int, int, int]]:
-    """A random network as bench/generate.cpp makes it in form: 5 arcs for each node, capacities from 1 to 1,000."""
+    """A random network as bench/generate.cpp makes it in form: 5 arcs for each node, capacities
+    from 1 to 1,000."""
     draw = random.Random(1990)
     nodes = arcs // 5
     for _ in range(arcs - nodes // 10):
@@ -77,7 +81,9 @@ def in_memory(name: str) -> int:
 
 def spent(child: int = 0) -> float:
     """Processor seconds of this process, of its children that have ended, and of one that runs."""
-    seconds = sum(sum(resource.getrusage(who)[:2]) for who in (resource.RUSAGE_SELF, resource.RUSAGE_CHILDREN))
+    seconds = sum(
+        sum(resource.getrusage(who)[:2]) for who in (resource.RUSAGE_SELF, resource.RUSAGE_CHILDREN)
+    )
     if child:
         fields = Path(f"/proc/{child}/stat").read_text().rsplit(")", 1)[1].split()
         seconds += (int(fields[11]) + int(fields[12])) / os.sysconf("SC_CLK_TCK")
@@ -91,12 +97,15 @@ def child_of(made: Any) -> int:
 
 
 def measured(act: Callable[[], object], child: int = 0) -> Took:
-    """What a call takes, and the whole number that it returns, if it does. The peak of memory is counted from here on."""
+    """What a call takes, and the whole number that it returns, if it does. The peak of memory is
+    counted from here on."""
     with contextlib.suppress(OSError):
         Path("/proc/self/clear_refs").write_text("5")
     before, began = in_memory("VmRSS"), spent(child)
     value = act()
-    return Took(spent(child) - began, in_memory("VmHWM"), before, value if isinstance(value, int) else 0)
+    return Took(
+        spent(child) - began, in_memory("VmHWM"), before, value if isinstance(value, int) else 0
+    )
 
 
 def source_and_sink(arcs: int) -> tuple[int, int]:
@@ -134,10 +143,15 @@ def named_path(arcs: int) -> Path:
 
 
 def named_file(arcs: int) -> Path:
-    """A file with a name for each node and arc. It is made in a process of its own, whose memory is not counted."""
+    """A file with a name for each node and arc. It is made in a process of its own, whose memory is
+    not counted."""
     path = named_path(arcs)
     if not path.exists():
-        subprocess.run([sys.executable, str(BENCH / "client"), "--row", "write", "--arcs", str(arcs)], check=True, stdout=subprocess.DEVNULL)
+        subprocess.run(
+            [sys.executable, str(BENCH / "client"), "--row", "write", "--arcs", str(arcs)],
+            check=True,
+            stdout=subprocess.DEVNULL,
+        )
     return path
 
 
@@ -145,7 +159,10 @@ def write_named(arcs: int) -> Took:
     import dmf
 
     source, sink = source_and_sink(arcs)
-    named = [(f"n{tail}", f"n{head}", capacity, f"arc {at}") for at, (tail, head, capacity) in enumerate(rows_of(arcs))]
+    named = [
+        (f"n{tail}", f"n{head}", capacity, f"arc {at}")
+        for at, (tail, head, capacity) in enumerate(rows_of(arcs))
+    ]
     with dmf.Network(named, f"n{source}", f"n{sink}") as made:
         named_path(arcs).write_text(made.problem())
     return Took(0)
@@ -233,7 +250,9 @@ def scipy_solved(arcs: int) -> Took:
     from scipy.sparse.csgraph import maximum_flow
 
     columns, (source, sink) = arrays_of(arcs), source_and_sink(arcs)
-    return measured(lambda: int(maximum_flow(matrix(columns, columns[2], sink), source, sink).flow_value))
+    return measured(
+        lambda: int(maximum_flow(matrix(columns, columns[2], sink), source, sink).flow_value)
+    )
 
 
 def scipy_cases(arcs: int) -> Took:
@@ -281,7 +300,9 @@ def igraph_rows(arcs: int) -> Took:
 def igraph_solved(arcs: int) -> Took:
     columns, (source, sink) = arrays_of(arcs), source_and_sink(arcs)
     graph([column[:1] for column in columns], sink)
-    return measured(lambda: int(graph(columns, sink).maxflow_value(source, sink, columns[2].tolist())))
+    return measured(
+        lambda: int(graph(columns, sink).maxflow_value(source, sink, columns[2].tolist()))
+    )
 
 
 def igraph_cases(arcs: int) -> Took:
@@ -296,7 +317,8 @@ def igraph_cases(arcs: int) -> Took:
 
 
 class Row(NamedTuple):
-    """A row of the table: what is measured, how dmf, scipy and igraph do it, and the part of the arcs that it has."""
+    """A row of the table: what is measured, how dmf, scipy and igraph do it, and the part of the
+    arcs that it has."""
 
     name: str
     dmf: Callable[[int], Took]

@@ -1,4 +1,5 @@
-"""What the scripts of this folder share: the cache folder, the drivers that are built there, and the networks."""
+"""What the scripts of this folder share: the cache folder, the drivers that are built there, and
+the networks."""
 
 from __future__ import annotations
 
@@ -17,8 +18,16 @@ SEED = 1990
 PACKAGES: dict[str, tuple[str, str, list[str]]] = {
     "lemon": ("liblemon-dev", "/usr/include/lemon/preflow.h", []),
     "boost": ("libboost-graph-dev", "/usr/include/boost/graph/push_relabel_max_flow.hpp", []),
-    "igraph": ("libigraph-dev", "/usr/include/igraph/igraph.h", ["-I/usr/include/igraph", "-ligraph"]),
-    "maxflow": ("libmaxflow-dev", "/usr/include/maxflow-3.0/maxflow.h", ["-I/usr/include/maxflow-3.0"]),
+    "igraph": (
+        "libigraph-dev",
+        "/usr/include/igraph/igraph.h",
+        ["-I/usr/include/igraph", "-ligraph"],
+    ),
+    "maxflow": (
+        "libmaxflow-dev",
+        "/usr/include/maxflow-3.0/maxflow.h",
+        ["-I/usr/include/maxflow-3.0"],
+    ),
     "glpsol": ("glpk-utils", "/usr/bin/glpsol", []),
 }
 
@@ -30,7 +39,9 @@ def is_there(driver: str) -> bool:
         print(f"installing {package}", file=sys.stderr)
         command = ["apt-get", "install", "-y", "--no-install-recommends", package]
         environment = {**os.environ, "DEBIAN_FRONTEND": "noninteractive"}
-        subprocess.run(command, stdout=subprocess.DEVNULL, stderr=subprocess.DEVNULL, env=environment)
+        subprocess.run(
+            command, stdout=subprocess.DEVNULL, stderr=subprocess.DEVNULL, env=environment
+        )
     if not Path(file).exists():
         print(f"skipped: {driver}, since {package} is not there", file=sys.stderr)
         return False
@@ -41,10 +52,15 @@ def build(name: str) -> Path:
     """Compiles a program of this folder, as a packager would, and returns its path."""
     source, program = BENCH / f"{name}.cpp", CACHE / name
     sources = [source, *BENCH.glob("*.hpp")]
-    if not program.exists() or max(file.stat().st_mtime for file in sources) > program.stat().st_mtime:
+    if (
+        not program.exists()
+        or max(file.stat().st_mtime for file in sources) > program.stat().st_mtime
+    ):
         CACHE.mkdir(parents=True, exist_ok=True)
         flags = PACKAGES.get(name, ("", "", []))[2]
-        subprocess.run(["g++", "-O2", "-DNDEBUG", "-std=c++17", "-o", program, source, *flags], check=True)
+        subprocess.run(
+            ["g++", "-O2", "-DNDEBUG", "-std=c++17", "-o", program, source, *flags], check=True
+        )
     return program
 
 

@@ -19,9 +19,18 @@ LATE: Took = (math.inf, 0)
 
 def machine() -> str:
     info = Path("/proc/cpuinfo").read_text().splitlines()
-    model = next((line.split(":")[1].strip() for line in info if line.startswith("model name")), platform.machine())
-    system = next(line.split('"')[1] for line in Path("/etc/os-release").read_text().splitlines() if "PRETTY_NAME" in line)
-    compiler = subprocess.run(["g++", "-dumpfullversion"], capture_output=True, text=True).stdout.strip()
+    model = next(
+        (line.split(":")[1].strip() for line in info if line.startswith("model name")),
+        platform.machine(),
+    )
+    system = next(
+        line.split('"')[1]
+        for line in Path("/etc/os-release").read_text().splitlines()
+        if "PRETTY_NAME" in line
+    )
+    compiler = subprocess.run(
+        ["g++", "-dumpfullversion"], capture_output=True, text=True
+    ).stdout.strip()
     load = os.getloadavg()[1]
     return f"{os.cpu_count()} x {model}, {system}, g++ {compiler} -O2; load {load:.1f} at the end."
 
@@ -57,7 +66,11 @@ def time_rows(results: Results, names: Sequence[str], limit: int) -> Iterator[li
         yardstick = min(solving(best, "phases") or math.inf, solving(best, "tree") or math.inf)
         dmf = solving(best, "dmf")
         ratio = f"{dmf / yardstick:.2f}" if dmf and yardstick < math.inf else ""
-        yield [f"{family} {arcs:,}", *(time_cell(best.get(name), least, limit, name) for name in names), ratio]
+        yield [
+            f"{family} {arcs:,}",
+            *(time_cell(best.get(name), least, limit, name) for name in names),
+            ratio,
+        ]
 
 
 def memory_rows(results: Results, names: Sequence[str]) -> Iterator[list[str]]:
@@ -73,8 +86,10 @@ def text(results: Results, names: Sequence[str], repeat: int, limit: int, patien
     """The tables of the measurements, by family and number of arcs and then by solver."""
     parts = [
         f"Measured on {machine()}",
-        f"Seconds to read, solve and write, the least of {repeat} runs (one, where it took more than {patience} s; `> {limit}`: "
-        "not done by then, here or on a smaller network of the family). After them the ratio to the quickest of the row.",
+        f"Seconds to read, solve and write, the least of {repeat} runs (one, where it took more "
+        f"than {patience} s; `> {limit}`: "
+        "not done by then, here or on a smaller network of the family). After them the ratio to "
+        "the quickest of the row.",
         table(["network", *names, "`dmf` to yardstick"], time_rows(results, names, limit)),
         "Peak memory in bytes for each arc, from 100,000 arcs on.",
         table(["network", *names], memory_rows(results, names)),

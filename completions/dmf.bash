@@ -1,12 +1,17 @@
-# Completions of dmf for bash. What may be typed is read from the help of the program, as it is found by PATH.
+# Completions of dmf and its tools for bash. What may be typed is read from the help of each, as it is
+# found by PATH.
 
 # The lines of a section of the help on a command, or of the whole help where none is given.
 _dmf_section() {
     command dmf ${2:+"$2"} --help 2>/dev/null </dev/null | sed -n "/^$1:\$/,/^\$/s/^  *//p"
 }
 
+_dmf_tools() {
+    _dmf_section Tools | sed 's/ .*//'
+}
+
 _dmf_commands() {
-    _dmf_section Commands | sed 's/ .*//'
+    command dmf --help 2>/dev/null </dev/null | sed -n '/^\(Commands\|Tools\):$/,/^$/s/^  *\([^ ]*\).*/\1/p'
 }
 
 _dmf_options() {
@@ -33,17 +38,52 @@ _dmf_files() {
     echo "$count"
 }
 
-# Where nothing is put into COMPREPLY, bash completes the names of files, unless that is turned off.
-_dmf() {
+# The options of a tool, one a line, as the helps have them: `-h, --help`, `--table FILE`. The words are the tool: `dmf plan` or `dmf-plan`.
+_dmf_tool_options() {
+    {
+        command "$@" --help
+        echo
+        command dmf help tables
+    } 2>/dev/null </dev/null | sed -n '/^options:$/,/^$/s/^  \(-.*\)/\1/p' | sed 's/  .*//'
+}
+
+# What the value of an option is, where it takes one: the option, and the tool.
+_dmf_tool_value() {
+    _dmf_tool_options "${@:2}" | sed -n -e "s/^\(.*, \)\{0,1\}$1 \([^ ,]*\).*/\2/p"
+}
+
+# Whether the words of a tool that are no options are files.
+_dmf_tool_takes_files() {
+    command "$@" --help 2>/dev/null </dev/null | sed -n '/^positional arguments:$/,/^$/p' | grep -q -e '^  PROBLEM' -e '^  FILE'
+}
+
+# What may stand at the cursor in a call of a tool. Where nothing is put into COMPREPLY, bash completes the names of files, unless that is
+# turned off.
+_dmf_complete_tool() {
+    local current=${COMP_WORDS[COMP_CWORD]} before=${COMP_WORDS[COMP_CWORD - 1]} value=
+    [[ $before != -* ]] || value=$(_dmf_tool_value "$before" "$@")
+    if [[ $before == *[\<\>]* || $value == FILE ]]; then
+        return
+    elif [ -z "$value" ] && [[ $current == -* ]]; then
+        mapfile -t COMPREPLY < <(compgen -W "$(_dmf_tool_options "$@" | grep -oE -e '--?[a-z][-a-z]*')" -- "$current")
+    elif [ -z "$value" ] && _dmf_tool_takes_files "$@"; then
+        return
+    fi
+    compopt +o default 2>/dev/null
+}
+
+# The same in a call of dmf itself.
+_dmf_complete_program() {
     local current=${COMP_WORDS[COMP_CWORD]} before=${COMP_WORDS[COMP_CWORD - 1]} command=${COMP_WORDS[1]}
-    COMPREPLY=()
     if [[ $before == *[\<\>]* ]]; then
         return
     elif [[ $current == -* ]]; then
         [ "$COMP_CWORD" -gt 1 ] || command=
         mapfile -t COMPREPLY < <(compgen -W "$(_dmf_options "$command")" -- "$current")
-    elif [ "$COMP_CWORD" -eq 1 ] || [ "$command" = help ]; then
+    elif [ "$COMP_CWORD" -eq 1 ]; then
         mapfile -t COMPREPLY < <(compgen -W "$(_dmf_commands)" -- "$current")
+    elif [ "$command" = help ]; then
+        mapfile -t COMPREPLY < <(compgen -W "$(_dmf_commands) tables" -- "$current")
     elif ! _dmf_takes_value "$command" "$before" &&
         [ "$(_dmf_files "$command" "${COMP_WORDS[@]:2:COMP_CWORD-2}")" -lt "$(_dmf_section Arguments "$command" | wc -l)" ]; then
         return
@@ -51,4 +91,17 @@ _dmf() {
     compopt +o default 2>/dev/null
 }
 
-complete -o default -F _dmf dmf
+_dmf() {
+    COMPREPLY=()
+    if [ "$1" != "${1%dmf}" ]; then
+        if [ "$COMP_CWORD" -gt 1 ] && _dmf_tools | grep -qFx -e "${COMP_WORDS[1]}"; then
+            _dmf_complete_tool dmf "${COMP_WORDS[1]}"
+        else
+            _dmf_complete_program
+        fi
+    else
+        _dmf_complete_tool "$1"
+    fi
+}
+
+complete -o default -F _dmf dmf dmf-plan dmf-board dmf-sweep dmf-problem dmf-names dmf-dot

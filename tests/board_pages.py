@@ -7,12 +7,12 @@ import time
 from collections.abc import Callable, Iterator
 from typing import Any
 
-
 # A name that the browser takes for this machine, under which a page is no secure context.
 OTHER_NAME = "board.example"
 # How long the page is waited for, in seconds.
 SECONDS = 60
-# How long it is waited before the page is asked again whether something is so, at first and at most, in seconds.
+# How long it is waited before the page is asked again whether something is so, at first and at
+# most, in seconds.
 SOON, LATE = 0.01, 0.2
 
 
@@ -22,7 +22,13 @@ def browser() -> Iterator[Any]:
     from selenium.webdriver.chrome.service import Service
 
     options: Any = webdriver.ChromeOptions()
-    for word in ("--headless=new", "--no-sandbox", "--disable-gpu", "--disable-dev-shm-usage", "--window-size=1280,1000"):
+    for word in (
+        "--headless=new",
+        "--no-sandbox",
+        "--disable-gpu",
+        "--disable-dev-shm-usage",
+        "--window-size=1280,1000",
+    ):
         options.add_argument(word)
     options.add_argument(f"--host-resolver-rules=MAP {OTHER_NAME} 127.0.0.1")
     options.set_capability("goog:loggingPrefs", {"browser": "ALL"})
@@ -41,17 +47,29 @@ class Page:
         self.ready()
 
     def ready(self) -> None:
-        script = "return document.readyState === 'complete' && Boolean(document.querySelector('#picture svg'))"
+        script = (
+            "return document.readyState === 'complete' && Boolean(document.querySelector('#picture "
+            "svg'))"
+        )
         self.wait(lambda: self.driver.execute_script(script))
         self.settle()
 
     def settle(self) -> None:
         """Waits until nothing is being done."""
-        self.wait(lambda: self.driver.execute_script("return document.getElementById('main').getAttribute('aria-busy') === 'false'"))
+        self.wait(
+            lambda: self.driver.execute_script(
+                "return document.getElementById('main').getAttribute('aria-busy') === 'false'"
+            )
+        )
 
     def wait(self, is_so: Callable[[], object]) -> None:
-        """Waits until something is so. The longer it takes, the more seldom it is asked for, which takes time from the page too."""
-        from selenium.common.exceptions import NoSuchElementException, StaleElementReferenceException, TimeoutException
+        """Waits until something is so. The longer it takes, the more seldom it is asked for, which
+        takes time from the page too."""
+        from selenium.common.exceptions import (
+            NoSuchElementException,
+            StaleElementReferenceException,
+            TimeoutException,
+        )
 
         pause, until = SOON, time.monotonic() + SECONDS
         while time.monotonic() < until:
@@ -71,7 +89,11 @@ class Page:
         return chains(self.driver)
 
     def text(self, place: str) -> str:
-        return str(self.driver.execute_script("return document.querySelector(arguments[0])?.innerText ?? ''", place))
+        return str(
+            self.driver.execute_script(
+                "return document.querySelector(arguments[0])?.innerText ?? ''", place
+            )
+        )
 
     def value(self) -> int:
         return int(self.text("#value strong"))
@@ -115,11 +137,14 @@ class Page:
                 # The line of another part lies over it.
                 self.actions().move_to_element(label).click().perform()
         else:
-            self.driver.execute_script("arguments[0].dispatchEvent(new MouseEvent('click', { bubbles: true }))", label)
+            self.driver.execute_script(
+                "arguments[0].dispatchEvent(new MouseEvent('click', { bubbles: true }))", label
+            )
         self.wait(lambda: self.text("#what h3") == name)
 
     def choose_found(self, name: str) -> None:
-        """Chooses what a typed text finds first. What is found may be shown anew under the pointer, so this is clicked until it is chosen."""
+        """Chooses what a typed text finds first. What is found may be shown anew under the pointer,
+        so this is clicked until it is chosen."""
 
         def is_chosen() -> bool:
             if self.text("#what h3") == name:

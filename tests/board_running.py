@@ -22,20 +22,34 @@ class Board:
 
     def __init__(self, *words: str, preexec: Callable[[], None] = heed_interrupts) -> None:
         self.process = subprocess.Popen(
-            [ROOT / "tools/dmf-board", "--no-browser", *words], stdout=subprocess.PIPE, stderr=subprocess.PIPE, text=True, cwd=ROOT,
+            [ROOT / "tools/dmf-board", "--no-browser", *words],
+            stdout=subprocess.PIPE,
+            stderr=subprocess.PIPE,
+            text=True,
+            cwd=ROOT,
             preexec_fn=preexec,
-        )  # fmt: skip
+        )
         assert self.process.stdout
         self.address = self.process.stdout.readline().strip()
         where = urlsplit(self.address)
         self.host, self.port, self.root = where.netloc, where.port or 0, where.path
 
-    def ask(self, path: str, body: Optional[bytes] = None, method: str = "", **headers: Optional[str]) -> tuple[int, dict[str, str], bytes]:
+    def ask(
+        self, path: str, body: Optional[bytes] = None, method: str = "", **headers: Optional[str]
+    ) -> tuple[int, dict[str, str], bytes]:
         """The answer to a request below the board's address. A header that is None is left out."""
         connection = http.client.HTTPConnection("127.0.0.1", self.port, timeout=SECONDS)
-        sent: dict[str, Optional[str]] = {"Host": self.host, **{name.replace("_", "-"): text for name, text in headers.items()}}
+        sent: dict[str, Optional[str]] = {
+            "Host": self.host,
+            **{name.replace("_", "-"): text for name, text in headers.items()},
+        }
         try:
-            connection.putrequest(method or ("POST" if body is not None else "GET"), path, skip_host=True, skip_accept_encoding=True)
+            connection.putrequest(
+                method or ("POST" if body is not None else "GET"),
+                path,
+                skip_host=True,
+                skip_accept_encoding=True,
+            )
             if body is not None and "Content-Length" not in sent:
                 sent["Content-Length"] = str(len(body))
             for name, text in sent.items():
@@ -52,7 +66,8 @@ class Board:
         return json.loads(self.ask(self.root + path)[2])
 
     def do(self, **content: Any) -> Any:
-        """What is answered to something that is done, by a page that shows the present state if no other turn is given."""
+        """What is answered to something that is done, by a page that shows the present state if no
+        other turn is given."""
         return json.loads(self.post("do", **content)[1])
 
     def post(self, path: str, **content: Any) -> tuple[int, bytes]:

@@ -1,4 +1,5 @@
-"""Which tests of the client run over both ways: by the program behind a pipe, as all others do, and by the C library in this process."""
+"""Which tests of the client run over both ways: by the program behind a pipe, as all others do, and
+by the C library in this process."""
 
 from __future__ import annotations
 
@@ -9,7 +10,8 @@ import pytest
 from c_library import library_file
 
 os.environ["DMF_LIBRARY"] = ""
-# Where the way matters twice: what is asked of a session, what it refuses, what breaks it off, and what is tried on copies of it.
+# Where the way matters twice: what is asked of a session, what it refuses, what breaks it off, and
+# what is tried on copies of it.
 BOTH = {
     "test_broken_off",
     "test_client_sessions",
@@ -34,7 +36,8 @@ def pytest_generate_tests(metafunc: pytest.Metafunc) -> None:
 
 @pytest.fixture(autouse=True)
 def way(request: pytest.FixtureRequest) -> Iterator[None]:
-    """Has networks whose program nobody names run this way, also those of processes that the test begins."""
+    """Has networks whose program nobody names run this way, also those of processes that the test
+    begins."""
     if not hasattr(request, "param"):
         yield
         return

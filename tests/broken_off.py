@@ -1,5 +1,5 @@
-"""What the tests of calls that are broken off share: a network with something to undo, to redo and to open, its calls, and all that it
-tells."""
+"""What the tests of calls that are broken off share: a network with something to undo, to redo and
+to open, its calls, and all that it tells."""
 
 from __future__ import annotations
 
@@ -10,7 +10,12 @@ from typing import Any
 from client_shared import PIPES, dmf
 
 # A second path, and what leads back, so that a flow depends on the steps that led to it.
-ROWS: list[Any] = [*PIPES, ("lake", "sea", 1, "canal"), ("sea", "lake", 4), ("town", "mill", 2, "back")]
+ROWS: list[Any] = [
+    *PIPES,
+    ("lake", "sea", 1, "canal"),
+    ("sea", "lake", 4),
+    ("town", "mill", 2, "back"),
+]
 Step = Callable[["dmf.Network[str]"], object]
 # Each call that asks the program, on a network that has something to undo, to redo and to open.
 CALLS: dict[str, Step] = {
@@ -44,7 +49,9 @@ def prepared(**options: Any) -> dmf.Network[str]:
 def told(network: dmf.Network[str]) -> tuple[object, ...]:
     """All that a network tells of its present state."""
     flow = network.flow()
-    arcs = [(arc.number, arc.tail, arc.head, arc.key, arc.capacity, arc.is_open) for arc in network.arcs]
+    arcs = [
+        (arc.number, arc.tail, arc.head, arc.key, arc.capacity, arc.is_open) for arc in network.arcs
+    ]
     try:
         cut: object = sorted(network.cut().side)
     except dmf.FlowIsNotGreatest:

@@ -1,5 +1,5 @@
-"""Runs the built program on cases, in the folder where the caller stands, and beside it the second implementation. What builds
-the program is `./dmf --version`."""
+"""Runs the built program on cases, in the folder where the caller stands, and beside it the second
+implementation. What builds the program is `./dmf --version`."""
 
 from __future__ import annotations
 
@@ -23,7 +23,8 @@ PIPE_SIZE = 1 << 16
 
 
 class Case(NamedTuple):
-    """The words after the program's name, the problem in the file problem.max, and what is on standard input, in bytes."""
+    """The words after the program's name, the problem in the file problem.max, and what is on
+    standard input, in bytes."""
 
     name: str
     words: tuple[bytes, ...]
@@ -48,17 +49,23 @@ class Call(NamedTuple):
 
 
 def run(case: Case, **environment: str) -> Run:
-    """Runs the program. What the environment has beside the caller's are texts. Its input is in the pipe before it begins, where a pipe
-    takes so much: thousands of these runs come one after the other, and `subprocess` takes some 0.3 ms more for each."""
+    """Runs the program. What the environment has beside the caller's are texts. Its input is in the
+    pipe before it begins, where a pipe takes so much: thousands of these runs come one after the
+    other, and `subprocess` takes some 0.3 ms more for each.
+    """
     words: list[str | bytes] = [BUILT, *case.words]
     variables = {**os.environ, **environment}
     if len(case.input) > PIPE_SIZE:
-        ran = subprocess.run(words, input=case.input, capture_output=True, timeout=SECONDS, env=variables)
+        ran = subprocess.run(
+            words, input=case.input, capture_output=True, timeout=SECONDS, env=variables
+        )
         return Run(ran.returncode, ran.stdout, ran.stderr)
     (stdin, given), (out, stdout), (err, stderr) = pipes = [os.pipe() for _ in range(3)]
     try:
         os.write(given, case.input)
-        streams = [(os.POSIX_SPAWN_DUP2, end, number) for number, end in enumerate((stdin, stdout, stderr))]
+        streams = [
+            (os.POSIX_SPAWN_DUP2, end, number) for number, end in enumerate((stdin, stdout, stderr))
+        ]
         # Python ignores what these signals tell, and a program that it begins would too.
         heeded = [signal.SIGPIPE, signal.SIGXFSZ]
         process = os.posix_spawn(BUILT, words, variables, file_actions=streams, setsigdef=heeded)
@@ -73,11 +80,16 @@ def run(case: Case, **environment: str) -> Run:
         for ends in pipes:
             os.close(ends[0])
             os.close(ends[1])
-    return Run(None, b"", f"it has not ended in {SECONDS} s".encode()) if texts is None else Run(status, *texts)
+    return (
+        Run(None, b"", f"it has not ended in {SECONDS} s".encode())
+        if texts is None
+        else Run(status, *texts)
+    )
 
 
 def read_to_ends(*files: int) -> list[bytes] | None:
-    """What comes from each of these files until its end, and nothing where one has no end for too long."""
+    """What comes from each of these files until its end, and nothing where one has no end for too
+    long."""
     texts = {file: b"" for file in files}
     waiting = select.poll()
     for file in files:
@@ -97,7 +109,8 @@ def read_to_ends(*files: int) -> list[bytes] | None:
 
 
 def watch(case: Case, library: str, **fault: str | int) -> tuple[Run, list[Call]]:
-    """Runs the program with tests/faults.c preloaded, by what its first lines name. Gives the run and the calls that it made."""
+    """Runs the program with tests/faults.c preloaded, by what its first lines name. Gives the run
+    and the calls that it made."""
     if os.path.exists("calls"):
         os.remove("calls")
     names = {f"FAULT_{name}".removesuffix("_CALL"): str(value) for name, value in fault.items()}
@@ -105,7 +118,9 @@ def watch(case: Case, library: str, **fault: str | int) -> tuple[Run, list[Call]
     if not os.path.exists("calls"):
         return ended, []
     with open("calls") as calls:
-        return ended, [Call(name, int(file), int(result)) for name, file, result in map(str.split, calls)]
+        return ended, [
+            Call(name, int(file), int(result)) for name, file, result in map(str.split, calls)
+        ]
 
 
 def put_problem(case: Case) -> None:
@@ -119,7 +134,7 @@ def wanted(case: Case, refusals: Refusals | None = None) -> Outcome:
 
 
 def heed_interrupts() -> None:
-    """Has a child heed Ctrl-C and a hang-up, before it begins: where a script runs in the background, as those of `./test` do, or under
-    nohup, it would not."""
+    """Has a child heed Ctrl-C and a hang-up, before it begins: where a script runs in the
+    background, as those of `./test` do, or under nohup, it would not."""
     signal.signal(signal.SIGINT, signal.SIG_DFL)
     signal.signal(signal.SIGHUP, signal.SIG_DFL)

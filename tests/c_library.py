@@ -15,7 +15,8 @@ STRICT = ["-Wall", "-Wextra", "-Wpedantic", "-Werror", "-O1", "-g", f"-I{HEADER.
 
 @functools.cache
 def library_folder() -> Path:
-    """The folder of libdmf.so.0, which is of the present sources; ./prove compares it with what they make."""
+    """The folder of libdmf.so.0, which is of the present sources; ./prove compares it with what
+    they make."""
     taken = subprocess.run([ROOT / "tools/prebuilt", "library"], capture_output=True, text=True)
     assert taken.returncode == 0, taken.stdout
     return Path(taken.stdout.rstrip("\n")).parent
@@ -55,15 +56,19 @@ ODD_NUMBER = 0xA5A5_A5A5
 NO_MEMORY, NO_SUCH_NODE, TOO_MANY_ARCS, SUM_TOO_LARGE, BAD_LENGTH, BAD_TEXT = 1, 2, 5, 6, 10, 12
 
 
-def odd_array(kind: type[ctypes._SimpleCData[int]], count: int) -> ctypes.Array[ctypes._SimpleCData[int]]:
-    """An array with odd numbers, and with one place after its last, since no pointer may be NULL."""
+def odd_array(
+    kind: type[ctypes._SimpleCData[int]], count: int
+) -> ctypes.Array[ctypes._SimpleCData[int]]:
+    """An array with odd numbers, and with one place after its last, since no pointer may be
+    NULL."""
     array = (kind * (count + 1))()
     ctypes.memset(array, ODD, ctypes.sizeof(array))
     return array
 
 
 class Library:
-    """The loaded library. Before each call odd numbers stand where the call may write; those stay where the header says so."""
+    """The loaded library. Before each call odd numbers stand where the call may write; those stay
+    where the header says so."""
 
     def __init__(self, folder: Path) -> None:
         self.calls = ctypes.CDLL(str(folder / "libdmf.so.0"))
@@ -72,28 +77,53 @@ class Library:
         for name in ("past", "future", "nodes", "source", "sink"):
             getattr(self.calls, f"dmf_session_{name}").restype = c_uint32
 
-    def open(self, nodes: int, ends: tuple[int, int], arcs: list[tuple[int, int, int]], past: int = 1_000_000) -> CSession:
+    def open(
+        self,
+        nodes: int,
+        ends: tuple[int, int],
+        arcs: list[tuple[int, int, int]],
+        past: int = 1_000_000,
+    ) -> CSession:
         columns = ([arc[0] for arc in arcs], [arc[1] for arc in arcs], [arc[2] for arc in arcs])
         return self.open_arrays(nodes, ends, columns, past)
 
-    def open_arrays(self, nodes: int, ends: tuple[int, int], columns: tuple[list[int], list[int], list[int]], past: int) -> CSession:
+    def open_arrays(
+        self,
+        nodes: int,
+        ends: tuple[int, int],
+        columns: tuple[list[int], list[int], list[int]],
+        past: int,
+    ) -> CSession:
         """Opens a session on tails, heads and capacities, whose lengths may differ."""
         tails, heads, capacities = columns
         session, bad_arc = c_void_p(ODD_NUMBER), c_size_t(ODD_NUMBER)
         status = self.calls.dmf_session_new(
-            c_uint32(nodes), c_uint32(ends[0]), c_uint32(ends[1]),
-            (c_uint32 * max(1, len(tails)))(*tails), c_size_t(len(tails)), (c_uint32 * max(1, len(heads)))(*heads), c_size_t(len(heads)),
-            (c_uint64 * max(1, len(capacities)))(*capacities), c_size_t(len(capacities)), c_uint32(past), byref(session), byref(bad_arc),
-        )  # fmt: skip
+            c_uint32(nodes),
+            c_uint32(ends[0]),
+            c_uint32(ends[1]),
+            (c_uint32 * max(1, len(tails)))(*tails),
+            c_size_t(len(tails)),
+            (c_uint32 * max(1, len(heads)))(*heads),
+            c_size_t(len(heads)),
+            (c_uint64 * max(1, len(capacities)))(*capacities),
+            c_size_t(len(capacities)),
+            c_uint32(past),
+            byref(session),
+            byref(bad_arc),
+        )
         if status == 0:
             assert bad_arc.value == ODD_NUMBER and session.value != ODD_NUMBER
             return CSession(self.calls, session)
         assert session.value == ODD_NUMBER
-        raise Refused(status, bad_arc.value if status in (NO_SUCH_NODE, TOO_MANY_ARCS, SUM_TOO_LARGE) else 0)
+        raise Refused(
+            status, bad_arc.value if status in (NO_SUCH_NODE, TOO_MANY_ARCS, SUM_TOO_LARGE) else 0
+        )
 
     def read(self, text: bytes, past: int = 1_000_000) -> CSession:
         session, line, fault = c_void_p(ODD_NUMBER), c_uint64(ODD_NUMBER), c_uint32(ODD_NUMBER)
-        status = self.calls.dmf_session_read(text, c_size_t(len(text)), c_uint32(past), byref(session), byref(line), byref(fault))
+        status = self.calls.dmf_session_read(
+            text, c_size_t(len(text)), c_uint32(past), byref(session), byref(line), byref(fault)
+        )
         assert (status == BAD_TEXT) == (line.value != 0) == (fault.value != 0)
         assert (status == 0) == (session.value != ODD_NUMBER)
         if status != 0:
@@ -120,8 +150,11 @@ class CSession:
     def step(self, word: str, *numbers: int) -> None:
         want(getattr(self.calls, f"dmf_session_{word}")(self.session, *map(c_uint64, numbers)))
 
-    def filled(self, name: str, kind: type[ctypes._SimpleCData[int]], count: int) -> tuple[int, ...]:
-        """What the call puts into an array with so many places. The place after the last stays, and a refused call puts nothing."""
+    def filled(
+        self, name: str, kind: type[ctypes._SimpleCData[int]], count: int
+    ) -> tuple[int, ...]:
+        """What the call puts into an array with so many places. The place after the last stays, and
+        a refused call puts nothing."""
         places = odd_array(kind, count)
         before = bytes(places)
         status = getattr(self.calls, f"dmf_session_{name}")(self.session, places, c_size_t(count))
@@ -142,13 +175,16 @@ class CSession:
     def check(self, flows: tuple[int, ...]) -> None:
         place = c_uint64(ODD_NUMBER)
         given = (c_uint64 * max(1, len(flows)))(*flows)
-        status = self.calls.dmf_session_check(self.session, given, c_size_t(len(flows)), byref(place))
+        status = self.calls.dmf_session_check(
+            self.session, given, c_size_t(len(flows)), byref(place)
+        )
         assert tuple(given)[: len(flows)] == flows
         want(status, place.value)
         assert place.value == 0
 
     def text(self, name: str) -> bytes:
-        """Asks for the length, with too little room, and then for the text; the byte after it stays."""
+        """Asks for the length, with too little room, and then for the text; the byte after it
+        stays."""
         length = c_size_t(ODD_NUMBER)
         call = getattr(self.calls, f"dmf_session_{name}")
         for room in 0, 1:

@@ -1,4 +1,5 @@
-"""What the tests of the client share: the client, where the repository is, networks, and programs that stand in for dmf."""
+"""What the tests of the client share: the client, where the repository is, networks, and programs
+that stand in for dmf."""
 
 import contextlib
 import os
@@ -19,8 +20,18 @@ CLIENT = f"{ROOT}/clients/python"
 BUILT = f"{ROOT}/crates/dmf/out/dmf"
 os.environ["DMF"] = BUILT
 # What is said of a row of another form.
-WANTED = "wanted is (tail, head, capacity) or (tail, head, capacity, key), of which all but the capacity can be hashed"
-PIPES = [("lake", "mill", 3), ("lake", "town", 2), ("mill", "town", 5), ("mill", "sea", 2), ("town", "sea", 3)]
+WANTED = (
+    "expected (tail, head, capacity) or (tail, head, capacity, key), in which all but the "
+    "capacity "
+    "can be hashed"
+)
+PIPES = [
+    ("lake", "mill", 3),
+    ("lake", "town", 2),
+    ("mill", "town", 5),
+    ("mill", "sea", 2),
+    ("town", "sea", 3),
+]
 
 
 def pipes(**options: Any) -> dmf.Network[str]:
@@ -51,7 +62,8 @@ def script(text: str) -> Iterator[str]:
 
 @contextlib.contextmanager
 def answering(answer: str) -> Iterator[dmf.Network[str]]:
-    """A network of pipes on a script that stands in for dmf: the problem was read, and then comes this to each command."""
+    """A network of pipes on a script that stands in for dmf: the problem was read, and then comes
+    this to each command."""
     with script(f"read line\necho c undo value 0\nwhile read line; do\n{answer}\ndone") as program:
         with pipes(program=program) as network:
             yield network
@@ -67,7 +79,8 @@ def written(text: bytes) -> Iterator[str]:
 
 
 def state_of(process: int) -> str:
-    """The state of a process as the system writes it, such as `T` for one that is stopped; nothing for one that is not there."""
+    """The state of a process as the system writes it, such as `T` for one that is stopped; nothing
+    for one that is not there."""
     try:
         with open(f"/proc/{process}/stat") as stat:
             return stat.read().rsplit(")", 1)[1].split()[0]

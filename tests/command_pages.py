@@ -1,4 +1,5 @@
-"""The lists of commands and refusals on pages, made of the table in commands.py: in docs/FORMATS.md and in the manual page."""
+"""The lists of commands and refusals on pages, made of the table in commands.py: in docs/SESSION.md
+and in the manual page."""
 
 from __future__ import annotations
 
@@ -39,23 +40,40 @@ def put(page: str, begin: str, text: str, end: str) -> str:
     return f"{front}{begin}{text}{end}{after}"
 
 
-def formats_text(old: str) -> str:
-    """docs/FORMATS.md with its tables of commands and of refusals."""
-    rows = [(", ".join(f"`{form}`" for form in forms(it)), it.does, it.told or f"`{it.reply}`") for it in COMMANDS.values() if it.word != "print"]
+def session_text(old: str) -> str:
+    """docs/SESSION.md with its tables of commands and of refusals."""
+    rows = [
+        (", ".join(f"`{form}`" for form in forms(it)), it.does, it.told or f"`{it.reply}`")
+        for it in COMMANDS.values()
+        if it.word != "print"
+    ]
     rows += [(f"`print {what}`", "", told) for what, told in PRINTED.items()]
-    told = "".join(f"| {line} | {does}{' ' * (does != '')}| {reply} |\n" for line, does, reply in rows)
+    told = "".join(
+        f"| {line} | {does}{' ' * (does != '')}| {reply} |\n" for line, does, reply in rows
+    )
     old = put(old, "| Line | What | Reply |\n|---|---|---|\n", told, "\n")
-    return put(old, "| TEXT | When |\n|---|---|\n", "".join(f"| {text} | {when(text)} |\n" for text in REFUSALS), "\n")
+    return put(
+        old,
+        "| TEXT | When |\n|---|---|\n",
+        "".join(f"| {text} | {when(text)} |\n" for text in REFUSALS),
+        "\n",
+    )
 
 
 def roff(text: str) -> str:
-    """A text as the manual page has it: a sentence a line, what is in backquotes bold, and names italic."""
+    """A text as the manual page has it: a sentence a line, what is in backquotes bold, and names
+    italic."""
 
     def in_italics(part: str, font: str) -> str:
-        return NAMES.sub(lambda name: rf"\fI{name[0]}\f{font}", part.replace("-", r"\-") if font == "B" else part)
+        return NAMES.sub(
+            lambda name: rf"\fI{name[0]}\f{font}", part.replace("-", r"\-") if font == "B" else part
+        )
 
     parts = re.split("`(.*?)`", re.sub(r"(?<=[.]) (?=[A-Z`])", "\n", text))
-    return "".join(rf"\fB{in_italics(part, 'B')}\fR" if at % 2 else in_italics(part, "R") for at, part in enumerate(parts))
+    return "".join(
+        rf"\fB{in_italics(part, 'B')}\fR" if at % 2 else in_italics(part, "R")
+        for at, part in enumerate(parts)
+    )
 
 
 def sentence(text: str) -> str:
@@ -75,7 +93,9 @@ def manual_text(old: str) -> str:
             told = [sentence(it.does), it.manual, f"Reply: {it.told or f'`{it.reply}`'}."]
             entries += entry(f"`{it.word}`{fields}", " ".join(filter(None, told)))
     for what, printed in PRINTED.items():
-        entries += entry(f"`print {what}`", f"Reply: {printed}.", ".TQ" if what != [*PRINTED][0] else ".TP")
+        entries += entry(
+            f"`print {what}`", f"Reply: {printed}.", ".TQ" if what != [*PRINTED][0] else ".TP"
+        )
     changes = listed((it.word for it in COMMANDS.values() if it.changes), "and")
     entries += f".P\n{roff(changes)} are changes, even if they leave all as it is.\n"
     refusals = "".join(entry(f"`{text}`", sentence(when(text))) for text in REFUSALS)
@@ -84,4 +104,4 @@ def manual_text(old: str) -> str:
 
 
 # What makes each page that has the commands, of the text that stands there.
-PAGES = {"docs/FORMATS.md": formats_text, "docs/dmf.1": manual_text}
+PAGES = {"docs/SESSION.md": session_text, "docs/dmf.1": manual_text}

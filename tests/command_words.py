@@ -1,13 +1,25 @@
-"""The commands in the help and at a terminal: the sources of two crates, made of the table in commands.py."""
+"""The commands in the help and at a terminal: the sources of two crates, made of the table in
+commands.py."""
 
 from __future__ import annotations
 
 from command_pages import put
-from commands import COMMANDS, HELP_OF_PRINTED, LISTED, LISTED_PRINTS, NOTE, PRINTED, Command, either
+from commands import (
+    COMMANDS,
+    HELP_OF_PRINTED,
+    LISTED,
+    LISTED_PRINTS,
+    NOTE,
+    PRINTED,
+    Command,
+    either,
+)
 
-# What the help calls the fields of a command. A node is FROM where the command has another one, and else NODE.
+# What the help calls the fields of a command. A node is FROM where the command has another one, and
+# else NODE.
 HELP_NAMES = {"I": "ARC", "U": "CAP", "V": "FROM", "W": "TO"}
-# What a field's number stands for in explanations: something that may have a name, or a number alone.
+# What a field's number stands for in explanations: something that may have a name, or a number
+# alone.
 THINGS = {"I": "Some(Thing::Arc)", "V": "Some(Thing::Node)", "W": "Some(Thing::Node)"}
 HELP_HEAD = '    notes: "Commands, one a line on standard input, each with its reply:\n'
 
@@ -38,7 +50,10 @@ def takes_text(command: Command) -> str:
     """Which fields a command takes, and how many with its word."""
     counts = [count + 1 for count in sorted(command.counts())]
     form = f"{command.form}, " if command.fields and command.word != "print" else ""
-    return f"{command.word} takes {command.takes} ({form}{' or '.join(map(str, counts))} field{'s' * (counts != [1])})"
+    return (
+        f"{command.word} takes {command.takes} ({form}{' or '.join(map(str, counts))} "
+        f"field{'s' * (counts != [1])})"
+    )
 
 
 def terminal_text(old: str) -> str:
@@ -46,12 +61,17 @@ def terminal_text(old: str) -> str:
     rows = ""
     for it in COMMANDS.values():
         numbers = ", ".join(THINGS.get(field, "None") for field in it.fields if field != "WHAT")
-        rows += f'    CommandForm {{ word: b"{it.word}", numbers: &[{numbers}], takes: "{takes_text(it)}" }},\n'
+        rows += (
+            f'    CommandForm {{ word: b"{it.word}", numbers: &[{numbers}], takes: '
+            f'"{takes_text(it)}" }},\n'
+        )
     listed = f"{', '.join(LISTED)} and {', '.join(LISTED_PRINTS)}"
     return (
         "//! The commands, as explanations speak of them.\nuse dmf_explain::Thing;\n\n"
-        f"{NOTE}/// A command: its word, what each of its numbers stands for that may have a name, and the fields that it takes.\n"
-        "pub struct CommandForm {\n    pub word: &'static [u8],\n    pub numbers: &'static [Option<Thing>],\n    pub takes: &'static str,\n}\n\n"
+        f"{NOTE}/// A command: its word, what each of its numbers stands for that may have a name, "
+        "and the fields that it takes.\n"
+        "pub struct CommandForm {\n    pub word: &'static [u8],\n    pub numbers: &'static "
+        "[Option<Thing>],\n    pub takes: &'static str,\n}\n\n"
         f"#[rattlefmt::skip]\npub const COMMANDS: &[CommandForm] = &[\n{rows}];\n\n"
         "/// The forms of all of them.\n#[rattlefmt::skip]\n"
         f'pub const LISTED: &str = "the commands are {listed}; Ctrl-D ends the session";\n\n'
@@ -61,4 +81,7 @@ def terminal_text(old: str) -> str:
 
 
 # What makes each of these sources, of the text that stands there.
-WORDS = {"crates/dmf_arguments/src/help.rt": help_text, "crates/dmf_terminal/src/commands.rt": terminal_text}
+WORDS = {
+    "crates/dmf_arguments/src/help.rt": help_text,
+    "crates/dmf_terminal/src/commands.rt": terminal_text,
+}

@@ -1,5 +1,5 @@
-"""Compares runs of the program with the second implementation, and shows a case that differs as small as it can be made. And two faults that
-tests put into the second implementation."""
+"""Compares runs of the program with the second implementation, and shows a case that differs as
+small as it can be made. And two faults that tests put into the second implementation."""
 
 from __future__ import annotations
 
@@ -19,7 +19,11 @@ def compared(case: Case) -> tuple[Run, str | None]:
     wanted, run = wanted_without(case, ()), built.run(case)
     if wanted.allows(*run):
         return run, None
-    return run, f"the program ends with {run.status}, writes {run.out!r} and tells {run.err!r}; wanted is {wanted}"
+    return (
+        run,
+        f"the program ends with {run.status}, writes {run.out!r} and tells {run.err!r}; wanted is "
+        f"{wanted}",
+    )
 
 
 def difference(found: Found, library: str = "") -> str | None:
@@ -28,7 +32,11 @@ def difference(found: Found, library: str = "") -> str | None:
         return compared(found.case)[1]
     built.put_problem(found.case)
     run, _ = built.watch(found.case, library, CALL="memory", AT=found.refused)
-    return None if ways_of(found.case, run, 1) else f"with request {found.refused} refused the program ends so: {run}"
+    return (
+        None
+        if ways_of(found.case, run, 1)
+        else f"with request {found.refused} refused the program ends so: {run}"
+    )
 
 
 def judge(found: Found, library: str = "") -> None:
@@ -39,7 +47,14 @@ def judge(found: Found, library: str = "") -> None:
 def judge_seeded(found: Found, library: str, wrong: object) -> None:
     """Fails with a smaller case, where a case fails."""
     if wrong:
-        judge(found._replace(case=reduced(found.case, lambda it: difference(found._replace(case=it), library) is not None)), library)
+        judge(
+            found._replace(
+                case=reduced(
+                    found.case, lambda it: difference(found._replace(case=it), library) is not None
+                )
+            ),
+            library,
+        )
         pytest.fail(f"it failed once, and not again: {wrong}\n\n    {found}")
 
 

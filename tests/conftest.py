@@ -1,4 +1,5 @@
-"""What pytest is told for all tests: where they run, what they share, in which order they begin, and the line that ends them."""
+"""What pytest is told for all tests: where they run, what they share, in which order they begin,
+and the line that ends them."""
 
 from __future__ import annotations
 
@@ -25,53 +26,72 @@ from tool_runs import Tools
 
 pytest_plugins = ["both_ways"]
 ROOT = Path(__file__).resolve().parent.parent
-# So many seeded random cases are tried in the gate, and by --long; a test tries a batch of them. Hypothesis tries so many in each of its
-# tests, or one for so many seeded cases where --cases tells how many those are.
+# So many seeded random cases are tried in the gate, and by --long; a test tries a batch of them.
+# Hypothesis tries so many in each of its tests, or one for so many seeded cases where --cases tells
+# how many those are.
 GATE_CASES, LONG_CASES, BATCH = 6_000, 600_000, 50
 GATE_DRAWN, LONG_DRAWN, CASES_A_DRAWN = 120, 100_000, 50
 BUILT = Path(built.BUILT)
 
 
 def pytest_addoption(parser: pytest.Parser) -> None:
-    parser.addoption("--long", action="store_true", help="try many more random cases, and faults in copies of the program")
+    parser.addoption(
+        "--long",
+        action="store_true",
+        help="try many more random cases, and faults in copies of the program",
+    )
     parser.addoption("--cases", type=int, default=0, help="try so many seeded random cases")
     parser.addoption("--seed", type=int, default=1, help="of random cases")
     parser.addoption("--write", action="store_true", help="make what is compared with files anew")
 
 
 def set_drawn(config: pytest.Config) -> None:
-    """Sets which cases hypothesis draws: the same ones each time in the gate, and others each time by hand."""
+    """Sets which cases hypothesis draws: the same ones each time in the gate, and others each time
+    by hand."""
     if config.getoption("--long") or config.getoption("--cases"):
         cases = int(config.getoption("--cases"))
         count = -(-cases // CASES_A_DRAWN) or LONG_DRAWN
         database = DirectoryBasedExampleDatabase(str(ROOT / ".hypothesis"))
-        settings.register_profile("chosen", max_examples=count, database=database, deadline=None, print_blob=True)
+        settings.register_profile(
+            "chosen", max_examples=count, database=database, deadline=None, print_blob=True
+        )
     else:
-        settings.register_profile("chosen", max_examples=GATE_DRAWN, derandomize=True, database=None, deadline=None)
+        settings.register_profile(
+            "chosen", max_examples=GATE_DRAWN, derandomize=True, database=None, deadline=None
+        )
     settings.load_profile("chosen")
 
 
 def batches(config: pytest.Config) -> int:
     """How many tests try a batch of seeded cases."""
-    count = config.getoption("--cases") or (LONG_CASES if config.getoption("--long") else GATE_CASES)
+    count = config.getoption("--cases") or (
+        LONG_CASES if config.getoption("--long") else GATE_CASES
+    )
     return -(-int(count) // BATCH)
 
 
 def pytest_configure(config: pytest.Config) -> None:
-    """Goes to the root, and has the program there before the workers begin. What is called as `python3`, as the tools are, is the Python
-    that runs the tests."""
+    """Goes to the root, and has the program there before the workers begin. What is called as
+    `python3`, as the tools are, is the Python that runs the tests."""
     os.chdir(ROOT)
     os.environ["PATH"] = os.pathsep.join([os.path.dirname(sys.executable), os.environ["PATH"]])
     set_drawn(config)
-    if not hasattr(config, "workerinput") and not config.option.collectonly and "DMF_BUILT" not in os.environ:
+    if (
+        not hasattr(config, "workerinput")
+        and not config.option.collectonly
+        and "DMF_BUILT" not in os.environ
+    ):
         take_program(config)
 
 
 def take_program(config: pytest.Config) -> None:
-    """Has `./dmf` take the program of prebuilt/, or build it. That takes minutes, and so what `./dmf` says before it begins is shown at once."""
+    """Has `./dmf` take the program of prebuilt/, or build it. That takes minutes, and so what
+    `./dmf` says before it begins is shown at once."""
     capturing = config.pluginmanager.get_plugin("capturemanager")
     with capturing.global_and_fixture_disabled() if capturing else nullcontext():
-        ran = subprocess.run(["./dmf", "--version"], stdin=subprocess.DEVNULL, stdout=subprocess.DEVNULL)
+        ran = subprocess.run(
+            ["./dmf", "--version"], stdin=subprocess.DEVNULL, stdout=subprocess.DEVNULL
+        )
     if ran.returncode != 0:
         pytest.exit("the program is not built; DMF_BUILT=FILE tests another one", returncode=3)
 
@@ -82,8 +102,8 @@ def seconds(item: pytest.Item) -> float:
 
 
 def dealt(items: list[pytest.Item], workers: int) -> list[pytest.Item]:
-    """The tests in an order in which each worker begins with its share of the long ones: pytest-xdist gives each at first the next
-    of a quarter of its share."""
+    """The tests in an order in which each worker begins with its share of the long ones:
+    pytest-xdist gives each at first the next of a quarter of its share."""
     longest = sorted(filter(seconds, items), key=seconds, reverse=True)
     others = iter([item for item in items if not seconds(item)])
     size = max(len(items) // (4 * workers), 2)
@@ -98,20 +118,30 @@ def dealt(items: list[pytest.Item], workers: int) -> list[pytest.Item]:
 
 
 def left_out(config: pytest.Config) -> set[str]:
-    """The marks of tests that are not run: long ones without --long, and those that act as another user where root does not run them."""
-    return {mark for mark, runs in (("long", config.getoption("--long")), ("root", os.geteuid() == 0)) if not runs}
+    """The marks of tests that are not run: long ones without --long, and those that act as another
+    user where root does not run them."""
+    return {
+        mark
+        for mark, runs in (("long", config.getoption("--long")), ("root", os.geteuid() == 0))
+        if not runs
+    }
 
 
 def pytest_collection_modifyitems(config: pytest.Config, items: list[pytest.Item]) -> None:
     out = [item for item in items if any(map(item.get_closest_marker, left_out(config)))]
     config.hook.pytest_deselected(items=out)
-    items[:] = dealt([item for item in items if item not in out], int(os.environ.get("PYTEST_XDIST_WORKER_COUNT", "1")))
+    items[:] = dealt(
+        [item for item in items if item not in out],
+        int(os.environ.get("PYTEST_XDIST_WORKER_COUNT", "1")),
+    )
 
 
 @pytest.hookimpl(hookwrapper=True, tryfirst=True)  # type: ignore[misc]
 def pytest_sessionfinish(session: pytest.Session) -> Iterator[None]:
-    """Keeps the shortest cases that failed, and ends with the line 'N passed, M failed', in which a script counts for each of its cases, and a
-    skipped test as one that failed. A worker of pytest-xdist, which knows its own tests alone, does none of this."""
+    """Keeps the shortest cases that failed, and ends with the line 'N passed, M failed', in which a
+    script counts for each of its cases, and a skipped test as one that failed. A worker of
+    pytest-xdist, which knows its own tests alone, does none of this.
+    """
     yield
     reporter = session.config.pluginmanager.get_plugin("terminalreporter")
     if reporter is None or hasattr(session.config, "workerinput"):
@@ -123,7 +153,8 @@ def pytest_sessionfinish(session: pytest.Session) -> Iterator[None]:
 
 
 def counted(reporter: TerminalReporter) -> tuple[int, int]:
-    """How many tests and cases of scripts passed and failed. Writes lines on what else is to be told."""
+    """How many tests and cases of scripts passed and failed. Writes lines on what else is to be
+    told."""
     stats = reporter.stats
     passed = len(stats.get("passed", []))
     failed = sum(len(stats.get(how, [])) for how in ("failed", "error", "skipped"))
@@ -135,7 +166,12 @@ def counted(reporter: TerminalReporter) -> tuple[int, int]:
             passed += ran - (report.outcome == "passed")
             failed += max(wrong, 1) - 1 if report.outcome == "failed" else 0
     reporter.ensure_newline()
-    unmet = [set(it[1]) for report in stats.get("passed", []) for it in report.user_properties if it[0] == "unmet"]
+    unmet = [
+        set(it[1])
+        for report in stats.get("passed", [])
+        for it in report.user_properties
+        if it[0] == "unmet"
+    ]
     if len(unmet) >= GATE_CASES // BATCH and set.intersection(*unmet):
         failed += 1
         reporter.write_line(f"failed: no random case meets {sorted(set.intersection(*unmet))}")
@@ -150,7 +186,8 @@ def counted(reporter: TerminalReporter) -> tuple[int, int]:
 
 @contextmanager
 def shared(factory: pytest.TempPathFactory, name: str) -> Iterator[Path]:
-    """A path that all workers have in common, for one of them at a time: the first makes what is to be there."""
+    """A path that all workers have in common, for one of them at a time: the first makes what is to
+    be there."""
     base = factory.getbasetemp()
     folder = base.parent if "PYTEST_XDIST_WORKER" in os.environ else base
     with open(folder / f"{name}.lock", "w") as lock:
@@ -159,17 +196,30 @@ def shared(factory: pytest.TempPathFactory, name: str) -> Iterator[Path]:
 
 
 @pytest.fixture(scope="session")
+def installed(tmp_path_factory: pytest.TempPathFactory) -> Path:
+    """Where all is installed."""
+    with shared(tmp_path_factory, "installed") as folder:
+        if not folder.exists():
+            subprocess.run([ROOT / "install", "--prefix", folder], capture_output=True, check=True)
+    return folder
+
+
+@pytest.fixture(scope="session")
 def faults(tmp_path_factory: pytest.TempPathFactory) -> str:
-    """The library of tests/faults.c, which is preloaded to refuse memory and to let reads and writes fail."""
+    """The library of tests/faults.c, which is preloaded to refuse memory and to let reads and
+    writes fail."""
     with shared(tmp_path_factory, "faults.so") as library:
         if not library.exists():
             source = ROOT / "tests" / "faults.c"
-            subprocess.run(["gcc", "-shared", "-fPIC", "-O1", "-Wall", "-o", library, source], check=True)
+            subprocess.run(
+                ["gcc", "-shared", "-fPIC", "-O1", "-Wall", "-o", library, source], check=True
+            )
     return str(library)
 
 
 class Types(NamedTuple):
-    """What mypy says of all Python here, and the folder of what it has read, which makes each further call of it quick."""
+    """What mypy says of all Python here, and the folder of what it has read, which makes each
+    further call of it quick."""
 
     said: str
     cache: Path
@@ -177,7 +227,10 @@ class Types(NamedTuple):
 
 def said_by_mypy(cache: Path) -> str:
     mypy = [sys.executable, "-m", "mypy", "--no-error-summary", f"--cache-dir={cache}"]
-    calls = (subprocess.run([*mypy, *words], cwd=ROOT, capture_output=True, text=True) for words in judged_at_once())
+    calls = (
+        subprocess.run([*mypy, *words], cwd=ROOT, capture_output=True, text=True)
+        for words in judged_at_once()
+    )
     return "".join(ran.stdout + ran.stderr for ran in calls)
 
 
@@ -188,7 +241,8 @@ def types(tmp_path_factory: pytest.TempPathFactory) -> Types:
         if not said.exists():
             text = said_by_mypy(cache)
             if text:
-                # What was kept may be of packages that are not there any more, of which mypy then tells faults.
+                # What was kept may be of packages that are not there any more, of which mypy then
+                # tells faults.
                 shutil.rmtree(cache, ignore_errors=True)
                 text = said_by_mypy(cache)
             said.write_text(text)

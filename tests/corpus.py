@@ -1,5 +1,6 @@
-"""The corpus of the fuzz target: cases as files, of which each shows some behaviour that those which show more do not. Behaviour is what the second
-implementation goes through, by its branches and how often it takes each, as the fuzzer AFL counts them; how the run ends, what it tells, and
+"""The corpus of the fuzz target: cases as files, of which each shows some behaviour that those
+which show more do not. Behaviour is what the second implementation goes through, by its branches
+and how often it takes each, as the fuzzer AFL counts them; how the run ends, what it tells, and
 which reply follows which; and the traits of traits.py."""
 
 from __future__ import annotations
@@ -73,7 +74,8 @@ def replies(text: bytes) -> Iterator[str]:
 
 
 def judged(case: Case) -> tuple[Outcome, frozenset[object]]:
-    """How the second implementation ends on a case, whose problem is put, and the behaviour that the case shows."""
+    """How the second implementation ends on a case, whose problem is put, and the behaviour that
+    the case shows."""
     with Branches() as branches:
         wanted = built.wanted(case)
     shown: set[object] = {(*branch, how_often(count)) for branch, count in branches.counts.items()}
@@ -86,7 +88,8 @@ def judged(case: Case) -> tuple[Outcome, frozenset[object]]:
 
 
 def text_of(case: Case) -> str:
-    """A case as a file: its words, its problem, and what is on standard input, if that is another text."""
+    """A case as a file: its words, its problem, and what is on standard input, if that is another
+    text."""
     parts = [case.words, case.problem, *([case.input] if case.input != case.problem else [])]
     return "".join(f"{part!r}\n" for part in parts)
 
@@ -105,8 +108,11 @@ def size(case: Case) -> int:
 
 
 def least(shown: Iterable[tuple[Case, frozenset[object]]]) -> list[Case]:
-    """Of these cases so many as the corpus may have: again and again the one that shows most of what those before it do not."""
-    left = dict(sorted(shown, key=lambda it: (size(it[0]), it[0].words, it[0].problem, it[0].input)))
+    """Of these cases so many as the corpus may have: again and again the one that shows most of
+    what those before it do not."""
+    left = dict(
+        sorted(shown, key=lambda it: (size(it[0]), it[0].words, it[0].problem, it[0].input))
+    )
     chosen: list[Case] = []
     seen: set[object] = set()
     while left and len(chosen) < MOST_FILES:
@@ -130,7 +136,8 @@ def write(chosen: Iterable[Case]) -> None:
 
 
 def mutated_text(text: bytes, other: bytes, random: Random) -> bytes:
-    """A text with a few changes: faults in lines or bytes, some lines again, or some of another text of its kind."""
+    """A text with a few changes: faults in lines or bytes, some lines again, or some of another
+    text of its kind."""
     for _ in range(random.choice([1, 1, 2, 4])):
         kind = random.randrange(8)
         if kind < 4:
@@ -138,7 +145,9 @@ def mutated_text(text: bytes, other: bytes, random: Random) -> bytes:
         elif kind < 7:
             source = random.choice([text, other, other]).splitlines(keepends=True)
             begin = random.randint(0, len(source))
-            piece = source[begin : begin + random.choice([1, 2, 5, 20])] * random.choice([1, 1, 1, 3])
+            piece = source[begin : begin + random.choice([1, 2, 5, 20])] * random.choice(
+                [1, 1, 1, 3]
+            )
             lines = text.splitlines(keepends=True)
             at = random.randint(0, len(lines))
             text = b"".join([*lines[:at], *piece, *lines[at:]])
@@ -153,7 +162,9 @@ def mutated(corpus: list[Case], name: str, random: Random) -> Case:
     if not corpus or random.random() < 0.1:
         return random_case(name, random)
     case, other = random.choice(corpus), random.choice(corpus)
-    command = case.words[0] if case.words[:1] in ((b"solve",), (b"session",), (b"check",)) else b"solve"
+    command = (
+        case.words[0] if case.words[:1] in ((b"solve",), (b"session",), (b"check",)) else b"solve"
+    )
     words = words_of(command, random) if random.random() < 0.3 else case.words
     if case.input == case.problem:
         problem = mutated_text(case.problem, other.problem, random)
@@ -161,4 +172,6 @@ def mutated(corpus: list[Case], name: str, random: Random) -> Case:
     if random.random() < 0.2:
         return Case(name, words, mutated_text(case.problem, other.problem, random), case.input)
     likely = [it for it in corpus if it.words[:1] == case.words[:1]]
-    return Case(name, words, case.problem, mutated_text(case.input, random.choice(likely).input, random))
+    return Case(
+        name, words, case.problem, mutated_text(case.input, random.choice(likely).input, random)
+    )

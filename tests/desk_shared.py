@@ -1,4 +1,5 @@
-"""What the tests of the planner's desk share: the water story and what is so of it, and how the tools are run on it."""
+"""What the tests of the planner's desk share: the water story and what is so of it, and how the
+tools are run on it."""
 
 from __future__ import annotations
 
@@ -20,8 +21,9 @@ from dmf.tables.loader import LoadedProblem
 ROOT = Path(__file__).resolve().parents[1]
 PIPES = "examples/water/pipes.csv"
 SECONDS = 60
-# The story of examples/water: the greatest values of the plan of today, with Market Street wider, with a new pipe, without the Market
-# link and without the Bridge pipe, as its page reckons them from the limits.
+# The story of examples/water: the greatest values of the plan of today, with Market Street wider,
+# with a new pipe, without the Market link and without the Bridge pipe, as its page reckons them
+# from the limits.
 STORY = [165, 165, 180, 165, 155]
 # The same by commands of dmf-plan.
 SCRIPT = """solve
@@ -55,34 +57,48 @@ def water() -> list[Pipe]:
 
 
 def greatest(pipes: list[Pipe]) -> int:
-    """The greatest value from the reservoir to the harbour: the least that the pipes out of any set of places carry which has the one
-    and not the other."""
+    """The greatest value from the reservoir to the harbour: the least that the pipes out of any set
+    of places carry which has the one and not the other."""
     places = sorted({place for pipe in pipes for place in pipe[:2]} - {"Reservoir", "Harbour"})
 
     def carried(side: set[str]) -> int:
         return sum(pipe.capacity for pipe in pipes if pipe.tail in side and pipe.head not in side)
 
-    sides = ({"Reservoir", *(place for place, is_in in zip(places, chosen) if is_in)} for chosen in product((0, 1), repeat=len(places)))
+    sides = (
+        {"Reservoir", *(place for place, is_in in zip(places, chosen) if is_in)}
+        for chosen in product((0, 1), repeat=len(places))
+    )
     return min(map(carried, sides))
 
 
 def swept() -> dict[str, tuple[int, int]]:
-    """For each pipe the greatest values without it, and with a second one beside it, by trying all sets of places."""
+    """For each pipe the greatest values without it, and with a second one beside it, by trying all
+    sets of places."""
     pipes = water()
-    return {pipe.name: (greatest([it for it in pipes if it != pipe]), greatest([*pipes, pipe])) for pipe in pipes}
+    return {
+        pipe.name: (greatest([it for it in pipes if it != pipe]), greatest([*pipes, pipe]))
+        for pipe in pipes
+    }
 
 
-def run(tool: str, *words: str, typed: str = "", **environment: str) -> subprocess.CompletedProcess[str]:
+def run(
+    tool: str, *words: str, typed: str = "", **environment: str
+) -> subprocess.CompletedProcess[str]:
     """Runs a tool at the root."""
     return subprocess.run(
-        [str(ROOT / "tools" / tool), *words], input=typed, capture_output=True, text=True, timeout=SECONDS, cwd=ROOT,
+        [str(ROOT / "tools" / tool), *words],
+        input=typed,
+        capture_output=True,
+        text=True,
+        timeout=SECONDS,
+        cwd=ROOT,
         env={**os.environ, **environment},
-    )  # fmt: skip
+    )
 
 
 def sessions_of(pid: int) -> list[int]:
-    """The sessions of the program that a process has. Asks each process whose child it is: a list of the children of threads lacks some
-    when a thread ends."""
+    """The sessions of the program that a process has. Asks each process whose child it is: a list
+    of the children of threads lacks some when a thread ends."""
     found = []
     for stat in Path("/proc").glob("[0-9]*/stat"):
         # A process may end meanwhile.
@@ -113,7 +129,9 @@ def water_problem() -> bytes:
     """The problem of the water story, with its names."""
     words = [str(ROOT / "tools/dmf-problem"), "Reservoir", "Harbour"]
     with open(ROOT / PIPES) as table:
-        return subprocess.run(words, stdin=table, capture_output=True, check=True, timeout=SECONDS).stdout
+        return subprocess.run(
+            words, stdin=table, capture_output=True, check=True, timeout=SECONDS
+        ).stdout
 
 
 def desk_of(text: bytes, with_solve: bool = True) -> Desk:
@@ -125,7 +143,9 @@ def end_session(of: int | None = None) -> None:
     pid = of or os.getpid()
     for child in sessions_of(pid):
         os.kill(child, signal.SIGKILL)
-        while (Path("/proc") / str(child) / "stat").exists() and b") Z " not in (Path("/proc") / str(child) / "stat").read_bytes():
+        while (Path("/proc") / str(child) / "stat").exists() and b") Z " not in (
+            Path("/proc") / str(child) / "stat"
+        ).read_bytes():
             os.sched_yield()
 
 

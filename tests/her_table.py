@@ -1,5 +1,6 @@
-"""A German table of decimal numbers with a unit, two sources, a limit of a source and a limit of a place, and what it comes to by a second
-computation in exact fractions: the least that any set of places lets out."""
+"""A German table of decimal numbers with a unit, two sources, a limit of a source and a limit of a
+place, and what it comes to by a second computation in exact fractions: the least that any set of
+places lets out."""
 
 from __future__ import annotations
 
@@ -43,17 +44,37 @@ REMARKS = {name: remark for *_, name, remark in ROWS}
 
 
 def greatest(pipes: list[Pipe], through: dict[str, Fraction] = LET_THROUGH) -> Fraction:
-    """The greatest value: the least that a set of places lets out which has the sources and not the sink. A place may be in it as far as
-    one comes to it, and not on from it. A source that gives little may be left out for what it gives."""
-    places = sorted({place for pipe in pipes for place in pipe[:2]} | {"Mill", "New Mill"} - {"Sea"})
-    choices = [("out", "in", "half") if place in through else ("out", "in") for place in places if place != "Sea"]
+    """The greatest value: the least that a set of places lets out which has the sources and not the
+    sink. A place may be in it as far as one comes to it, and not on from it. A source that gives
+    little may be left out for what it gives.
+    """
+    places = sorted(
+        {place for pipe in pipes for place in pipe[:2]} | {"Mill", "New Mill"} - {"Sea"}
+    )
+    choices = [
+        ("out", "in", "half") if place in through else ("out", "in")
+        for place in places
+        if place != "Sea"
+    ]
 
     def carried(chosen: dict[str, str]) -> Fraction:
-        left = sum((it.capacity for it in pipes if chosen.get(it.tail) == "in" and chosen.get(it.head, "out") == "out"), Fraction())
-        left += sum((most for place, most in through.items() if chosen.get(place) == "half"), Fraction())
+        left = sum(
+            (
+                it.capacity
+                for it in pipes
+                if chosen.get(it.tail) == "in" and chosen.get(it.head, "out") == "out"
+            ),
+            Fraction(),
+        )
+        left += sum(
+            (most for place, most in through.items() if chosen.get(place) == "half"), Fraction()
+        )
         return left + sum((GIVEN[place] for place in GIVEN if chosen[place] == "out"), Fraction())
 
-    sets = (dict(zip((place for place in places if place != "Sea"), chosen)) for chosen in itertools.product(*choices))
+    sets = (
+        dict(zip((place for place in places if place != "Sea"), chosen))
+        for chosen in itertools.product(*choices)
+    )
     return min(carried(chosen) for chosen in sets if chosen["Mill"] == "in")
 
 

@@ -22,8 +22,11 @@ class Found(NamedTuple):
 
 
 def shown_cases(reports: Iterable[str]) -> list[str]:
-    """The cases that these reports of pytest show last, which are as small as they were made, and of those the shortest."""
-    shown = [re.findall(r"^\W*E?\W*(Found\(case=.*\))$", report, re.MULTILINE) for report in reports]
+    """The cases that these reports of pytest show last, which are as small as they were made, and
+    of those the shortest."""
+    shown = [
+        re.findall(r"^\W*E?\W*(Found\(case=.*\))$", report, re.MULTILINE) for report in reports
+    ]
     return sorted((cases[-1] for cases in shown if cases), key=len)[:MOST_KEPT]
 
 

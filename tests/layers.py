@@ -8,8 +8,9 @@ from graphlib import CycleError, TopologicalSorter
 from pathlib import Path
 
 PACKAGE = "dmf"
-# The rooms in their order: a module imports from its own room and from those before it. Rooms in one line do not know each other. The
-# modules that stand in no folder are those of the core, if no other room names them.
+# The rooms in their order: a module imports from its own room and from those before it. Rooms in
+# one line do not know each other. The modules that stand in no folder are those of the core, if no
+# other room names them.
 CORE = "the core"
 ROOMS = [
     ["errors", "quantity", "history"],
@@ -64,7 +65,9 @@ class Imports:
 
     def edges(self) -> set[Edge]:
         """Return each pair of modules of which the first imports the second."""
-        found = {(module, other) for module in self.modules if module for other in self._imported(module)}
+        found = {
+            (module, other) for module in self.modules if module for other in self._imported(module)
+        }
         return {(module, other) for module, other in found if module != other}
 
     def _imported(self, module: str) -> Iterator[str]:
@@ -72,15 +75,22 @@ class Imports:
         package = [PACKAGE, *module.split(".")][: None if path.name == "__init__.py" else -1]
         for node in ast.walk(ast.parse(path.read_text())):
             if isinstance(node, ast.Import):
-                yield from (self._home(alias.name, "") for alias in node.names if alias.name.startswith(f"{PACKAGE}."))
+                yield from (
+                    self._home(alias.name, "")
+                    for alias in node.names
+                    if alias.name.startswith(f"{PACKAGE}.")
+                )
             if isinstance(node, ast.ImportFrom):
                 parts = package[: len(package) - node.level + 1] if node.level else []
                 base = ".".join([*parts, *([node.module] if node.module else [])])
                 if base.split(".")[0] == PACKAGE:
-                    yield from (home for alias in node.names if (home := self._home(base, alias.name)))
+                    yield from (
+                        home for alias in node.names if (home := self._home(base, alias.name))
+                    )
 
     def _home(self, base: str, name: str) -> str:
-        """Return the module that an import of a name reaches; an empty one for what the package itself has."""
+        """Return the module that an import of a name reaches; an empty one for what the package
+        itself has."""
         base = base.partition(".")[2]
         within = f"{base}.{name}".strip(".")
         if within in self.modules:

@@ -1,11 +1,12 @@
-"""Writes a maximum-flow problem on standard output: a random level graph, one of the families of problems on which the
-solvers of the First DIMACS Implementation Challenge were compared.
+"""Writes a maximum-flow problem on standard output: a random level graph, one of the families of
+problems on which the solvers of the First DIMACS Implementation Challenge were compared.
 
     python3 tests/make_network.py WIDTH LEVELS DEGREE MOST SEED
 
-There are LEVELS levels of WIDTH nodes, and then the source and the sink. Each node has DEGREE arcs to nodes of the next
-level, which the seed determines, as it does their capacities, from 1 to MOST. The arcs from the source to the first level
-and from the last level to the sink have capacity DEGREE * MOST. examples/levels.max was made so:
+There are LEVELS levels of WIDTH nodes, and then the source and the sink. Each node has DEGREE arcs
+to nodes of the next level, which the seed determines, as it does their capacities, from 1 to MOST.
+The arcs from the source to the first level and from the last level to the sink have capacity DEGREE
+* MOST. examples/levels.max was made so:
 
     python3 tests/make_network.py 64 16 3 100 1990 >examples/levels.max
 """
@@ -24,7 +25,9 @@ def numbers(seed: int) -> Iterator[int]:
         yield state >> 32
 
 
-def arcs_of(width: int, levels: int, degree: int, most: int, seed: int) -> Iterator[tuple[int, int, int]]:
+def arcs_of(
+    width: int, levels: int, degree: int, most: int, seed: int
+) -> Iterator[tuple[int, int, int]]:
     """Each arc's ends and its capacity."""
     random = numbers(seed)
     source = width * levels + 1
@@ -49,7 +52,10 @@ def problem_of(width: int, levels: int, degree: int, most: int, seed: int) -> st
         f"n {source} s",
         f"n {source + 1} t",
     ]
-    return "".join(line + "\n" for line in [*head, *(f"a {tail} {head} {capacity}" for tail, head, capacity in arcs)])
+    return "".join(
+        line + "\n"
+        for line in [*head, *(f"a {tail} {head} {capacity}" for tail, head, capacity in arcs)]
+    )
 
 
 if __name__ == "__main__":

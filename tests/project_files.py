@@ -1,30 +1,53 @@
-"""A project with all that one can have, and what the tests of its file and its journal do with it."""
+"""A project with all that one can have, and what the tests of its file and its journal do with it.
+"""
 
 from __future__ import annotations
 
 import os
+from dataclasses import replace
 from pathlib import Path
+from typing import Any
 
 import pytest
+from dmf.desk.project.schema import (
+    File,
+    KeptStep,
+    KeptTable,
+    Project,
+    ProjectFault,
+    Scenario,
+    said_scenario,
+    said_step,
+)
 from dmf.desk.project.storage import ProjectFile, created, opened
-from dmf.desk.project.schema import File, KeptStep, KeptTable, Project, ProjectFault, Scenario, said_scenario, said_step
 
 ARC = ("Mill", "Town", 'Main "pipe"\n2')
-STEP = KeptStep('close "it"\nnow', "47.3", (("close", ARC), ("cap", (*ARC, 2), "0.25"), ("shut", "Mill"), ("add", ("Mill", 7, ""), "12")))
+STEP = KeptStep(
+    'close "it"\nnow',
+    "47.3",
+    (("close", ARC), ("cap", (*ARC, 2), "0.25"), ("shut", "Mill"), ("add", ("Mill", 7, ""), "12")),
+)
 
 
 def a_project() -> Project:
     """A project that has all that one can have."""
     table = KeptTable(
-        File("t.csv", "00"), "Sheet 1", {"source": ["Mill"], "both_ways": True, "decimal": ","}, {"sinks": File("s.csv", "11")}, "l/s", "pipe",
+        File("t.csv", "00"),
+        "Sheet 1",
+        {"source": ["Mill"], "both_ways": True, "decimal": ","},
+        {"sinks": File("s.csv", "11")},
+        "l/s",
+        "pipe",
         ["a note"],
-    )  # fmt: skip
-    project = Project("ab", table, "p max 2 0\nn 1 s\nn 2 t\n", notes="for\nMay", positions={"Mill": (1.5, -2.0)})
-    project.scenarios = [
-        Scenario("first", [STEP, STEP], 1, note='"so"', left_out=[STEP]), Scenario("Flood \u00fc\udc80", [STEP], 1, "first", 1),
-    ]  # fmt: skip
-    project.present = "first"
-    return project
+    )
+    project = Project(
+        "ab", table, "p max 2 0\nn 1 s\nn 2 t\n", notes="for\nMay", positions={"Mill": (1.5, -2.0)}
+    )
+    scenarios = (
+        Scenario("first", (STEP, STEP), 1, note='"so"', left_out=(STEP,)),
+        Scenario("Flood \u00fc\udc80", (STEP,), 1, "first", 1),
+    )
+    return replace(project, scenarios=scenarios, present="first")
 
 
 def made_project(folder: Path) -> str:
@@ -41,12 +64,19 @@ def refused(path: str) -> str:
     return str(fault.value)
 
 
+def keep(file: ProjectFile, word: str, content: Any) -> None:
+    """Does this to a project, as a desk does."""
+    after = file.after(file.record, [(word, content)])
+    file.write(file.record, after)
+    file.record = after
+
+
 def begun(path: str) -> ProjectFile:
     """The project with some acts in its journal, as a kill leaves it."""
     file = opened(path)
-    file.keep("step", said_step(STEP))
-    file.keep("new", said_scenario(Scenario("more")))
-    file.keep("note", "a note\nin two lines")
+    keep(file, "step", said_step(STEP))
+    keep(file, "new", said_scenario(Scenario("more")))
+    keep(file, "note", "a note\nin two lines")
     return file
 
 

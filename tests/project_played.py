@@ -1,4 +1,5 @@
-"""Scenarios by the second implementation: what it has after commands on the network of a project."""
+"""Scenarios by the second implementation: what it has after commands on the network of a project.
+"""
 
 from __future__ import annotations
 
@@ -13,7 +14,8 @@ from dmf.text.problem_text import read_problem
 
 
 class Played(NamedTuple):
-    """What the second implementation has after commands: the value, the arcs of the smallest minimum cut, and what each open arc carries."""
+    """What the second implementation has after commands: the value, the arcs of the smallest
+    minimum cut, and what each open arc carries."""
 
     value: int
     cut: set[int]
@@ -21,20 +23,33 @@ class Played(NamedTuple):
 
 
 def played(folder: Path, text: str, commands: str) -> Played:
-    """A session of the second implementation on a problem. No arc is closed in it but by `close` and `shut`."""
+    """A session of the second implementation on a problem. No arc is closed in it but by `close`
+    and `shut`."""
     (folder / "base.max").write_text(text)
     said = f"solve\n{commands}solve\nprint problem\nprint cut\nprint flow\n"
     words = [sys.executable, f"{ROOT}/tests/oracle", "session", f"{folder}/base.max"]
-    lines = subprocess.run(words, input=said, capture_output=True, text=True, timeout=SECONDS, check=True).stdout.splitlines()
-    begin = len(lines) - lines[::-1].index(next(it for it in reversed(lines) if it.startswith("p max")))
+    lines = subprocess.run(
+        words, input=said, capture_output=True, text=True, timeout=SECONDS, check=True
+    ).stdout.splitlines()
+    begin = len(lines) - lines[::-1].index(
+        next(it for it in reversed(lines) if it.startswith("p max"))
+    )
     arcs = [[*map(int, it.split()[1:])] for it in lines[begin:] if it.startswith("a ")]
     side = {int(it.split()[2]) for it in lines[begin:] if it.startswith("c side")}
     flows = [int(it.split()[3]) for it in lines if it.startswith("f ")][-len(arcs) :]
     value = next(int(it.split()[1]) for it in reversed(lines) if it.startswith("s "))
     closed = closed_by(text, commands)
     numbers = [it for it in range(1, len(arcs) + len(closed) + 1) if it not in closed]
-    cut = {number for number, (tail, head, _) in zip(numbers, arcs) if tail in side and head not in side}
-    return Played(value, cut, {number: (most, flow) for number, (_, _, most), flow in zip(numbers, arcs, flows)})
+    cut = {
+        number
+        for number, (tail, head, _) in zip(numbers, arcs)
+        if tail in side and head not in side
+    }
+    return Played(
+        value,
+        cut,
+        {number: (most, flow) for number, (_, _, most), flow in zip(numbers, arcs, flows)},
+    )
 
 
 def closed_by(text: str, commands: str) -> set[int]:

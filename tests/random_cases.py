@@ -1,6 +1,7 @@
 """Random cases: problems, command scripts, solutions and words, right ones and faulty ones.
 
-A text is made as a list of lines, and a line as a list of fields. Faults are put into these, or into the bytes at the end."""
+A text is made as a list of lines, and a line as a list of fields. Faults are put into these, or
+into the bytes at the end."""
 
 from __future__ import annotations
 
@@ -35,7 +36,9 @@ def capacities(random: Random) -> Callable[[], int]:
     if kind == 3:
         return lambda: random.randrange(4)
     if kind == 4:
-        return lambda: random.choice([0, 1, 2**31, 2**32, 2**60, 2**62, 2**63, LARGEST // 7, LARGEST])
+        return lambda: random.choice(
+            [0, 1, 2**31, 2**32, 2**60, 2**62, 2**63, LARGEST // 7, LARGEST]
+        )
     if kind == 5:
         return lambda: random.randrange(LARGEST // 100)
     if kind in (6, 7):
@@ -47,10 +50,18 @@ def capacities(random: Random) -> Callable[[], int]:
 
 def near_ends(nodes: int, random: Random) -> Iterator[tuple[int, int]]:
     """The ends of arcs of which most lead to one of the next places, so that paths are long."""
-    reach, fewest, most = random.choice([1, 2, 3]), random.choice([0, 1, 1]), random.choice([1, 2, 4, 6, 8])
+    reach, fewest, most = (
+        random.choice([1, 2, 3]),
+        random.choice([0, 1, 1]),
+        random.choice([1, 2, 4, 6, 8]),
+    )
     for tail in range(nodes):
         for _ in range(random.randint(fewest, most)):
-            head = random.randrange(nodes) if random.random() < 0.2 else tail + random.randint(1, reach)
+            head = (
+                random.randrange(nodes)
+                if random.random() < 0.2
+                else tail + random.randint(1, reach)
+            )
             yield tail, min(head, nodes - 1)
 
 
@@ -66,8 +77,8 @@ def level_ends(nodes: int, random: Random) -> Iterator[tuple[int, int]]:
 
 
 def chain_ends(nodes: int, random: Random) -> Iterator[tuple[int, int]]:
-    """The ends of arcs that make chains, with short cuts from chain to chain. A shortest path takes short cuts, and the greatest
-    flow often leaves them empty again."""
+    """The ends of arcs that make chains, with short cuts from chain to chain. A shortest path takes
+    short cuts, and the greatest flow often leaves them empty again."""
     count = random.randint(2, 4)
     chains = [[0, *range(1 + first, nodes - 1, count), nodes - 1] for first in range(count)]
     for chain in chains:
@@ -79,7 +90,8 @@ def chain_ends(nodes: int, random: Random) -> Iterator[tuple[int, int]]:
 
 
 def hub_ends(nodes: int, random: Random) -> Iterator[tuple[int, int]]:
-    """The ends of arcs from suppliers to a few hubs, and on to customers. Some lead around the hubs, or from hub to hub."""
+    """The ends of arcs from suppliers to a few hubs, and on to customers. Some lead around the
+    hubs, or from hub to hub."""
     hubs = range(1, 1 + random.randint(1, 3))[: max(1, nodes - 3)]
     others = range(1 + len(hubs), nodes - 1)
     suppliers, customers = others[: len(others) // 2], others[len(others) // 2 :]
@@ -94,13 +106,21 @@ def hub_ends(nodes: int, random: Random) -> Iterator[tuple[int, int]]:
         yield random.choice(suppliers or [0]), random.choice(customers)
 
 
-def network(random: Random, most_nodes: int = 60) -> State:
+# The most nodes of a random network, and of one of which each arc is valued.
+MOST_NODES, MOST_VALUED = 60, 8
+
+
+def network(random: Random, most_nodes: int = MOST_NODES) -> State:
     """A network without flow. A few have a sum of capacities past 64 bits."""
     nodes = min(most_nodes, random.choice([2, 3, 4, 5, 6, 6, 8, 10, 14, 14, 20, 26, 60]))
-    ends = list(random.choice([near_ends, level_ends, chain_ends, chain_ends, hub_ends])(nodes, random))
+    ends = list(
+        random.choice([near_ends, level_ends, chain_ends, chain_ends, hub_ends])(nodes, random)
+    )
     for share, other in (0.05, 1), (random.choice([0, 0, 0.2, 1]), -1):
         # Parallel arcs and opposite ones.
-        ends += [pair if other == 1 else (pair[1], pair[0]) for pair in ends if random.random() < share]
+        ends += [
+            pair if other == 1 else (pair[1], pair[0]) for pair in ends if random.random() < share
+        ]
     if random.random() < 0.7:
         random.shuffle(ends)
     if random.random() < 0.2:
@@ -120,7 +140,10 @@ def fitting(state: State) -> State:
 
 
 def problem_lines(state: State, random: Random) -> Lines:
-    terminals = [line("n", state.source, "s"), line("n", state.sink if random.random() < 0.99 else state.source, "t")]
+    terminals = [
+        line("n", state.source, "s"),
+        line("n", state.sink if random.random() < 0.99 else state.source, "t"),
+    ]
     if random.random() < 0.2:
         terminals.reverse()
     arcs = [line("a", *arc[:3]) for arc, _ in state.open_arcs()]
@@ -155,7 +178,9 @@ def with_cycles(state: State, random: Random) -> State:
         node = random.randint(1, state.nodes)
         trail: list[int] = []
         while True:
-            nexts = [j for j, arc in enumerate(state.arcs) if arc.tail == node and flows[j] < arc.cap]
+            nexts = [
+                j for j, arc in enumerate(state.arcs) if arc.tail == node and flows[j] < arc.cap
+            ]
             if not nexts or len(trail) > state.nodes:
                 break
             trail.append(random.choice(nexts))
@@ -169,7 +194,8 @@ def with_cycles(state: State, random: Random) -> State:
 
 
 def solution_lines(state: State, random: Random) -> Lines:
-    """The lines of a solution in any order. Some pairs are told by several lines, and some without flow by none."""
+    """The lines of a solution in any order. Some pairs are told by several lines, and some without
+    flow by none."""
     lines = [line("s", state.value() if random.random() < 0.95 else random.randrange(9))]
     for arc, flow in state.open_arcs():
         if flow == 0 and random.random() < 0.5:
@@ -184,21 +210,34 @@ def solution_lines(state: State, random: Random) -> Lines:
 
 
 # An addition is sometimes taken back and made again, before or after the arc is used.
-AFTER_ADDITION: list[Lines] = [[], [], [], [line("undo"), line("redo")], [line("solve"), line("undo", 2), line("redo", 2)], [line("undo"), line("solve")]]
+AFTER_ADDITION: list[Lines] = [
+    [],
+    [],
+    [],
+    [line("undo"), line("redo")],
+    [line("solve"), line("undo", 2), line("redo", 2)],
+    [line("undo"), line("solve")],
+]
 
 
 def mixture(random: Random) -> list[Command]:
     """The commands of a script, in any order."""
     # An addition makes all links anew where an end has no spare one: some scripts have few.
     rest = random.choice([1, 1, 0.1])
-    weights = {word: it.weight * (rest if word in ("add", "undo") else 1) for word, it in COMMANDS.items()}
+    weights = {
+        word: it.weight * (rest if word in ("add", "undo") else 1) for word, it in COMMANDS.items()
+    }
     weights["print"] += random.randrange(9)
-    return random.choices([*COMMANDS.values()], [*weights.values()], k=random.randint(1, random.choice([3, 8, 20, 60, 200])))
+    return random.choices(
+        [*COMMANDS.values()],
+        [*weights.values()],
+        k=random.randint(1, random.choice([3, 8, 20, 60, 200])),
+    )
 
 
 def chains(random: Random) -> list[Command]:
-    """The commands of a script that has long chains of changes between its solves. Most of them change a capacity, since the others
-    leave little flow for those after them."""
+    """The commands of a script that has long chains of changes between its solves. Most of them
+    change a capacity, since the others leave little flow for those after them."""
     weights = [it.weight * (3 if it.word == "cap" else 0.5) for it in CHAINED]
     commands = [SOLVE]
     for _ in range(random.randint(1, 3)):
@@ -213,7 +252,9 @@ def command_lines(state: State, random: Random) -> Lines:
     odd_share = random.choice([0, 0.02, 0.3])
     is_chain = random.random() < 0.2
     commands = chains(random) if is_chain else mixture(random)
-    after_addition = [lines for lines in AFTER_ADDITION if not is_chain or line("solve") not in lines]
+    after_addition = [
+        lines for lines in AFTER_ADDITION if not is_chain or line("solve") not in lines
+    ]
     arc_count = len(state.arcs)
     lines: Lines = []
     for command in commands:
@@ -221,9 +262,15 @@ def command_lines(state: State, random: Random) -> Lines:
             lines.append(random.choice(ODD_COMMANDS))
             continue
         arc = random.randint(0 if odd_share else 1, arc_count + 1)
-        near = [amount for known in state.arcs[arc - 1 : arc] for amount in (known.cap // 2, known.cap // 2, known.cap, known.cap + 1)]
+        near = [
+            amount
+            for known in state.arcs[arc - 1 : arc]
+            for amount in (known.cap // 2, known.cap // 2, known.cap, known.cap + 1)
+        ]
         amount = random.choice([0, 1, 1, 2, 2, 3, 5, 9, 20, 2**63, *near, *near])
-        ends = iter([random.randint(0 if odd_share else 1, state.nodes + bool(odd_share)) for _ in range(2)])
+        ends = iter(
+            [random.randint(0 if odd_share else 1, state.nodes + bool(odd_share)) for _ in range(2)]
+        )
         fields: dict[str, Callable[[], list[object]]] = {
             ARC: lambda: [arc],
             NODE: lambda: [next(ends)],
@@ -231,7 +278,9 @@ def command_lines(state: State, random: Random) -> Lines:
             STEPS: lambda: [random.choice([0, 1, 1, 2, 2, 3, 9])] * random.randrange(2),
             WHAT: lambda: [random.choice([*PRINTED, "flow", "cut"])],
         }
-        lines.append(line(command.word, *(field for kind in command.kinds for field in fields[kind]())))
+        lines.append(
+            line(command.word, *(field for kind in command.kinds for field in fields[kind]()))
+        )
         if command.word == "add":
             arc_count += 1
             lines += random.choice(after_addition)
@@ -281,7 +330,8 @@ def plain_text(lines: Lines) -> bytes:
 
 
 def loose_text(lines: Lines, random: Random, comment: bytes) -> bytes:
-    """The text of lines with more space than is needed, leading zeros, comments, blank lines and carriage returns."""
+    """The text of lines with more space than is needed, leading zeros, comments, blank lines and
+    carriage returns."""
     text = b""
     odd_end = b"\r\r\n" if random.random() < 0.2 else b"\n"
     for fields in lines:
@@ -290,9 +340,13 @@ def loose_text(lines: Lines, random: Random, comment: bytes) -> bytes:
             zeros = b"0" * random.choice([0, 0, 0, 1, 25]) if field.isdigit() else b""
             spaced += [zeros + field, random.choice([b" ", b" ", b"\t", b"   "])]
         text += b"".join(spaced if random.random() < 0.2 else spaced[:-1])
-        text += random.choice([b"\n", b"\n", b"\n", b"\r\n", odd_end if random.random() < 0.05 else b"\n"])
+        text += random.choice(
+            [b"\n", b"\n", b"\n", b"\r\n", odd_end if random.random() < 0.05 else b"\n"]
+        )
         if random.random() < 0.1:
-            text += random.choice([b"\n", b" \t\n", b"\r\n", comment + b"\n", b" " + comment + b" \xff\0 p max\r\n"])
+            text += random.choice(
+                [b"\n", b" \t\n", b"\r\n", comment + b"\n", b" " + comment + b" \xff\0 p max\r\n"]
+            )
     return text
 
 
@@ -307,17 +361,32 @@ def text_of(lines: Lines, random: Random, comment: bytes, fault_share: float) ->
         text = text.removesuffix(b"\n")
     if is_changed and random.random() < 0.3:
         place = random.randint(0, len(text))
-        text = random.choice([text[:place], text[:place] + random.choice(ODD_BYTES) + text[place:], text[:place] + text[place + 1 :]])
+        text = random.choice(
+            [
+                text[:place],
+                text[:place] + random.choice(ODD_BYTES) + text[place:],
+                text[:place] + text[place + 1 :],
+            ]
+        )
     return text
 
 
 def words_of(command: bytes, random: Random) -> tuple[bytes, ...]:
-    """Words that ask for this, with or without a cut, brief replies, any greatest flow and a bound of the history; some of them are
-    faulty."""
-    path = [random.choices([PROBLEM, b"missing.max", b"folder"], [98, 1, 1])[0]] if command != b"solve" else []
-    cut = [b"--cut"] * random.randrange(2) if command != b"check" else []
-    bound = [[b"--history", b"%d" % random.choice(BOUNDS)]] if command == b"session" and random.random() < 0.5 else []
-    brief = [b"--brief"] * random.randrange(2) if command != b"check" else []
+    """Words that ask for this, with or without a cut, brief replies, any greatest flow and a bound
+    of the history; some of them are faulty."""
+    solves = command in (b"solve", b"session")
+    path = (
+        [random.choices([PROBLEM, b"missing.max", b"folder"], [98, 1, 1])[0]]
+        if command in (b"session", b"check")
+        else []
+    )
+    cut = [b"--cut"] * random.randrange(2) if solves else []
+    bound = (
+        [[b"--history", b"%d" % random.choice(BOUNDS)]]
+        if command == b"session" and random.random() < 0.5
+        else []
+    )
+    brief = [b"--brief"] * random.randrange(2) if solves else []
     any_flow = [b"--any"] * random.randrange(2) if command == b"solve" else []
     parts = [[word] for word in cut + brief + any_flow + path] + bound
     words = [command] + [word for part in random.sample(parts, len(parts)) for word in part]
@@ -331,7 +400,23 @@ def words_of(command: bytes, random: Random) -> tuple[bytes, ...]:
 BOUNDS = [0, 1, 1, 2, 3, 5, 1_000_000, 1_000_001]
 ODD_WORDS = (
     [b"--history", b"--history=2", b"+1", b"1000001", b"-1"]
-    + [b"solve", b"session", b"check", b"help", b"--help", b"-h", b"--version", b"-V", b"--any", b"--brief", b"--cut", b"--", b"wash", b"--wash"]
+    + [
+        b"solve",
+        b"session",
+        b"check",
+        b"vital",
+        b"help",
+        b"--help",
+        b"-h",
+        b"--version",
+        b"-V",
+        b"--any",
+        b"--brief",
+        b"--cut",
+        b"--",
+        b"wash",
+        b"--wash",
+    ]
     + [PROBLEM, b"missing.max", b"folder", b"\xff", b"", b"./" + PROBLEM]
 )
 
@@ -342,13 +427,19 @@ def random_words(random: Random) -> tuple[bytes, ...]:
 
 
 def random_case(name: str, random: Random) -> Case:
-    command = random.choices([b"solve", b"session", b"check", b""], [20, 45, 30, 5])[0]
-    state = network(random)
+    command = random.choices([b"solve", b"session", b"check", b"vital", b""], [20, 42, 28, 5, 5])[0]
+    # The second implementation solves once for each arc of those that are valued.
+    state = network(random, MOST_VALUED if command == b"vital" else MOST_NODES)
     if command != b"solve" and random.random() < 0.95:
         state = fitting(state)
     if command == b"check":
         state = with_cycles(changed(state, random), random)
-    problem = text_of(problem_lines(state, random), random, b"cx", 0.5 if command == b"solve" else 0.05)
+    problem = text_of(
+        problem_lines(state, random),
+        random,
+        b"cx",
+        0.5 if command in (b"solve", b"vital") else 0.05,
+    )
     if command == b"check":
         text = text_of(solution_lines(state, random), random, b"cx", 0.6)
     elif command == b"session":

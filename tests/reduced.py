@@ -1,5 +1,6 @@
-"""Makes a case that fails smaller, as long as it fails: its texts are made plain, words, lines and arcs are left out, and arcs are
-contracted. Halves of them are tried first, and in the end single ones, as Zeller and Hildebrandt's delta debugging does it."""
+"""Makes a case that fails smaller, as long as it fails: its texts are made plain, words, lines and
+arcs are left out, and arcs are contracted. Halves of them are tried first, and in the end single
+ones, as Zeller and Hildebrandt's delta debugging does it."""
 
 from __future__ import annotations
 
@@ -26,7 +27,8 @@ class Tries:
         self.most = most
 
     def fails_anew(self, case: Case) -> bool:
-        """Whether a case fails that was not tried before. One that was tried has passed, or was no smaller."""
+        """Whether a case fails that was not tried before. One that was tried has passed, or was no
+        smaller."""
         if case in self.tried or len(self.tried) > self.most:
             return False
         self.tried.add(case)
@@ -43,7 +45,9 @@ def text_of(lines: Lines) -> bytes:
 
 def plain(text: bytes) -> bytes:
     """A text with one space between fields, none around them, and no needless zeros."""
-    return text_of([[re.sub(rb"^0+(?=\d+$)", b"", field) for field in fields] for fields in lines_of(text)])
+    return text_of(
+        [[re.sub(rb"^0+(?=\d+$)", b"", field) for field in fields] for fields in lines_of(text)]
+    )
 
 
 def with_texts(case: Case, problem: bytes, text: bytes) -> Case:
@@ -61,7 +65,11 @@ def with_arcs_renumbered(text: bytes, lost: list[int]) -> bytes:
     lines = text.splitlines(keepends=True)
     for place, line in enumerate(lines):
         fields = line.split()
-        if fields[:1] and fields[0] in NAMING_ARC and re.fullmatch(rb"\d{1,9}", b"".join(fields[1:2])):
+        if (
+            fields[:1]
+            and fields[0] in NAMING_ARC
+            and re.fullmatch(rb"\d{1,9}", b"".join(fields[1:2]))
+        ):
             number = int(fields[1]) - sum(gone < int(fields[1]) for gone in lost)
             lines[place] = b" ".join([fields[0], b"%d" % number, *fields[2:]]) + b"\n"
     return b"".join(lines)
@@ -83,10 +91,20 @@ def without_lines(case: Case, begin: int, end: int) -> Case:
 
 
 def without_counted_lines(case: Case, begin: int, end: int) -> Case:
-    """A case without these lines of the problem. The problem line counts as many arcs less, and commands name the arcs that are left."""
-    lost = [number for number, place in enumerate(places_of_arcs(case.problem), 1) if begin <= place < end]
+    """A case without these lines of the problem. The problem line counts as many arcs less, and
+    commands name the arcs that are left."""
+    lost = [
+        number
+        for number, place in enumerate(places_of_arcs(case.problem), 1)
+        if begin <= place < end
+    ]
     less = without_lines(case, begin, end)
-    problem = re.sub(rb"(?m)^(p max \d+ )(\d+)", lambda it: it[1] + b"%d" % max(0, int(it[2]) - len(lost)), less.problem, count=1)
+    problem = re.sub(
+        rb"(?m)^(p max \d+ )(\d+)",
+        lambda it: it[1] + b"%d" % max(0, int(it[2]) - len(lost)),
+        less.problem,
+        count=1,
+    )
     return with_texts(less, problem, with_arcs_renumbered(less.input, lost))
 
 
@@ -101,16 +119,22 @@ def with_one_node(text: bytes, tail: bytes, head: bytes) -> bytes:
 
 
 def without_contracted(case: Case, begin: int, end: int) -> Case:
-    """A case in which these arcs are contracted: each goes, with a line of a solution for it, and its ends are one node elsewhere."""
+    """A case in which these arcs are contracted: each goes, with a line of a solution for it, and
+    its ends are one node elsewhere."""
     for place in reversed(places_of_arcs(case.problem)[begin:end]):
         tail, head = [*lines_of(case.problem)[place], b"", b""][1:3]
         case = without_counted_lines(case, place, place + 1)
-        text = re.sub(rb"(?m)^f %b %b .*\n" % (re.escape(tail), re.escape(head)), b"", case.input, count=1)
-        case = with_texts(case, with_one_node(case.problem, tail, head), with_one_node(text, tail, head))
+        text = re.sub(
+            rb"(?m)^f %b %b .*\n" % (re.escape(tail), re.escape(head)), b"", case.input, count=1
+        )
+        case = with_texts(
+            case, with_one_node(case.problem, tail, head), with_one_node(text, tail, head)
+        )
     return case
 
 
-# What can be left out of a case: how many of these it has, and what it is without some of them in a row.
+# What can be left out of a case: how many of these it has, and what it is without some of them in a
+# row.
 PARTS: list[tuple[Callable[[Case], int], Callable[[Case, int, int], Case]]] = [
     (lambda case: len(lines_of(case.input)) if case.input != case.problem else 0, without_input),
     (lambda case: len(lines_of(case.problem)), without_counted_lines),
@@ -120,9 +144,14 @@ PARTS: list[tuple[Callable[[Case], int], Callable[[Case, int, int], Case]]] = [
 ]
 
 
-def with_fewer_parts(case: Case, count: Callable[[Case], int], without: Callable[[Case, int, int], Case], tries: Tries) -> Case:
-    """A case that fails without the parts that it fails without: half of them, and then ever fewer in a row. The last go first, since
-    what goes later leaves the numbers of those before it."""
+def with_fewer_parts(
+    case: Case,
+    count: Callable[[Case], int],
+    without: Callable[[Case, int, int], Case],
+    tries: Tries,
+) -> Case:
+    """A case that fails without the parts that it fails without: half of them, and then ever fewer
+    in a row. The last go first, since what goes later leaves the numbers of those before it."""
     size = (count(case) + 1) // 2
     while size:
         for begin in reversed(range(0, count(case), size)):

@@ -1,5 +1,5 @@
-"""Random problems, scripts, solutions and words for hypothesis, right ones and faulty ones. Each begins with what is plain, so that
-a case that fails is shrunk to little."""
+"""Random problems, scripts, solutions and words for hypothesis, right ones and faulty ones. Each
+begins with what is plain, so that a case that fails is shrunk to little."""
 
 from __future__ import annotations
 
@@ -18,7 +18,11 @@ from random_cases import AFTER_ADDITION, CHAINED, ODD_WORDS
 Lines = list[list[bytes]]
 
 places = st.integers(0, 40)
-capacities = st.one_of(st.integers(0, 9), st.integers(0, 9), st.sampled_from([2**31, 2**32, 2**63, LARGEST // 7, LARGEST]))
+capacities = st.one_of(
+    st.integers(0, 9),
+    st.integers(0, 9),
+    st.sampled_from([2**31, 2**32, 2**63, LARGEST // 7, LARGEST]),
+)
 
 
 @st.composite
@@ -28,7 +32,9 @@ def networks(draw: st.DrawFn, most_nodes: int = 8, most_arcs: int = 16) -> State
     source = draw(st.integers(1, nodes))
     sink = draw(st.sampled_from([node for node in range(1, nodes + 1) if node != source]))
     drawn = draw(st.lists(st.tuples(places, places, capacities), max_size=most_arcs))
-    arcs = tuple(Arc(tail % nodes + 1, head % nodes + 1, capacity) for tail, head, capacity in drawn)
+    arcs = tuple(
+        Arc(tail % nodes + 1, head % nodes + 1, capacity) for tail, head, capacity in drawn
+    )
     return State(nodes, source, sink, arcs, (0,) * len(arcs))
 
 
@@ -41,14 +47,25 @@ def line(*fields: object) -> list[bytes]:
 
 
 def problem_lines(state: State) -> Lines:
-    head = [line("p", "max", state.nodes, len(state.arcs)), line("n", state.source, "s"), line("n", state.sink, "t")]
+    head = [
+        line("p", "max", state.nodes, len(state.arcs)),
+        line("n", state.source, "s"),
+        line("n", state.sink, "t"),
+    ]
     return head + [line("a", *arc[:3]) for arc in state.arcs]
 
 
-def command_line(state: State, command: Command, places: Sequence[int], capacity: int) -> list[bytes]:
-    """A line of a command on a network, or on one with a few arcs more: its fields may be past these, and at fault."""
+def command_line(
+    state: State, command: Command, places: Sequence[int], capacity: int
+) -> list[bytes]:
+    """A line of a command on a network, or on one with a few arcs more: its fields may be past
+    these, and at fault."""
     first, second = places
-    values: dict[str, object] = {ARC: first % (len(state.arcs) + 3), CAPACITY: capacity, WHAT: [*PRINTED][first % len(PRINTED)]}
+    values: dict[str, object] = {
+        ARC: first % (len(state.arcs) + 3),
+        CAPACITY: capacity,
+        WHAT: [*PRINTED][first % len(PRINTED)],
+    }
     fields: list[object] = []
     for place, kind in enumerate(command.kinds):
         if kind == NODE:
@@ -60,13 +77,25 @@ def command_line(state: State, command: Command, places: Sequence[int], capacity
     return line(command.word, *fields)
 
 
-# What a line of a script is made of. Solves come often, and lines that are refused for their form seldom.
-KINDS: list[Union[Command, list[bytes]]] = [COMMANDS["solve"], *COMMANDS.values(), *COMMANDS.values(), COMMANDS["solve"], *DRAWN_COMMANDS]
+# What a line of a script is made of. Solves come often, and lines that are refused for their form
+# seldom.
+KINDS: list[Union[Command, list[bytes]]] = [
+    COMMANDS["solve"],
+    *COMMANDS.values(),
+    *COMMANDS.values(),
+    COMMANDS["solve"],
+    *DRAWN_COMMANDS,
+]
 Choice = tuple[Union[Command, list[bytes]], tuple[int, int], int]
-choice: st.SearchStrategy[Choice] = st.tuples(st.sampled_from(KINDS), st.tuples(places, places), capacities)
+choice: st.SearchStrategy[Choice] = st.tuples(
+    st.sampled_from(KINDS), st.tuples(places, places), capacities
+)
 choices = st.lists(choice, max_size=16)
-# Changes without a solve between: first a few, so that a long chain is shrunk to them where they do.
-change: st.SearchStrategy[Choice] = st.tuples(st.sampled_from(CHAINED), st.tuples(places, places), capacities)
+# Changes without a solve between: first a few, so that a long chain is shrunk to them where they
+# do.
+change: st.SearchStrategy[Choice] = st.tuples(
+    st.sampled_from(CHAINED), st.tuples(places, places), capacities
+)
 chains = st.one_of(st.lists(change, max_size=3), st.lists(change, min_size=8, max_size=24))
 SELDOM = st.sampled_from([False] * 5 + [True])
 
@@ -82,16 +111,26 @@ def scripts(draw: st.DrawFn, state: State) -> Lines:
     lines = [line_of(state, chosen) for chosen in draw(choices)]
     if draw(SELDOM):
         chain = [line_of(state, chosen) for chosen in draw(chains)]
-        lines = [line("solve"), *chain, *draw(st.sampled_from(AFTER_ADDITION)), line("solve"), *lines]
+        lines = [
+            line("solve"),
+            *chain,
+            *draw(st.sampled_from(AFTER_ADDITION)),
+            line("solve"),
+            *lines,
+        ]
     return lines
 
 
-changes = st.lists(st.one_of(st.just(("solve",)), st.tuples(st.just("cap"), st.integers(1, 9), st.integers(0, 5))), max_size=6)
+changes = st.lists(
+    st.one_of(st.just(("solve",)), st.tuples(st.just("cap"), st.integers(1, 9), st.integers(0, 5))),
+    max_size=6,
+)
 
 
 @st.composite
 def solutions(draw: st.DrawFn, state: State) -> Lines:
-    """The lines of a solution of what a session makes of a network. Of pairs without flow some are left out."""
+    """The lines of a solution of what a session makes of a network. Of pairs without flow some are
+    left out."""
     session = Session(state, SolveReply())
     for fields in draw(changes):
         try:
@@ -99,7 +138,11 @@ def solutions(draw: st.DrawFn, state: State) -> Lines:
         except Fault:
             continue
     state = session.present()
-    flows = [line("f", arc.tail, arc.head, flow) for arc, flow in state.open_arcs() if flow or draw(st.booleans())]
+    flows = [
+        line("f", arc.tail, arc.head, flow)
+        for arc, flow in state.open_arcs()
+        if flow or draw(st.booleans())
+    ]
     return [line("s", state.value()), *flows]
 
 
@@ -134,9 +177,19 @@ def with_field(lines: Lines, at: int, other: int) -> Lines:
     return lines[:at] + [fields[:place] + [odd] + fields[place + 1 :]] + lines[at + 1 :]
 
 
-EDITS: Sequence[Callable[[Lines, int, int], Lines]] = dropped, doubled, ended, swapped, with_line, shortened, with_field
+EDITS: Sequence[Callable[[Lines, int, int], Lines]] = (
+    dropped,
+    doubled,
+    ended,
+    swapped,
+    with_line,
+    shortened,
+    with_field,
+)
 no_edits: list[tuple[Callable[[Lines, int, int], Lines], int, int]] = []
-edits = st.one_of(st.just(no_edits), st.lists(st.tuples(st.sampled_from(EDITS), places, places), max_size=2))
+edits = st.one_of(
+    st.just(no_edits), st.lists(st.tuples(st.sampled_from(EDITS), places, places), max_size=2)
+)
 GAPS = st.sampled_from([b" ", b" ", b"\t", b"  \t"])
 ENDS = st.sampled_from([b"\n", b"\n", b"\r\n", b" \n", b"\n%b x\n\n", b"\r\r\n"])
 odd_bytes = st.sampled_from(ODD_BYTES)
@@ -160,13 +213,22 @@ def texts(draw: st.DrawFn, lines: Lines, comment: bytes) -> bytes:
 CUTS = st.sampled_from([(), (b"--cut",)])
 BRIEF = st.sampled_from([(), (), (b"--brief",)])
 ANY = st.sampled_from([(), (b"--any",)])
-BOUNDS: st.SearchStrategy[tuple[bytes, ...]] = st.sampled_from([(), (), (b"--history", b"0"), (b"--history", b"1"), (b"--history", b"2")])
+BOUNDS: st.SearchStrategy[tuple[bytes, ...]] = st.sampled_from(
+    [(), (), (b"--history", b"0"), (b"--history", b"1"), (b"--history", b"2")]
+)
 
 
 @st.composite
 def solves(draw: st.DrawFn) -> Case:
     text = draw(texts(problem_lines(draw(networks())), b"cx"))
     return Case("a solve", (b"solve", *draw(ANY), *draw(BRIEF), *draw(CUTS)), text, text)
+
+
+@st.composite
+def values(draw: st.DrawFn) -> Case:
+    """What is left without each arc."""
+    text = draw(texts(problem_lines(draw(networks().filter(fits))), b"cx"))
+    return Case("values", (b"vital",), text, text)
 
 
 @st.composite
@@ -187,4 +249,6 @@ def checks(draw: st.DrawFn) -> Case:
 @st.composite
 def any_words(draw: st.DrawFn) -> Case:
     problem = b"p max 2 1\nn 1 s\nn 2 t\na 1 2 3\n"
-    return Case("any words", tuple(draw(st.lists(st.sampled_from(ODD_WORDS), max_size=4))), problem, problem)
+    return Case(
+        "any words", tuple(draw(st.lists(st.sampled_from(ODD_WORDS), max_size=4))), problem, problem
+    )

@@ -1,4 +1,5 @@
-"""Runs the built program on a pseudo terminal: with standard error alone there, with standard output too, or with all its streams."""
+"""Runs the built program on a pseudo terminal: with standard error alone there, with standard
+output too, or with all its streams."""
 
 from __future__ import annotations
 
@@ -35,7 +36,12 @@ class Terminal:
     def __enter__(self) -> Terminal:
         return self
 
-    def __exit__(self, kind: type[BaseException] | None, error: BaseException | None, trace: TracebackType | None) -> None:
+    def __exit__(
+        self,
+        kind: type[BaseException] | None,
+        error: BaseException | None,
+        trace: TracebackType | None,
+    ) -> None:
         self.close()
 
     def drain(self) -> None:
@@ -78,13 +84,20 @@ class Terminal:
         return self.told()
 
 
-def with_terminal(words: Sequence[str], given: bytes | IO[bytes], **streams: int) -> tuple[int, bytes, str]:
-    """Runs the program where standard error is a terminal, with a text or a file on standard input. Gives its status, what it wrote
-    to a pipe, and what the terminal got."""
+def with_terminal(
+    words: Sequence[str], given: bytes | IO[bytes], **streams: int
+) -> tuple[int, bytes, str]:
+    """Runs the program where standard error is a terminal, with a text or a file on standard input.
+    Gives its status, what it wrote to a pipe, and what the terminal got."""
     with Terminal() as terminal:
         text, file = (given, None) if isinstance(given, bytes) else (None, given)
         ran = subprocess.run(
-            [BUILT, *words], input=text, stdin=file, stdout=subprocess.PIPE, stderr=terminal.end, timeout=SECONDS
+            [BUILT, *words],
+            input=text,
+            stdin=file,
+            stdout=subprocess.PIPE,
+            stderr=terminal.end,
+            timeout=SECONDS,
         )
         return ran.returncode, ran.stdout, terminal.close()
 
@@ -92,15 +105,19 @@ def with_terminal(words: Sequence[str], given: bytes | IO[bytes], **streams: int
 def without_terminal(words: Sequence[str], given: bytes | IO[bytes]) -> tuple[int, bytes, str]:
     """The same with a pipe in place of the terminal."""
     text, file = (given, None) if isinstance(given, bytes) else (None, given)
-    ran = subprocess.run([BUILT, *words], input=text, stdin=file, capture_output=True, timeout=SECONDS)
+    ran = subprocess.run(
+        [BUILT, *words], input=text, stdin=file, capture_output=True, timeout=SECONDS
+    )
     return ran.returncode, ran.stdout, ran.stderr.decode()
 
 
 def typed(words: Sequence[str], lines: Sequence[bytes], pause: float = PAUSE) -> tuple[int, str]:
-    """Runs the program with all its standard streams on a terminal, at which each line is typed after a pause. Gives its status and
-    what the terminal got."""
+    """Runs the program with all its standard streams on a terminal, at which each line is typed
+    after a pause. Gives its status and what the terminal got."""
     with Terminal() as terminal:
-        running = subprocess.Popen([BUILT, *words], stdin=terminal.end, stdout=terminal.end, stderr=terminal.end)
+        running = subprocess.Popen(
+            [BUILT, *words], stdin=terminal.end, stdout=terminal.end, stderr=terminal.end
+        )
         for line in lines:
             time.sleep(pause)
             terminal.type(line)

@@ -1,4 +1,5 @@
-"""Tests tools/dmf-board by plain requests: what its server refuses, what it answers, and how it ends."""
+"""Tests tools/dmf-board by plain requests: what its server refuses, what it answers, and how it
+ends."""
 
 from __future__ import annotations
 
@@ -21,9 +22,9 @@ from xml.etree import ElementTree
 import pytest
 from board_running import Board, board
 from built import BUILT
-from desk_shared import ODD, PIPES, SECONDS, run, stop_session, wait_until_asked, without
-from dmf.desk import analysis as desk_sweep
+from desk_shared import ODD, PIPES, SECONDS, run, stop_session, swept, wait_until_asked, without
 from dmf import Network
+from dmf.desk import analysis as desk_sweep
 from dmf.desk.board.responses import Response
 from dmf.desk.board.routes import Board as InBoard
 from dmf.desk.workspace import Desk
@@ -31,29 +32,49 @@ from dmf.tables.loader import LoadedProblem
 
 # Requests of a wrong form: the path, the body or None, and what is said.
 FORMS: list[tuple[str, Optional[bytes], str]] = [
-    ("picture", None, "wanted are the words ['near'], and given []"),
+    ("picture", None, "expected the words ['near'], got []"),
     ("picture?near=x", None, "near is a whole number"),
     ("arc?number=1&number=2", None, "a word of the address stands twice"),
     ("arc?number", None, "the words of the address have not the form NAME=TEXT"),
-    ("state?x=1", None, "wanted are the words []"),
-    ("plan.csv", None, "wanted are the words ['turn']"),
-    ("do", b"", "no text in JSON"),
-    ("do", b"[1]", "an object of JSON"),
-    ("do", b"\xff", "no text in JSON"),
-    ("do", b"[" * 60_000, "no text in JSON"),
+    ("state?x=1", None, "expected the words []"),
+    ("plan.csv", None, "expected the words ['turn']"),
+    ("do", b"", "not valid JSON"),
+    ("do", b"[1]", "a JSON object"),
+    ("do", b"\xff", "not valid JSON"),
+    ("do", b"[" * 60_000, "not valid JSON"),
     ("do", b"{}", "what is to be done is one of close,"),
     ("do", b'{"what": "system"}', "what is to be done is one of close,"),
     ("do", b'{"what": ["close"]}', "what is to be done is one of close,"),
-    ("do", b'{"what": "close"}', "wanted are the fields ['arc', 'turn'], and given []"),
-    ("do", b'{"what": "close", "arc": 1}', "wanted are the fields ['arc', 'turn'], and given ['arc']"),
+    ("do", b'{"what": "close"}', "expected the fields ['arc', 'turn'], got []"),
+    (
+        "do",
+        b'{"what": "close", "arc": 1}',
+        "expected the fields ['arc', 'turn'], got ['arc']",
+    ),
     ("do", b'{"what": "close", "arc": 1, "turn": "1"}', "the field turn is a whole number"),
     ("do", b'{"what": "close", "arc": "1", "turn": 1}', "the field arc is a whole number"),
     ("do", b'{"what": "close", "arc": true, "turn": 1}', "the field arc is a whole number"),
-    ("do", b'{"what": "close", "arc": 1, "turn": 1, "x": 2}', "wanted are the fields"),
+    ("do", b'{"what": "close", "arc": 1, "turn": 1, "x": 2}', "expected the fields"),
     ("do", b'{"what": "cap", "arc": 1, "turn": 1, "capacity": 5}', "the field capacity is a text"),
-    ("do", b'{"what": "add", "tail": 1, "head": "Mill", "turn": 1, "capacity": "5", "name": "' + b"x" * 5_000 + b'"}', "is longer than"),
-    ("sweep", b'{"arcs": [1]}', "wanted is a list"),
-    ("sweep", b'{"arcs": 1, "turn": 1}', "wanted is a list"),
+    (
+        "do",
+        b'{"what": "add", "tail": 1, "head": "Mill", "turn": 1, "capacity": "5", "name": "'
+        + b"x" * 5_000
+        + b'"}',
+        "is longer than",
+    ),
+    (
+        "do",
+        b'{"what": "close", "arc": 1, "turn": 1, "shown": "rows"}',
+        "what is shown is a list of at most 8 addresses",
+    ),
+    (
+        "do",
+        b'{"what": "close", "arc": 1, "turn": 1, "shown": [1]}',
+        "what is shown is a list of addresses",
+    ),
+    ("sweep", b'{"arcs": [1]}', "expected a list"),
+    ("sweep", b'{"arcs": 1, "turn": 1}', "expected a list"),
     ("sweep", b'{"arcs": ["1"], "turn": 1}', "whole numbers"),
 ]
 # Headers of a wrong form, and what is said.
@@ -65,29 +86,88 @@ HEADERS: list[tuple[dict[str, Any], str]] = [
 ]
 # What the desk refuses, and what is said.
 REFUSED: list[tuple[dict[str, Any], str]] = [
-    ({"what": "close", "arc": 99}, "there is no arc #99"),
-    ({"what": "close", "arc": 0}, "there is no arc #0"),
-    ({"what": "close", "arc": -1}, "there is no arc #-1"),
+    ({"what": "close", "arc": 99}, "arc #99 does not exist"),
+    ({"what": "close", "arc": 0}, "arc #0 does not exist"),
+    ({"what": "close", "arc": -1}, "arc #-1 does not exist"),
     ({"what": "open", "arc": 1}, "is open"),
     ({"what": "cap", "arc": 1, "capacity": "1,200"}, "'1,200' may be 1.2 or 1200"),
-    ({"what": "cap", "arc": 1, "capacity": "-200 %"}, "'-200 %' makes -110 of 110, which is below 0"),
-    ({"what": "cap", "arc": 1, "capacity": "1e-30"}, "with the decimals of 0.000000000000000000000000000001 the capacities would be together past"),
-    ({"what": "cap", "arc": 99, "capacity": "5"}, "there is no arc #99"),
-    ({"what": "cap", "arc": 1, "capacity": ""}, "a number is wanted"),
+    (
+        {"what": "cap", "arc": 1, "capacity": "-200 %"},
+        "'-200 %' makes -110 of 110, which is below 0",
+    ),
+    (
+        {"what": "cap", "arc": 1, "capacity": "1e-30"},
+        "with the decimals of 0.000000000000000000000000000001 the capacities would be together "
+        "past",
+    ),
+    ({"what": "cap", "arc": 99, "capacity": "5"}, "arc #99 does not exist"),
+    ({"what": "cap", "arc": 1, "capacity": ""}, "expected a number"),
     ({"what": "cap", "arc": 1, "capacity": "18446744073709551616"}, "is past 18446744073709551615"),
-    ({"what": "shut", "node": 99}, "there is no place #99"),
+    ({"what": "shut", "node": 99}, "place #99 does not exist"),
     ({"what": "open-place", "node": 5}, "is not shut"),
-    ({"what": "add", "tail": 5, "head": "Statoin", "capacity": "5", "name": ""}, "no place is called 'Statoin'; is it 'Station'?"),
-    ({"what": "go", "step": 7}, "there is no step"),
-    ({"what": "go", "step": -1}, "there is no step"),
+    (
+        {"what": "add", "tail": 5, "head": "Statoin", "capacity": "5", "name": ""},
+        "no place is called 'Statoin'; is it 'Station'?",
+    ),
+    ({"what": "go", "step": 7}, "step 8 does not exist"),
+    ({"what": "go", "step": -1}, "nothing to undo"),
 ]
+
+
+# What a page shows beside a state, and what is no part of one.
+SHOWN = [
+    "picture?near=",
+    "rows?filter=&sort=-flow&first=0&count=5",
+    "arc?number=2",
+    "place?node=5",
+    "scenarios",
+]
+NOT_SHOWN = ["arc?number=99", "arc?x=1", "plan.csv?turn=2", "costs?column=&to=&second=0", "nothing"]
+
+
+def test_an_act_tells_what_is_shown() -> None:
+    """By one request: each part is what the board answers to the address of it then."""
+    with board(PIPES) as it:
+        told = it.do(what="close", arc=12, shown=SHOWN)
+        assert told["parts"] == {address: it.told(address) for address in SHOWN}
+        told = it.do(what="go", step=0, shown=[SHOWN[2], *NOT_SHOWN])
+        assert list(told["parts"]) == [SHOWN[2]] and told["parts"][SHOWN[2]]["turn"] == it.turn()
+        assert "parts" not in it.do(what="go", step=1)
+
+
+def test_what_is_lost_and_won() -> None:
+    """In amounts of the table, empty where it is nothing; and in digits, ordered as texts are."""
+    with board(PIPES) as it:
+        left, rows = list(range(1, 15)), list[Any]()
+        while left:
+            told = json.loads(it.post("sweep", arcs=left)[1])
+            left, rows = told["left"], rows + told["trials"]
+        for row in rows:
+            without, doubled = swept()[row["name"]]
+            lost, won = 165 - without, doubled - 165
+            assert (row["lost"], row["won"]) == (str(lost or ""), str(won or "")), row["name"]
+            assert (int(row["loss"]), int(row["gain"])) == (lost, won), row["name"]
+        for kind in "loss", "gain":
+            digits = [row[kind] for row in rows]
+            assert sorted(digits) == sorted(digits, key=int)
+        # The story's page: without the Bridge pipe it is 155.
+        told = it.do(what="close", arc=10)
+        assert (told["moved"], told["by"]) == ("10 less", "10 less")
+        told = it.do(what="close", arc=12)
+        assert (told["moved"], told["by"]) == ("no change", "10 less")
+        assert [step["by"] for step in told["steps"]] == ["", "10 less", "no change"]
+        assert it.do(what="go", step=0)["moved"] == "10 more"
 
 
 def test_requests() -> None:
     with board(PIPES) as it:
         for path, body, wanted in FORMS:
-            status, _, told = it.ask(it.root + path, body, Content_Type="application/json" if body is not None else None)
-            assert status == 400 and wanted in json.loads(told)["error"], f"{path} {body!r:.60}: {status}, {told!r}"
+            status, _, told = it.ask(
+                it.root + path, body, Content_Type="application/json" if body is not None else None
+            )
+            assert (
+                status == 400 and wanted in json.loads(told)["error"]
+            ), f"{path} {body!r:.60}: {status}, {told!r}"
         for headers, wanted in HEADERS:
             status, _, told = it.ask(it.root + "do", b'{"what": "close", "arc": 1}', **headers)
             assert status == 400 and wanted.encode() in told, f"{headers}: {status}, {told!r}"
@@ -97,17 +177,25 @@ def test_requests() -> None:
         assert it.ask(it.root + "nothing")[0] == 404
         assert it.ask(it.root + "do", b"{}", method="PUT")[0] == 501
         state = it.state()
-        assert (state["value"], len(state["steps"])) == ("165", 1), f"after what was refused: {state}"
+        assert (state["value"], len(state["steps"])) == (
+            "165",
+            1,
+        ), f"after what was refused: {state}"
 
 
 def test_ends() -> None:
-    """An interrupt ends the board and its session; so does the end of the last page, but not that of one of two."""
+    """An interrupt ends the board and its session; so does the end of the last page, but not that
+    of one of two."""
     for by in signal.SIGINT, signal.SIGTERM, signal.SIGHUP:
         with board(PIPES) as it:
             sessions = it.sessions()
             status = it.end(by)
             left = [one for one in sessions if Path(f"/proc/{one}").exists()]
-            assert (len(sessions), status, left) == (1, 130, []), f"ended by {by}: {status}, {sessions}, {left}"
+            assert (len(sessions), status, left) == (
+                1,
+                130,
+                [],
+            ), f"ended by {by}: {status}, {sessions}, {left}"
     with board(PIPES) as it:
         sessions = it.sessions()
         pages = [socket.create_connection(("127.0.0.1", it.port), SECONDS) for _ in range(2)]
@@ -149,11 +237,17 @@ def keep_asking(it: Board) -> None:
 
 
 def test_side_by_side() -> None:
-    """Of requests that come at once from pages that show the same, one is carried out. The others are told that the network has changed."""
+    """Of requests that come at once from pages that show the same, one is carried out. The others
+    are told that the network has changed."""
     with board(PIPES) as it:
         answers: list[Any] = []
         turn = it.turn()
-        closing = [threading.Thread(target=lambda arc=arc: answers.append(it.do(what="close", arc=arc, turn=turn))) for arc in (12, 10, 5)]
+        closing = [
+            threading.Thread(
+                target=lambda arc=arc: answers.append(it.do(what="close", arc=arc, turn=turn))
+            )
+            for arc in (12, 10, 5)
+        ]
         for one in closing:
             one.start()
         for one in closing:
@@ -165,24 +259,46 @@ def test_side_by_side() -> None:
 
 
 def test_turns() -> None:
-    """What a page asks for that shows a state that has passed is refused, whatever it is; and each answer says which state it is of."""
+    """What a page asks for that shows a state that has passed is refused, whatever it is; and each
+    answer says which state it is of."""
     with board(PIPES) as it:
         first = it.turn()
         assert it.do(what="close", arc=12)["turn"] > first
         second = it.turn()
         assert it.do(what="close", arc=10)["turn"] > second
-        done: list[dict[str, Any]] = [{"what": "go", "step": 0}, {"what": "close", "arc": 5}, {"what": "again"}]
+        done: list[dict[str, Any]] = [
+            {"what": "go", "step": 0},
+            {"what": "close", "arc": 5},
+            {"what": "again"},
+        ]
         done += [{"what": "add", "tail": 1, "head": "Mill", "capacity": "5", "name": ""}]
         for turn in first, second:
             for content in done:
                 told = it.do(**content, turn=turn)
-                assert (told["error"], told["turn"]) == ("the network has changed in another tab: look again", it.turn()), content
+                assert (told["error"], told["turn"]) == (
+                    "the network has changed in another tab: look again",
+                    it.turn(),
+                ), content
             assert b"look again" in it.post("sweep", arcs=[1], turn=turn)[1]
-            for file in f"plan.csv?turn={turn}", f"problem.max?turn={turn}", f"picture.svg?near=&turn={turn}":
+            for file in (
+                f"plan.csv?turn={turn}",
+                f"problem.max?turn={turn}",
+                f"picture.svg?near=&turn={turn}",
+            ):
                 assert it.ask(it.root + file)[0] == 409, file
         state = it.state()
-        assert (state["at"], len(state["steps"])) == (2, 3), "something was done to another state than a page showed"
-        for path in "state", "picture?near=", "arc?number=1", "place?node=5", "find?text=mill", "turn":
+        assert (state["at"], len(state["steps"])) == (
+            2,
+            3,
+        ), "something was done to another state than a page showed"
+        for path in (
+            "state",
+            "picture?near=",
+            "arc?number=1",
+            "place?node=5",
+            "find?text=mill",
+            "turn",
+        ):
             assert it.told(path)["turn"] == state["turn"], path
         # A step back is another state too, and what is refused changes none.
         assert it.do(what="go", step=1)["turn"] > state["turn"]
@@ -192,22 +308,40 @@ def test_turns() -> None:
 
 
 def test_shut_places() -> None:
-    """A place that was opened again is shut no more; an arc between two shut places opens with the second one."""
+    """A place that was opened again is shut no more; an arc between two shut places opens with the
+    second one."""
     with board(PIPES) as it:
         done: list[tuple[str, int, list[str]]] = [
-            ("shut", 5, ["Mill pipe", "Canal pipe", "Mill Lane", "Bridge pipe"]), ("open-place", 5, []),
+            ("shut", 5, ["Mill pipe", "Canal pipe", "Mill Lane", "Bridge pipe"]),
+            ("open-place", 5, []),
             ("shut", 7, ["North Street", "Mill Lane", "Market Street", "Market link"]),
-            ("shut", 5, ["Mill pipe", "Canal pipe", "Mill Lane", "Bridge pipe", "North Street", "Market Street", "Market link"]),
-            ("open-place", 7, ["Mill pipe", "Canal pipe", "Mill Lane", "Bridge pipe"]), ("open-place", 5, []),
-        ]  # fmt: skip
+            (
+                "shut",
+                5,
+                [
+                    "Mill pipe",
+                    "Canal pipe",
+                    "Mill Lane",
+                    "Bridge pipe",
+                    "North Street",
+                    "Market Street",
+                    "Market link",
+                ],
+            ),
+            ("open-place", 7, ["Mill pipe", "Canal pipe", "Mill Lane", "Bridge pipe"]),
+            ("open-place", 5, []),
+        ]
         for what, node, names in done:
             assert it.do(what=what, node=node)["value"] == str(without(*names)), (what, node)
             assert it.told("place?node=5")["shut"] == ("Mill pipe" in names)
-            assert ("<title>Mill, shut</title>" in it.told("picture?near=")["svg"]) == ("Mill pipe" in names)
+            assert ("<title>Mill, shut</title>" in it.told("picture?near=")["svg"]) == (
+                "Mill pipe" in names
+            )
 
 
 def test_any_case() -> None:
-    """A new arc leads to a place whose name is typed without regard to case, also after an amount with more decimals than the table's."""
+    """A new arc leads to a place whose name is typed without regard to case, also after an amount
+    with more decimals than the table's."""
     with board(PIPES) as it:
         for head, capacity in ("HARBOUR", "5"), ("harbour", "5.25"), ("hÁrbour", "1"):
             told = it.do(what="add", tail=5, head=head, capacity=capacity, name="")
@@ -215,7 +349,8 @@ def test_any_case() -> None:
 
 
 def test_session_that_ends() -> None:
-    """The board says so, and begins again with the steps; and what can be taken along is of the present plan."""
+    """The board says so, and begins again with the steps; and what can be taken along is of the
+    present plan."""
     with board(PIPES) as it:
         it.do(what="close", arc=10)
         turn = it.turn()
@@ -223,21 +358,33 @@ def test_session_that_ends() -> None:
         os.kill(session, signal.SIGKILL)
         status, told = it.post("do", what="close", arc=1)
         said = json.loads(told)["error"]
-        assert (status, "SIGKILL. The session was begun again, with the steps that were made" in said) == (409, True), told
+        assert (
+            status,
+            "SIGKILL. The session was begun again, with the steps that were made" in said,
+        ) == (409, True), told
         os.kill(it.sessions()[0], signal.SIGKILL)
         # What changes nothing is answered, and this is told with it.
         state = it.state()
-        assert (state["value"], state["at"], len(state["steps"]), state["turn"]) == ("155", 1, 2, turn), f"begun again: {state}"
+        assert (state["value"], state["at"], len(state["steps"]), state["turn"]) == (
+            "155",
+            1,
+            2,
+            turn,
+        ), f"begun again: {state}"
         assert "SIGKILL. The session was begun again" in state["told"] and not it.state()["told"]
         _, sent, table = it.ask(it.root + f"plan.csv?turn={turn}")
         rows = list(csv.DictReader(io.StringIO(table.decode())))
-        assert (len(rows), sum(int(row["flow (litres per second)"]) for row in rows if row["to"] == "Harbour")) == (13, 155), f"the table: {table!r}"
+        assert (
+            len(rows),
+            sum(int(row["flow (litres per second)"]) for row in rows if row["to"] == "Harbour"),
+        ) == (13, 155), f"the table: {table!r}"
         assert "attachment" in sent.get("Content-Disposition", ""), f"the table is no file: {sent}"
         assert b"p max 9 13" in it.ask(it.root + f"problem.max?turn={turn}")[2]
 
 
 def test_no_new_session(tmp_path: Path, monkeypatch: pytest.MonkeyPatch) -> None:
-    """Where no other session can be begun, the board says so, and keeps the steps for a later try, and to be taken along."""
+    """Where no other session can be begun, the board says so, and keeps the steps for a later try,
+    and to be taken along."""
     program = tmp_path / "dmf"
     program.symlink_to(BUILT)
     monkeypatch.setenv("DMF", str(program))
@@ -249,14 +396,27 @@ def test_no_new_session(tmp_path: Path, monkeypatch: pytest.MonkeyPatch) -> None
         for content in done:
             status, told = it.post("do", **content)
             said = json.loads(told)
-            assert (status, said["steps"], "could not be begun again" in said["ended"]) == (410, 1, True), told
+            assert (status, said["steps"], "could not be begun again" in said["ended"]) == (
+                410,
+                1,
+                True,
+            ), told
         assert b"p max 9 13" in it.ask(it.root + f"problem.max?turn={turn}")[2]
         program.symlink_to(BUILT)
         state = it.do(what="again")
         assert (state["value"], state["at"], state["turn"]) == ("155", 1, turn), state
 
 
-@pytest.mark.parametrize("error", [AssertionError(), MemoryError(), RecursionError("too deep"), KeyError("x"), OSError(12, "no memory")])
+@pytest.mark.parametrize(
+    "error",
+    [
+        AssertionError(),
+        MemoryError(),
+        RecursionError("too deep"),
+        KeyError("x"),
+        OSError(12, "no memory"),
+    ],
+)
 def test_unforeseen(monkeypatch: pytest.MonkeyPatch, error: Exception) -> None:
     """Whatever error comes out of a request: a sentence tells it, and the steps before it stand."""
     text = run("dmf-problem", "--table", PIPES, "Reservoir", "Harbour").stdout
@@ -271,8 +431,13 @@ def test_unforeseen(monkeypatch: pytest.MonkeyPatch, error: Exception) -> None:
     def failing(*_: object, **__: object) -> None:
         raise error
 
-    asked: list[tuple[object, str, str, dict[str, Any]]] = [(Network, "shut", "do", {"what": "shut", "node": 5})]
-    asked += [(desk_sweep, "sweep", "sweep", {"arcs": [1, 2, 3]}), (Network, "solve", "do", {"what": "close", "arc": 3})]
+    asked: list[tuple[object, str, str, dict[str, Any]]] = [
+        (Network, "shut", "do", {"what": "shut", "node": 5})
+    ]
+    asked += [
+        (desk_sweep, "sweep", "sweep", {"arcs": [1, 2, 3]}),
+        (Network, "solve", "do", {"what": "close", "arc": 3}),
+    ]
     for at, name, path, content in asked:
         with monkeypatch.context() as patched:
             patched.setattr(at, name, failing)
@@ -281,14 +446,18 @@ def test_unforeseen(monkeypatch: pytest.MonkeyPatch, error: Exception) -> None:
                 assert told(board.post(path, {**content, "turn": board.desk.turn}))[0] == 410
                 continue
             status, said = told(board.post(path, {**content, "turn": board.desk.turn}))
-        assert status == 409 and (type(error).__name__ in said["error"] or str(error) in said["error"]), said
+        assert status == 409 and (
+            type(error).__name__ in said["error"] or str(error) in said["error"]
+        ), said
         assert told(board.get("state", {})) == before
-    assert told(board.post("do", {"what": "again", "turn": board.desk.turn})) == before
+    status, said = told(board.post("do", {"what": "again", "turn": board.desk.turn}))
+    assert (said.pop("moved"), (status, said)) == ("no change", before)
     board.desk.end()
 
 
 def test_stop() -> None:
-    """What takes long is stopped by another request, or by the end of the board, and the steps before it are kept."""
+    """What takes long is stopped by another request, or by the end of the board, and the steps
+    before it are kept."""
     with board(PIPES) as it:
         it.do(what="close", arc=10)
         state = it.state()
@@ -301,7 +470,10 @@ def test_stop() -> None:
             wait_until_asked(session)
             it.post("stop", turn=0)
             status, told = shut.result(SECONDS)
-            assert (status, json.loads(told)["error"]) == (409, "it was stopped. The session was begun again, with the steps that were made"), told
+            assert (status, json.loads(told)["error"]) == (
+                409,
+                "it was stopped. The session was begun again, with the steps that were made",
+            ), told
             assert it.state() == state
             (session,) = it.sessions()
             stop_session(session)
@@ -321,14 +493,24 @@ def test_large() -> None:
     """Of a large network those arcs are drawn that lie near the limit, or near a place."""
     with tempfile.TemporaryDirectory() as folder:
         table = Path(folder, "large.csv")
-        table.write_text("".join(f"S,P{n},{n % 7 + 1}\nP{n},Q{n % 40},{n % 5 + 1}\nQ{n % 40},T,{n % 3 + 1}\n" for n in range(400)))
+        table.write_text(
+            "".join(
+                f"S,P{n},{n % 7 + 1}\nP{n},Q{n % 40},{n % 5 + 1}\nQ{n % 40},T,{n % 3 + 1}\n"
+                for n in range(400)
+            )
+        )
         with board(str(table)) as it:
             told = json.loads(it.ask(it.root + "picture?near=")[2])
-            assert len(told["arcs"]) == 300, f"of a large network {len(told['arcs'])} arcs are drawn"
+            assert (
+                len(told["arcs"]) == 300
+            ), f"of a large network {len(told['arcs'])} arcs are drawn"
             node = json.loads(it.ask(it.root + "find?text=q39")[2])["found"][0]["node"]
             told = json.loads(it.ask(it.root + f"picture?near={node}")[2])
             beside = [arc for arc in told["arcs"] if "Q39" in (arc["tail"], arc["head"])]
-            assert (len(told["arcs"]), len(beside)) == (300, 20), f"near a place: {len(told['arcs'])}, {len(beside)}"
+            assert (len(told["arcs"]), len(beside)) == (
+                300,
+                20,
+            ), f"near a place: {len(told['arcs'])}, {len(beside)}"
 
 
 def test_picture() -> None:
@@ -336,13 +518,27 @@ def test_picture() -> None:
     with tempfile.TemporaryDirectory() as folder:
         table = Path(folder, "odd.csv")
         quoted = ODD.replace('"', '""')
-        table.write_text(f'from,to,litres,pipe\nA,"{quoted}",5,"{quoted}"\n"{quoted}",C,3,</text><script>\n')
+        table.write_text(
+            f'from,to,litres,pipe\nA,"{quoted}",5,"{quoted}"\n"{quoted}",C,3,</text><script>\n'
+        )
         with board(str(table)) as it:
             root = ElementTree.fromstring(json.loads(it.ask(it.root + "picture?near=")[2])["svg"])
             tags = {element.tag.rpartition("}")[2] for element in root.iter()}
             shown = [element.text for element in root.iter("{http://www.w3.org/2000/svg}text")]
-            assert tags <= {"svg", "g", "title", "text", "path", "polygon", "ellipse"}, f"the tags of a picture: {tags}"
-            is_there = shown.count(ODD) == 2 and "</text><script>" in shown and {"3/5", "3/3"} <= set(shown)
+            assert tags <= {
+                "svg",
+                "g",
+                "title",
+                "text",
+                "path",
+                "polygon",
+                "ellipse",
+            }, f"the tags of a picture: {tags}"
+            is_there = (
+                shown.count(ODD) == 2
+                and "</text><script>" in shown
+                and {"3/5", "3/3"} <= set(shown)
+            )
             assert is_there, f"the texts of a picture: {shown}"
     with board(PIPES) as it:
         for arc in (10, 3, 14):
@@ -350,8 +546,19 @@ def test_picture() -> None:
             told = json.loads(it.ask(it.root + "picture?near=")[2])
             root = ElementTree.fromstring(told["svg"])
             for one in told["arcs"]:
-                group = next(element for element in root.iter() if element.get("id") == f"arc-{one['number']}")
+                group = next(
+                    element
+                    for element in root.iter()
+                    if element.get("id") == f"arc-{one['number']}"
+                )
                 wanted = "closed" if one["closed"] else f"{one['flow']}/{one['capacity']}"
                 looks = set((group.get("class") or "").split()) & {"cut", "full", "closed"}
-                right = {name for name, key in (("cut", "limit"), ("full", "full"), ("closed", "closed")) if one[key]}
-                assert ([*group][-1].text, looks) == (wanted, right), f"arc {one['number']} in the picture: {looks}, {right}"
+                right = {
+                    name
+                    for name, key in (("cut", "limit"), ("full", "full"), ("closed", "closed"))
+                    if one[key]
+                }
+                assert ([*group][-1].text, looks) == (
+                    wanted,
+                    right,
+                ), f"arc {one['number']} in the picture: {looks}, {right}"

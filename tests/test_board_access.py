@@ -1,4 +1,5 @@
-"""A board by keyboard and by ear: the focus, the keys, names and roles in Chromium's accessibility tree, contrast, and a narrow page."""
+"""A board by keyboard and by ear: the focus, the keys, names and roles in Chromium's accessibility
+tree, contrast, and a narrow page."""
 
 from __future__ import annotations
 
@@ -16,8 +17,19 @@ TAB, ENTER, ESCAPE, SHIFT = "\ue004", "\ue007", "\ue00c", "\ue008"
 LEFT, UP, RIGHT, DOWN = "\ue012", "\ue013", "\ue014", "\ue015"
 WIDTHS, SCHEMES = (1280, 768, 400), ("light", "dark")
 # Roles of what somebody can act on.
-ACTED_ON = {"button", "link", "textbox", "searchbox", "checkbox", "combobox", "DisclosureTriangle", "grid", "columnheader"}
-# The ratio of contrast of two colours is as WCAG 2.1 has it. Each text that is seen is told with its ratio, and whether it is large.
+ACTED_ON = {
+    "button",
+    "link",
+    "textbox",
+    "searchbox",
+    "checkbox",
+    "combobox",
+    "DisclosureTriangle",
+    "grid",
+    "columnheader",
+}
+# The ratio of contrast of two colours is as WCAG 2.1 has it. Each text that is seen is told with
+# its ratio, and whether it is large.
 CONTRAST = """
 const probe = document.createElement("canvas").getContext("2d", { willReadFrequently: true });
 function rgba(colour) {
@@ -27,34 +39,51 @@ function rgba(colour) {
   return [...probe.getImageData(0, 0, 1, 1).data];
 }
 const part = (it) => (it / 255 <= 0.03928 ? it / 255 / 12.92 : ((it / 255 + 0.055) / 1.055) ** 2.4);
-const light = (colour) => { const [r, g, b] = rgba(colour).map(part); return 0.2126 * r + 0.7152 * g + 0.0722 * b; };
-const ratio = (one, other) => { const [a, b] = [light(one), light(other)].sort((x, y) => y - x); return (a + 0.05) / (b + 0.05); };
+const light = (colour) => {
+  const [r, g, b] = rgba(colour).map(part);
+  return 0.2126 * r + 0.7152 * g + 0.0722 * b;
+};
+const ratio = (one, other) => {
+  const [a, b] = [light(one), light(other)].sort((x, y) => y - x);
+  return (a + 0.05) / (b + 0.05);
+};
 function behind(element) {
   const inner = element.closest("g.node")?.querySelector("ellipse.inner");
   if (inner && rgba(getComputedStyle(inner).fill)[3] === 255) return getComputedStyle(inner).fill;
   for (let it = element; it; it = it.parentElement) {
-    if (rgba(getComputedStyle(it).backgroundColor)[3] === 255) return getComputedStyle(it).backgroundColor;
+    const colour = getComputedStyle(it).backgroundColor;
+    if (rgba(colour)[3] === 255) return colour;
   }
   return "white";
 }
 const found = [];
 for (const element of document.querySelectorAll("body *")) {
-  const isText = [...element.childNodes].some((it) => it.nodeType === 3 && it.data.trim()) || element.matches("input");
-  if (!isText || !element.checkVisibility() || element.closest(".unseen, datalist, title")) continue;
+  const isText = [...element.childNodes].some((it) => it.nodeType === 3 && it.data.trim())
+    || element.matches("input");
+  const isUnseen = element.closest(".unseen, datalist, title");
+  if (!isText || !element.checkVisibility() || isUnseen) continue;
   const looks = getComputedStyle(element), size = parseFloat(looks.fontSize);
   const isLarge = size >= 24 || size >= 18.66 && Number(looks.fontWeight) >= 700;
-  found.push([element.outerHTML.slice(0, 150), ratio(element instanceof SVGElement ? looks.fill : looks.color, behind(element)), isLarge]);
+  const colour = element instanceof SVGElement ? looks.fill : looks.color;
+  found.push([element.outerHTML.slice(0, 150), ratio(colour, behind(element)), isLarge]);
 }
 const paper = getComputedStyle(document.getElementById("picture")).backgroundColor;
-const marks = ["#picture .cut path:not(.wide)", "#picture .unused path:not(.wide)", "#picture .chosen path.wide"]
+const lines = ["#picture .cut path:not(.wide)", "#picture .unused path:not(.wide)"];
+const marks = [...lines, "#picture .chosen path.wide"]
   .map((at) => [at, ratio(getComputedStyle(document.querySelector(at)).stroke, paper)]);
 return [found, marks];
 """
 
 
 def show(driver: Any, width: int, scheme: str) -> None:
-    driver.execute_cdp_cmd("Emulation.setDeviceMetricsOverride", {"width": width, "height": 900, "deviceScaleFactor": 1, "mobile": False})
-    features = [{"name": "prefers-color-scheme", "value": scheme}, {"name": "prefers-reduced-motion", "value": "reduce"}]
+    driver.execute_cdp_cmd(
+        "Emulation.setDeviceMetricsOverride",
+        {"width": width, "height": 900, "deviceScaleFactor": 1, "mobile": False},
+    )
+    features = [
+        {"name": "prefers-color-scheme", "value": scheme},
+        {"name": "prefers-reduced-motion", "value": "reduce"},
+    ]
     driver.execute_cdp_cmd("Emulation.setEmulatedMedia", {"features": features})
 
 
@@ -75,11 +104,16 @@ def judge_colours(page: Page, width: int) -> None:
 
 def focused(page: Page) -> str:
     """The text of what has the focus, or its id."""
-    return str(page.driver.execute_script("const it = document.activeElement; return it.id || it.textContent"))
+    return str(
+        page.driver.execute_script(
+            "const it = document.activeElement; return it.id || it.textContent"
+        )
+    )
 
 
 def test_names_and_colours(driver: Any) -> None:
-    """Each control has a name and a role, and no colour is below AA, at each width, light and dark, also in what comes by clicks."""
+    """Each control has a name and a role, and no colour is below AA, at each width, light and dark,
+    also in what comes by clicks."""
     with board(PIPES) as it:
         page = Page(driver, it.address)
         it.do(what="close", arc=12)
@@ -98,7 +132,11 @@ def test_names_and_colours(driver: Any) -> None:
             page.wait(lambda: page.text("#verdict").startswith(("Worst", "None")))  # noqa: B023
             judge_tree(driver)
             texts, marks = driver.execute_script(CONTRAST)
-            low = [(text, round(ratio, 2)) for text, ratio, is_large in texts if ratio < (3 if is_large else 4.5)]
+            low = [
+                (text, round(ratio, 2))
+                for text, ratio, is_large in texts
+                if ratio < (3 if is_large else 4.5)
+            ]
             assert (low, len(texts) > 60) == ([], True), (width, scheme, low)
             assert all(ratio >= 3 for _, ratio in marks), (width, scheme, marks)
         as_before(driver)
@@ -107,26 +145,43 @@ def test_names_and_colours(driver: Any) -> None:
 def judge_tree(driver: Any) -> None:
     """What can be acted on has a name; what can have the focus has a role."""
     driver.execute_cdp_cmd("Accessibility.enable", {})
-    nodes = [node for node in driver.execute_cdp_cmd("Accessibility.getFullAXTree", {})["nodes"] if not node["ignored"]]
+    nodes = [
+        node
+        for node in driver.execute_cdp_cmd("Accessibility.getFullAXTree", {})["nodes"]
+        if not node["ignored"]
+    ]
     told = [
-        (node["role"]["value"], node.get("name", {}).get("value", ""), {one["name"] for one in node.get("properties", ())})
+        (
+            node["role"]["value"],
+            node.get("name", {}).get("value", ""),
+            {one["name"] for one in node.get("properties", ())},
+        )
         for node in nodes
     ]
-    assert {"button", "checkbox", "searchbox", "grid", "columnheader", "textbox"} <= {role for role, *_ in told}
+    assert {"button", "checkbox", "searchbox", "grid", "columnheader", "textbox"} <= {
+        role for role, *_ in told
+    }
     nameless = [(role, name) for role, name, _ in told if role in ACTED_ON and not name.strip()]
     assert nameless == []
-    roleless = [(role, name) for role, name, has in told if "focusable" in has and role in ("generic", "none", "") and name != ""]
+    roleless = [
+        (role, name)
+        for role, name, has in told
+        if "focusable" in has and role in ("generic", "none", "") and name != ""
+    ]
     assert roleless == []
     driver.execute_cdp_cmd("Accessibility.disable", {})
 
 
 def test_focus_stays(driver: Any) -> None:
-    """After what is done by Enter, the focus is on what stands in the place of the button, and never nowhere."""
+    """After what is done by Enter, the focus is on what stands in the place of the button, and
+    never nowhere."""
     with board(PIPES) as it:
         page = Page(driver, it.address)
         page.choose("node-5", "Mill")
         for word, then in ("Shut it", "Open it again"), ("Open it again", "Shut it"):
-            page.wait(lambda: page.driver.find_elements("xpath", f"//button[text()={word!r}]"))  # noqa: B023
+            page.wait(
+                lambda: page.driver.find_elements("xpath", f"//button[text()={word!r}]")
+            )  # noqa: B023
             driver.find_element("xpath", f"//button[text()={word!r}]").send_keys(ENTER)
             page.settle()
             page.wait(lambda: focused(page) == then)  # noqa: B023
@@ -151,13 +206,19 @@ def test_focus_stays(driver: Any) -> None:
         assert focused(page) == place != "picture"
         head = driver.find_element("css selector", "#grid th.capacity button")
         head.send_keys(ENTER)
-        page.wait(lambda: driver.find_element("css selector", "#grid th.capacity").get_attribute("aria-sort") == "ascending")
+        page.wait(
+            lambda: driver.find_element("css selector", "#grid th.capacity").get_attribute(
+                "aria-sort"
+            )
+            == "ascending"
+        )
         page.wait(lambda: focused(page) == "fits")
         driver.get("about:blank")
 
 
 def test_escape(driver: Any) -> None:
-    """Escape closes what is told of the choice, or of many, and the focus is back where that was chosen."""
+    """Escape closes what is told of the choice, or of many, and the focus is back where that was
+    chosen."""
     with board(PIPES) as it:
         page = Page(driver, it.address)
         page.choose("arc-9", "Mill Lane")
@@ -175,13 +236,17 @@ def test_escape(driver: Any) -> None:
 def middles(driver: Any) -> dict[str, tuple[float, float]]:
     """The middle of each place on the screen."""
     nodes = "[...document.querySelectorAll('#picture .node')]"
-    found = driver.execute_script(f"return {nodes}.map((it) => [it.id, it.querySelector('ellipse').getBoundingClientRect()])")
-    return {node: (box["x"] + box["width"] / 2, box["y"] + box["height"] / 2) for node, box in found}
+    found = driver.execute_script(
+        f"return {nodes}.map((it) => [it.id, it.querySelector('ellipse').getBoundingClientRect()])"
+    )
+    return {
+        node: (box["x"] + box["width"] / 2, box["y"] + box["height"] / 2) for node, box in found
+    }
 
 
 def test_arrows(driver: Any) -> None:
-    """An arrow key goes to a place in its direction than which none is nearer both along it and aside; where it stays, none is there. All
-    places can be reached so, and with Shift all pipes."""
+    """An arrow key goes to a place in its direction than which none is nearer both along it and
+    aside; where it stays, none is there. All places can be reached so, and with Shift all pipes."""
     with board(PIPES) as it:
         page = Page(driver, it.address)
         spots = middles(driver)
@@ -205,7 +270,9 @@ def test_arrows(driver: Any) -> None:
         driver.get("about:blank")
 
 
-def judge_way(spots: dict[str, tuple[float, float]], place: str, now: str, way: tuple[int, int]) -> None:
+def judge_way(
+    spots: dict[str, tuple[float, float]], place: str, now: str, way: tuple[int, int]
+) -> None:
     def apart(other: str) -> tuple[float, float]:
         right, down = spots[other][0] - spots[place][0], spots[other][1] - spots[place][1]
         return right * way[0] + down * way[1], abs(right * way[1]) + abs(down * way[0])
@@ -216,41 +283,60 @@ def judge_way(spots: dict[str, tuple[float, float]], place: str, now: str, way: 
         return
     assert now in there, (place, now, way)
     along, aside = there[now]
-    nearer = [other for other, (other_along, other_aside) in there.items() if other_along < along - 1 and other_aside < aside - 1]
+    nearer = [
+        other
+        for other, (other_along, other_aside) in there.items()
+        if other_along < along - 1 and other_aside < aside - 1
+    ]
     assert nearer == [], (place, now, way)
 
 
 def test_said(driver: Any) -> None:
-    """The picture has a text for who does not see it: the value, the limit, and what the last step changed."""
+    """The picture has a text for who does not see it: the value, the limit, and what the last step
+    changed."""
     with board(PIPES) as it:
         page = Page(driver, it.address)
         said = driver.execute_script("return document.getElementById('picture-said').textContent")
-        wanted = "165 litres per second flow from Reservoir to Harbour, over 14 pipes. The limit: North rise, Mill Lane, South main."
+        wanted = (
+            "165 litres per second flow from Reservoir to Harbour, over 14 pipes. The limit: North "
+            "rise, Mill Lane, South main."
+        )
         assert said == wanted
         it.do(what="close", arc=10)
         page.wait(lambda: page.value() == without("Bridge pipe"))
         said = driver.execute_script("return document.getElementById('picture-said').textContent")
-        assert said.endswith("Last step: close Bridge pipe, 10 less.") and said.startswith("155 litres")
-        described = driver.execute_script("return document.getElementById('picture').getAttribute('aria-describedby')")
+        assert said.endswith("Last step: close Bridge pipe, 10 less.") and said.startswith(
+            "155 litres"
+        )
+        described = driver.execute_script(
+            "return document.getElementById('picture').getAttribute('aria-describedby')"
+        )
         assert described.split()[0] == "picture-said"
         driver.get("about:blank")
 
 
 def test_narrow(driver: Any) -> None:
-    """A click in the picture of a narrow page does not jump away from it, and nothing moves by itself where that is not wanted."""
+    """A click in the picture of a narrow page does not jump away from it, and nothing moves by
+    itself where that is not wanted."""
     with board(PIPES) as it:
         show(driver, 400, "light")
         page = Page(driver, it.address)
         driver.execute_script("scrollTo(0, 120)")
-        before = driver.execute_script("return [scrollY, document.getElementById('picture').getBoundingClientRect().top]")
+        before = driver.execute_script(
+            "return [scrollY, document.getElementById('picture').getBoundingClientRect().top]"
+        )
         page.choose("node-5", "Mill")
         it.do(what="close", arc=10)
         page.wait(lambda: page.value() == without("Bridge pipe"))
-        after = driver.execute_script("return [scrollY, document.getElementById('picture').getBoundingClientRect().top]")
+        after = driver.execute_script(
+            "return [scrollY, document.getElementById('picture').getBoundingClientRect().top]"
+        )
         # A sentence at the top may take another line, and what is looked at stays where it is.
         assert after[1] == pytest.approx(before[1], abs=1)
         box = "document.getElementById('{}').getBoundingClientRect()"
-        apart = driver.execute_script(f"return {box.format('chosen')}.top - {box.format('drawn')}.bottom")
+        apart = driver.execute_script(
+            f"return {box.format('chosen')}.top - {box.format('drawn')}.bottom"
+        )
         assert 0 <= apart < 40
         assert driver.execute_script("return document.getAnimations().length") == 0
         assert driver.execute_script("return document.documentElement.scrollWidth") <= 400
@@ -261,7 +347,10 @@ def test_long_names(driver: Any, tmp_path: Path) -> None:
     """Names that are longer than a page is wide are broken, and hide no number beside them."""
     word = "Trinkwasserhochbeh\u00e4lterzulaufleitungsabschnitt"
     table = tmp_path / "long.csv"
-    table.write_text(f"from,to,litres,pipe\n{word}Nord,{word}Mitte,12345678.55,{word}1\n{word}Mitte,{word}S\u00fcd,9876543.25,{word}2\n")
+    table.write_text(
+        f"from,to,litres,pipe\n{word}Nord,{word}Mitte,12345678.55,{word}1\n"
+        f"{word}Mitte,{word}S\u00fcd,9876543.25,{word}2\n"
+    )
     with board(str(table)) as it:
         for width in WIDTHS:
             show(driver, width, "light")
@@ -273,9 +362,21 @@ def test_long_names(driver: Any, tmp_path: Path) -> None:
             page.press("Choose all of these")
             page.wait(lambda: page.text("#many-told"))  # noqa: B023
             assert driver.execute_script("return document.documentElement.scrollWidth") <= width
-            assert driver.execute_script("return document.querySelector('#trials td').offsetWidth") >= 72
+            assert (
+                driver.execute_script("return document.querySelector('#trials td').offsetWidth")
+                >= 72
+            )
             amounts = "[...document.querySelectorAll('#grid td.flow, #grid td.capacity')]"
-            assert driver.execute_script(f"return {amounts}.filter((it) => it.scrollWidth > it.clientWidth).map((it) => it.innerText)") == []
-            cut = "const it = document.getElementById('limit-table').parentElement; return it.scrollWidth - it.clientWidth"
+            assert (
+                driver.execute_script(
+                    f"return {amounts}.filter((it) => it.scrollWidth > it.clientWidth).map((it) => "
+                    "it.innerText)"
+                )
+                == []
+            )
+            cut = (
+                "const it = document.getElementById('limit-table').parentElement; return "
+                "it.scrollWidth - it.clientWidth"
+            )
             assert driver.execute_script(cut) <= 0
         as_before(driver)

@@ -1,5 +1,6 @@
-"""Shows tools/dmf-board by headless Chromium: the water story by clicks, compared with the same story from the shell and from dmf-plan; a
-reload; the page's end; and what the documents show of it, which `--write` makes anew."""
+"""Shows tools/dmf-board by headless Chromium: the water story by clicks, compared with the same
+story from the shell and from dmf-plan; a reload; the page's end; and what the documents show of it,
+which `--write` makes anew."""
 
 from __future__ import annotations
 
@@ -26,7 +27,13 @@ def test_story(driver: Any) -> None:
     with tempfile.NamedTemporaryFile() as problem:
         made = run("dmf-problem", "--table", PIPES, "Reservoir", "Harbour")
         Path(problem.name).write_text(made.stdout)
-        ran = subprocess.run([ROOT / "dmf", "session", problem.name], stdin=open(commands), capture_output=True, text=True, check=True)
+        ran = subprocess.run(
+            [ROOT / "dmf", "session", problem.name],
+            stdin=open(commands),
+            capture_output=True,
+            text=True,
+            check=True,
+        )
     shell = [int(it) for it in re.findall("^s ([0-9]+)$", ran.stdout, re.MULTILINE)]
     told = re.findall("value ([0-9]+)", run("dmf-plan", PIPES, typed=SCRIPT).stdout)
     typed = [int(found) for line, found in zip(SCRIPT.splitlines(), told) if line == "solve"]
@@ -48,9 +55,15 @@ def test_story(driver: Any) -> None:
             page.wait(lambda: "closed" in page.text("#what"))  # noqa: B023
             if name == "Market link":
                 assert page.undo() == 165
-        assert (shell, typed, clicked) == (STORY, STORY, STORY), f"the story: {shell}, {typed}, {clicked}, and not {STORY}"
+        assert (shell, typed, clicked) == (
+            STORY,
+            STORY,
+            STORY,
+        ), f"the story: {shell}, {typed}, {clicked}, and not {STORY}"
         limit = page.text("#limit-table")
-        assert all(name in limit for name in ("North rise", "South rise", "Mill Lane")), f"the limit: {limit}"
+        assert all(
+            name in limit for name in ("North rise", "South rise", "Mill Lane")
+        ), f"the limit: {limit}"
         driver.refresh()
         page.ready()
         assert (page.value(), "Bridge pipe" in page.text("#way")) == (155, True)
@@ -63,13 +76,21 @@ def test_story(driver: Any) -> None:
         worst = min(wanted, key=lambda name: wanted[name][0])
         best = max(wanted, key=lambda name: wanted[name][1])
         second = f"{wanted[worst][1] - 165} more" if wanted[worst][1] > 165 else "nothing"
-        said = f"Worst to lose: {worst}, {165 - wanted[worst][0]} litres per second less; a second one brings {second}. "
+        said = (
+            f"Worst to lose: {worst}, {165 - wanted[worst][0]} litres per second less; a second "
+            "one "
+            f"brings {second}. "
+        )
         said += f"Best to have a second of: {best}, {wanted[best][1] - 165} litres per second more."
         assert page.text("#verdict") == said, f"the verdict: {page.text('#verdict')}"
         judge_keys(page)
         judge_sessions(page, it)
         # What is refused, and a session that has ended, a browser tells as well.
-        logged = [one["message"] for one in driver.get_log("browser") if not re.search("status of (409|410)", one["message"])]
+        logged = [
+            one["message"]
+            for one in driver.get_log("browser")
+            if not re.search("status of (409|410)", one["message"])
+        ]
         assert logged == [], f"the browser says {logged}"
         driver.get("about:blank")
         status = it.ended()
@@ -85,8 +106,10 @@ def judge_keys(page: Page) -> None:
     part.send_keys("\ue007")
     page.wait(lambda: page.text("#what h3") and label.startswith(page.text("#what h3")))
     unnamed = page.driver.execute_script(
-        "return [...document.querySelectorAll('button, input, a, g.arc, g.node')].filter((it) => it.checkVisibility() && "
-        "!(it.textContent.trim() || it.getAttribute('aria-label') || it.labels?.length)).map((it) => it.outerHTML)"
+        "return [...document.querySelectorAll('button, input, a, g.arc, g.node')].filter((it) => "
+        "it.checkVisibility() && "
+        "!(it.textContent.trim() || it.getAttribute('aria-label') || it.labels?.length)).map((it) "
+        "=> it.outerHTML)"
     )
     assert unnamed == [], f"controls without a name: {unnamed}"
     page.write("#text", "mill l")
@@ -100,13 +123,17 @@ def judge_keys(page: Page) -> None:
 
 
 def judge_sessions(page: Page, it: Board) -> None:
-    """Where the session ends by itself, the board begins again with the steps, the page says so, and goes on."""
+    """Where the session ends by itself, the board begins again with the steps, the page says so,
+    and goes on."""
     page.after(lambda: page.press("Close it"))
     page.choose("arc-3", "North rise")
     (session,) = it.sessions()
     os.kill(session, signal.SIGKILL)
     page.press("Close it")
-    page.wait(lambda: "SIGKILL. The session was begun again, with the steps that were made." in page.text("#trouble"))
+    page.wait(
+        lambda: "SIGKILL. The session was begun again, with the steps that were made."
+        in page.text("#trouble")
+    )
     page.settle()
     assert page.value() == 120, f"begun again: {page.value()}"
     page.after(lambda: page.press("Close it"))
@@ -115,10 +142,14 @@ def judge_sessions(page: Page, it: Board) -> None:
 
 
 def test_opening(driver: Any) -> None:
-    """The file that a browser is started with leads to the page. Without the token there is a page that says how to get in."""
+    """The file that a browser is started with leads to the page. Without the token there is a page
+    that says how to get in."""
     with board(PIPES) as it:
         driver.get(f"http://{it.host}/")
-        assert "The board printed its address where it was started" in driver.find_element("tag name", "body").text
+        assert (
+            "The board printed its address where it was started"
+            in driver.find_element("tag name", "body").text
+        )
         # The browser says that it was refused.
         assert len(driver.get_log("browser")) == 1
         door = Door(it.address)
@@ -136,7 +167,10 @@ def test_names(driver: Any) -> None:
     with tempfile.TemporaryDirectory() as folder:
         quoted = ODD.replace('"', '""')
         table = Path(folder, "odd.csv")
-        table.write_text(f'from,to,litres,"{quoted[:30]}"\nA,"{quoted}",5,"{quoted}"\n"{quoted}",C,3,</script><b>\n')
+        table.write_text(
+            f'from,to,litres,"{quoted[:30]}"\nA,"{quoted}",5,"{quoted}"\n'
+            f'"{quoted}",C,3,</script><b>\n'
+        )
         with board(str(table)) as it:
             page = Page(driver, it.address)
             page.choose("arc-1", ODD)
@@ -153,13 +187,17 @@ def test_widths(driver: Any) -> None:
     with board(PIPES) as it:
         for width in 400, 768, 1280:
             driver.execute_cdp_cmd(
-                "Emulation.setDeviceMetricsOverride", {"width": width, "height": 900, "deviceScaleFactor": 1, "mobile": width == 400}
+                "Emulation.setDeviceMetricsOverride",
+                {"width": width, "height": 900, "deviceScaleFactor": 1, "mobile": width == 400},
             )
             page = Page(driver, it.address)
             page.press("Try each pipe")
             page.wait(lambda: "Worst" in page.text("#verdict"))  # noqa: B023
             wide = driver.execute_script("return document.documentElement.scrollWidth")
-            cut = driver.execute_script("const it = document.getElementById('trials').parentElement; return it.scrollWidth - it.clientWidth")
+            cut = driver.execute_script(
+                "const it = document.getElementById('trials').parentElement; return it.scrollWidth "
+                "- it.clientWidth"
+            )
             assert cut <= 0, f"at {width} pixels the table of trials is cut by {cut}"
             assert wide <= width, f"at {width} pixels the page has {wide}"
         driver.execute_cdp_cmd("Emulation.clearDeviceMetricsOverride", {})
@@ -170,7 +208,12 @@ def test_pictures(driver: Any, writes: bool) -> None:
     """The pictures of the documents, which are made at least, and with --write put."""
     with board(PIPES) as it:
         for name, width, height in ("board", 1280, 860), ("board-small", 400, 800):
-            metrics = {"width": width, "height": height, "deviceScaleFactor": 1, "mobile": width == 400}
+            metrics = {
+                "width": width,
+                "height": height,
+                "deviceScaleFactor": 1,
+                "mobile": width == 400,
+            }
             driver.execute_cdp_cmd("Emulation.setDeviceMetricsOverride", metrics)
             page = Page(driver, it.address)
             page.press("Try each pipe")
@@ -183,3 +226,21 @@ def test_pictures(driver: Any, writes: bool) -> None:
                 (ROOT / f"docs/pictures/{name}.png").write_bytes(picture)
         driver.execute_cdp_cmd("Emulation.clearDeviceMetricsOverride", {})
         driver.get("about:blank")
+
+
+ASKED = "return performance.getEntriesByType('resource').map((it) => it.name.split('/').pop())"
+
+
+def test_a_click_is_one_request(driver: Any) -> None:
+    """What the page shows after an act comes with its answer: the state, the picture, the rows and
+    the arc that is chosen."""
+    with board(PIPES) as it:
+        page = Page(driver, it.address)
+        page.choose("arc-12", "Market link")
+        page.settle()
+        clicks = [lambda: page.press("Close it"), lambda: page.click("#undo")]
+        for click, looks in zip(clicks, ("closed", "of 15 litres")):
+            driver.execute_script("performance.clearResourceTimings()")
+            assert page.after(click) == 165
+            assert looks in page.text("#what")
+            assert driver.execute_script(ASKED) == ["do"]

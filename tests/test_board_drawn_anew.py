@@ -1,4 +1,5 @@
-"""What a step leaves on the page as it was, and what it draws anew: together that is what a page shows that is loaded then."""
+"""What a step leaves on the page as it was, and what it draws anew: together that is what a page
+shows that is loaded then."""
 
 from __future__ import annotations
 
@@ -11,7 +12,8 @@ from desk_shared import PIPES
 from test_board_ground import rows_of
 
 pytestmark = pytest.mark.seconds(10)
-# The picture without how labels lie now, the rows of the table, the steps and the limit. A row has a class where keys go from.
+# The picture without how labels lie now, the rows of the table, the steps and the limit. A row has
+# a class where keys go from.
 SHOWN = """
 const drawn = [...document.querySelectorAll("#picture svg > g > *")].map((part) => {
   const copy = part.cloneNode(true);
@@ -19,15 +21,22 @@ const drawn = [...document.querySelectorAll("#picture svg > g > *")].map((part) 
   for (const text of copy.querySelectorAll("text")) text.removeAttribute("transform");
   return copy.outerHTML.replaceAll(' class=""', "");
 });
-return [drawn, ...["#grid tbody", "#way", "#limit-table", "#places"].map((at) => [...document.querySelector(at).children]
+const parts = ["#grid tbody", "#way", "#limit-table", "#places"];
+return [drawn, ...parts.map((at) => [...document.querySelector(at).children]
   .map((it) => it.outerHTML.replaceAll(' class=""', "").replaceAll(' class="current"', "")))];
 """
 PIECES = "[...document.querySelectorAll('#picture .node, #picture .arc, #grid tbody tr[id]')]"
 STEPS: list[dict[str, Any]] = [
-    {"what": "close", "arc": 9}, {"what": "cap", "arc": 12, "capacity": "20"}, {"what": "double", "arc": 3},
+    {"what": "close", "arc": 9},
+    {"what": "cap", "arc": 12, "capacity": "20"},
+    {"what": "double", "arc": 3},
     {"what": "add", "tail": 5, "head": "Harbour", "capacity": "7", "name": "last"},
-    {"what": "shut", "node": 4}, {"what": "go", "step": 3}, {"what": "go", "step": 0}, {"what": "go", "step": 5}, {"what": "open", "arc": 9},
-]  # fmt: skip
+    {"what": "shut", "node": 4},
+    {"what": "go", "step": 3},
+    {"what": "go", "step": 0},
+    {"what": "go", "step": 5},
+    {"what": "open", "arc": 9},
+]
 
 
 def test_as_loaded(driver: Any) -> None:
@@ -66,5 +75,12 @@ def test_what_stays(driver: Any) -> None:
         # Rows of the table stay, and say what is so now.
         wanted = {f"arc-{number}" for number in changed}
         assert 12 in changed and len(changed) < len(before) / 2
-        page.wait(lambda: set(driver.execute_script(f"return {PIECES}.filter((it) => !it.isOld).map((it) => it.id)")) == wanted)
+        page.wait(
+            lambda: set(
+                driver.execute_script(
+                    f"return {PIECES}.filter((it) => !it.isOld).map((it) => it.id)"
+                )
+            )
+            == wanted
+        )
         driver.get("about:blank")

@@ -1,5 +1,5 @@
-"""A board of a large network tells what can be sent and the limit before the flows are known. Each of its answers is the one of a board that
-solves at once."""
+"""A board of a large network tells what can be sent and the limit before the flows are known. Each
+of its answers is the one of a board that solves at once."""
 
 from __future__ import annotations
 
@@ -12,8 +12,8 @@ import pytest
 from board_running import Board as Running
 from built import BUILT
 from desk_shared import SECONDS
-from dmf.desk.analysis import trials_of
 from dmf.desk import answers as desk_first
+from dmf.desk.analysis import trials_of
 from dmf.desk.board.responses import Response
 from dmf.desk.board.routes import Board
 from dmf.desk.workspace import Desk
@@ -58,7 +58,13 @@ def small_is_large(monkeypatch: pytest.MonkeyPatch) -> None:
 
 
 def board_of(seed: int, may_follow: bool = True) -> Board:
-    return Board(Desk(LoadedProblem("square.max", square(5, random.Random(seed))), with_solve=True, may_follow=may_follow))
+    return Board(
+        Desk(
+            LoadedProblem("square.max", square(5, random.Random(seed))),
+            with_solve=True,
+            may_follow=may_follow,
+        )
+    )
 
 
 def boards(seed: int) -> tuple[Board, Board]:
@@ -81,13 +87,18 @@ def end(*several: Board) -> None:
 
 @pytest.mark.parametrize("seed", range(20))
 def test_the_first_answer(seed: int) -> None:
-    """The value, the limit with what flows there, and its side are those of the session's flow, which is not asked for."""
+    """The value, the limit with what flows there, and its side are those of the session's flow,
+    which is not asked for."""
     first, usual = boards(seed)
     told, wanted = (json.loads(asked(board, "state", {}).body) for board in (first, usual))
     assert wanted["limit"] and {**told, "flows_follow": False} == wanted
     assert first.desk.flows_follow
     first.desk.follow()
-    assert (first.desk.flows(), first.desk.side(), first.desk.value) == (usual.desk.flows(), usual.desk.side(), usual.desk.value)
+    assert (first.desk.flows(), first.desk.side(), first.desk.value) == (
+        usual.desk.flows(),
+        usual.desk.side(),
+        usual.desk.value,
+    )
     end(first, usual)
 
 
@@ -116,14 +127,17 @@ def test_no_program(monkeypatch: pytest.MonkeyPatch) -> None:
 
 @pytest.mark.parametrize("answer", ["exit 1", "kill -9 $$", "echo s 1", "exec sleep 0"])
 def test_a_program_that_fails(tmp_path: Path, monkeypatch: pytest.MonkeyPatch, answer: str) -> None:
-    """What comes to no answer, or to another one than the session: the answers are those of the session."""
+    """What comes to no answer, or to another one than the session: the answers are those of the
+    session."""
     program = tmp_path / "dmf"
     program.write_text(f'#!/bin/sh\n[ "$1" != session ] || exec {BUILT} "$@"\n{answer}\n')
     program.chmod(0o755)
     monkeypatch.setattr("dmf.session.executable.program", lambda: str(program))
     board, usual = board_of(3), board_of(3, may_follow=False)
     told, wanted = (json.loads(asked(it, *ASKED[0]).body) for it in (board, usual))
-    assert told["rows"] == wanted["rows"] and told["told"].startswith("the session came to the value") == (answer == "echo s 1")
+    assert told["rows"] == wanted["rows"] and told["told"].startswith(
+        "the session came to the value"
+    ) == (answer == "echo s 1")
     assert board.desk.value == usual.desk.value
     end(board, usual)
 
@@ -131,17 +145,20 @@ def test_a_program_that_fails(tmp_path: Path, monkeypatch: pytest.MonkeyPatch, a
 def test_trials() -> None:
     """Arcs are tried on the desk, which is compared with the other one."""
     first, usual = boards(3)
-    numbers = first.desk.pictured()
+    numbers = first.desk.network.pictured()
     assert list(trials_of(first.desk, numbers)) == list(trials_of(usual.desk, numbers))
     end(first, usual)
 
 
 def test_stopped() -> None:
-    """The search for the flows is broken off: the session is begun again, and its answers are the same."""
+    """The search for the flows is broken off: the session is begun again, and its answers are the
+    same."""
     first, usual = boards(3)
     first.desk.break_off("it was stopped")
     told, wanted = (json.loads(asked(board, *ASKED[0]).body) for board in (first, usual))
-    assert told["rows"] == wanted["rows"] and told["told"].startswith("it was stopped. The session was begun again")
+    assert told["rows"] == wanted["rows"] and told["told"].startswith(
+        "it was stopped. The session was begun again"
+    )
     end(first, usual)
 
 

@@ -42,7 +42,8 @@ def room() -> Iterator[Room]:
 
 
 def test_page_that_comes(room: Room) -> None:
-    """The board runs on for a page that is asked for, until it has come, and then as long as it is there."""
+    """The board runs on for a page that is asked for, until it has come, and then as long as it is
+    there."""
     room.guests.note_request(is_page=True)
     room.now += 5
     room.guests.note_request()
@@ -87,7 +88,8 @@ def test_broken_connection(room: Room) -> None:
 
 
 def test_two_connections(room: Room) -> None:
-    """A page that held a new connection before the end of the old one was heard of has one of them."""
+    """A page that held a new connection before the end of the old one was heard of has one of
+    them."""
     room.come("a")
     old = room.ends.pop("a")
     room.come("a")
@@ -111,12 +113,21 @@ def test_told(room: Room) -> None:
 
 
 def test_left() -> None:
-    """A page tells the board that it is left. What does not say which page that is changes nothing."""
+    """A page tells the board that it is left. What does not say which page that is changes
+    nothing."""
     with board(PIPES) as it:
-        for body, status in ({"page": "12-ab"}, 200), ({}, 200), ({"page": ["x"]}, 200), ({"page": "<x>"}, 200), ([], 400):
+        for body, status in (
+            ({"page": "12-ab"}, 200),
+            ({}, 200),
+            ({"page": ["x"]}, 200),
+            ({"page": "<x>"}, 200),
+            ([], 400),
+        ):
             assert it.ask(it.root + "left", json.dumps(body).encode(), **JSON)[0] == status
         with socket.create_connection(("127.0.0.1", it.port), SECONDS) as page:
-            page.sendall(f"GET {it.root}life?page=12-ab HTTP/1.1\r\nHost: {it.host}\r\n\r\n".encode())
+            page.sendall(
+                f"GET {it.root}life?page=12-ab HTTP/1.1\r\nHost: {it.host}\r\n\r\n".encode()
+            )
             seen = b""
             while b"data: " not in seen:
                 seen += page.recv(1 << 12)

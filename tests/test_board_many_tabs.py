@@ -43,8 +43,8 @@ def judge(driver: Any, tabs: list[str], value: int) -> None:
 
 
 def test_many_tabs(driver: Any) -> None:
-    """Each tab shows what another one does, and what is done by a request alone, also when tabs are closed, whichever they are. After the
-    last one the board ends."""
+    """Each tab shows what another one does, and what is done by a request alone, also when tabs are
+    closed, whichever they are. After the last one the board ends."""
     first = driver.current_window_handle
     with board(PIPES) as it:
         tabs = open_tabs(driver, it, TABS)
@@ -54,7 +54,10 @@ def test_many_tabs(driver: Any) -> None:
         assert page.after(lambda: page.press("Close it")) == without("Bridge pipe")
         judge(driver, tabs, without("Bridge pipe"))
         # The tab that came first holds the connection to the board.
-        for value, what in (165, {"what": "go", "step": 0}), (without("Mill Lane"), {"what": "close", "arc": 9}):
+        for value, what in (165, {"what": "go", "step": 0}), (
+            without("Mill Lane"),
+            {"what": "close", "arc": 9},
+        ):
             driver.switch_to.window(tabs.pop(0))
             driver.close()
             driver.switch_to.window(tabs[0])
@@ -67,12 +70,16 @@ def test_many_tabs(driver: Any) -> None:
 
 
 def test_other_name(driver: Any) -> None:
-    """So it is under another name than localhost, where a browser has no locks, no workers that last, and no more connections."""
+    """So it is under another name than localhost, where a browser has no locks, no workers that
+    last, and no more connections."""
     first = driver.current_window_handle
     with board("--host-name", OTHER_NAME, PIPES) as it:
         here, it.address = it.address, f"http://{OTHER_NAME}:{it.port}{it.root}"
         tabs = open_tabs(driver, it, TABS)
-        assert driver.execute_script("return [isSecureContext, location.hostname]") == [False, OTHER_NAME]
+        assert driver.execute_script("return [isSecureContext, location.hostname]") == [
+            False,
+            OTHER_NAME,
+        ]
         driver.switch_to.window(tabs.pop(0))
         driver.close()
         driver.switch_to.window(tabs[-1])
@@ -92,7 +99,8 @@ def test_other_name(driver: Any) -> None:
 
 
 def test_dialog(driver: Any) -> None:
-    """While the tab that holds the connection has a dialog open, another one holds it. Then the first one shows what came meanwhile."""
+    """While the tab that holds the connection has a dialog open, another one holds it. Then the
+    first one shows what came meanwhile."""
     first = driver.current_window_handle
     with board(PIPES) as it:
         tabs = open_tabs(driver, it, 3)

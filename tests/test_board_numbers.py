@@ -1,4 +1,5 @@
-"""Numbers, units and limits on a board's page, and what it says of a part of a large network, by headless Chromium."""
+"""Numbers, units and limits on a board's page, and what it says of a part of a large network, by
+headless Chromium."""
 
 from __future__ import annotations
 
@@ -14,11 +15,15 @@ pytestmark = pytest.mark.seconds(20)
 
 
 def test_part(driver: Any, tmp_path: Path) -> None:
-    """Of a large network the page tries all, also those that its picture does not show: here the one that is worst to lose."""
+    """Of a large network the page tries all, also those that its picture does not show: here the
+    one that is worst to lose."""
     rows = ["from,to,litres,pipe", "S,A,100,main"]
     for chain, least in ("B", 30), ("C", 20):
         places = ["A", *(f"{chain}{place}" for place in range(1, 400)), "T"]
-        rows += [f"{tail},{head},{least if head == 'T' else 60},{chain}-{head}" for tail, head in zip(places, places[1:])]
+        rows += [
+            f"{tail},{head},{least if head == 'T' else 60},{chain}-{head}"
+            for tail, head in zip(places, places[1:])
+        ]
     table = tmp_path / "chains.csv"
     table.write_text("".join(f"{row}\n" for row in rows))
     with board(str(table)) as it:
@@ -27,19 +32,32 @@ def test_part(driver: Any, tmp_path: Path) -> None:
         page.press("Try each pipe")
         page.wait(lambda: "Worst" in page.text("#verdict"))
         # Without the first pipe all is lost.
-        assert page.text("#verdict") == "Worst to lose: main, 50 litres less; a second one brings nothing. Best to have a second of: B-T, 30 litres more."
-        assert page.driver.execute_script("return [document.querySelectorAll('#picture g.arc').length, document.getElementById('trials').tBodies[0].rows.length]") == [300, 300]
+        assert (
+            page.text("#verdict")
+            == "Worst to lose: main, 50 litres less; a second one brings nothing. Best to have a "
+            "second of: B-T, 30 litres more."
+        )
+        assert page.driver.execute_script(
+            "return [document.querySelectorAll('#picture g.arc').length, "
+            "document.getElementById('trials').tBodies[0].rows.length]"
+        ) == [300, 300]
         page.press("Try each pipe of the limit")
         page.wait(lambda: "limit" in page.text("#verdict"))
-        assert page.text("#verdict").startswith("Worst to lose of the 2 of the limit: B-T, 30 litres less"), page.text("#verdict")
+        assert page.text("#verdict").startswith(
+            "Worst to lose of the 2 of the limit: B-T, 30 litres less"
+        ), page.text("#verdict")
         page.write("#text", "B")
         page.wait(lambda: "There are more" in page.text("#found"))
         page.write("#text", "B399")
-        page.wait(lambda: page.text("#found").splitlines() == ["B399", "B-B399, B398 -> B399", "B-T, B399 -> T"])
+        page.wait(
+            lambda: page.text("#found").splitlines()
+            == ["B399", "B-B399, B398 -> B399", "B-T, B399 -> T"]
+        )
         driver.get("about:blank")
 
 
-# Two sources, of which one is unlimited, and a place that lets 55.5 litres through, as in tests/her_table.py.
+# Two sources, of which one is unlimited, and a place that lets 55.5 litres through, as in
+# tests/her_table.py.
 NUMBERS = """c capacities are those of the table times 100
 c unit litres
 c table pipes.csv
@@ -76,27 +94,48 @@ a 7 3 2005
 
 
 def test_numbers(driver: Any, tmp_path: Path) -> None:
-    """Decimal numbers and their unit, what a planner types, and limits of places and sources, at 3 widths, light and dark."""
+    """Decimal numbers and their unit, what a planner types, and limits of places and sources, at 3
+    widths, light and dark."""
     (tmp_path / "pipes.max").write_text(NUMBERS)
     with board(str(tmp_path / "pipes.max")) as it:
         page = Page(driver, it.address)
 
         def says(*texts: str) -> None:
-            said = {"what": page.text("#what"), "header": page.text("header"), "limit": page.text("#limit-table"), "way": page.text("#way")}
+            said = {
+                "what": page.text("#what"),
+                "header": page.text("header"),
+                "limit": page.text("#limit-table"),
+                "way": page.text("#way"),
+            }
             assert all(any(text in it for it in said.values()) for text in texts), (texts, said)
 
-        assert page.text("#value") == "55.5 litres can be sent from Mill and New Mill to Town, and not more."
+        assert (
+            page.text("#value")
+            == "55.5 litres can be sent from Mill and New Mill to Town, and not more."
+        )
         assert page.text("#legend") == "45/60: 45 litres flow where 60 fit"
         says("what Weir lets through", "in litres")
         page.press("what Weir lets through")
         page.wait(lambda: page.text("#what h3") == "Weir")
-        says("55.5 litres come in, and 55.5 go out.", "What Weir lets through: 55.5 litres, of which 55.5 flow. It is part of the limit")
-        for typed, value, step in ("70,25", "62.65", "70.25"), ("-10 %", "62.65", "63.225"), ("1.200", "62.65", "1200"), ("30", "30", "30"):
+        says(
+            "55.5 litres come in, and 55.5 go out.",
+            "What Weir lets through: 55.5 litres, of which 55.5 flow. It is part of the limit",
+        )
+        for typed, value, step in (
+            ("70,25", "62.65", "70.25"),
+            ("-10 %", "62.65", "63.225"),
+            ("1.200", "62.65", "1200"),
+            ("30", "30", "30"),
+        ):
             page.write("#capacity-5", typed)
             page.settle()
             page.press("Set")
             page.settle()
-            page.wait(lambda: page.text("#way [aria-current]").startswith(f"Weir lets through {step} litres: {value} ("))  # noqa: B023
+            page.wait(
+                lambda: page.text("#way [aria-current]").startswith(
+                    f"Weir lets through {step} litres: {value} ("
+                )
+            )  # noqa: B023
             says(f"{value} litres can be sent", f"Weir lets through {step} litres: {value}")
         page.choose("node-1", "Mill")
         says("What Mill gives at most: no limit, and ", "It is one of the sources.")
@@ -106,18 +145,35 @@ def test_numbers(driver: Any, tmp_path: Path) -> None:
         page.settle()
         says("What Mill gives at most: 5.5 litres, of which 5.5 flow. It is part of the limit")
         page.press("Try each connection")
-        page.wait(lambda: page.text("#verdict").startswith("Worst to lose: Side, 20.05 litres less"))
+        page.wait(
+            lambda: page.text("#verdict").startswith("Worst to lose: Side, 20.05 litres less")
+        )
         for width, scheme in itertools.product((400, 768, 1280), ("light", "dark")):
-            metrics = {"width": width, "height": 900, "deviceScaleFactor": 1, "mobile": width == 400}
+            metrics = {
+                "width": width,
+                "height": 900,
+                "deviceScaleFactor": 1,
+                "mobile": width == 400,
+            }
             driver.execute_cdp_cmd("Emulation.setDeviceMetricsOverride", metrics)
-            driver.execute_cdp_cmd("Emulation.setEmulatedMedia", {"features": [{"name": "prefers-color-scheme", "value": scheme}]})
+            driver.execute_cdp_cmd(
+                "Emulation.setEmulatedMedia",
+                {"features": [{"name": "prefers-color-scheme", "value": scheme}]},
+            )
             driver.refresh()
             page.ready()
             assert driver.execute_script("return document.documentElement.scrollWidth") <= width
             # A narrow page has no room for some labels.
-            drawn = driver.execute_script("return [...document.querySelectorAll('#picture text')].map((it) => it.textContent).join('; ')")
-            assert all(text in drawn for text in ("gives 5.5/5.5", "lets through 25.55/30", "20.05/30.5")), drawn
-            assert not any(text in page.text("body") for text in ("all sources", "limit of", "supply of"))
+            drawn = driver.execute_script(
+                "return [...document.querySelectorAll('#picture text')].map((it) => "
+                "it.textContent).join('; ')"
+            )
+            assert all(
+                text in drawn for text in ("gives 5.5/5.5", "lets through 25.55/30", "20.05/30.5")
+            ), drawn
+            assert not any(
+                text in page.text("body") for text in ("all sources", "limit of", "supply of")
+            )
         driver.execute_cdp_cmd("Emulation.clearDeviceMetricsOverride", {})
         driver.execute_cdp_cmd("Emulation.setEmulatedMedia", {"features": []})
         driver.get("about:blank")

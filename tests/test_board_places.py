@@ -28,16 +28,21 @@ def project_of(folder: Path) -> Path:
 
 
 def test_kept(tmp_path: Path) -> None:
-    """Positions are in the file by the names of places, to the right and upwards, as the picture has them, and the next board takes them.
-    A place that was moved in the file lies there."""
+    """Positions are in the file by the names of places, to the right and upwards, as the picture
+    has them, and the next board takes them. A place that was moved in the file lies there."""
     project = project_of(tmp_path)
     with board("--keep", str(tmp_path / "pipes.csv")) as it:
-        names = {f"node-{it.told(f'find?text={quote(name)}')['found'][0]['node']}": name for name in it.state()["names"]}
+        names = {
+            f"node-{it.told(f'find?text={quote(name)}')['found'][0]['node']}": name
+            for name in it.state()["names"]
+        }
         seen = spots(it)
         assert it.end() == 130
     found = kept(project)
     told = {names[node]: [float(x), -float(y)] for node, (x, y) in seen.items()}
-    assert found.keys() == told.keys() and all(found[name] == pytest.approx(told[name], abs=0.01) for name in found)
+    assert found.keys() == told.keys() and all(
+        found[name] == pytest.approx(told[name], abs=0.01) for name in found
+    )
     content = json.loads(project.read_text())
     content["positions"]["Mill"] = [found["Mill"][0] + 25, found["Mill"][1] - 30]
     project.write_text(json.dumps(content))
@@ -47,11 +52,15 @@ def test_kept(tmp_path: Path) -> None:
         moved = {node for node in now if now[node] != seen[node]}
         assert {names[node] for node in moved} == {"Mill"}
         mill = next(iter(moved))
-        assert [float(now[mill][axis]) - float(seen[mill][axis]) for axis in (0, 1)] == [pytest.approx(25, abs=0.02), pytest.approx(30, abs=0.02)]
+        assert [float(now[mill][axis]) - float(seen[mill][axis]) for axis in (0, 1)] == [
+            pytest.approx(25, abs=0.02),
+            pytest.approx(30, abs=0.02),
+        ]
 
 
 def test_map_is_kept(tmp_path: Path) -> None:
-    """A map has to be given once. All lies as on it the next day, also what the picture has no room for; another map moves it."""
+    """A map has to be given once. All lies as on it the next day, also what the picture has no room
+    for; another map moves it."""
     words = city(tmp_path, 14)
     with board("--keep", *words) as it:
         ground = it.told("ground")
@@ -65,7 +74,14 @@ def test_map_is_kept(tmp_path: Path) -> None:
         with board(project) as other:
             assert other.told("ground")["right"] == ground["right"]
     rows = (tmp_path / "map.csv").read_text().splitlines()
-    (tmp_path / "turned.csv").write_text("\n".join(["place,x,y", *(",".join([row.split(",")[0], *row.split(",")[:0:-1]]) for row in rows[1:])]))
+    (tmp_path / "turned.csv").write_text(
+        "\n".join(
+            [
+                "place,x,y",
+                *(",".join([row.split(",")[0], *row.split(",")[:0:-1]]) for row in rows[1:]),
+            ]
+        )
+    )
     with board("--map", str(tmp_path / "turned.csv"), project) as it:
         turned = it.told("ground")
         assert turned["right"] != ground["right"]
@@ -78,16 +94,27 @@ PUMPS = "place,lets through,x,y\nMill,60,4,1\nReservoir,,0,0\nHarbour,,9,2\n"
 
 
 def test_table_of_places(tmp_path: Path) -> None:
-    """A table of places with the columns of a map is one. What is no map there is told, and refuses nothing."""
+    """A table of places with the columns of a map is one. What is no map there is told, and refuses
+    nothing."""
     table = tmp_path / "places.csv"
-    for text, told in (PUMPS, "6 places are not on the map"), (PUMPS.replace("9,2", "9,north"), "is taken for no map"):
+    for text, told in (PUMPS, "6 places are not on the map"), (
+        PUMPS.replace("9,2", "9,north"),
+        "is not taken as a map",
+    ):
         table.write_text(text)
         with board("--places", str(table), PIPES) as it:
-            node = {name: f"node-{it.told(f'find?text={name}')['found'][0]['node']}" for name in ("Reservoir", "Mill", "Harbour")}
+            node = {
+                name: f"node-{it.told(f'find?text={name}')['found'][0]['node']}"
+                for name in ("Reservoir", "Mill", "Harbour")
+            }
             seen = {name: [*map(float, spots(it)[at])] for name, at in node.items()}
             it.process.send_signal(2)
             assert told in it.process.communicate(timeout=60)[1]
-        shares = [(seen["Mill"][axis] - seen["Reservoir"][axis]) / (seen["Harbour"][axis] - seen["Reservoir"][axis]) for axis in (0, 1)]
+        shares = [
+            (seen["Mill"][axis] - seen["Reservoir"][axis])
+            / (seen["Harbour"][axis] - seen["Reservoir"][axis])
+            for axis in (0, 1)
+        ]
         assert (shares == pytest.approx([4 / 9, 1 / 2], abs=0.01)) == (text == PUMPS)
     table.write_text("place,lets through\nMill,60\n")
     with board("--places", str(table), PIPES) as it:
@@ -96,13 +123,16 @@ def test_table_of_places(tmp_path: Path) -> None:
 
 
 def test_places_that_go(tmp_path: Path) -> None:
-    """Positions of places that the table has no more mean nothing, and a new place lies near its neighbours."""
+    """Positions of places that the table has no more mean nothing, and a new place lies near its
+    neighbours."""
     project = project_of(tmp_path)
     with board("--keep", str(tmp_path / "pipes.csv")) as it:
         seen = spots(it)
         assert it.end() == 130
     table = (tmp_path / "pipes.csv").read_text()
-    (tmp_path / "pipes.csv").write_text(table + "Mill,New place,12,new one\nNew place,Harbour,12,new two\n")
+    (tmp_path / "pipes.csv").write_text(
+        table + "Mill,New place,12,new one\nNew place,Harbour,12,new two\n"
+    )
     with board(str(project)) as it:
         now = spots(it)
         assert len(now) == len(seen) + 1
@@ -115,8 +145,12 @@ def test_places_that_go(tmp_path: Path) -> None:
     assert "New place" in kept(project)
 
 
-@pytest.mark.parametrize("script, told", [("echo 'no such font' >&2; exit 1", "no such font"), ("exit 3", "status 3")])
-def test_no_picture(tmp_path: Path, monkeypatch: pytest.MonkeyPatch, script: str, told: str) -> None:
+@pytest.mark.parametrize(
+    "script, told", [("echo 'no such font' >&2; exit 1", "no such font"), ("exit 3", "status 3")]
+)
+def test_no_picture(
+    tmp_path: Path, monkeypatch: pytest.MonkeyPatch, script: str, told: str
+) -> None:
     """Where Graphviz fails, the page says why in the words of Graphviz."""
     dot = tmp_path / "dot"
     dot.write_text(f"#!/bin/sh\n{script}\n")

@@ -1,5 +1,5 @@
-"""A board at each width, light and dark, on networks of 5 to 10,000 arcs: what can be done by clicks and keys, with the values that scipy
-finds. The gate has some of these, and --long all."""
+"""A board at each width, light and dark, on networks of 5 to 10,000 arcs: what can be done by
+clicks and keys, with the values that scipy finds. The gate has some of these, and --long all."""
 
 from __future__ import annotations
 
@@ -10,15 +10,29 @@ from typing import Any, NamedTuple
 import pytest
 from board_pages import Page
 from board_running import Board, board
-from test_board_access import ENTER, ESCAPE, RIGHT, SCHEMES, WIDTHS, as_before, judge_colours, judge_tree, show
+from packages import load
+from test_board_access import (
+    ENTER,
+    ESCAPE,
+    RIGHT,
+    SCHEMES,
+    WIDTHS,
+    as_before,
+    judge_colours,
+    judge_tree,
+    show,
+)
 from test_board_ground import city, rows_of
 from test_board_view import HEIGHTS, is_in, spots
-from packages import load
 
 sparse = load("scipy.sparse")
 csgraph = load("scipy.sparse.csgraph")
-SMALL = "from,to,litres,pipe\nLake,Mill,9,one\nLake,Town,4,two\nMill,Town,3,three\nMill,Sea,5,four\nTown,Sea,8,five\n"
-# By how many arcs a network has: the side of its square of places. Of those that lie on a map all arcs are drawn.
+SMALL = (
+    "from,to,litres,pipe\nLake,Mill,9,one\nLake,Town,4,two\nMill,Town,3,three\nMill,Sea,5,four\n"
+    "Town,Sea,8,five\n"
+)
+# By how many arcs a network has: the side of its square of places. Of those that lie on a map all
+# arcs are drawn.
 SIDES = {5: 0, 98: 7, 2_048: 32, 10_082: 71}
 IN_GATE = [(5, 1280, "light"), (98, 400, "dark")]
 
@@ -33,18 +47,31 @@ class Case(NamedTuple):
 
 def pytest_generate_tests(metafunc: pytest.Metafunc) -> None:
     if "case" in metafunc.fixturenames:
-        chosen = itertools.product(SIDES, WIDTHS, SCHEMES) if metafunc.config.getoption("--long") else IN_GATE
-        metafunc.parametrize("case", [Case(*it) for it in chosen], ids=lambda it: "-".join(map(str, it)))
+        chosen = (
+            itertools.product(SIDES, WIDTHS, SCHEMES)
+            if metafunc.config.getoption("--long")
+            else IN_GATE
+        )
+        metafunc.parametrize(
+            "case", [Case(*it) for it in chosen], ids=lambda it: "-".join(map(str, it))
+        )
 
 
 def value_of(rows: list[Any]) -> int:
     """The greatest value over open arcs."""
     opened = [row for row in rows if not row["closed"]]
-    nodes = {name: node for node, name in enumerate(dict.fromkeys(["Lake", "Sea", *(row[end] for row in rows for end in ("tail", "head"))]))}
+    nodes = {
+        name: node
+        for node, name in enumerate(
+            dict.fromkeys(["Lake", "Sea", *(row[end] for row in rows for end in ("tail", "head"))])
+        )
+    }
     tails, heads = ([nodes[row[end]] for row in opened] for end in ("tail", "head"))
     # Arcs with the same ends are added up.
     size = len(nodes), len(nodes)
-    capacities = sparse.coo_array(([int(row["capacity"]) for row in opened], (tails, heads)), shape=size, dtype="int32")
+    capacities = sparse.coo_array(
+        ([int(row["capacity"]) for row in opened], (tails, heads)), shape=size, dtype="int32"
+    )
     return int(csgraph.maximum_flow(capacities.tocsr(), 0, 1).flow_value)
 
 
@@ -69,7 +96,8 @@ def test_case(driver: Any, tmp_path: Path, case: Case) -> None:
 
 
 def judge_one(page: Page, it: Board, rows: list[Any], arc: Any) -> None:
-    """An arc is found by its name, and closed by a click: no place moves, and another tab's step comes by itself."""
+    """An arc is found by its name, and closed by a click: no place moves, and another tab's step
+    comes by itself."""
     before = spots(it)
     page.write("#text", arc["name"].upper())
     page.wait(lambda: page.text("#found button").startswith(arc["name"] + ","))
@@ -79,7 +107,9 @@ def judge_one(page: Page, it: Board, rows: list[Any], arc: Any) -> None:
     assert page.after(lambda: page.press("Close it")) == value_of(closed)
     page.wait(lambda: page.text("#what p").endswith("It is closed."))
     now = spots(it)
-    assert {place: now[place] for place in now if place in before} == {place: before[place] for place in before if place in now}
+    assert {place: now[place] for place in now if place in before} == {
+        place: before[place] for place in before if place in now
+    }
     it.do(what="go", step=0)
     page.wait(lambda: page.value() == value_of(rows))
     page.settle()
@@ -88,14 +118,18 @@ def judge_one(page: Page, it: Board, rows: list[Any], arc: Any) -> None:
 
 
 def judge_many(page: Page, it: Board, rows: list[Any]) -> None:
-    """All of the limit are chosen by a filter, and changed in one step, which one click takes back."""
+    """All of the limit are chosen by a filter, and changed in one step, which one click takes
+    back."""
     page.write("#filter", "limit")
     page.wait(lambda: page.text("#filter-told").endswith("limit."))
     limit = {arc["number"] for arc in it.state()["limit"]}
     page.press("Choose all of these")
     page.wait(lambda: page.text("#many-told").startswith(f"{len(limit)} chosen, {len(limit)} open"))
     page.write("#many-capacity", "+100 %")
-    wider = [{**row, "capacity": int(row["capacity"]) * (2 if row["number"] in limit else 1)} for row in rows]
+    wider = [
+        {**row, "capacity": int(row["capacity"]) * (2 if row["number"] in limit else 1)}
+        for row in rows
+    ]
     assert page.after(lambda: page.press(f"Set {len(limit)}")) == value_of(wider)
     assert len(it.state()["steps"]) == 2
     assert page.undo() == value_of(rows)
@@ -104,7 +138,8 @@ def judge_many(page: Page, it: Board, rows: list[Any]) -> None:
 
 
 def judge_sweep(page: Page, it: Board, rows: list[Any]) -> None:
-    """The worst to lose of the limit is one than which none costs more; a sweep of all can be stopped."""
+    """The worst to lose of the limit is one than which none costs more; a sweep of all can be
+    stopped."""
     names = {row["name"]: row for row in it.state()["limit"]}
     page.press("Try each pipe of the limit")
     page.wait(lambda: page.text("#verdict").startswith("Worst"))
@@ -112,7 +147,10 @@ def judge_sweep(page: Page, it: Board, rows: list[Any]) -> None:
     told = page.text("#verdict").partition(": ")[2].partition(",")[0].partition(" or ")[0]
     without = value_of([{**row, "closed": row["number"] == names[told]["number"]} for row in rows])
     sample = list(names.values())[:: max(1, len(names) // 4)]
-    assert all(value_of([{**row, "closed": row["number"] == one["number"]} for row in rows]) >= without for one in sample)
+    assert all(
+        value_of([{**row, "closed": row["number"] == one["number"]} for row in rows]) >= without
+        for one in sample
+    )
     page.press("Try each pipe")
     if len(rows) > 1_000:
         page.wait(lambda: page.driver.find_element("id", "stop").is_displayed())
@@ -121,19 +159,25 @@ def judge_sweep(page: Page, it: Board, rows: list[Any]) -> None:
     page.wait(lambda: not page.driver.find_element("id", "stop").is_displayed())
     page.settle()
     if len(rows) < 1_000:
-        cut = "const it = document.getElementById('trials').parentElement; return it.scrollWidth - it.clientWidth"
+        cut = (
+            "const it = document.getElementById('trials').parentElement; return it.scrollWidth - "
+            "it.clientWidth"
+        )
         assert page.driver.execute_script(cut) <= 0
     assert page.value() == value_of(rows)
 
 
 def judge_keys(page: Page, it: Board) -> None:
-    """Arrow keys go to places, Enter chooses one, and Escape none; plus and minus size the picture."""
+    """Arrow keys go to places, Enter chooses one, and Escape none; plus and minus size the
+    picture."""
     driver = page.driver
+    before = page.text("#what h3")
     driver.find_element("id", "picture").send_keys("0", RIGHT)
     page.wait(lambda: str(driver.switch_to.active_element.get_attribute("id")).startswith("node-"))
     driver.switch_to.active_element.send_keys(ENTER)
-    page.wait(lambda: page.text("#what h3"))
-    assert page.text("#what h3") in it.told(f"find?text={page.text('#what h3')}")["found"][0]["label"]
+    page.wait(lambda: page.text("#what h3") not in ("", before))
+    place = page.text("#what h3")
+    assert place in it.told(f"find?text={place}")["found"][0]["label"]
     seen = "return document.querySelector('#picture svg').viewBox.baseVal.width"
     wide = driver.execute_script(seen)
     driver.switch_to.active_element.send_keys("++")
@@ -141,11 +185,15 @@ def judge_keys(page: Page, it: Board) -> None:
     driver.switch_to.active_element.send_keys(ESCAPE)
     page.wait(lambda: page.text("#what").startswith("Click a pipe"))
     page.press("All")
-    assert all(is_in(page, f"#{node.get_attribute('id')}") for node in driver.find_elements("css selector", "#picture .node")[:40])
+    assert all(
+        is_in(page, f"#{node.get_attribute('id')}")
+        for node in driver.find_elements("css selector", "#picture .node")[:40]
+    )
 
 
 def judge_looks(page: Page, case: Case) -> None:
-    """Letters can be read, colours are told apart, controls have names, and the page is as wide as it may be."""
+    """Letters can be read, colours are told apart, controls have names, and the page is as wide as
+    it may be."""
     driver = page.driver
     row = driver.find_element("css selector", "#limit-table button")
     driver.execute_script("arguments[0].scrollIntoView({ block: 'center' })", row)

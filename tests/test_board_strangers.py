@@ -1,4 +1,5 @@
-"""dmf-board among other programs and other users of the machine: nobody else reads, changes or stops a board."""
+"""dmf-board among other programs and other users of the machine: nobody else reads, changes or
+stops a board."""
 
 from __future__ import annotations
 
@@ -22,64 +23,150 @@ from desk_shared import PIPES, ROOT, SECONDS, run
 
 
 def test_strangers() -> None:
-    """Who has not the token, names another host, or comes from another origin gets nothing, and changes nothing."""
+    """Who has not the token, names another host, or comes from another origin gets nothing, and
+    changes nothing."""
     close = b'{"what": "close", "arc": 1, "turn": 1}'
     with board(PIPES) as it:
         strangers: list[tuple[str, dict[str, Any]]]
-        strangers = [("/", {}), ("/x/", {}), (it.root[:-2] + "/", {}), (f"/x{it.root}", {}), ("*", {})]
-        hosts = ["evil.example", f"evil.example:{it.port}", "127.0.0.1", f"127.0.0.1:{it.port + 1}", "", None]
+        strangers = [
+            ("/", {}),
+            ("/x/", {}),
+            (it.root[:-2] + "/", {}),
+            (f"/x{it.root}", {}),
+            ("*", {}),
+        ]
+        hosts = [
+            "evil.example",
+            f"evil.example:{it.port}",
+            "127.0.0.1",
+            f"127.0.0.1:{it.port + 1}",
+            "",
+            None,
+        ]
         strangers += [(it.root, {"Host": host}) for host in hosts]
-        strangers += [(it.root, {"Origin": origin}) for origin in ("http://evil.example", "null", f"https://{it.host}", "http://127.0.0.1:1")]
+        strangers += [
+            (it.root, {"Origin": origin})
+            for origin in (
+                "http://evil.example",
+                "null",
+                f"https://{it.host}",
+                "http://127.0.0.1:1",
+            )
+        ]
         strangers += [(it.root, {"Sec_Fetch_Site": site}) for site in ("cross-site", "same-site")]
         for root, headers in strangers:
-            for path, body in ("", None), ("state", None), ("do", close), ("life", None), ("main.js", None):
-                status, sent, told = it.ask(root + path, body, **{"Content_Type": "application/json", **headers})
-                is_shut = status in (400, 403) and b"165" not in told and "Access-Control-Allow-Origin" not in sent
+            for path, body in (
+                ("", None),
+                ("state", None),
+                ("do", close),
+                ("life", None),
+                ("main.js", None),
+            ):
+                status, sent, told = it.ask(
+                    root + path, body, **{"Content_Type": "application/json", **headers}
+                )
+                is_shut = (
+                    status in (400, 403)
+                    and b"165" not in told
+                    and "Access-Control-Allow-Origin" not in sent
+                )
                 assert is_shut, f"{root} {path} {headers}: {status}, {told!r:.300}"
         state = it.state()
-        assert (state["value"], len(state["steps"])) == ("165", 1), f"after strangers: {state!s:.300}"
+        assert (state["value"], len(state["steps"])) == (
+            "165",
+            1,
+        ), f"after strangers: {state!s:.300}"
         for host in it.host, f"localhost:{it.port}":
-            status, _, _ = it.ask(it.root + "do", b'{"what": "close", "arc": 12, "turn": 1}', Host=host, Origin=f"http://{host}", **JSON)
+            status, _, _ = it.ask(
+                it.root + "do",
+                b'{"what": "close", "arc": 12, "turn": 1}',
+                Host=host,
+                Origin=f"http://{host}",
+                **JSON,
+            )
             # The second time this is another turn.
             assert status == (200 if host == it.host else 409), host
         status, sent, page = it.ask(it.root)
         policy = sent.get("Content-Security-Policy", "")
-        is_strict = policy.startswith("default-src 'none'; script-src 'self'; style-src 'self'; connect-src 'self'; ") and "unsafe" not in policy
-        assert status == 200 and is_strict and sent.get("Referrer-Policy") == "no-referrer", f"the page: {status}, {sent}"
+        is_strict = (
+            policy.startswith(
+                "default-src 'none'; script-src 'self'; style-src 'self'; connect-src 'self'; "
+            )
+            and "unsafe" not in policy
+        )
+        assert (
+            status == 200 and is_strict and sent.get("Referrer-Policy") == "no-referrer"
+        ), f"the page: {status}, {sent}"
         assert len(page) <= 100_000, f"the page has {len(page)} bytes"
         scripts = re.findall(rb'(?:src|href)="([a-z]+[.](?:js|css))"', page)
-        assert (re.search(rb'(src|href)="?(https?:)?//', page), scripts) == (None, [b"style.css", b"main.js"])
+        assert (re.search(rb'(src|href)="?(https?:)?//', page), scripts) == (
+            None,
+            [b"style.css", b"main.js"],
+        )
         judge_scripts(it)
-        bound = [line.split()[1] for line in Path("/proc/net/tcp").read_text().splitlines()[1:] if line.split()[3] == "0A"]
-        assert [at for at in bound if at.endswith(f":{it.port:04X}")] == [f"0100007F:{it.port:04X}"], f"it listens at {bound}"
+        bound = [
+            line.split()[1]
+            for line in Path("/proc/net/tcp").read_text().splitlines()[1:]
+            if line.split()[3] == "0A"
+        ]
+        assert [at for at in bound if at.endswith(f":{it.port:04X}")] == [
+            f"0100007F:{it.port:04X}"
+        ], f"it listens at {bound}"
 
 
 def judge_scripts(it: Board) -> None:
-    """The page's scripts are its own files, which have nothing of the network, and each script that one of them imports is there. Nothing
-    else is a script to a browser."""
+    """The page's scripts are its own files, which have nothing of the network, and each script that
+    one of them imports is there. Nothing else is a script to a browser."""
     kinds: dict[str, str] = {}
     left = ["main.js"]
     while left:
         name = left.pop()
         status, sent, told = it.ask(it.root + name)
-        assert (status, sent["X-Content-Type-Options"], b"Reservoir" in told) == (200, "nosniff", False), name
+        assert (status, sent["X-Content-Type-Options"], b"Reservoir" in told) == (
+            200,
+            "nosniff",
+            False,
+        ), name
         kinds[name] = sent["Content-Type"]
-        left += [found for found in re.findall(r'from "[.]/(\w+[.]js)"', told.decode()) if found not in kinds and found not in left]
+        left += [
+            found
+            for found in re.findall(r'from "[.]/(\w+[.]js)"', told.decode())
+            if found not in kinds and found not in left
+        ]
     assert len(kinds) > 5 and set(kinds.values()) == {"text/javascript; charset=utf-8"}
     for path in "state", "picture?near=", "plan.csv?turn=2", "arc?number=1", "style.css", "":
         assert "script" not in it.ask(it.root + path)[1]["Content-Type"], path
-    for path in "../board.py", "%2e%2e/board.py", "page/main.js", "main.js/", "Main.js", "tsconfig.json":
+    for path in (
+        "../board.py",
+        "%2e%2e/board.py",
+        "page/main.js",
+        "main.js/",
+        "Main.js",
+        "tsconfig.json",
+    ):
         assert it.ask(it.root + path)[0] in (400, 404), path
 
 
 def test_side_doors() -> None:
-    """What leads to a page of the board from another site may show the page, and do nothing else."""
+    """What leads to a page of the board from another site may show the page, and do nothing
+    else."""
     with board(PIPES) as it:
-        opened: dict[str, Any] = {"Sec_Fetch_Site": "cross-site", "Sec_Fetch_Mode": "navigate", "Sec_Fetch_Dest": "document"}
+        opened: dict[str, Any] = {
+            "Sec_Fetch_Site": "cross-site",
+            "Sec_Fetch_Mode": "navigate",
+            "Sec_Fetch_Dest": "document",
+        }
         assert it.ask(it.root, **opened)[0] == 200
         wrong: list[tuple[str, Optional[bytes], dict[str, Any]]]
-        wrong = [(it.root + "state", None, {}), (it.root + "do", b'{"what": "close", "arc": 1, "turn": 1}', {}), ("/", None, {})]
-        wrong += [(it.root, None, {"Sec_Fetch_Dest": "iframe"}), (it.root, None, {"Sec_Fetch_Mode": "no-cors"})]
+        wrong = [
+            (it.root + "state", None, {}),
+            (it.root + "do", b'{"what": "close", "arc": 1, "turn": 1}', {}),
+            ("/", None, {}),
+        ]
+        wrong += [
+            (it.root, None, {"Sec_Fetch_Dest": "iframe"}),
+            (it.root, None, {"Sec_Fetch_Mode": "no-cors"}),
+        ]
         for path, body, changed in wrong:
             headers: dict[str, Any] = {**opened, **changed, **JSON}
             assert it.ask(path, body, **headers)[0] == 403, (path, changed)
@@ -87,21 +174,49 @@ def test_side_doors() -> None:
 
 
 def test_way_in() -> None:
-    """Without the whole address there is a page that says how to get in; a tunnel by another name or port may be let in."""
+    """Without the whole address there is a page that says how to get in; a tunnel by another name
+    or port may be let in."""
     with board(PIPES) as it:
         for path, host in ("/", it.host), ("/x", "evil.example"), (it.root, "localhost:9000"):
             status, sent, told = it.ask(path, Host=host)
-            is_page = sent["Content-Type"].startswith("text/html") and b"printed its address where it was started" in told
-            assert (status, is_page, it.root.encode() in told) == (403, True, False), (path, host, told)
+            is_page = (
+                sent["Content-Type"].startswith("text/html")
+                and b"printed its address where it was started" in told
+            )
+            assert (status, is_page, it.root.encode() in told) == (403, True, False), (
+                path,
+                host,
+                told,
+            )
         assert b"--host-name" in told
-    names = ["--host-name", "LocalHost:9000", "--host-name", "board.example", "--host-name", "[::1]:9000"]
+    names = [
+        "--host-name",
+        "LocalHost:9000",
+        "--host-name",
+        "board.example",
+        "--host-name",
+        "[::1]:9000",
+    ]
     with board(PIPES, *names) as it:
-        addresses = [f"http://{host}{it.root}" for host in ("localhost:9000", f"board.example:{it.port}", "[::1]:9000")]
-        assert it.process.stdout and [it.process.stdout.readline().strip() for _ in addresses] == addresses
+        addresses = [
+            f"http://{host}{it.root}"
+            for host in ("localhost:9000", f"board.example:{it.port}", "[::1]:9000")
+        ]
+        assert (
+            it.process.stdout
+            and [it.process.stdout.readline().strip() for _ in addresses] == addresses
+        )
         for host, wanted in (
-            (it.host, 200), ("localhost:9000", 200), ("board.example", 200), (f"board.example:{it.port}", 200), ("[::1]:9000", 200),
-            ("127.0.0.1:9000", 403), ("board.example:9000", 403), ("evil.example", 403), (f"localhost:{it.port}", 200),
-        ):  # fmt: skip
+            (it.host, 200),
+            ("localhost:9000", 200),
+            ("board.example", 200),
+            (f"board.example:{it.port}", 200),
+            ("[::1]:9000", 200),
+            ("127.0.0.1:9000", 403),
+            ("board.example:9000", 403),
+            ("evil.example", 403),
+            (f"localhost:{it.port}", 200),
+        ):
             assert it.ask(it.root + "state", Host=host)[0] == wanted, host
     for name in "a b", "http://x", "x:y", "":
         assert run("dmf-board", "--host-name", name, PIPES).returncode == 2, name
@@ -115,9 +230,15 @@ def as_nobody(script: str, *words: object) -> subprocess.Popen[str]:
     """A script in Python that another user runs. It says what it found, and may wait for a line."""
     pipe = subprocess.PIPE
     return subprocess.Popen(
-        ["/usr/bin/python3", "-c", script, *map(str, words)], stdin=pipe, stdout=pipe, text=True, cwd="/", user=NOBODY, group=NOBODY,
+        ["/usr/bin/python3", "-c", script, *map(str, words)],
+        stdin=pipe,
+        stdout=pipe,
+        text=True,
+        cwd="/",
+        user=NOBODY,
+        group=NOBODY,
         extra_groups=[],
-    )  # fmt: skip
+    )
 
 
 @contextlib.contextmanager
@@ -138,7 +259,8 @@ word, file = sys.argv[1:]
 found = []
 for path in glob.glob("/proc/[0-9]*/task/[0-9]*/cmdline") + glob.glob("/proc/[0-9]*/environ"):
     try:
-        found += [path] * (word.encode() in open(path, "rb").read() and "/%d/" % __import__("os").getpid() not in path)
+        is_other = "/%d/" % __import__("os").getpid() not in path
+        found += [path] * (word.encode() in open(path, "rb").read() and is_other)
     except OSError:
         pass
 try:
@@ -159,7 +281,15 @@ def opened(folder: Path) -> Iterator[tuple[str, str]]:
     pipe = subprocess.PIPE
     words = [str(ROOT / "tools/dmf-board"), PIPES]
     environment = {**os.environ, "DISPLAY": ":99", "BROWSER": str(browser)}
-    with subprocess.Popen(words, stdout=pipe, stderr=pipe, text=True, cwd=ROOT, env=environment, preexec_fn=heed_interrupts) as process:
+    with subprocess.Popen(
+        words,
+        stdout=pipe,
+        stderr=pipe,
+        text=True,
+        cwd=ROOT,
+        env=environment,
+        preexec_fn=heed_interrupts,
+    ) as process:
         try:
             assert process.stdout
             yield process.stdout.readline().strip(), (folder / "opened").read_text().strip()
@@ -168,7 +298,8 @@ def opened(folder: Path) -> Iterator[tuple[str, str]]:
 
 
 def test_opening(tmp_path: Path) -> None:
-    """The browser is started with a file that leads to the page, which its user alone may read, and which is removed at the end."""
+    """The browser is started with a file that leads to the page, which its user alone may read, and
+    which is removed at the end."""
     with opened(tmp_path) as (address, given):
         door = Path(urlsplit(given).path)
         assert given == door.as_uri() and urlsplit(address).path.strip("/") not in given
@@ -179,8 +310,11 @@ def test_opening(tmp_path: Path) -> None:
 
 @pytest.mark.root
 def test_opening_to_others(tmp_path: Path) -> None:
-    """Nothing that another user can read of any process has the token, and they cannot read the file."""
-    with opened(tmp_path) as (address, given), another(LOOK, urlsplit(address).path.strip("/"), urlsplit(given).path) as found:
+    """Nothing that another user can read of any process has the token, and they cannot read the
+    file."""
+    with opened(tmp_path) as (address, given), another(
+        LOOK, urlsplit(address).path.strip("/"), urlsplit(given).path
+    ) as found:
         assert found == "['PermissionError']"
     # It would see the token among the words of a process.
     with subprocess.Popen(["sleep", "60", "0.0000000123"]) as process:
@@ -189,7 +323,8 @@ def test_opening_to_others(tmp_path: Path) -> None:
         process.kill()
 
 
-# Opens so many connections, sends a piece of a request on each, or a request, and waits. On some it sends a byte now and then.
+# Opens so many connections, sends a piece of a request on each, or a request, and waits. On some it
+# sends a byte now and then.
 CROWD = """
 import socket, sys, time
 count, port = int(sys.argv[1]), int(sys.argv[2])
@@ -220,7 +355,8 @@ def ports_held(port: int) -> int:
 @pytest.mark.root
 @pytest.mark.seconds(8)
 def test_crowd() -> None:
-    """A thousand idle connections of another user keep no page out, and the board holds a few of them, for some seconds."""
+    """A thousand idle connections of another user keep no page out, and the board holds a few of
+    them, for some seconds."""
     with board(PIPES) as it:
         with another(CROWD, 1_000, it.port) as held:
             assert int(held) > 0
@@ -228,11 +364,17 @@ def test_crowd() -> None:
                 begin = time.monotonic()
                 assert it.state()["value"] == "165"
                 assert time.monotonic() - begin < SECONDS / 2
-            files, threads = (len(list(Path(f"/proc/{it.process.pid}/{kind}").iterdir())) for kind in ("fd", "task"))
+            files, threads = (
+                len(list(Path(f"/proc/{it.process.pid}/{kind}").iterdir()))
+                for kind in ("fd", "task")
+            )
             assert files < 50 and threads < 50, f"{files} files and {threads} threads for strangers"
-            # Those that send a byte now and then may not stay either, and hold no port of this machine.
+            # Those that send a byte now and then may not stay either, and hold no port of this
+            # machine.
             until = time.monotonic() + SECONDS
-            while len(list(Path(f"/proc/{it.process.pid}/task").iterdir())) > 4 or ports_held(it.port):
+            while len(list(Path(f"/proc/{it.process.pid}/task").iterdir())) > 4 or ports_held(
+                it.port
+            ):
                 assert time.monotonic() < until, f"strangers stay, with {ports_held(it.port)} ports"
                 time.sleep(0.1)
 
@@ -264,7 +406,8 @@ def test_flood() -> None:
 
 
 def test_no_file_left() -> None:
-    """Where the board has no file left for another connection, it waits for one, and spends no processor."""
+    """Where the board has no file left for another connection, it waits for one, and spends no
+    processor."""
     with board(PIPES, preexec=lambda: resource.setrlimit(resource.RLIMIT_NOFILE, (40, 40))) as it:
         pages = []
         for _ in range(60):
@@ -276,7 +419,15 @@ def test_no_file_left() -> None:
             time.sleep(0.05)
 
         def ticks() -> int:
-            return sum(map(int, Path(f"/proc/{it.process.pid}/stat").read_text().rpartition(") ")[2].split()[11:13]))
+            return sum(
+                map(
+                    int,
+                    Path(f"/proc/{it.process.pid}/stat")
+                    .read_text()
+                    .rpartition(") ")[2]
+                    .split()[11:13],
+                )
+            )
 
         before = ticks()
         time.sleep(2)
@@ -291,7 +442,8 @@ def test_no_file_left() -> None:
 LISTEN = """
 import socket, sys
 taken = []
-for family, host in (socket.AF_INET6, "::1"), (socket.AF_INET6, "::"), (socket.AF_INET, "0.0.0.0"), (socket.AF_INET, "127.0.0.1"):
+V4, V6 = socket.AF_INET, socket.AF_INET6
+for family, host in (V6, "::1"), (V6, "::"), (V4, "0.0.0.0"), (V4, "127.0.0.1"):
     with socket.socket(family) as one:
         one.setsockopt(socket.SOL_SOCKET, socket.SO_REUSEADDR, 1)
         if hasattr(socket, "SO_REUSEPORT"):
@@ -328,4 +480,8 @@ def test_taken_port() -> None:
                 continue
             other.listen()
             ran = run("dmf-board", "--no-browser", "--port", str(other.getsockname()[1]), PIPES)
-            assert (ran.returncode, ran.stdout, "cannot listen on port" in ran.stderr) == (4, "", True), ran
+            assert (ran.returncode, ran.stdout, "cannot listen on port" in ran.stderr) == (
+                4,
+                "",
+                True,
+            ), ran

@@ -1,4 +1,5 @@
-"""Tests what a page of tools/dmf-board is told of the loss of each pipe, part by part, and the copies of the network that find it."""
+"""Tests what a page of tools/dmf-board is told of the loss of each pipe, part by part, and the
+copies of the network that find it."""
 
 from __future__ import annotations
 
@@ -63,10 +64,16 @@ def test_sweep_in_portions(tmp_path: Path) -> None:
                     stopped.add(copy)
                     os.kill(copy, signal.SIGSTOP)
                 again = json.loads(it.post("sweep", arcs=again["left"])[1])
-            assert (again["left"][-1], it.do(what="close", arc=1)["at"], time.monotonic() - begin < SECONDS) == (count, 1, True)
+            assert (
+                again["left"][-1],
+                it.do(what="close", arc=1)["at"],
+                time.monotonic() - begin < SECONDS,
+            ) == (count, 1, True)
         finally:
             for copy in stopped:
-                with contextlib.suppress(ProcessLookupError):  # It was killed, if it did not end in time.
+                with contextlib.suppress(
+                    ProcessLookupError
+                ):  # It was killed, if it did not end in time.
                     os.kill(copy, signal.SIGCONT)
         until = time.monotonic() + SECONDS
         while len(it.sessions()) > 1:
@@ -75,7 +82,8 @@ def test_sweep_in_portions(tmp_path: Path) -> None:
 
 
 def test_sweep_ends(tmp_path: Path) -> None:
-    """Where nothing is left to try, the copies of the network end at once, and not only where no portion was asked for in time."""
+    """Where nothing is left to try, the copies of the network end at once, and not only where no
+    portion was asked for in time."""
     table = tmp_path / "large.csv"
     table.write_text("".join(f"S,P{n},{n % 7 + 1}\nP{n},T,{n % 5 + 1}\n" for n in range(40_000)))
     with board(str(table)) as it:
@@ -89,8 +97,8 @@ def test_sweep_ends(tmp_path: Path) -> None:
         assert portion(it, left)["trials"][0]["number"] == left[0]
 
 
-# Lets answers to a sweep come until so many have had results. Those after them do not come before they are let go. Tells the arcs that are
-# asked for.
+# Lets answers to a sweep come until so many have had results. Those after them do not come before
+# they are let go. Tells the arcs that are asked for.
 HELD = """
 const ask = window.fetch;
 const isLetGo = new Promise((done) => { window.letGo = done; });
@@ -108,7 +116,8 @@ window.fetch = async (path, content) => {
 
 
 def test_stop(driver: Any) -> None:
-    """A stop is there at once, also while an answer is waited for, and another sweep goes on in place of the one before."""
+    """A stop is there at once, also while an answer is waited for, and another sweep goes on in
+    place of the one before."""
     with board(PIPES) as it:
         page = Page(driver, it.address)
         stop = driver.find_element("id", "stop")
@@ -116,7 +125,10 @@ def test_stop(driver: Any) -> None:
         page.press("Try each pipe")
         page.wait(stop.is_displayed)
         stop.send_keys("\ue007")
-        assert (stop.is_displayed(), page.text("#verdict")) == (False, "Stopped: 0 of 14 are tried.")
+        assert (stop.is_displayed(), page.text("#verdict")) == (
+            False,
+            "Stopped: 0 of 14 are tried.",
+        )
         assert driver.switch_to.active_element.get_attribute("id") == "try-all"
         # The board learns that nothing more is tried.
         assert driver.execute_script("return window.asked") == [list(range(1, 15)), []]
@@ -128,35 +140,64 @@ def test_stop(driver: Any) -> None:
         wanted = swept()
         lost = {name: 165 - wanted[name][0] for name in ("North rise", "Mill Lane", "South main")}
         worst = " or ".join(name for name in lost if lost[name] == max(lost.values()))
-        assert page.text("#verdict").startswith(f"Worst to lose of the 3 of the limit: {worst}, {max(lost.values())} litres per second less")
-        assert (stop.is_displayed(), len(driver.find_elements("css selector", "#trials tbody tr"))) == (False, 3)
+        assert page.text("#verdict").startswith(
+            f"Worst to lose of the 3 of the limit: {worst}, {max(lost.values())} litres per second "
+            "less"
+        )
+        assert (
+            stop.is_displayed(),
+            len(driver.find_elements("css selector", "#trials tbody tr")),
+        ) == (False, 3)
         driver.get("about:blank")
 
 
 def test_progress(driver: Any, tmp_path: Path) -> None:
-    """What a sweep has found so far is shown while it goes on, and how far it is. Each of these places has its own way in and out."""
+    """What a sweep has found so far is shown while it goes on, and how far it is. Each of these
+    places has its own way in and out."""
     count = 3_000
     ways = [(place % 7 + 1, place % 5 + 1) for place in range(count)]
-    fits = {f"{name} {place}": way for place, it in enumerate(ways) for name, way in (("in", it), ("out", it[::-1]))}
+    fits = {
+        f"{name} {place}": way
+        for place, it in enumerate(ways)
+        for name, way in (("in", it), ("out", it[::-1]))
+    }
     table = tmp_path / "ways.csv"
-    rows = [f"S,P{place},{first},in {place}\nP{place},T,{last},out {place}\n" for place, (first, last) in enumerate(ways)]
+    rows = [
+        f"S,P{place},{first},in {place}\nP{place},T,{last},out {place}\n"
+        for place, (first, last) in enumerate(ways)
+    ]
     table.write_text("from,to,litres,pipe\n" + "".join(rows))
     with board(str(table)) as it:
         page, value = Page(driver, it.address), sum(min(way) for way in ways)
         assert page.value() == value
         driver.execute_script(HELD, 1)
         page.press("Try each pipe")
-        page.wait(lambda: re.fullmatch(f"[1-9][0-9]* of {2 * count} are tried [.][.]", page.text("#verdict")))
+        page.wait(
+            lambda: re.fullmatch(
+                f"[1-9][0-9]* of {2 * count} are tried [.][.]", page.text("#verdict")
+            )
+        )
         tried = int(page.text("#verdict").split()[0])
-        texts = "[...document.querySelectorAll('#trials tbody tr')].map((it) => [...it.cells].map((at) => at.innerText))"
+        texts = (
+            "[...document.querySelectorAll('#trials tbody tr')].map((it) => [...it.cells].map((at) "
+            "=> at.innerText))"
+        )
         found = driver.execute_script(f"return {texts}")
         assert len(found) == min(tried, 300) and tried < 2 * count
         for name, without, _, doubled, _ in found:
             own, other = fits[name]
-            assert (int(without), int(doubled)) == (value - min(own, other), value - min(own, other) + min(2 * own, other))
+            assert (int(without), int(doubled)) == (
+                value - min(own, other),
+                value - min(own, other) + min(2 * own, other),
+            )
         page.press("Stop")
         most = max(value - int(without) for _, without, *_ in found)
         told = page.text("#verdict")
-        assert told.startswith(f"Stopped: {tried} of {2 * count} are tried. Worst to lose of these {tried}: ") and f", {most} litres less" in told
+        assert (
+            told.startswith(
+                f"Stopped: {tried} of {2 * count} are tried. Worst to lose of these {tried}: "
+            )
+            and f", {most} litres less" in told
+        )
         driver.execute_script("letGo()")
         driver.get("about:blank")

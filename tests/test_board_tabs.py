@@ -28,7 +28,8 @@ return [field.value, field.readOnly, document.querySelectorAll("button:enabled")
 
 
 def test_live(driver: Any) -> None:
-    """What one tab does, the others show, at whichever step they are; and what is done by a request alone."""
+    """What one tab does, the others show, at whichever step they are; and what is done by a request
+    alone."""
     with board(PIPES) as it:
         page = Page(driver, it.address)
         first = driver.current_window_handle
@@ -53,13 +54,18 @@ def test_live(driver: Any) -> None:
 
 
 def test_broken_connection(driver: Any) -> None:
-    """A page whose connections break, as those of a tunnel do, goes on with the board, and hears of newer states, also where the next ones
-    break too. Where an answer is lost, the page says so and shows what is. Where the board is not reached, the page says so, and goes on
-    if it is reached again."""
+    """A page whose connections break, as those of a tunnel do, goes on with the board, and hears of
+    newer states, also where the next ones break too. Where an answer is lost, the page says so and
+    shows what is. Where the board is not reached, the page says so, and goes on if it is reached
+    again."""
     with tunnel() as way, board("--host-name", f"localhost:{way.port}", PIPES) as it:
         way.lead_to(it.port)
         page = Page(driver, f"http://localhost:{way.port}{it.root}")
-        for later, what, value in (0, {"what": "close", "arc": 10}, without("Bridge pipe")), (2, {"what": "go", "step": 0}, 165):
+        for later, what, value in (0, {"what": "close", "arc": 10}, without("Bridge pipe")), (
+            2,
+            {"what": "go", "step": 0},
+            165,
+        ):
             way.break_all(later)
             it.do(**what)
             page.wait(lambda: page.value() == value)  # noqa: B023
@@ -69,7 +75,9 @@ def test_broken_connection(driver: Any) -> None:
         page.choose("arc-9", "Mill Lane")
         way.unanswered = b"/do HTTP/"
         page.press("Close it")
-        page.wait(lambda: page.text("#trouble") == "The connection broke: look whether this was done.")
+        page.wait(
+            lambda: page.text("#trouble") == "The connection broke: look whether this was done."
+        )
         page.wait(lambda: page.value() == without("Mill Lane"))
         page.settle()
         assert it.state()["at"] == 1
@@ -79,7 +87,11 @@ def test_broken_connection(driver: Any) -> None:
         assert page.text("#trouble") == ""
         page.write("#text", "Bridge")
         way.break_all(later=1_000)
-        page.wait(lambda: page.text("#trouble").startswith("The board does not answer. Where it has ended, start it again"))
+        page.wait(
+            lambda: page.text("#trouble").startswith(
+                "The board does not answer. Where it has ended, start it again"
+            )
+        )
         assert driver.execute_script(TYPED) == ["Bridge", True, 1]
         it.do(what="close", arc=10)
         way.closed = 0
@@ -96,7 +108,8 @@ def test_broken_connection(driver: Any) -> None:
 
 
 def test_late(driver: Any) -> None:
-    """What a tab asks for that shows what is no more so changes nothing, and the tab then shows what is."""
+    """What a tab asks for that shows what is no more so changes nothing, and the tab then shows
+    what is."""
     script = driver.execute_cdp_cmd("Page.addScriptToEvaluateOnNewDocument", {"source": DEAF})
     with board(PIPES) as it:
         page = Page(driver, it.address)
@@ -107,7 +120,9 @@ def test_late(driver: Any) -> None:
         now = it.state()
         assert page.value() == 165
         page.press("Close it")
-        page.wait(lambda: page.text("#trouble") == "The network has changed in another tab: look again.")
+        page.wait(
+            lambda: page.text("#trouble") == "The network has changed in another tab: look again."
+        )
         page.wait(lambda: page.value() == without("Bridge pipe", "Mill Lane"))
         assert (it.state(), "Mill Lane" in page.text("#way")) == (now, True)
         # Of two clicks at once the second is none.
@@ -152,10 +167,14 @@ def test_long(driver: Any) -> None:
 
 
 def test_typed(driver: Any) -> None:
-    """What is typed and not sent stays, also while another tab makes a step, and where it is refused. What is done is typed no more."""
+    """What is typed and not sent stays, also while another tab makes a step, and where it is
+    refused. What is done is typed no more."""
 
     def typed(*fields: str) -> list[str]:
-        return [str(driver.execute_script("return document.getElementById(arguments[0]).value", field)) for field in fields]
+        return [
+            str(driver.execute_script("return document.getElementById(arguments[0]).value", field))
+            for field in fields
+        ]
 
     with board(PIPES) as it:
         page = Page(driver, it.address)

@@ -1,6 +1,7 @@
-"""A random walk over a board's page in two tabs: clicks, keys, edits of one and of many, undo and redo, reloads, tabs that are closed and
-opened, and requests from elsewhere. After each step the page, its table and its picture show what a list of whole states says, whose values
-networkx finds."""
+"""A random walk over a board's page in two tabs: clicks, keys, edits of one and of many, undo and
+redo, reloads, tabs that are closed and opened, and requests from elsewhere. After each step the
+page, its table and its picture show what a list of whole states says, whose values networkx finds.
+"""
 
 from __future__ import annotations
 
@@ -19,16 +20,23 @@ pytestmark = pytest.mark.seconds(60)
 STEPS, LONG_STEPS = 60, 1_000
 SOURCE, SINK = "Reservoir", "Harbour"
 AMOUNTS: list[tuple[str, Callable[[int], int]]] = [
-    ("60", lambda _: 60), ("+10", lambda present: present + 10), ("-15", lambda present: present - 15), ("0", lambda _: 0),
-]  # fmt: skip
-# What the page shows: the value, the step that it is at and how many there are, the rows of the table, and the arcs of the picture.
+    ("60", lambda _: 60),
+    ("+10", lambda present: present + 10),
+    ("-15", lambda present: present - 15),
+    ("0", lambda _: 0),
+]
+# What the page shows: the value, the step that it is at and how many there are, the rows of the
+# table, and the arcs of the picture.
 SHOWN = """
 const texts = (at) => [...document.querySelectorAll(at)];
-return [document.querySelector("#value strong").textContent, texts("#way button").findIndex((it) => it.ariaCurrent),
+return [document.querySelector("#value strong").textContent,
+  texts("#way button").findIndex((it) => it.ariaCurrent),
   texts("#way button").length,
   texts("#grid tbody tr[id]").map((row) =>
-    ["name", "from", "to", "capacity", "marks"].map((kind) => row.querySelector("td." + kind).textContent)),
-  texts("#picture g.arc").map((arc) => [Number(arc.id.slice(4)), [...arc.querySelectorAll("text")].at(-1).textContent])];
+    ["name", "from", "to", "capacity", "marks"]
+      .map((kind) => row.querySelector("td." + kind).textContent)),
+  texts("#picture g.arc").map((arc) =>
+    [Number(arc.id.slice(4)), [...arc.querySelectorAll("text")].at(-1).textContent])];
 """
 Key = tuple[str, str, str, str, bool]
 
@@ -44,7 +52,13 @@ class Row:
     is_closed: bool = False
 
     def told(self) -> Key:
-        return self.name or f"{self.tail} -> {self.head}", self.tail, self.head, str(self.capacity), self.is_closed
+        return (
+            self.name or f"{self.tail} -> {self.head}",
+            self.tail,
+            self.head,
+            str(self.capacity),
+            self.is_closed,
+        )
 
 
 State = tuple[Row, ...]
@@ -54,7 +68,9 @@ State = tuple[Row, ...]
 class Model:
     """All states, and which is the present one."""
 
-    states: list[State] = field(default_factory=lambda: [tuple(Row(it.name, *it[:3]) for it in water())])
+    states: list[State] = field(
+        default_factory=lambda: [tuple(Row(it.name, *it[:3]) for it in water())]
+    )
     at: int = 0
 
     @property
@@ -75,7 +91,12 @@ class Model:
         return int(networkx.maximum_flow_value(graph, SOURCE, SINK))
 
     def close(self, places: list[int]) -> None:
-        self.step([replace(row, is_closed=row.is_closed or place in places) for place, row in enumerate(self.rows)])
+        self.step(
+            [
+                replace(row, is_closed=row.is_closed or place in places)
+                for place, row in enumerate(self.rows)
+            ]
+        )
 
     def open(self, places: list[int]) -> None:
         """What is opened again is a new arc, at the end."""
@@ -89,7 +110,12 @@ class Model:
         """Whether that can be: no capacity is below 0."""
         if any(to(self.rows[place].capacity) < 0 for place in places):
             return False
-        self.step([replace(row, capacity=to(row.capacity)) if place in places else row for place, row in enumerate(self.rows)])
+        self.step(
+            [
+                replace(row, capacity=to(row.capacity)) if place in places else row
+                for place, row in enumerate(self.rows)
+            ]
+        )
         return True
 
 
@@ -115,7 +141,10 @@ class Walk:
         place = self.chance.randrange(len(self.model.rows))
         row = self.model.rows[place]
         self.click_row(place)
-        self.page.wait(lambda: self.page.text("#what h3") == row.told()[0] and row.tail in self.page.text("#what p"))
+        self.page.wait(
+            lambda: self.page.text("#what h3") == row.told()[0]
+            and row.tail in self.page.text("#what p")
+        )
         if row.is_closed:
             self.model.open([place])
             self.page.press("Open it again")
@@ -136,7 +165,10 @@ class Walk:
         last = self.chance.randrange(first + 1, min(first + 5, len(self.model.rows)))
         self.click_row(first)
         self.click_row(last, shift=True)
-        opened, closed = ([at for at in range(first, last + 1) if self.model.rows[at].is_closed == is_so] for is_so in (False, True))
+        opened, closed = (
+            [at for at in range(first, last + 1) if self.model.rows[at].is_closed == is_so]
+            for is_so in (False, True)
+        )
         count = last - first + 1
         told = f"{count} chosen, {len(opened)} open"
         try:
@@ -144,7 +176,9 @@ class Walk:
         except Exception:
             seen = self.page.text("#many-told"), self.page.text("#trouble")
             pytest.fail(f"rows {first} to {last} of {self.model.rows}: {seen}, and not {told}")
-        what = self.chance.choice(["close", "double", "cap"] * bool(opened) + ["open"] * bool(closed))
+        what = self.chance.choice(
+            ["close", "double", "cap"] * bool(opened) + ["open"] * bool(closed)
+        )
         if what == "open":
             self.model.open(closed)
             self.page.press(f"Open {len(closed)} again")
@@ -153,7 +187,11 @@ class Walk:
             self.page.press(f"Close {len(opened)}")
         elif what == "double":
             self.model.double(opened)
-            self.page.press("Put a second one beside it" if len(opened) == 1 else f"Put a second one beside each of {len(opened)}")
+            self.page.press(
+                "Put a second one beside it"
+                if len(opened) == 1
+                else f"Put a second one beside each of {len(opened)}"
+            )
         else:
             text, to = self.chance.choice(AMOUNTS)
             self.page.write("#many-capacity", text)
@@ -163,7 +201,9 @@ class Walk:
 
     def back(self) -> str:
         """Undo and redo, by a button, by keys, or by a click on a step."""
-        to = self.chance.choice([self.model.at - 1, self.model.at + 1, self.chance.randrange(len(self.model.states))])
+        to = self.chance.choice(
+            [self.model.at - 1, self.model.at + 1, self.chance.randrange(len(self.model.states))]
+        )
         to = min(max(to, 0), len(self.model.states) - 1)
         by = to - self.model.at
         self.model.at = to
@@ -176,9 +216,12 @@ class Walk:
         return f"go to {to}"
 
     def other_tab(self) -> str:
-        """Goes on in the other tab, which shows the same by itself; at times in a new one, in place of this one or of the other."""
+        """Goes on in the other tab, which shows the same by itself; at times in a new one, in place
+        of this one or of the other."""
         driver = self.page.driver
-        here, there = driver.current_window_handle, next(it for it in driver.window_handles if it != driver.current_window_handle)
+        here, there = driver.current_window_handle, next(
+            it for it in driver.window_handles if it != driver.current_window_handle
+        )
         gone = self.chance.choice((here, there, "", "", "", ""))
         if gone:
             driver.switch_to.window(gone)
@@ -188,7 +231,9 @@ class Walk:
             self.page = Page(driver, self.it.address)
         else:
             driver.switch_to.window(there)
-        return f"the {'new' if gone else 'other'} tab{' after the end of this one' * (gone == here)}"
+        return (
+            f"the {'new' if gone else 'other'} tab{' after the end of this one' * (gone == here)}"
+        )
 
     def elsewhere(self) -> str:
         """Something is done by a request alone."""
@@ -205,12 +250,20 @@ class Walk:
             self.page.ready()
         except Exception:
             ended = self.it.process.poll()
-            pytest.fail(f"a reload shows {self.page.text('body')!r}; the board {'runs' if ended is None else f'has ended with {ended}'}")
+            pytest.fail(
+                f"a reload shows {self.page.text('body')!r}; the board "
+                f"{'runs' if ended is None else f'has ended with {ended}'}"
+            )
         return "reload"
 
     def judge(self, done: str) -> None:
         """Waits until the page shows what the model says."""
-        wanted = [str(self.model.value()), self.model.at, len(self.model.states), [list(row.told()) for row in self.model.rows]]
+        wanted = [
+            str(self.model.value()),
+            self.model.at,
+            len(self.model.states),
+            [list(row.told()) for row in self.model.rows],
+        ]
         now: Any = None
 
         def is_shown() -> bool:
@@ -222,7 +275,10 @@ class Walk:
             if now != wanted:
                 return False
             numbers = self.it.told("numbers?filter=&sort=&first=0&count=500")["numbers"]
-            capacities = [(number, "closed" if row.is_closed else str(row.capacity)) for number, row in zip(numbers, self.model.rows)]
+            capacities = [
+                (number, "closed" if row.is_closed else str(row.capacity))
+                for number, row in zip(numbers, self.model.rows)
+            ]
             now.append(sorted(ends))
             return sorted(ends) == sorted(capacities)
 
@@ -235,7 +291,8 @@ class Walk:
 
 
 def judge_flow(page: Page, model: Model) -> None:
-    """The picture's flows are a flow of the value: within the capacities, and at each place as much comes in as goes out."""
+    """The picture's flows are a flow of the value: within the capacities, and at each place as much
+    comes in as goes out."""
     arcs = page.driver.execute_script(SHOWN)[4]
     flows = [0 if text == "closed" else int(text.partition("/")[0]) for _, text in sorted(arcs)]
     balance: dict[str, int] = {}
@@ -243,17 +300,28 @@ def judge_flow(page: Page, model: Model) -> None:
         assert 0 <= flow <= row.capacity
         balance[row.tail] = balance.get(row.tail, 0) - flow
         balance[row.head] = balance.get(row.head, 0) + flow
-    assert {place: by for place, by in balance.items() if by} == ({SOURCE: -model.value(), SINK: model.value()} if model.value() else {})
+    assert {place: by for place, by in balance.items() if by} == (
+        {SOURCE: -model.value(), SINK: model.value()} if model.value() else {}
+    )
 
 
 def test_walk(driver: Any, request: pytest.FixtureRequest) -> None:
-    steps = request.config.getoption("--cases") or (LONG_STEPS if request.config.getoption("--long") else STEPS)
+    steps = request.config.getoption("--cases") or (
+        LONG_STEPS if request.config.getoption("--long") else STEPS
+    )
     chance = random.Random(request.config.getoption("--seed"))
     with board(PIPES) as it:
         walk = Walk(Page(driver, it.address), it, chance)
         driver.switch_to.new_window("tab")
         Page(driver, it.address)
-        kinds = [walk.one] * 4 + [walk.many] * 3 + [walk.back] * 4 + [walk.other_tab] * 2 + [walk.elsewhere] + [walk.reload]
+        kinds = (
+            [walk.one] * 4
+            + [walk.many] * 3
+            + [walk.back] * 4
+            + [walk.other_tab] * 2
+            + [walk.elsewhere]
+            + [walk.reload]
+        )
         done = ["the beginning"]
         for _ in range(steps):
             walk.judge("; ".join(done[-3:]))

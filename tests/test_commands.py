@@ -1,5 +1,6 @@
-"""Compares the table of commands with what else lists commands: the files and pages that it makes, the second implementation, the help, what
-a terminal is told, the client and its tools; and tries each row."""
+"""Compares the table of commands with what else lists commands: the files and pages that it makes,
+the second implementation, the help, what a terminal is told, the client and its tools; and tries
+each row."""
 
 from __future__ import annotations
 
@@ -11,22 +12,26 @@ from command_pages import PAGES
 from command_words import WORDS
 from commands import COMMANDS, GENERATED, LISTED, LISTED_PRINTS, OF_FORM, PRINTED, REFUSALS, Command
 from conftest import BUILT, ROOT
-from dmf import errors
-from dmf import Network
+from dmf import Network, errors
 from dmf.text import session_commands as client
 from oracle import session
 from oracle.network import Arc, State
 from oracle.session import Session, SolveReply, command_of
 
 MAKERS = {**GENERATED, **PAGES, **WORDS}
-STATE = State(4, 1, 4, (Arc(1, 2, 3), Arc(1, 3, 2), Arc(2, 3, 5), Arc(2, 4, 2), Arc(3, 4, 3)), (0,) * 5)
+STATE = State(
+    4, 1, 4, (Arc(1, 2, 3), Arc(1, 3, 2), Arc(2, 3, 5), Arc(2, 4, 2), Arc(3, 4, 3)), (0,) * 5
+)
 COUNTS = {it.word: it.counts() for it in COMMANDS.values()}
 CHANGES = {it.word for it in COMMANDS.values() if it.changes}
-rows = pytest.mark.parametrize("command", [pytest.param(it, id=word) for word, it in COMMANDS.items()])
+rows = pytest.mark.parametrize(
+    "command", [pytest.param(it, id=word) for word, it in COMMANDS.items()]
+)
 
 
 def told_forms(field: str) -> list[str]:
-    """The ways in which the documents write the line of a command: `undo [K]` is `undo` and `undo K`."""
+    """The ways in which the documents write the line of a command: `undo [K]` is `undo` and `undo
+    K`."""
     return [field.replace(" [K]", ""), field.replace("[K]", "K")] if "[K]" in field else [field]
 
 
@@ -49,10 +54,12 @@ HELP_NAMES = {"ARC": "I", "CAP": "U", "FROM": "V", "TO": "W", "NODE": "V"}
 
 
 def test_help() -> None:
-    """The help lists these lines with their replies. What a terminal lists where a line is no command is tried by
-    program/test_terminal.py."""
+    """The help lists these lines with their replies. What a terminal lists where a line is no
+    command is tried by program/test_terminal.py."""
     told = subprocess.run([BUILT, "session", "--help"], capture_output=True, text=True).stdout
-    section = told.partition("\nCommands, one a line on standard input, each with its reply:\n")[2].partition("\n\n")[0]
+    section = told.partition("\nCommands, one a line on standard input, each with its reply:\n")[
+        2
+    ].partition("\n\n")[0]
     found = [re.split("  +", line.strip()) for line in section.splitlines()]
     lines = [" ".join(HELP_NAMES.get(field, field) for field in line.split()) for line, *_ in found]
     assert lines == [*LISTED, *LISTED_PRINTS]
@@ -61,7 +68,9 @@ def test_help() -> None:
 
 
 def test_refusals() -> None:
-    assert {*OF_FORM, *(text for it in COMMANDS.values() for text in it.refusals), "no memory"} == {*REFUSALS}
+    assert {*OF_FORM, *(text for it in COMMANDS.values() for text in it.refusals), "no memory"} == {
+        *REFUSALS
+    }
 
 
 def test_errors() -> None:
@@ -81,7 +90,8 @@ def test_generated(writes: bool, path: str) -> None:
 
 @rows
 def test_row(command: Command) -> None:
-    """The example is accepted on a solved network, its reply has the form, and it changes the network where the table says so."""
+    """The example is accepted on a solved network, its reply has the form, and it changes the
+    network where the table says so."""
     held = Session(STATE, SolveReply())
     held.reply("solve")
     held.reply("cap", 2, 2)
@@ -99,8 +109,12 @@ def test_row(command: Command) -> None:
 def test_counts(command: Command) -> None:
     """With a field too few or too many the program refuses a line."""
     lines = [" ".join([command.word, *["1"] * count]) for count in command.wrong_counts()]
-    ran = subprocess.run([BUILT, "session", "examples/a.max"], input="\n".join(lines), capture_output=True, text=True)
-    assert ran.stdout == "".join(f"c refused {at} wrong number of fields\n" for at in range(1, len(lines) + 1))
+    ran = subprocess.run(
+        [BUILT, "session", "examples/a.max"], input="\n".join(lines), capture_output=True, text=True
+    )
+    assert ran.stdout == "".join(
+        f"c refused {at} wrong number of fields\n" for at in range(1, len(lines) + 1)
+    )
 
 
 @rows

@@ -1,4 +1,5 @@
-"""The planner's desk over both ways: by the C library in the process of a tool, and by the program behind a pipe. What they say is the same."""
+"""The planner's desk over both ways: by the C library in the process of a tool, and by the program
+behind a pipe. What they say is the same."""
 
 from __future__ import annotations
 
@@ -28,7 +29,12 @@ def by_both(monkeypatch: pytest.MonkeyPatch, ask: Callable[[], Any]) -> list[Any
 
 
 def test_the_story_at_a_terminal(monkeypatch: pytest.MonkeyPatch) -> None:
-    said = by_both(monkeypatch, lambda: run("dmf-plan", PIPES, "--source", "Reservoir", "--sink", "Harbour", typed=SCRIPT).stdout)
+    said = by_both(
+        monkeypatch,
+        lambda: run(
+            "dmf-plan", PIPES, "--source", "Reservoir", "--sink", "Harbour", typed=SCRIPT
+        ).stdout,
+    )
     assert said[0] == said[1]
     assert [str(value) in said[0] for value in STORY] == [True] * len(STORY)
 
@@ -36,9 +42,16 @@ def test_the_story_at_a_terminal(monkeypatch: pytest.MonkeyPatch) -> None:
 def told_by(it: Board) -> list[Any]:
     """What a board tells of steps; and that its sweep is that of all sets of places."""
     told: list[Any] = []
-    for step in ({"what": "close", "arc": 12}, {"what": "cap", "arc": 2, "capacity": "120"}, {"what": "shut", "node": 5}, {"what": "go", "step": 1}):
+    for step in (
+        {"what": "close", "arc": 12},
+        {"what": "cap", "arc": 2, "capacity": "120"},
+        {"what": "shut", "node": 5},
+        {"what": "go", "step": 1},
+    ):
         told.append({**it.do(**step), "turn": 0})
-    told += [{**it.told(path), "turn": 0} for path in ("picture?near=", "arc?number=1", "place?node=5")]
+    told += [
+        {**it.told(path), "turn": 0} for path in ("picture?near=", "arc?number=1", "place?node=5")
+    ]
     it.do(what="go", step=0)
     left: list[int] = list(range(1, 15))
     rows: list[Any] = []
@@ -61,7 +74,8 @@ def test_a_board(monkeypatch: pytest.MonkeyPatch) -> None:
 
 
 def test_what_takes_long_is_stopped(monkeypatch: pytest.MonkeyPatch) -> None:
-    """A step whose call nobody can end is left by `break_off` at once, and the desk begins again with the steps before it."""
+    """A step whose call nobody can end is left by `break_off` at once, and the desk begins again
+    with the steps before it."""
     begun, until = threading.Event(), threading.Event()
     monkeypatch.setenv("DMF_LIBRARY", WAYS["library"])
     monkeypatch.setattr(loaded, "MOST_AT_ONCE", 0)

@@ -1,4 +1,5 @@
-"""The rooms of the Python package import only from those before them, and no modules import each other in a circle."""
+"""The rooms of the Python package import only from those before them, and no modules import each
+other in a circle."""
 
 from __future__ import annotations
 
@@ -12,6 +13,7 @@ from pathlib import Path
 import pytest
 from client_shared import CLIENT
 from layers import CORE, Imports, cycle_of, is_upward, room_of
+
 
 @pytest.fixture(scope="module")
 def edges() -> set[tuple[str, str]]:
@@ -29,16 +31,33 @@ def test_no_circles(edges: set[tuple[str, str]]) -> None:
 
 def test_each_module_has_a_room(edges: set[tuple[str, str]]) -> None:
     modules = {module for edge in edges for module in edge}
-    assert {room_of(module) for module in modules} >= {"errors", "text", "session", CORE, "sweeps", "tables", "desk", "desk.board", "tools"}
+    assert {room_of(module) for module in modules} >= {
+        "errors",
+        "text",
+        "session",
+        CORE,
+        "sweeps",
+        "tables",
+        "desk",
+        "desk.board",
+        "tools",
+    }
     assert room_of("history") == room_of("errors") and room_of("desk.plan.shell") == "desk.plan"
 
 
 def test_names_stand_once() -> None:
     """No two modules of the package have one name, and no two classes."""
-    modules = {name: path for name, path in Imports(Path(CLIENT, "dmf")).modules.items() if path.name != "__init__.py"}
+    modules = {
+        name: path
+        for name, path in Imports(Path(CLIENT, "dmf")).modules.items()
+        if path.name != "__init__.py"
+    }
     assert twice(name.rpartition(".")[2] for name in modules) == []
     trees = (ast.parse(path.read_text()) for path in modules.values())
-    assert twice(node.name for tree in trees for node in tree.body if isinstance(node, ast.ClassDef)) == []
+    assert (
+        twice(node.name for tree in trees for node in tree.body if isinstance(node, ast.ClassDef))
+        == []
+    )
 
 
 def twice(names: Iterable[str]) -> list[str]:
@@ -48,8 +67,16 @@ def twice(names: Iterable[str]) -> list[str]:
 def test_a_network_loads_little() -> None:
     """Nothing that takes long to load is loaded before it is needed."""
     program = "import sys, dmf; dmf.Network; print(*sys.modules)"
-    ran = subprocess.run([sys.executable, "-c", program], capture_output=True, text=True, env={"PYTHONPATH": CLIENT}, check=True)
-    assert not {"dataclasses", "decimal", "numpy", "secrets", "shutil", "subprocess"} & {*ran.stdout.split()}
+    ran = subprocess.run(
+        [sys.executable, "-c", program],
+        capture_output=True,
+        text=True,
+        env={"PYTHONPATH": CLIENT},
+        check=True,
+    )
+    assert not {"dataclasses", "decimal", "numpy", "secrets", "shutil", "subprocess"} & {
+        *ran.stdout.split()
+    }
 
 
 # A package with one import of each form, and what they are.
@@ -80,13 +107,17 @@ IMPORTS = [
 
 
 def test_faults_are_found(tmp_path: Path) -> None:
-    """Late imports count, those for types alone, those of public names, and those between two rooms beside each other."""
+    """Late imports count, those for types alone, those of public names, and those between two rooms
+    beside each other."""
     for name, text in PACKAGE.items():
         path = tmp_path / name
         path.parent.mkdir(exist_ok=True)
         path.write_text(text)
     edges = Imports(tmp_path).edges()
     assert sorted(" -> ".join(edge) for edge in edges) == IMPORTS
-    assert {edge for edge in edges if is_upward(edge)} == {("errors", "desk.workspace"), ("tables.sheet", "sweeps.cases")}
+    assert {edge for edge in edges if is_upward(edge)} == {
+        ("errors", "desk.workspace"),
+        ("tables.sheet", "sweeps.cases"),
+    }
     assert set(cycle_of(edges - {("errors", "desk.workspace")})) == {"network", "state"}
     assert cycle_of(edges - {("errors", "desk.workspace"), ("state", "network")}) == []

@@ -1,5 +1,5 @@
-"""./package: what it makes has its sums, and what git tracks alone. It is put into an empty root, and into a folder of a machine without the
-toolchain, and the tutorial is run there."""
+"""./package: what it makes has its sums, and what git tracks alone. It is put into an empty root,
+and into a folder of a machine without the toolchain, and the tutorial is run there."""
 
 from __future__ import annotations
 
@@ -14,6 +14,7 @@ from pathlib import Path
 import dmf
 import pytest
 from conftest import ROOT
+from launched import judge_help, judge_words
 from trees import commit_all, copy_tracked
 
 pytestmark = pytest.mark.seconds(20)
@@ -29,10 +30,20 @@ print(dmf.__file__, dmf.program(), dmf.library(), network.solve().value)
 """
 
 
-def run(*words: str | Path, folder: Path = ROOT, **environment: str) -> subprocess.CompletedProcess[str]:
+def run(
+    *words: str | Path, folder: Path = ROOT, **environment: str
+) -> subprocess.CompletedProcess[str]:
     """Runs a program where neither the toolchain nor an installed dmf is found."""
     plain = {"PATH": "/usr/bin:/bin", "HOME": str(folder), "LC_ALL": "C.UTF-8", **environment}
-    return subprocess.run(words, cwd=folder, env=plain, stdin=subprocess.DEVNULL, capture_output=True, text=True, timeout=120)
+    return subprocess.run(
+        words,
+        cwd=folder,
+        env=plain,
+        stdin=subprocess.DEVNULL,
+        capture_output=True,
+        text=True,
+        timeout=120,
+    )
 
 
 def ran(*words: str | Path, folder: Path = ROOT, **environment: str) -> str:
@@ -48,7 +59,14 @@ def made(tmp_path_factory: pytest.TempPathFactory) -> Path:
     folder = tmp_path_factory.mktemp("made")
     told = ran("./package", "--output", folder)
     assert sorted(told.split()[1::2]) == sorted(map(str, folder.iterdir()))
-    assert sorted(path.suffix for path in folder.iterdir()) == ["", ".deb", ".deb", ".deb", ".gz", ".whl"]
+    assert sorted(path.suffix for path in folder.iterdir()) == [
+        "",
+        ".deb",
+        ".deb",
+        ".deb",
+        ".gz",
+        ".whl",
+    ]
     return folder
 
 
@@ -58,7 +76,8 @@ def the(folder: Path, pattern: str) -> Path:
 
 
 def call_dpkg(root: Path, *words: str | Path) -> None:
-    """Puts or removes a package in a root that has nothing else, not even a shell: the package's scripts run outside."""
+    """Puts or removes a package in a root that has nothing else, not even a shell: the package's
+    scripts run outside."""
     database = root / "var/lib/dpkg"
     if not database.exists():
         for name in "info", "updates":
@@ -89,7 +108,9 @@ def unpacked(made: Path, tmp_path_factory: pytest.TempPathFactory) -> Path:
 
 def examples(page: Path) -> Iterator[tuple[str, str]]:
     """Each command of a page with what it is to write."""
-    for found in re.finditer(r"^    \$ (.*)\n((?:    (?!\$ ).*\n)*)", page.read_text(), re.MULTILINE):
+    for found in re.finditer(
+        r"^    \$ (.*)\n((?:    (?!\$ ).*\n)*)", page.read_text(), re.MULTILINE
+    ):
         yield found[1], re.sub("^    ", "", found[2], flags=re.MULTILINE)
 
 
@@ -101,20 +122,24 @@ def judge_examples(page: Path, folder: Path, **environment: str) -> None:
     done = run("sh", "-c", script, folder=folder, PATH=f"{folder}:/usr/bin:/bin", **environment)
     for (command, wanted), written in zip(pairs, done.stdout.split(END)):
         assert written == wanted, f"{command}: {done.stderr}"
-    assert (done.stderr, done.stdout.count(END)) == ("", len(pairs))
+    told = [line for line in done.stderr.splitlines() if ": from 'from', to 'to'" not in line]
+    assert (told, done.stdout.count(END)) == ([], len(pairs))
 
 
 def test_sums(made: Path) -> None:
     """All that was made beside them is as they say, by the tool of the field."""
     told = ran("sha256sum", "-c", "SHA256SUMS", folder=made)
-    assert told == "".join(f"{path.name}: OK\n" for path in sorted(made.iterdir()) if path.name != "SHA256SUMS")
+    assert told == "".join(
+        f"{path.name}: OK\n" for path in sorted(made.iterdir()) if path.name != "SHA256SUMS"
+    )
     for line in (made / "SHA256SUMS").read_text().splitlines():
         digest, name = line.split("  ")
         assert hashlib.sha256((made / name).read_bytes()).hexdigest() == digest
 
 
 def test_the_same_elsewhere(tmp_path: Path) -> None:
-    """Two copies of the tree give the same bytes, whatever lies beside what git tracks, in whatever order and with whatever modes."""
+    """Two copies of the tree give the same bytes, whatever lies beside what git tracks, in whatever
+    order and with whatever modes."""
     contents = []
     for name in "one", "another place":
         tree, output = tmp_path / name / "tree", tmp_path / name / "made"
@@ -133,11 +158,19 @@ def test_the_same_elsewhere(tmp_path: Path) -> None:
 
 
 def test_only_what_git_tracks(unpacked: Path, system: Path) -> None:
-    tracked = {*ran("git", "ls-files").splitlines(), "crates/dmf/out/dmf", "crates/dmf_c/out/libdmf.so.0"}
-    assert {str(path.relative_to(unpacked)) for path in unpacked.rglob("*") if path.is_file()} <= tracked
+    tracked = {
+        *ran("git", "ls-files").splitlines(),
+        "crates/dmf/out/dmf",
+        "crates/dmf_c/out/libdmf.so.0",
+    }
+    assert {
+        str(path.relative_to(unpacked)) for path in unpacked.rglob("*") if path.is_file()
+    } <= tracked
     documents = system / "usr/share/doc/dmf"
     theirs = {"copyright", "changelog.gz", "changelog.Debian.gz"}
-    assert {str(path.relative_to(documents)) for path in documents.rglob("*") if path.is_file()} <= tracked | theirs
+    assert {
+        str(path.relative_to(documents)) for path in documents.rglob("*") if path.is_file()
+    } <= tracked | theirs
 
 
 def test_not_a_checkout(tmp_path: Path) -> None:
@@ -145,15 +178,25 @@ def test_not_a_checkout(tmp_path: Path) -> None:
     shutil.copy(ROOT / "package", tmp_path)
     done = run("./package", folder=tmp_path, GIT_CEILING_DIRECTORIES=str(tmp_path.parent))
     assert (done.returncode, done.stdout, (tmp_path / "out").exists()) == (1, "", False)
-    assert "is no checkout of git, so nobody knows which files belong to dmf; nothing was made" in done.stderr
+    assert (
+        "is no checkout of git, so nobody knows which files belong to dmf; nothing was made"
+        in done.stderr
+    )
 
 
 def test_links(unpacked: Path, system: Path) -> None:
     """No link of a page leads nowhere, and those to what is packed are links still."""
     for folder in unpacked, system / "usr/share/doc/dmf":
         places = {page: LINK.findall(page.read_text()) for page in folder.rglob("*.md")}
-        assert not [(page, place) for page, found in places.items() for place in found if not (page.parent / place).exists()]
-        assert {"docs/TUTORIAL.md", "examples/water/README.md", "docs/pictures/board.png"} <= {*places[folder / "README.md"]}
+        assert not [
+            (page, place)
+            for page, found in places.items()
+            for place in found
+            if not (page.parent / place).exists()
+        ]
+        assert {"docs/TUTORIAL.md", "examples/water/README.md", "docs/pictures/board.png"} <= {
+            *places[folder / "README.md"]
+        }
         assert "DEFINITIONS.md" in places[folder / "docs/TRUST.md"] and len(places) > 8
 
 
@@ -163,8 +206,14 @@ def test_plain_links(tmp_path: Path) -> None:
     (tmp_path / "docs/b.md").touch()
     for text, wanted in (
         ("See [b](docs/b.md), [c](docs/c.md).", "See [b](docs/b.md), c."),
-        ("[b](docs/b.md#a-b) [c](docs/c.md#a-b) [folder](docs) [none](none)", "[b](docs/b.md#a-b) c [folder](docs) none"),
-        ("![picture](x.png) [web](https://x.org/y) [here](#below) [`code`](../y.rs)", "picture [web](https://x.org/y) [here](#below) `code`"),
+        (
+            "[b](docs/b.md#a-b) [c](docs/c.md#a-b) [folder](docs) [none](none)",
+            "[b](docs/b.md#a-b) c [folder](docs) none",
+        ),
+        (
+            "![picture](x.png) [web](https://x.org/y) [here](#below) [`code`](../y.rs)",
+            "picture [web](https://x.org/y) [here](#below) `code`",
+        ),
         ("a[0](x) array[1] (docs/c.md)", "a0 array[1] (docs/c.md)"),
     ):
         (tmp_path / "page.md").write_text(text)
@@ -182,20 +231,48 @@ def test_files(system: Path, made: Path) -> None:
     """Each file has its sum, and no file is writable or hidden for others."""
     control = made.parent / "control"
     ran("dpkg-deb", "-e", the(made, "dmf_*.deb"), control)
-    named = {line.split(maxsplit=1)[1]: line.split()[0] for line in (control / "md5sums").read_text().splitlines()}
-    files = {path for path in (system / "usr").rglob("*") if path.is_file() and path.suffix != ".pyc"}
+    named = {
+        line.split(maxsplit=1)[1]: line.split()[0]
+        for line in (control / "md5sums").read_text().splitlines()
+    }
+    files = {
+        path for path in (system / "usr").rglob("*") if path.is_file() and path.suffix != ".pyc"
+    }
     assert {str(path.relative_to(system)) for path in files} == set(named)
     for path in files:
         assert hashlib.md5(path.read_bytes()).hexdigest() == named[str(path.relative_to(system))]
-        assert path.stat().st_mode & 0o777 == (0o755 if path.parent.name == "bin" else 0o644), path
+        is_run = path.parent.name == "bin" or path == system / "usr/lib/dmf/dmf"
+        assert path.stat().st_mode & 0o777 == (0o755 if is_run else 0o644), path
     share = system / "usr/share"
     assert {path.name for path in (system / "usr/bin").iterdir()} == {"dmf", *TOOLS}
-    assert {path.name for path in (share / "man/man1").iterdir()} == {f"{name}.1.gz" for name in ["dmf", *TOOLS]}
-    assert {path.name for path in (share / "bash-completion/completions").iterdir()} == {"dmf", *TOOLS}
+    assert [path.name for path in (share / "man/man5").iterdir()] == ["dmf-tables.5.gz"]
+    assert {path.name for path in (share / "man/man1").iterdir()} == {
+        f"{name}.1.gz" for name in ["dmf", *TOOLS]
+    }
+    assert {path.name for path in (share / "bash-completion/completions").iterdir()} == {
+        "dmf",
+        *TOOLS,
+    }
     modules = system / "usr/lib/python3/dist-packages/dmf"
     packed = {path.relative_to(modules) for path in modules.rglob("*.*") if path.suffix != ".pyc"}
     ours = ROOT / "clients/python/dmf"
     assert packed == {path.relative_to(ours) for path in ours.rglob("*.*") if path.suffix != ".pyc"}
+
+
+def test_command_of_the_package(system: Path, unpacked: Path) -> None:
+    """The launcher of the Debian package, and ./dmf of the archive."""
+    for launcher, program in (
+        (system / "usr/bin/dmf", system / "usr/lib/dmf/dmf"),
+        (unpacked / "dmf", unpacked / "crates/dmf/out/dmf"),
+    ):
+        judge_words(launcher, program)
+        judge_help(launcher, program)
+    modules = str(system / "usr/lib/python3/dist-packages")
+    for tool in TOOLS:
+        plain = ran(system / "usr/bin" / tool, "--help", PYTHONPATH=modules)
+        word = tool.removeprefix("dmf-")
+        assert ran(system / "usr/bin/dmf", word, "--help", PYTHONPATH=modules) == plain
+        assert ran(unpacked / "dmf", "help", word) == plain
 
 
 def test_tutorial_of_the_package(system: Path, tmp_path: Path) -> None:
@@ -205,33 +282,80 @@ def test_tutorial_of_the_package(system: Path, tmp_path: Path) -> None:
     (tmp_path / "dmf").symlink_to(system / "usr/bin/dmf")
     (tmp_path / "tools").symlink_to(system / "usr/bin")
     for page in "docs/TUTORIAL.md", "examples/water/README.md":
-        judge_examples(documents / page, tmp_path, PYTHONPATH=str(system / "usr/lib/python3/dist-packages"))
+        judge_examples(
+            documents / page, tmp_path, PYTHONPATH=str(system / "usr/lib/python3/dist-packages")
+        )
 
 
 def test_python_of_the_package(system: Path, tmp_path: Path) -> None:
-    """The module is where Debian's Python looks, and finds the program beside itself. So do the tools."""
+    """The module is where Debian's Python looks, and finds the program beside itself. So do the
+    tools."""
     modules = system / "usr/lib/python3/dist-packages"
     told = ran("/usr/bin/python3", "-c", SCRIPT, folder=tmp_path, PYTHONPATH=str(modules))
-    assert told == f"{modules}/dmf/__init__.py {system}/usr/bin/dmf None 2\n"
+    assert told == f"{modules}/dmf/__init__.py {system}/usr/lib/dmf/dmf None 2\n"
     table = system / "usr/share/doc/dmf/examples/water/pipes.csv"
-    assert run(system / "usr/bin/dmf-plan", table, folder=tmp_path, PYTHONPATH=str(modules)).returncode == 0
+    assert (
+        run(system / "usr/bin/dmf-plan", table, folder=tmp_path, PYTHONPATH=str(modules)).returncode
+        == 0
+    )
 
 
 def test_the_library(system: Path, made: Path, tmp_path: Path) -> None:
-    """Beside dmf, by the packages of the library: its Python package runs by it, and a C program is compiled with it."""
+    """Beside dmf, by the packages of the library: its Python package runs by it, and a C program is
+    compiled with it."""
     root = tmp_path / "root"
     shutil.copytree(system, root, symlinks=True)
     for name in "libdmf0", "libdmf-dev":
         ran("dpkg-deb", "-x", the(made, f"{name}_*.deb"), root)
     (found,) = (root / "usr/lib").glob("*-linux-gnu*/libdmf.so.0")
-    told = ran("/usr/bin/python3", "-c", SCRIPT, folder=tmp_path, PYTHONPATH=f"{root}/usr/lib/python3/dist-packages")
-    assert told.split()[1:] == [f"{root}/usr/bin/dmf", str(found), "2"]
-    flags = dict(line.split("=", 1) for line in (found.parent / "pkgconfig/dmf.pc").read_text().splitlines() if "=" in line)
-    assert (flags["prefix"], flags["libdir"], flags["includedir"]) == ("/usr", f"/{found.parent.relative_to(root)}", "${prefix}/include")
+    told = ran(
+        "/usr/bin/python3",
+        "-c",
+        SCRIPT,
+        folder=tmp_path,
+        PYTHONPATH=f"{root}/usr/lib/python3/dist-packages",
+    )
+    assert told.split()[1:] == [f"{root}/usr/lib/dmf/dmf", str(found), "2"]
+    flags = dict(
+        line.split("=", 1)
+        for line in (found.parent / "pkgconfig/dmf.pc").read_text().splitlines()
+        if "=" in line
+    )
+    assert (flags["prefix"], flags["libdir"], flags["includedir"]) == (
+        "/usr",
+        f"/{found.parent.relative_to(root)}",
+        "${prefix}/include",
+    )
     assert (found.parent / "libdmf.so").readlink() == Path("libdmf.so.0")
-    ran("gcc", ROOT / "examples/c/limit.c", "-o", tmp_path / "limit", f"-I{root}/usr/include", f"-L{found.parent}", "-ldmf")
-    assert ran(tmp_path / "limit", LD_LIBRARY_PATH=str(found.parent)).endswith("without arc 1: 2\nagain: 5\n")
+    ran(
+        "gcc",
+        ROOT / "examples/c/limit.c",
+        "-o",
+        tmp_path / "limit",
+        f"-I{root}/usr/include",
+        f"-L{found.parent}",
+        "-ldmf",
+    )
+    assert ran(tmp_path / "limit", LD_LIBRARY_PATH=str(found.parent)).endswith(
+        "without arc 1: 2\nagain: 5\n"
+    )
     assert (root / "usr/share/man/man3/dmf.3.gz").is_file()
+
+
+def test_the_library_by_cmake(system: Path, made: Path, tmp_path: Path) -> None:
+    """A C++ project finds the files of both packages by CMake, also by the link that Debian has
+    from lib to usr/lib."""
+    root = tmp_path / "root"
+    for name in "libdmf0", "libdmf-dev":
+        ran("dpkg-deb", "-x", the(made, f"{name}_*.deb"), root)
+    (root / "lib").symlink_to("usr/lib")
+    source = system / "usr/share/doc/dmf/examples/cpp"
+    for prefix in root / "usr", root:
+        build = tmp_path / f"build-{prefix.name}"
+        ran("cmake", "-S", source, "-B", build, f"-DCMAKE_PREFIX_PATH={prefix}")
+        ran("cmake", "--build", build)
+        written = ran(build / "vital", ROOT / "examples/a.max")
+        assert written.endswith("\narc 1 is closed: 2\n")
 
 
 @pytest.mark.root
@@ -248,7 +372,10 @@ def test_removed(made: Path, tmp_path: Path) -> None:
 def test_description(made: Path) -> None:
     """It claims no more than what is proved, and its file belongs to the package."""
     told = " ".join(ran("dpkg-deb", "-f", the(made, "dmf_*.deb"), "Description").split())
-    assert "The calls that do so are proved to meet their contracts; the page TRUST of the documents says what that covers" in told
+    assert (
+        "The calls that do so are proved to meet their contracts; the page TRUST of the documents "
+        "says what that covers" in told
+    )
     assert "greatest" not in told and "minimum" not in told
     assert " ./usr/share/doc/dmf/docs/TRUST.md\n" in ran("dpkg-deb", "-c", the(made, "dmf_*.deb"))
 
@@ -264,7 +391,10 @@ def test_archive_without_its_executable(made: Path, tmp_path: Path) -> None:
     program = folder / "crates/dmf/out/dmf"
     program.unlink()
     done = run("./dmf", "--version", folder=folder)
-    told = f"dmf: the executable {program} is not there; rt, which is needed to build the program, is not in PATH.\n"
+    told = (
+        f"dmf: the executable {program} is not there; rt, which is needed to build the program, is "
+        "not in PATH.\n"
+    )
     assert (done.returncode, done.stdout, done.stderr) == (70, "", told)
 
 
@@ -274,9 +404,17 @@ def test_install_of_the_archive(unpacked: Path, tmp_path: Path) -> None:
     told = ran("./install", "--prefix", prefix, folder=unpacked)
     from_here = ran("./install", "--prefix", tmp_path / "other")
     assert told.replace(str(prefix), str(tmp_path / "other")) == from_here
-    assert (prefix / "bin/dmf").read_bytes() == (ROOT / "crates/dmf/out/dmf").read_bytes()
-    used = ran("/usr/bin/python3", "-c", SCRIPT, folder=tmp_path, PYTHONPATH=str(prefix / "share/dmf/python"))
-    assert used.split()[1:] == [f"{prefix}/bin/dmf", f"{prefix}/lib/libdmf.so.0", "2"]
+    program = prefix / "lib/dmf/dmf"
+    assert program.read_bytes() == (ROOT / "crates/dmf/out/dmf").read_bytes()
+    judge_words(prefix / "bin/dmf", program)
+    used = ran(
+        "/usr/bin/python3",
+        "-c",
+        SCRIPT,
+        folder=tmp_path,
+        PYTHONPATH=str(prefix / "share/dmf/python"),
+    )
+    assert used.split()[1:] == [str(program), f"{prefix}/lib/libdmf.so.0", "2"]
     ran("./install", "--prefix", prefix, "--remove", folder=unpacked)
     assert not prefix.exists()
 

@@ -11,23 +11,51 @@ from pathlib import Path
 from typing import Any, cast
 
 import pytest
-from desk_shared import PIPES, ROOT, Pipe, SECONDS, desk_of, end_session, greatest, run, swept, values, water, water_problem, without
 from built import BUILT
-from dmf.desk.analysis import trials_of
+from desk_shared import (
+    PIPES,
+    ROOT,
+    SECONDS,
+    Pipe,
+    desk_of,
+    end_session,
+    greatest,
+    run,
+    swept,
+    values,
+    water,
+    water_problem,
+    without,
+)
 from dmf import Network
+from dmf.desk.analysis import trials_of
 from dmf.desk.live_network import LiveNetwork
+from dmf.desk.plan.arguments import capped
+from dmf.desk.plan.shell import Shell
 from dmf.desk.steps import DeskFault, Place
 from dmf.errors import SessionEnded
-from dmf.desk.plan.shell import Shell
-from dmf.desk.plan.arguments import capped
 
 WATER = water_problem()
 
 # With the Mill's two nodes as comments tell them.
-LIMITED = b"c inner node 10 half 5\nc inner arc 15 limit 5\n" + subprocess.run(
-    [ROOT / "tools/dmf-problem", "--node-limits", "examples/water/pumps.csv", "--table", PIPES, "Reservoir", "Harbour"],
-    capture_output=True, check=True, timeout=SECONDS, cwd=ROOT,
-).stdout  # fmt: skip
+LIMITED = (
+    b"c inner node 10 half 5\nc inner arc 15 limit 5\n"
+    + subprocess.run(
+        [
+            ROOT / "tools/dmf-problem",
+            "--node-limits",
+            "examples/water/pumps.csv",
+            "--table",
+            PIPES,
+            "Reservoir",
+            "Harbour",
+        ],
+        capture_output=True,
+        check=True,
+        timeout=SECONDS,
+        cwd=ROOT,
+    ).stdout
+)
 ALIKE = b"""c node 1 A
 c node 2 B-C
 c node 3 D
@@ -57,9 +85,16 @@ def refused(make: Callable[[], object]) -> str:
 def test_sweep() -> None:
     desk = desk_of(WATER)
     wanted = swept()
-    found = {desk.names.arc_name(it.arc): (it.closed, it.doubled) for it in trials_of(desk, range(1, 15))}
+    found = {
+        desk.network.names.arc_name(it.arc): (it.closed, it.doubled)
+        for it in trials_of(desk, range(1, 15))
+    }
     assert found == wanted, f"a sweep: {found}, and not {wanted}"
-    assert (desk.value, desk.at, list(desk.cut_arcs())) == (165, 1, [3, 9, 14]), f"after a sweep: {desk.value}, {desk.cut_arcs()}"
+    assert (desk.value, desk.at, list(desk.cut_arcs())) == (
+        165,
+        1,
+        [3, 9, 14],
+    ), f"after a sweep: {desk.value}, {desk.cut_arcs()}"
     desk.end()
     idle = desk_of(WATER, with_solve=False)
     told = refused(lambda: list(trials_of(idle, [1])))
@@ -68,7 +103,8 @@ def test_sweep() -> None:
 
 
 def test_random() -> None:
-    """Random steps, undone and made again, give what all sets of places give of the pipes that are open then."""
+    """Random steps, undone and made again, give what all sets of places give of the pipes that are
+    open then."""
     chance = random.Random(35)
     desk = desk_of(WATER)
     pipes = water()
@@ -76,21 +112,39 @@ def test_random() -> None:
     seen = [165]
 
     def opened() -> list[int]:
-        return [number for number, line in enumerate(desk.lines, 1) if not line.is_closed]
+        return [number for number, line in enumerate(desk.network.lines, 1) if not line.is_closed]
 
     def value() -> int:
-        node = desk.names.node
-        lines = (desk.lines[number - 1] for number in opened())
-        return greatest([pipes[0]._replace(tail=node(it.tail), head=node(it.head), capacity=int(it.capacity)) for it in lines])
+        node = desk.network.names.node
+        lines = (desk.network.lines[number - 1] for number in opened())
+        return greatest(
+            [
+                pipes[0]._replace(tail=node(it.tail), head=node(it.head), capacity=int(it.capacity))
+                for it in lines
+            ]
+        )
 
     acts: list[Callable[[], object]] = [
         lambda: desk.close(chance.choice(opened())),
         lambda: desk.cap(chance.choice(opened()), chance.randrange(120)),
         lambda: desk.double(chance.choice(opened())),
-        lambda: desk.add(desk.names.place(chance.choice(names)), desk.names.place(chance.choice(names)), chance.randrange(80)),
-        lambda: desk.shut(desk.names.place(chance.choice(names[1:]))),
-        lambda: desk.open_place(desk.names.place(chance.choice(names))),
-        lambda: desk.open(chance.choice([n for n, it in enumerate(desk.lines, 1) if it.is_closed and not it.is_replaced] or [1])),
+        lambda: desk.add(
+            desk.network.names.place(chance.choice(names)),
+            desk.network.names.place(chance.choice(names)),
+            chance.randrange(80),
+        ),
+        lambda: desk.shut(desk.network.names.place(chance.choice(names[1:]))),
+        lambda: desk.open_place(desk.network.names.place(chance.choice(names))),
+        lambda: desk.open(
+            chance.choice(
+                [
+                    n
+                    for n, it in enumerate(desk.network.lines, 1)
+                    if it.is_closed and not it.is_replaced
+                ]
+                or [1]
+            )
+        ),
         lambda: list(trials_of(desk, opened()[:2])),
         lambda: desk.go_to(chance.randrange(1, len(desk.steps) + 1)),
     ]
@@ -103,21 +157,36 @@ def test_random() -> None:
             continue
         wanted = value()
         seen.append(wanted)
-        assert desk.value == wanted, f"turn {turn}, {desk.steps[desk.at - 1].text}: {desk.value}, and not {wanted}"
+        assert (
+            desk.value == wanted
+        ), f"turn {turn}, {desk.steps[desk.at - 1].text}: {desk.value}, and not {wanted}"
     assert len(set(seen)) >= 10, f"the random steps reach {len(set(seen))} values alone"
-    steps, at, lines = [(it.text, it.value) for it in desk.steps[: desk.at]], desk.at, list(desk.lines)
+    steps, at, lines = (
+        [(it.text, it.value) for it in desk.steps[: desk.at]],
+        desk.at,
+        list(desk.network.lines),
+    )
     desk.begin_again()
     again = [(it.text, it.value) for it in desk.steps[: desk.at]]
-    assert (again, desk.at, desk.lines) == (steps, at, lines), f"begun again: {again}, and not {steps}"
+    assert (again, desk.at, desk.network.lines) == (
+        steps,
+        at,
+        lines,
+    ), f"begun again: {again}, and not {steps}"
     desk.go_to(1)
-    assert (desk.value, len(desk.lines), any(it.is_closed for it in desk.lines)) == (165, 14, False)
+    assert (
+        desk.value,
+        len(desk.network.lines),
+        any(it.is_closed for it in desk.network.lines),
+    ) == (165, 14, False)
     desk.end()
 
 
 @pytest.mark.parametrize("seed", range(3))
 def test_random_decimals(seed: int) -> None:
-    """The same by commands, with amounts of up to five decimals and shares of amounts: whatever scale they take, each step has the value of
-    all sets of places, and what is only tried, or undone, leaves the others as they were."""
+    """The same by commands, with amounts of up to five decimals and shares of amounts: whatever
+    scale they take, each step has the value of all sets of places, and what is only tried, or
+    undone, leaves the others as they were."""
     chance = random.Random(seed)
     plan = Shell(desk_of(WATER), is_typed=False, write=lambda _: None)
     desk = plan.desk
@@ -126,33 +195,52 @@ def test_random_decimals(seed: int) -> None:
         return f"{chance.randrange(90)}.{chance.randrange(10 ** chance.choice((1, 2, 4, 5)))}"
 
     def value() -> int:
-        node = desk.names.node
-        lines = (line for line in desk.lines if not line.is_closed)
-        return greatest([Pipe(node(it.tail), node(it.head), cast(int, it.capacity), "") for it in lines])
+        node = desk.network.names.node
+        lines = (line for line in desk.network.lines if not line.is_closed)
+        return greatest(
+            [Pipe(node(it.tail), node(it.head), cast(int, it.capacity), "") for it in lines]
+        )
 
     for turn in range(50):
-        number = chance.choice([number for number, line in enumerate(desk.lines, 1) if not line.is_closed])
-        steps, lines = [(it.text, it.value) for it in desk.steps], list(desk.lines)
-        line = chance.choice((
-            f"cap #{number} {amount()}", f"cap #{number} {chance.choice('+-')}{amount()} %", f"what-if cap #{number} +{amount()}",
-            "undo", "undo 2", "redo 2", "shut Mill", "open", "try", "keep", "drop",
-        ))  # fmt: skip
+        number = chance.choice(
+            [number for number, line in enumerate(desk.network.lines, 1) if not line.is_closed]
+        )
+        steps, lines = [(it.text, it.value) for it in desk.steps], list(desk.network.lines)
+        line = chance.choice(
+            (
+                f"cap #{number} {amount()}",
+                f"cap #{number} {chance.choice('+-')}{amount()} %",
+                f"what-if cap #{number} +{amount()}",
+                "undo",
+                "undo 2",
+                "redo 2",
+                "shut Mill",
+                "open",
+                "try",
+                "keep",
+                "drop",
+            )
+        )
         plan.onecmd(line)
         assert desk.value == value(), f"turn {turn}, {line}: {desk.value}, and not {value()}"
         if line.startswith("what-if"):
-            assert ([(it.text, it.value) for it in desk.steps], list(desk.lines)) == (steps, lines), line
-    assert desk.measure.scale >= 1000
+            assert ([(it.text, it.value) for it in desk.steps], list(desk.network.lines)) == (
+                steps,
+                lines,
+            ), line
+    assert desk.network.measure.scale >= 1000
     desk.end()
 
 
 def test_broken_off_while_made_again(monkeypatch: pytest.MonkeyPatch) -> None:
-    """Who stops the desk while its steps are made again on a finer scale, or on a new session, ends that too, and no step is lost."""
+    """Who stops the desk while its steps are made again on a finer scale, or on a new session, ends
+    that too, and no step is lost."""
     desk = desk_of(WATER)
     desk.close(10)
     make = LiveNetwork.make
 
     def stopped(held: LiveNetwork, text: str, changes: Any) -> Any:
-        if held is not desk._held:
+        if held is not desk.state.network:
             desk.break_off("it was stopped")
         return make(held, text, changes)
 
@@ -165,8 +253,15 @@ def test_broken_off_while_made_again(monkeypatch: pytest.MonkeyPatch) -> None:
         assert [step.value for step in desk.steps] == [165, 155]
     desk.begin_again()
     # Twice as much without the Bridge pipe, and with 15 over Market Street.
-    twice = [it._replace(capacity=15 if it.name == "Market Street" else 2 * it.capacity) for it in water() if it.name != "Bridge pipe"]
-    assert [str(desk.cap(11, Decimal("7.5")).value * 2), str(desk.measure.scale)] == [f"{greatest(twice)}.0", "10"]
+    twice = [
+        it._replace(capacity=15 if it.name == "Market Street" else 2 * it.capacity)
+        for it in water()
+        if it.name != "Bridge pipe"
+    ]
+    assert [str(desk.cap(11, Decimal("7.5")).value * 2), str(desk.network.measure.scale)] == [
+        f"{greatest(twice)}.0",
+        "10",
+    ]
     desk.end()
 
 
@@ -182,16 +277,36 @@ def test_ended() -> None:
     desk.end()
 
 
-@pytest.mark.parametrize("error", [AssertionError(), MemoryError(), RecursionError("too deep"), KeyError("x"), OSError(12, "no memory")])
+@pytest.mark.parametrize(
+    "error",
+    [
+        AssertionError(),
+        MemoryError(),
+        RecursionError("too deep"),
+        KeyError("x"),
+        OSError(12, "no memory"),
+    ],
+)
 @pytest.mark.parametrize("changes", [True, False])
-def test_unforeseen(monkeypatch: pytest.MonkeyPatch, capsys: pytest.CaptureFixture[str], error: Exception, changes: bool) -> None:
-    """Whatever error comes out of a command, before or after it has changed the session: a line tells it, and the steps before it
-    stand."""
+def test_unforeseen(
+    monkeypatch: pytest.MonkeyPatch,
+    capsys: pytest.CaptureFixture[str],
+    error: Exception,
+    changes: bool,
+) -> None:
+    """Whatever error comes out of a command, before or after it has changed the session: a line
+    tells it, and the steps before it stand."""
     told: list[str] = []
     plan = Shell(desk_of(WATER), is_typed=False, write=told.append)
     plan.run_script(["close Bridge pipe", "close Mill Lane", "undo"])
     desk = plan.desk
-    before = [(it.text, it.value) for it in desk.steps], desk.at, list(desk.lines), desk.value, [desk.flow(n) for n in range(1, 15)]
+    before = (
+        [(it.text, it.value) for it in desk.steps],
+        desk.at,
+        list(desk.network.lines),
+        desk.value,
+        [desk.flow(n) for n in range(1, 15)],
+    )
     shut = Network.shut
 
     def failing(network: Network[Any], node: Any) -> int:
@@ -203,18 +318,34 @@ def test_unforeseen(monkeypatch: pytest.MonkeyPatch, capsys: pytest.CaptureFixtu
     for line in 'shut "South Tower"', 'what-if shut "South Tower"':
         plan.onecmd(line)
         said = capsys.readouterr().err
-        assert said.count("\n") == 1 and (type(error).__name__ in said or str(error) in said), f"{line}: {said!r}"
-        assert told[-1] == "begun again, with the steps that were made: value 155 litres per second, the greatest\n"
-        after = [(it.text, it.value) for it in desk.steps], desk.at, list(desk.lines), desk.value, [desk.flow(n) for n in range(1, 15)]
+        assert said.count("\n") == 1 and (
+            type(error).__name__ in said or str(error) in said
+        ), f"{line}: {said!r}"
+        assert (
+            told[-1]
+            == "begun again, with the steps that were made: value 155 litres per second, the "
+            "greatest\n"
+        )
+        after = (
+            [(it.text, it.value) for it in desk.steps],
+            desk.at,
+            list(desk.network.lines),
+            desk.value,
+            [desk.flow(n) for n in range(1, 15)],
+        )
         # What was undone can be made again.
         assert after == before, f"{line}: {after}, and not {before}"
     plan.run_script(["redo", "undo 2"])
-    assert [re.findall("[0-9]+", it)[0] for it in told[-2:]] == [str(without("Bridge pipe", "Mill Lane")), "165"], told
+    assert [re.findall("[0-9]+", it)[0] for it in told[-2:]] == [
+        str(without("Bridge pipe", "Mill Lane")),
+        "165",
+    ], told
     desk.end()
 
 
 def test_sweep_past_64_bits(tmp_path: Path) -> None:
-    """An arc of 2^63 that is closed and opened again, and a sweep: whatever comes of that, the steps stand."""
+    """An arc of 2^63 that is closed and opened again, and a sweep: whatever comes of that, the
+    steps stand."""
     problem = tmp_path / "large.max"
     problem.write_text(f"c arc 1 k\np max 2 2\nn 1 s\nn 2 t\na 1 2 {2**63}\na 1 2 1\n")
     ran = run("dmf-plan", str(problem), typed="close k\nopen k\nsolve\nwhat-if each arc\nsteps\n")
@@ -222,8 +353,11 @@ def test_sweep_past_64_bits(tmp_path: Path) -> None:
     assert [line.split()[0] for line in ran.stdout.splitlines()[-4:]] == ["0", "1", "2", "3"], ran
 
 
-def test_no_new_session(tmp_path: Path, monkeypatch: pytest.MonkeyPatch, capsys: pytest.CaptureFixture[str]) -> None:
-    """Where no new session can be begun, the desk says so, and saves what was done; and it begins again once that is possible."""
+def test_no_new_session(
+    tmp_path: Path, monkeypatch: pytest.MonkeyPatch, capsys: pytest.CaptureFixture[str]
+) -> None:
+    """Where no new session can be begun, the desk says so, and saves what was done; and it begins
+    again once that is possible."""
     program = tmp_path / "dmf"
     program.symlink_to(BUILT)
     monkeypatch.setenv("DMF", str(program))
@@ -235,14 +369,19 @@ def test_no_new_session(tmp_path: Path, monkeypatch: pytest.MonkeyPatch, capsys:
     for _ in range(2):
         plan.onecmd("close Mill Lane")
         said = capsys.readouterr().err
-        assert "could not be begun again" in said and "save FILE.max" in said and str(program) in said, said
+        assert (
+            "could not be begun again" in said and "save FILE.max" in said and str(program) in said
+        ), said
     plan.run_script(["steps", f"save {tmp_path}/kept.max", f"save {tmp_path}/kept.csv"])
     assert (tmp_path / "kept.max").exists() and not (tmp_path / "kept.csv").exists()
     assert [it.text for it in plan.desk.steps] == ["solve", "close Bridge pipe"]
     program.symlink_to(BUILT)
     assert values(run("dmf-plan", f"{tmp_path}/kept.max", typed="solve\n").stdout) == [155]
     plan.run_script(["close Mill Lane"])
-    assert "begun again" in told[-2] and f"value {without('Bridge pipe', 'Mill Lane')} litres per second," in told[-1], told
+    assert (
+        "begun again" in told[-2]
+        and f"value {without('Bridge pipe', 'Mill Lane')} litres per second," in told[-1]
+    ), told
     plan.desk.end()
 
 
@@ -257,25 +396,29 @@ def test_names() -> None:
         # Of arcs #4 alone has a name.
         "a-d": "no arc is called 'a-d'; is it 'A-D'?",
     }.items():
-        told = refused(lambda: desk.the_arc(text))  # noqa: B023
+        told = refused(lambda: desk.network.the_arc(text))  # noqa: B023
         assert told == wanted, f"the arc {text}: {told}"
     for words in ["A-D", "12"], ["A-D", "+10", "%"]:
         told = refused(lambda: capped(desk, words))  # noqa: B023
         assert told.startswith("'A-D' may be #3"), f"cap {words}: {told}"
-    assert desk.the_arc("A -> B-C") == 1
-    assert desk.the_arc("#2") == 2
-    told = refused(lambda: desk.names.place("b-c"))
+    assert desk.network.the_arc("A -> B-C") == 1
+    assert desk.network.the_arc("#2") == 2
+    told = refused(lambda: desk.network.names.place("b-c"))
     assert told == "no place is called 'b-c'; is it 'B-C'?", f"a place of another case: {told}"
     desk.end()
     mill = desk_of(LIMITED)
-    place = mill.names.place("Mill")
+    place = mill.network.names.place("Mill")
     assert place == Place(5, 10), f"a place with a limit: {place}"
-    mill.add(mill.names.place("Reservoir"), place, 7)
-    mill.add(place, mill.names.place("Station"), 25)
-    ends = [tuple(it[:2]) for it in mill.lines[-2:]]
+    mill.add(mill.network.names.place("Reservoir"), place, 7)
+    mill.add(place, mill.network.names.place("Station"), 25)
+    ends = [tuple(it[:2]) for it in mill.network.lines[-2:]]
     assert ends == [(1, 5), (10, 8)], f"arcs at a place with a limit: {ends}"
     mill.shut(place)
-    is_open = [line for line in mill.lines if not line.is_closed and {5, 10} & {line.tail, line.head}]
+    is_open = [
+        line
+        for line in mill.network.lines
+        if not line.is_closed and {5, 10} & {line.tail, line.head}
+    ]
     assert not is_open, f"open at a place that is shut: {is_open}"
     mill.open_place(place)
     assert mill.steps[-1].value == mill.steps[-3].value, f"opened again: {mill.value}"

@@ -9,7 +9,22 @@ import tempfile
 from pathlib import Path
 
 import pytest
-from desk_shared import ODD, PIPES, ROOT, SCRIPT, SECONDS, STORY, desk_of, greatest, run, swept, values, water, water_problem, without
+from desk_shared import (
+    ODD,
+    PIPES,
+    ROOT,
+    SCRIPT,
+    SECONDS,
+    STORY,
+    desk_of,
+    greatest,
+    run,
+    swept,
+    values,
+    water,
+    water_problem,
+    without,
+)
 from dmf.desk.plan.shell import Shell
 
 # Lines that are refused before a solve, and what is said of each.
@@ -18,114 +33,227 @@ LINES = {
     "shut mill": "no place is called 'mill'; is it 'Mill'",
     "sovle": "no command is called 'sovle'; is it 'solve'",
     'close "Mill Lane': 'a quote (") is not closed',
-    "cap Mill Lane ten": "'ten' is no number",
+    "cap Mill Lane ten": "'ten' is not a number",
     "cap Mill Lane 1,200": "'1,200' may be 1.2 or 1200",
     "cap Mill Lane -45.5": "'-45.5' makes -0.5 of 45, which is below 0",
     "cap Mill Lane 10 %": "'10 %' is a share: write it with + or - before it, or the whole amount",
     "add Mill Station +5": "'+5' changes an amount, and here is none yet",
     "add Mill Station 1 200": "this can mean several things",
-    "undo 1.5": "'1.5' is no number of steps",
-    "cap": "wanted is: cap ARC NUMBER",
-    "undo": "there is no step to undo",
-    "redo": "there is no step to redo",
-    "drop": "there is no trial; `try` begins one",
+    "undo 1.5": "'1.5' is not a number of steps",
+    "cap": "usage: cap ARC NUMBER",
+    "undo": "nothing to undo",
+    "redo": "nothing to redo",
+    "drop": "no trial is open; `try` begins one",
     "cut": "the flow is not greatest",
     "add Mill Statoin 5": "no place is called 'Statoin'; is it 'Station'",
     "cap Mill-Market 99999999999999999999": "is past 18446744073709551615",
-    "cap Mill-Market 18446744073709551615": "the capacities would be together past 18446744073709551615",
+    "cap Mill-Market 18446744073709551615": "the capacities would be together past "
+    "18446744073709551615",
     "save x.txt": "the name of the file ends with one of .csv, .max",
-    f"save {PIPES}": "is there already",
-    "what-if solve": "wanted is: what-if",
+    f"save {PIPES}": "already exists",
+    "what-if solve": "usage: what-if",
     "open": "nothing is closed",
 }
 
 
 def test_scripts() -> None:
     ran = run("dmf-plan", PIPES, typed=SCRIPT)
-    solved = [found for line, found in zip(SCRIPT.splitlines(), re.findall("value ([0-9]+)", ran.stdout)) if line == "solve"]
+    solved = [
+        found
+        for line, found in zip(SCRIPT.splitlines(), re.findall("value ([0-9]+)", ran.stdout))
+        if line == "solve"
+    ]
     assert (list(map(int, solved)), ran.returncode) == (STORY, 0), f"the story: {solved}, {ran}"
     ran = run("dmf-plan", PIPES, typed="".join(f"{line}\n" for line in LINES))
     told = [line for line in ran.stderr.splitlines() if line.startswith("dmf-plan: line")]
     assert (ran.returncode, ran.stdout, len(told)) == (1, "", len(LINES)), f"refused lines: {ran}"
     for number, ((line, wanted), found) in enumerate(zip(LINES.items(), told), 1):
-        assert found.startswith(f"dmf-plan: line {number}: ") and wanted in found, f"{line}: {found}"
-    ran = run("dmf-plan", PIPES, typed="solve\nwhat-if each pipe of the cut\nwhat-if close Mill Lane\nsteps\n")
+        assert (
+            found.startswith(f"dmf-plan: line {number}: ") and wanted in found
+        ), f"{line}: {found}"
+    ran = run(
+        "dmf-plan",
+        PIPES,
+        typed="solve\nwhat-if each pipe of the cut\nwhat-if close Mill Lane\nsteps\n",
+    )
     trials = swept()
     for name in ("North rise", "Mill Lane", "South main"):
-        row = re.search(f"^  #[0-9]+ {name}, .*: closed ([0-9]+) .*, a second one ([0-9]+)", ran.stdout, re.MULTILINE)
-        assert row and tuple(map(int, row.groups())) == trials[name], f"what-if {name}: {ran.stdout}"
-    assert "it would be 120 litres per second: 45 less" in ran.stdout, f"what-if close: {ran.stdout}"
+        row = re.search(
+            f"^  #[0-9]+ {name}, .*: closed ([0-9]+) .*, a second one ([0-9]+)",
+            ran.stdout,
+            re.MULTILINE,
+        )
+        assert (
+            row and tuple(map(int, row.groups())) == trials[name]
+        ), f"what-if {name}: {ran.stdout}"
+    assert (
+        "it would be 120 litres per second: 45 less" in ran.stdout
+    ), f"what-if close: {ran.stdout}"
     assert ran.stdout.count("solve: value 165") == 1, f"what-if leaves steps: {ran.stdout}"
 
 
 def test_lists() -> None:
-    """Places with what comes in and goes out, arcs by conditions and by their beginning, and the worst to lose of all."""
+    """Places with what comes in and goes out, arcs by conditions and by their beginning, and the
+    worst to lose of all."""
     ran = run("dmf-plan", PIPES, typed="solve\nplaces\npipes\n")
-    flows = {name: int(flow) for name, flow in re.findall("^  #[0-9]+ (.*), .* -> .*: ([0-9]+) of ", ran.stdout, re.MULTILINE)}
+    flows = {
+        name: int(flow)
+        for name, flow in re.findall(
+            "^  #[0-9]+ (.*), .* -> .*: ([0-9]+) of ", ran.stdout, re.MULTILINE
+        )
+    }
     assert list(flows) == [pipe.name for pipe in water()]
-    told = {name: (int(come), int(go)) for name, come, go in re.findall("^  (.*): ([0-9]+) in, ([0-9]+) out", ran.stdout, re.MULTILINE)}
+    told = {
+        name: (int(come), int(go))
+        for name, come, go in re.findall(
+            "^  (.*): ([0-9]+) in, ([0-9]+) out", ran.stdout, re.MULTILINE
+        )
+    }
     places = {place for pipe in water() for place in pipe[:2]}
     wanted = {
-        place: (sum(flows[it.name] for it in water() if it.head == place), sum(flows[it.name] for it in water() if it.tail == place))
+        place: (
+            sum(flows[it.name] for it in water() if it.head == place),
+            sum(flows[it.name] for it in water() if it.tail == place),
+        )
         for place in places
     }
     assert told == wanted and "\n  Harbour: 165 in, 0 out, a sink\n" in ran.stdout
-    ran = run("dmf-plan", PIPES, typed="close Mill Lane\nsolve\nfrom Mill\npipes where limit\npipes where capacity < 30 and from ~ m\nplaces\n")
-    assert re.findall("#[0-9]+ (.*?), Mill -> .*: ([a-z]*)", ran.stdout)[:2] == [("Mill Lane", "closed"), ("Bridge pipe", "")]
+    ran = run(
+        "dmf-plan",
+        PIPES,
+        typed="close Mill Lane\nsolve\nfrom Mill\npipes where limit\npipes where capacity < 30 and "
+        "from ~ m\nplaces\n",
+    )
+    assert re.findall("#[0-9]+ (.*?), Mill -> .*: ([a-z]*)", ran.stdout)[:2] == [
+        ("Mill Lane", "closed"),
+        ("Bridge pipe", ""),
+    ]
     limit = re.findall("#[0-9]+ (.*?),.*, limit$", ran.stdout, re.MULTILINE)
-    assert sum(pipe.capacity for pipe in water() if pipe.name in limit) == without("Mill Lane") == values(ran.stdout)[-1]
+    assert (
+        sum(pipe.capacity for pipe in water() if pipe.name in limit)
+        == without("Mill Lane")
+        == values(ran.stdout)[-1]
+    )
     small = [pipe.name for pipe in water() if pipe.capacity < 30 and pipe.tail[0] == "M"]
     assert [name for name in re.findall("#[0-9]+ (.*?),", ran.stdout)][-len(small) :] == small
     losses = sorted(swept().items(), key=lambda it: it[1][0])
     for words, count in ("", 10), (" 3", 3), (" 99", 14):
         ran = run("dmf-plan", PIPES, typed=f"solve\nworst{words}\n")
-        found = [(int(closed), int(second)) for closed, second in re.findall("closed ([0-9]+) .*, a second one ([0-9]+)", ran.stdout)]
+        found = [
+            (int(closed), int(second))
+            for closed, second in re.findall(
+                "closed ([0-9]+) .*, a second one ([0-9]+)", ran.stdout
+            )
+        ]
         assert [closed for closed, _ in found] == [closed for _, (closed, _) in losses[:count]]
-    for line, why in ("worst no", "'no' is no number"), ("pipes full", "wanted is: pipes"), ("from", "wanted is: from"), ("places x", "wanted is: places"):
+    for line, why in (
+        ("worst no", "'no' is not a number"),
+        ("pipes full", "usage: pipes"),
+        ("from", "usage: from"),
+        ("places x", "usage: places"),
+    ):
         assert why in run("dmf-plan", PIPES, typed=f"solve\n{line}\n").stderr
-    assert "so there is no" in run("dmf-plan", PIPES, typed="pipes where limit\n").stderr
-    objects = [json.loads(line) for line in run("dmf-plan", "--json", PIPES, typed="solve\nfrom Mill\nworst 2\npipes\n").stdout.splitlines()]
+    assert "so the limit is not known" in run("dmf-plan", PIPES, typed="pipes where limit\n").stderr
+    objects = [
+        json.loads(line)
+        for line in run(
+            "dmf-plan", "--json", PIPES, typed="solve\nfrom Mill\nworst 2\npipes\n"
+        ).stdout.splitlines()
+    ]
     assert [it["event"] for it in objects] == ["change", "flow", "sweep", "flow"]
-    assert [len(objects[1]["arcs"]), len(objects[2]["trials"]), len(objects[3]["arcs"])] == [2, 2, 14]
+    assert [len(objects[1]["arcs"]), len(objects[2]["trials"]), len(objects[3]["arcs"])] == [
+        2,
+        2,
+        14,
+    ]
 
 
 def test_many() -> None:
     """All arcs of which something is so are changed in one step, which is undone as one."""
     rises = [pipe.name for pipe in water() if "rise" in pipe.name]
-    wider = [pipe._replace(capacity=2 * pipe.capacity) if pipe.capacity <= 30 else pipe for pipe in water()]
+    wider = [
+        pipe._replace(capacity=2 * pipe.capacity) if pipe.capacity <= 30 else pipe
+        for pipe in water()
+    ]
     mill = [pipe for pipe in water() if pipe.head != "Mill" or pipe.capacity >= 40]
     limit = {"North rise", "Mill Lane", "South main"}
-    more = [pipe._replace(capacity=pipe.capacity + 5) if pipe.name in limit else pipe for pipe in water()]
+    more = [
+        pipe._replace(capacity=pipe.capacity + 5) if pipe.name in limit else pipe
+        for pipe in water()
+    ]
     typed = "solve\nclose where name ~ R\u00cdSE\nsolve\nopen where name ~ rise\nsolve\nundo 4\n"
-    typed += "cap where capacity <= 30 +100 %\nsolve\nundo 2\nclose where to ~ mill and capacity < 40\nsolve\nundo 2\ncap where limit +5\nsolve\nsteps\n"
+    typed += (
+        "cap where capacity <= 30 +100 %\nsolve\nundo 2\nclose where to ~ mill and capacity < 40\n"
+        "solve\nundo 2\ncap where limit +5\nsolve\nsteps\n"
+    )
     ran = run("dmf-plan", PIPES, typed=typed)
     told = [line for line in ran.stdout.splitlines() if not line.startswith("  ")]
     assert [re.findall("^[0-9]+ [a-z]+(?=:)|^value", line)[0] for line in told] == [
-        "value", "2 closed", "value", "2 opened", "value", "value", "4 changed", "value", "value", "1 closed", "value", "value", "3 changed", "value"
-    ]  # fmt: skip
+        "value",
+        "2 closed",
+        "value",
+        "2 opened",
+        "value",
+        "value",
+        "4 changed",
+        "value",
+        "value",
+        "1 closed",
+        "value",
+        "value",
+        "3 changed",
+        "value",
+    ]
     solved = values("".join(f"{told[at]}\n" for at in (0, 2, 4, 7, 10, 13)))
     assert solved == [165, without(*rises), 165, greatest(wider), greatest(mill), greatest(more)]
     assert "2   3 arcs where limit: +5: value 165" in ran.stdout
-    lines = ["close where", "close where and full", "close where name = x", "cap where full", "close where name ~ zzz", "cap where full 1,200", "open where full"]
+    lines = [
+        "close where",
+        "close where and full",
+        "close where name = x",
+        "cap where full",
+        "close where name ~ zzz",
+        "cap where full 1,200",
+        "open where full",
+    ]
     ran = run("dmf-plan", PIPES, typed="solve\n" + "".join(f"{line}\n" for line in lines))
-    said = [line.partition(": ")[2].partition(": ")[2] for line in ran.stderr.splitlines()[2:]]
-    conditions = "wanted after where is: name ~ TEXT, "
-    wanted = [conditions, conditions, "'name = x' is no condition; wanted is: name", conditions, "of the 14 open arcs this is so of none"]
+    said = [line.partition(": ")[2].partition(": ")[2] for line in ran.stderr.splitlines()[3:]]
+    conditions = "expected after `where`: name ~ TEXT, "
+    wanted = [
+        conditions,
+        conditions,
+        "'name = x' is not a condition; expected: name",
+        conditions,
+        "of the 14 open arcs this is so of none",
+    ]
     wanted += ["'1,200' may be 1.2 or 1200", "of the 0 closed arcs this is so of none"]
-    assert all(line.startswith(begin) for line, begin in zip(said, wanted)) and len(said) == len(wanted), said
+    assert all(line.startswith(begin) for line, begin in zip(said, wanted)) and len(said) == len(
+        wanted
+    ), said
 
 
 @pytest.mark.parametrize("closing", ["2>&-", "2>/dev/full"])
 def test_nowhere_to_tell(closing: str) -> None:
     """Where a refusal cannot be told, what comes after it is carried out all the same."""
     words = ["sh", "-c", f"exec tools/dmf-plan {PIPES} Reservoir Harbour {closing}"]
-    ran = subprocess.run(words, input="close rubbish\nsolve\n", stdout=subprocess.PIPE, text=True, timeout=SECONDS, cwd=ROOT)
+    ran = subprocess.run(
+        words,
+        input="close rubbish\nsolve\n",
+        stdout=subprocess.PIPE,
+        text=True,
+        timeout=SECONDS,
+        cwd=ROOT,
+    )
     assert (ran.returncode, values(ran.stdout)) == (1, [165]), ran
 
 
 def test_what_is_typed_otherwise() -> None:
-    """Commands in capitals, ends as they are printed, and the number that an arc had before it was opened again."""
-    typed = "SOLVE\nsolve\nadd Mill -> Station 25\nsolve\nclose #9\nopen Mill Lane\nclose #9\nclose #16\n"
+    """Commands in capitals, ends as they are printed, and the number that an arc had before it was
+    opened again."""
+    typed = (
+        "SOLVE\nsolve\nadd Mill -> Station 25\nsolve\nclose #9\nopen Mill Lane\nclose #9\nclose "
+        "#16\n"
+    )
     ran = run("dmf-plan", PIPES, typed=typed)
     told = [line.partition(": line ")[2] for line in ran.stderr.splitlines() if ": line " in line]
     assert told == [
@@ -136,9 +264,27 @@ def test_what_is_typed_otherwise() -> None:
     assert (ran.returncode, values(ran.stdout)[1], len(ran.stdout.splitlines())) == (1, STORY[2], 6)
 
 
+def test_too_many_steps() -> None:
+    """Of more steps than there are none is undone or redone, and the number of those is told."""
+    lines = "undo 1", "close Mill Lane", "undo 2", "shut Mill", "undo 3", "undo 2", "redo 3"
+    ran = run("dmf-plan", PIPES, typed="".join(f"{line}\n" for line in lines))
+    told = [line.partition(": line ")[2] for line in ran.stderr.splitlines() if ": line " in line]
+    assert told == [
+        "1: nothing to undo",
+        "3: only 1 step to undo",
+        "5: only 2 steps to undo",
+        "7: only 2 steps to redo",
+    ]
+
+
 def test_page(tmp_path: Path) -> None:
-    """The sessions on the page of documents are some: the first one, and that of a table with costs."""
-    lines = [line[4:] for line in (ROOT / "docs/PLAN.md").read_text().splitlines() if line.startswith("    ")]
+    """The sessions on the page of documents are some: the first one, and that of a table with
+    costs."""
+    lines = [
+        line[4:]
+        for line in (ROOT / "docs/PLAN.md").read_text().splitlines()
+        if line.startswith("    ")
+    ]
     prompt = re.compile("[0-9]+, .*greatest> ")
     typed = [line.partition("> ")[2] for line in lines if prompt.match(line)]
     assert len(typed) == 5 and typed[3:] == ["quit", "cost to 175"]
@@ -149,20 +295,36 @@ def test_page(tmp_path: Path) -> None:
     assert (found, ran.returncode) == (told, 0), f"the session of docs/PLAN.md: {ran}"
     costs = {3: 4, 9: 9, 14: 6}
     title, *rows = (ROOT / PIPES).read_text().splitlines()
-    table = [f"{title},cost", *(f"{row},{costs.get(number, 7)}" for number, row in enumerate(rows, 1))]
+    table = [
+        f"{title},cost",
+        *(f"{row},{costs.get(number, 7)}" for number, row in enumerate(rows, 1)),
+    ]
     (tmp_path / "costs.csv").write_text("".join(f"{row}\n" for row in table))
     ran = run("dmf-plan", str(tmp_path / "costs.csv"), typed="solve\ncost to 175\n")
-    told = [line for line in lines[lines.index("165, greatest> cost to 175") + 1 :] if line.startswith(("what one more ", "  ", "a cheap way"))]
-    assert (ran.stdout.splitlines()[1:], ran.returncode) == (told, 0), f"the second session of docs/PLAN.md: {ran}"
+    told = [
+        line
+        for line in lines[lines.index("165, greatest> cost to 175") + 1 :]
+        if line.startswith(("what one more ", "  ", "a cheap way"))
+    ]
+    assert (ran.stdout.splitlines()[1:], ran.returncode) == (
+        told,
+        0,
+    ), f"the second session of docs/PLAN.md: {ran}"
 
 
 def test_files() -> None:
     """What is saved is a problem, a table and a picture; and which files are refused."""
     with tempfile.TemporaryDirectory() as folder:
         table = Path(folder, "odd.csv")
-        table.write_text(f'from,to,litres,pipe\nA,"{ODD.replace(chr(34), chr(34) * 2)}",5,x\n"{ODD.replace(chr(34), chr(34) * 2)}",C,3,\n')
+        table.write_text(
+            f'from,to,litres,pipe\nA,"{ODD.replace(chr(34), chr(34) * 2)}",5,x\n'
+            f'"{ODD.replace(chr(34), chr(34) * 2)}",C,3,\n'
+        )
         quoted = ODD.replace('"', '""')
-        typed = f'solve\nshut "{quoted}"\nopen "{quoted}"\nsolve\nsave {folder}/plan.max\nsave {folder}/plan.csv\ndraw {folder}/plan.dot\n'
+        typed = (
+            f'solve\nshut "{quoted}"\nopen "{quoted}"\nsolve\nsave {folder}/plan.max\nsave '
+            f"{folder}/plan.csv\ndraw {folder}/plan.dot\n"
+        )
         ran = run("dmf-plan", str(table), typed=typed)
         assert (ran.returncode, values(ran.stdout)[-1:]) == (0, [3]), f"an odd name: {ran}"
         saved = Path(folder, "plan.max").read_bytes()
@@ -171,19 +333,26 @@ def test_files() -> None:
         assert values(again.stdout) == [3], f"a saved problem: {again}"
         assert b"digraph" in Path(folder, "plan.dot").read_bytes()
         rows = Path(folder, "plan.csv").read_text().splitlines()
-        assert (len(rows), rows[0]) == (3, "number,name,from,to,flow (litres),capacity (litres),full,in cut"), f"a saved table: {rows}"
+        assert (len(rows), rows[0]) == (
+            3,
+            "number,name,from,to,flow (litres),capacity (litres),full,in cut",
+        ), f"a saved table: {rows}"
         for name, text, status, told in (
-            ("two.csv", "A,C,1\nB,C,1\n", 3, "--source \"A\", as often"),
-            ("ring.csv", "A,B,1\nB,A,1\n", 3, "there is no place that nothing leads to"),
-            ("bad.csv", "A,B,x y\nB,C,1.5\n", 3, "is no number"),
+            ("two.csv", "A,C,1\nB,C,1\n", 3, '--source "A", as often'),
+            ("ring.csv", "A,B,1\nB,A,1\n", 3, "each place has something that leads to it"),
+            ("bad.csv", "A,B,x y\nB,C,1.5\n", 3, "'x y' is not a number"),
             ("bad.max", "p max 2 1\nn 1 s\nn 2 t\na 1 2 x\n", 3, "not a number"),
         ):
             Path(folder, name).write_text(text)
             ran = run("dmf-plan", f"{folder}/{name}")
-            assert ran.returncode == status and told in ran.stderr and "Traceback" not in ran.stderr, f"{name}: {ran}"
+            assert (
+                ran.returncode == status and told in ran.stderr and "Traceback" not in ran.stderr
+            ), f"{name}: {ran}"
         ran = run("dmf-plan", f"{folder}/missing.csv")
         assert ran.returncode == 4, f"a missing file: {ran}"
-        ran = run("dmf-plan", f"{folder}/two.csv", "--source", "A", "--source", "B", typed="solve\n")
+        ran = run(
+            "dmf-plan", f"{folder}/two.csv", "--source", "A", "--source", "B", typed="solve\n"
+        )
         assert values(ran.stdout) == [2], f"two sources: {ran}"
     assert run("dmf-plan").returncode == 2
 
@@ -195,12 +364,15 @@ def test_no_picture(tmp_path: Path, monkeypatch: pytest.MonkeyPatch) -> None:
     dot.chmod(0o755)
     monkeypatch.setenv("PATH", str(tmp_path), prepend=":")
     ran = run("dmf-plan", PIPES, typed=f"draw {tmp_path}/plan.svg\n")
-    assert ran.returncode == 1 and ran.stderr.rstrip().endswith("Graphviz did not draw it: no such font"), ran
+    assert ran.returncode == 1 and ran.stderr.rstrip().endswith(
+        "Graphviz did not draw it: no such font"
+    ), ran
     assert not (tmp_path / "plan.svg").exists()
 
 
 def test_no_other_file(tmp_path: Path, monkeypatch: pytest.MonkeyPatch) -> None:
-    """What somebody else puts at the path of a new file, after it was found to be free, stays as it is."""
+    """What somebody else puts at the path of a new file, after it was found to be free, stays as it
+    is."""
     plan = Shell(desk_of(water_problem()), is_typed=False, write=lambda _: None)
     victim, path = tmp_path / "victim.max", tmp_path / "new.max"
     victim.write_text("as it was")
@@ -222,9 +394,23 @@ def test_no_other_file(tmp_path: Path, monkeypatch: pytest.MonkeyPatch) -> None:
 
 
 def test_what_was_closed_last_is_opened() -> None:
-    """`open` alone opens the place or the arc that was closed last, one after the other, also after an undo."""
+    """`open` alone opens the place or the arc that was closed last, one after the other, also after
+    an undo."""
     lines = ["close Mill Lane", "shut Market", "close Bridge pipe", "undo", "open", "open", "open"]
-    ran = run("dmf-plan", PIPES, typed="".join(f"{line}\nsolve\n" if line != "undo" else "undo 2\n" for line in ["solve", *lines]))
-    values = [int(line.split()[1]) for line in ran.stdout.splitlines() if line.endswith("the greatest")]
+    ran = run(
+        "dmf-plan",
+        PIPES,
+        typed="".join(
+            f"{line}\nsolve\n" if line != "undo" else "undo 2\n" for line in ["solve", *lines]
+        ),
+    )
+    values = [
+        int(line.split()[1]) for line in ran.stdout.splitlines() if line.endswith("the greatest")
+    ]
     shut = greatest([it for it in water() if "Market" not in it[:2] and it.name != "Mill Lane"])
-    assert values[-4:] == [shut, without("Mill Lane"), without(), without()] and ran.stderr.endswith(": nothing is closed\n"), ran
+    assert values[-4:] == [
+        shut,
+        without("Mill Lane"),
+        without(),
+        without(),
+    ] and ran.stderr.endswith(": nothing is closed\n"), ran

@@ -12,7 +12,19 @@ import time
 from pathlib import Path
 
 import pytest
-from desk_shared import PIPES, ROOT, SECONDS, desk_of, end_session, sessions_of, stop_session, wait_until_asked, water, water_problem, without
+from desk_shared import (
+    PIPES,
+    ROOT,
+    SECONDS,
+    desk_of,
+    end_session,
+    sessions_of,
+    stop_session,
+    wait_until_asked,
+    water,
+    water_problem,
+    without,
+)
 from dmf import Network
 from dmf.desk.plan.shell import Shell
 from tool_runs import wait_until_asleep
@@ -21,14 +33,19 @@ WATER = water_problem()
 
 
 class Terminal:
-    """The tool on a terminal of its own, of a kind: one that cannot move its cursor, if no other is named."""
+    """The tool on a terminal of its own, of a kind: one that cannot move its cursor, if no other is
+    named."""
 
     def __init__(self, folder: str, kind: str = "dumb", table: str = PIPES) -> None:
         self.pid, self.side = pty.fork()
         if not self.pid:
             signal.signal(signal.SIGINT, signal.SIG_DFL)
-            os.environ.update(XDG_STATE_HOME=folder, TERM=kind, INPUTRC="/dev/null", PYTHONUNBUFFERED="1")
-            os.environ.update(PROMPT_TOOLKIT_NO_CPR="1", PAGER="cat; echo PAGED", LINES="12", COLUMNS="120")
+            os.environ.update(
+                XDG_STATE_HOME=folder, TERM=kind, INPUTRC="/dev/null", PYTHONUNBUFFERED="1"
+            )
+            os.environ.update(
+                PROMPT_TOOLKIT_NO_CPR="1", PAGER="cat; echo PAGED", LINES="12", COLUMNS="120"
+            )
             os.environ.pop("MANPAGER", None)
             os.chdir(ROOT)
             os.execv(ROOT / "tools/dmf-plan", ["dmf-plan", table])
@@ -51,8 +68,8 @@ class Terminal:
         os.write(self.side, text.encode())
 
     def answer(self, text: str) -> str:
-        """What is told after a text is typed at a prompt of prompt-toolkit, which asks for pasted text to be marked; up to the next prompt,
-        and with it."""
+        """What is told after a text is typed at a prompt of prompt-toolkit, which asks for pasted
+        text to be marked; up to the next prompt, and with it."""
         self.type(text)
         self.wait("\x1b[?2004l")
         return self.wait("\x1b[?2004h") + self.wait(">") + ">"
@@ -68,7 +85,10 @@ def test_broken_off() -> None:
     with tempfile.TemporaryDirectory() as folder:
         terminal = Terminal(folder)
         terminal.wait("165, greatest> ")
-        for typed, prompt in ("close Bridge pipe", "155, greatest> "), ("try", "try, 155, greatest> "):
+        for typed, prompt in ("close Bridge pipe", "155, greatest> "), (
+            "try",
+            "try, 155, greatest> ",
+        ):
             terminal.type(f"{typed}\n")
             terminal.wait(prompt)
         (session,) = sessions_of(terminal.pid)
@@ -78,7 +98,9 @@ def test_broken_off() -> None:
         wait_until_asleep(terminal.pid)
         terminal.type("\x03")
         told = terminal.wait("try, 155, greatest> ")
-        assert "broken off" in told and "begun again, with the steps that were made: value 155" in told, f"Ctrl-C: {told!r}"
+        assert (
+            "broken off" in told and "begun again, with the steps that were made: value 155" in told
+        ), f"Ctrl-C: {told!r}"
         assert sessions_of(terminal.pid) != [session]
         terminal.type('shut "South Tower"\n')
         terminal.wait("try, 105, greatest> ")
@@ -88,7 +110,9 @@ def test_broken_off() -> None:
         assert terminal.end() == 0 and "ended" not in told, told
 
 
-def test_broken_off_again(monkeypatch: pytest.MonkeyPatch, capsys: pytest.CaptureFixture[str]) -> None:
+def test_broken_off_again(
+    monkeypatch: pytest.MonkeyPatch, capsys: pytest.CaptureFixture[str]
+) -> None:
     """Ctrl-C also ends the steps that are made again, and none of them is lost."""
     told: list[str] = []
     plan = Shell(desk_of(WATER), is_typed=True, write=told.append)
@@ -103,7 +127,10 @@ def test_broken_off_again(monkeypatch: pytest.MonkeyPatch, capsys: pytest.Captur
     said = capsys.readouterr().err
     assert "broken off\nit could not be begun again: broken off;" in said, said
     plan.onecmd("close Mill Lane")
-    assert "begun again" in told[-2] and f"value {without('Bridge pipe', 'Mill Lane')} litres per second," in told[-1], told
+    assert (
+        "begun again" in told[-2]
+        and f"value {without('Bridge pipe', 'Mill Lane')} litres per second," in told[-1]
+    ), told
     plan.desk.end()
 
 
@@ -121,7 +148,8 @@ def test_typed_bytes(monkeypatch: pytest.MonkeyPatch) -> None:
 
 
 def test_typed() -> None:
-    """A person completes names, breaks off a line, finds yesterday's lines, and goes on where the session ended by itself."""
+    """A person completes names, breaks off a line, finds yesterday's lines, and goes on where the
+    session ended by itself."""
     with tempfile.TemporaryDirectory() as folder:
         terminal = Terminal(folder)
         terminal.wait("value 165 litres per second, the greatest")
@@ -176,11 +204,12 @@ TYPED = [
     ("undo\r", "undo", without()),
     ("close mill-market\r", "close mill-market", without("Mill Lane")),
     ("undo\r", "undo", without()),
-]  # fmt: skip
+]
 
 
 def test_any_case(tmp_path: Path) -> None:
-    """Names are completed and understood without regard to case, with their spaces and quotes; the lines are there the next time."""
+    """Names are completed and understood without regard to case, with their spaces and quotes; the
+    lines are there the next time."""
     terminal = drawn(tmp_path)
     terminal.wait("165, greatest>")
     for typed, _, value in TYPED:
@@ -200,10 +229,13 @@ def test_any_case(tmp_path: Path) -> None:
 
 
 def test_accents_and_quotes(tmp_path: Path) -> None:
-    """A name with accents, spaces and quotes is completed from its first letters, in the form in which it is understood; of several the
-    letters that they share come, and then all of them."""
+    """A name with accents, spaces and quotes is completed from its first letters, in the form in
+    which it is understood; of several the letters that they share come, and then all of them."""
     table = tmp_path / "net.csv"
-    table.write_text('from,to,litres,pipe\nSource,Été,9,"Öst ""A"" 1"\nÉté,Sink,5,b\nSource,Sink,2,North one\nSource,Sink,4,North two\n')
+    table.write_text(
+        'from,to,litres,pipe\nSource,Été,9,"Öst ""A"" 1"\nÉté,Sink,5,b\nSource,Sink,2,North one\n'
+        "Source,Sink,4,North two\n"
+    )
     terminal = drawn(tmp_path, str(table))
     terminal.wait("11, greatest>")
     assert "6, greatest>" in terminal.answer("close ost\t\r")
@@ -222,13 +254,13 @@ def test_accents_and_quotes(tmp_path: Path) -> None:
 
 
 def test_interrupts_of_the_prompt(tmp_path: Path) -> None:
-    """With prompt-toolkit too Ctrl-C leaves a line and breaks off a command, bytes that are no text end nothing, and the session begins
-    again by itself."""
+    """With prompt-toolkit too Ctrl-C leaves a line and breaks off a command, bytes that are no text
+    end nothing, and the session begins again by itself."""
     terminal = drawn(tmp_path)
     terminal.wait("165, greatest>")
     assert "165, greatest>" in terminal.answer("close rubbish\x03")
     os.write(terminal.side, b"close \xff\xfe")
-    assert "that line is no UTF-8" in terminal.answer("\r")
+    assert "that line is not UTF-8" in terminal.answer("\r")
     (session,) = sessions_of(terminal.pid)
     stop_session(session)
     terminal.type("close Bridge pipe\r")
@@ -236,14 +268,17 @@ def test_interrupts_of_the_prompt(tmp_path: Path) -> None:
     wait_until_asleep(terminal.pid)
     os.kill(terminal.pid, signal.SIGINT)
     told = terminal.answer("")
-    assert "broken off" in told and "begun again, with the steps that were made: value 165" in told, told
+    assert (
+        "broken off" in told and "begun again, with the steps that were made: value 165" in told
+    ), told
     assert "155, greatest>" in terminal.answer("close Bridge pipe\r")
     terminal.type("\x04")
     assert terminal.end() == 0
 
 
 def test_pager(tmp_path: Path) -> None:
-    """An answer that is longer than the terminal is shown by the pager, and a short one as it is; what is pasted is several lines."""
+    """An answer that is longer than the terminal is shown by the pager, and a short one as it is;
+    what is pasted is several lines."""
     terminal = drawn(tmp_path)
     terminal.wait("165, greatest>")
     told = terminal.answer("pipes\r")
@@ -269,5 +304,8 @@ def test_clean_end(tmp_path: Path, kind: str) -> None:
         except OSError:
             break
         rest += piece
-    assert b"\n" in rest and re.sub(rb"\x1b\[[?0-9;]*[a-zA-Z]", b"", rest).rsplit(b"\n", 1)[1].strip() == b"", rest
+    assert (
+        b"\n" in rest
+        and re.sub(rb"\x1b\[[?0-9;]*[a-zA-Z]", b"", rest).rsplit(b"\n", 1)[1].strip() == b""
+    ), rest
     assert terminal.end() == 0

@@ -1,6 +1,7 @@
-"""Runs the tools in Python on texts. One process has imported what they import, and forks for each run, since most of what a short run
-takes is the start of Python and these imports. What a run finds is as where its caller starts it: its words, its folder, its
-environment and its standard streams, which are files. No locale and no terminal helps it."""
+"""Runs the tools in Python on texts. One process has imported what they import, and forks for each
+run, since most of what a short run takes is the start of Python and these imports. What a run finds
+is as where its caller starts it: its words, its folder, its environment and its standard streams,
+which are files. No locale and no terminal helps it."""
 
 from __future__ import annotations
 
@@ -18,9 +19,20 @@ from types import CodeType
 from typing import NamedTuple, NoReturn, Union
 
 ROOT = Path(__file__).resolve().parents[1]
-STREAMS = {"stdin": os.O_RDONLY, "stdout": os.O_WRONLY | os.O_CREAT | os.O_TRUNC, "stderr": os.O_WRONLY | os.O_CREAT | os.O_TRUNC}
+STREAMS = {
+    "stdin": os.O_RDONLY,
+    "stdout": os.O_WRONLY | os.O_CREAT | os.O_TRUNC,
+    "stderr": os.O_WRONLY | os.O_CREAT | os.O_TRUNC,
+}
 # What the tools import.
-MODULES = "csv", "difflib", "dmf.tools.dot", "dmf.tools.names", "dmf.tools.options", "dmf.tools.problem"
+MODULES = (
+    "csv",
+    "difflib",
+    "dmf.tools.dot",
+    "dmf.tools.names",
+    "dmf.tools.options",
+    "dmf.tools.problem",
+)
 Text = Union[str, bytes]
 
 
@@ -44,8 +56,10 @@ def put(path: Path, content: Text) -> None:
 
 
 def wait_until_asleep(process: int) -> None:
-    """Waits until a process sleeps, as in a call that reads, or has ended. Python takes note of a signal that comes just before such a
-    call, and heeds it when the call ends: an interrupt that a test sends has to come within the call."""
+    """Waits until a process sleeps, as in a call that reads, or has ended. Python takes note of a
+    signal that comes just before such a call, and heeds it when the call ends: an interrupt that a
+    test sends has to come within the call.
+    """
     while Path(f"/proc/{process}/stat").read_bytes().rpartition(b") ")[2][:1] not in b"SZX":
         time.sleep(0.001)
 
@@ -54,7 +68,9 @@ def wait_until_read(tool: subprocess.Popen[bytes]) -> None:
     """Waits until a tool has read all that its standard input has, and reads on or has ended."""
     assert tool.stdin
     unread = bytearray(4)
-    while tool.poll() is None and (fcntl.ioctl(tool.stdin, termios.FIONREAD, unread) or any(unread)):
+    while tool.poll() is None and (
+        fcntl.ioctl(tool.stdin, termios.FIONREAD, unread) or any(unread)
+    ):
         time.sleep(0.01)
     if tool.poll() is None:
         wait_until_asleep(tool.pid)
@@ -65,12 +81,22 @@ class Tools:
 
     def __init__(self) -> None:
         words = [sys.executable, __file__]
-        self.process = subprocess.Popen(words, stdin=subprocess.PIPE, stdout=subprocess.PIPE, text=True, cwd=ROOT)
+        self.process = subprocess.Popen(
+            words, stdin=subprocess.PIPE, stdout=subprocess.PIPE, text=True, cwd=ROOT
+        )
         assert self.process.stdin and self.process.stdout
         self.orders, self.answers = self.process.stdin, self.process.stdout
 
-    def run(self, tool: str, folder: Path, words: Sequence[str] = (), given: Text = b"", files: Mapping[str, Text] = {}) -> Ran:
-        """How a tool ends in a folder, with these words, this text on standard input, and these files beside it."""
+    def run(
+        self,
+        tool: str,
+        folder: Path,
+        words: Sequence[str] = (),
+        given: Text = b"",
+        files: Mapping[str, Text] = {},
+    ) -> Ran:
+        """How a tool ends in a folder, with these words, this text on standard input, and these
+        files beside it."""
         for name, content in {**files, "stdin": given}.items():
             put(folder / name, content)
         self.orders.write(json.dumps([str(ROOT / "tools" / tool), str(folder), [*words]]) + "\n")
@@ -93,7 +119,11 @@ def run_tool(tool: str, code: CodeType, folder: str, words: list[str]) -> NoRetu
         os.close(file)
     for number, name in enumerate(STREAMS):
         encoding = "utf-8" if name == "stderr" else "ascii"
-        setattr(sys, name, open(number, "w" if number else "r", encoding=encoding, closefd=False, buffering=1))
+        setattr(
+            sys,
+            name,
+            open(number, "w" if number else "r", encoding=encoding, closefd=False, buffering=1),
+        )
     sys.argv = [tool, *words]
     try:
         exec(code, {"__name__": "__main__", "__file__": tool})

@@ -53,7 +53,8 @@ class Tunnel:
                 end.shutdown(socket.SHUT_RDWR)
 
     def break_all(self, later: int = 0) -> None:
-        """Breaks the connections that there are, and so many of the next ones. Those after them are passed on as before."""
+        """Breaks the connections that there are, and so many of the next ones. Those after them are
+        passed on as before."""
         self.closed = later
         broken, self.ends = self.ends, []
         for end in broken:

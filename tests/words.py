@@ -1,6 +1,7 @@
-"""Runs the built program on its arguments: on those that it does not take, of which it tells on standard error what is wrong with
-them and how it is used; on those that ask for help or for the version, which are answered on standard output; and on the options
-and the path of each command in every order, where the second implementation says what is to come of them."""
+"""Runs the built program on its arguments: on those that it does not take, of which it tells on
+standard error what is wrong with them and how it is used; on those that ask for help or for the
+version, which are answered on standard output; and on the options and the path of each command in
+every order, where the second implementation says what is to come of them."""
 
 from __future__ import annotations
 
@@ -18,22 +19,31 @@ from worked_forms import CROSSED, CROSSED_FLOW, Worked, text
 USAGE = """Usage: dmf [solve [--any] [--brief] [--cut] [--progress]] <FILE
        dmf session [--brief] [--cut] [--history N] [--progress] PROBLEM
        dmf check PROBLEM <SOLUTION
+       dmf vital [--progress] <FILE
 """
 SOLVE = "Usage: dmf solve [--any] [--brief] [--cut] [--progress] <FILE\n"
 SESSION = "Usage: dmf session [--brief] [--cut] [--history N] [--progress] PROBLEM\n"
 CHECK = "Usage: dmf check PROBLEM <SOLUTION\n"
+VITAL = "Usage: dmf vital [--progress] <FILE\n"
 # The tools around the program, by their files.
-TOOLS = [name for name in os.listdir(os.path.join(os.path.dirname(__file__), "..", "tools")) if name.startswith("dmf-")]
+TOOLS = [
+    name
+    for name in os.listdir(os.path.join(os.path.dirname(__file__), "..", "tools"))
+    if name.startswith("dmf-")
+]
 # What the help has, from its beginning to its end.
 HELP = (
-    f"Find how much a network can carry and where its limit is, and try out changes\n\n{USAGE}\nCommands:\n  solve ",
+    f"Find how much a network can carry and where its limit is, and try out changes\n\n{USAGE}\n"
+    "Commands:\n  solve ",
     "\n  session ",
     "\n  check ",
+    "\n  vital ",
     "\n  help ",
     "\nOptions:\n  -h, --help     Print help\n  -V, --version  Print version\n",
     "\n  $ dmf solve --cut <network.max ",
     "\n  $ printf 'cap 5 1\\nsolve\\n' | dmf session --brief network.max\n",
     "\n  $ dmf solve <network.max | dmf check network.max\n",
+    "\n  $ dmf vital <network.max\n  c value 5\n  v 1 2\n",
     "\nExit status:\n  0  success\n  1 ",
     "\n  2  invalid arguments\n  3 ",
     "\n  4 ",
@@ -82,13 +92,25 @@ REFUSED = [
     ("session --history -1 P", "unexpected argument '-1' found"),
     ("check --history 1 P", "unexpected argument '--history' found"),
     ("solve --history 1", "unexpected argument '--history' found"),
+    ("vital P", "unexpected argument 'P' found"),
+    ("vital --progress P", "unexpected argument 'P' found"),
+    ("vital --cut", "unexpected argument '--cut' found"),
+    ("vital --brief", "unexpected argument '--brief' found"),
+    ("vital --any", "unexpected argument '--any' found"),
+    ("vital --history 1", "unexpected argument '--history' found"),
+    ("vital --nodes", "unexpected argument '--nodes' found"),
+    ("vital --progress --progress", "cannot be used multiple times"),
+    ("Vital", "unrecognized subcommand 'Vital'"),
 ]
 # Words with a bound that is refused, each with a part of the text that tells it.
 BOUNDS = [
     ("session --history 1000001 P", "invalid value '1000001' for '--history <N>'"),
     ("session --history ++1 P", "invalid value '++1' for '--history <N>'"),
     ("session --history x P", "invalid value 'x' for '--history <N>'"),
-    ("session --history 1 --history", "a value is required for '--history <N>' but none was supplied"),
+    (
+        "session --history 1 --history",
+        "a value is required for '--history <N>' but none was supplied",
+    ),
 ]
 # Words that are refused, each with how they could be right.
 FORMS = [
@@ -97,6 +119,7 @@ FORMS = [
     ("solve net.max", SOLVE),
     ("session", SESSION),
     ("check", CHECK),
+    ("vital net.max", VITAL),
 ]
 # Words, each with parts of the help that they ask for.
 HELPS: list[tuple[str, tuple[str, ...]]] = [
@@ -104,15 +127,40 @@ HELPS: list[tuple[str, tuple[str, ...]]] = [
     ("-h", HELP),
     ("help", HELP),
     ("--help wash", HELP),
-    ("solve --help", (SOLVE, "--cut       Write the smallest minimum cut after the solution\n", "--progress  Tell on standard error how far it is\n")),
-    ("solve --help", ("--any       Write any flow of the greatest value, found sooner\n", "--brief     Write the value in place of the solution\n")),
-    ("solve --help", ("\n  $ dmf solve --cut <network.max\n  s 5\n", "\nWith --brief the line c solve value VALUE stands for the solution.")),
+    (
+        "solve --help",
+        (
+            SOLVE,
+            "--cut       Write the smallest minimum cut after the solution\n",
+            "--progress  Tell on standard error how far it is\n",
+        ),
+    ),
+    (
+        "solve --help",
+        (
+            "--any       Write any flow of the greatest value, found sooner\n",
+            "--brief     Write the value in place of the solution\n",
+        ),
+    ),
+    (
+        "solve --help",
+        (
+            "\n  $ dmf solve --cut <network.max\n  s 5\n",
+            "\nWith --brief the line c solve value VALUE stands for the solution.",
+        ),
+    ),
     ("session --help", (SESSION, "<PROBLEM>  The file with the problem\n")),
     ("session --help", ("--brief        Answer a solve by its value in place of the solution\n",)),
     ("session --help", ("--cut          Write the smallest minimum cut after each solution\n",)),
     ("session --help", ("--history <N>  Keep at most N changes for undo [default: 1000000]\n",)),
     ("session --help", ("--progress     Tell on standard error how far it is\n",)),
-    ("session --help", ("With --brief the reply to solve is\nc solve value VALUE.\n", "closed\nones keep their numbers.\n")),
+    (
+        "session --help",
+        (
+            "With --brief the reply to solve is\nc solve value VALUE.\n",
+            "closed\nones keep their numbers.\n",
+        ),
+    ),
     ("session --help", ("at a terminal by Ctrl-D.\n", "| dmf session network.max\n")),
     ("session P --help", (SESSION,)),
     ("session --cut -h", (SESSION,)),
@@ -121,6 +169,16 @@ HELPS: list[tuple[str, tuple[str, ...]]] = [
     ("help solve", (SOLVE,)),
     ("help session", (SESSION,)),
     ("help check", (CHECK,)),
+    (
+        "vital --help",
+        (
+            VITAL,
+            "--progress  Tell on standard error how far it is\n",
+            "\n  $ dmf vital <network.max\n  c value 5\n",
+        ),
+    ),
+    ("vital --progress -h", (VITAL,)),
+    ("help vital", (VITAL,)),
 ]
 VERSIONS = [(word, f"dmf {RELEASE}\n") for word in ("--version", "-V")]
 
@@ -128,20 +186,38 @@ VERSIONS = [(word, f"dmf {RELEASE}\n") for word in ("--version", "-V")]
 # What may stand after a command; the words of one part stand together.
 PARTS = ("--brief",), ("--cut",), ("--history", "1"), ("--progress",), (PROBLEM.decode(),)
 SOLVE_PARTS = ("--any",), *PARTS
-# What else may stand after `session`: other ways to write a bound, and paths that look like other words. Of these paths only one has
-# a file.
-SESSION_WORDS = "--history=+1 problem.max", "--history +1 problem.max", "--history 01 problem.max", "--history 0 problem.max", "-- problem.max", "-- --cut", "-", "solve"
+# What else may stand after `session`: other ways to write a bound, and paths that look like other
+# words. Of these paths only one has a file.
+SESSION_WORDS = (
+    "--history=+1 problem.max",
+    "--history +1 problem.max",
+    "--history 01 problem.max",
+    "--history 0 problem.max",
+    "-- problem.max",
+    "-- --cut",
+    "-",
+    "solve",
+)
 # What is on standard input after each command, from which it shows what was asked for.
-INPUTS = {"solve": text(CROSSED), "session": b"solve\ncap 5 1\nundo\nundo\n", "check": text(CROSSED_FLOW)}
+INPUTS = {
+    "solve": text(CROSSED),
+    "session": b"solve\ncap 5 1\nundo\nundo\n",
+    "check": text(CROSSED_FLOW),
+    "vital": text(CROSSED),
+}
 
 
 def orders(command: str) -> Iterator[Case]:
-    """The parts after a command in every order: all of them after `session`, four after `solve` and three after `check`, which take fewer.
-    And each part twice, with the path after it or between; and what else may stand after `session`."""
+    """The parts after a command in every order: all of them after `session`, four after `solve` and
+    three after the others, which take fewer. And each part twice, with the path after it or
+    between; and what else may stand after `session`.
+    """
     parts = SOLVE_PARTS if command == "solve" else PARTS
     most = {"session": len(PARTS), "solve": 4}.get(command, 3)
     chosen = [order for count in range(most + 1) for order in permutations(parts, count)]
-    chosen += [order for part in parts for order in ((part, part, PARTS[-1]), (part, PARTS[-1], part))]
+    chosen += [
+        order for part in parts for order in ((part, part, PARTS[-1]), (part, PARTS[-1], part))
+    ]
     lines = [" ".join([command, *(word for part in order for word in part)]) for order in chosen]
     lines += [f"session {words}" for words in SESSION_WORDS if command == "session"]
     for line in lines:
@@ -149,7 +225,8 @@ def orders(command: str) -> Iterator[Case]:
 
 
 def wanted_of(case: Case) -> Outcome:
-    """How the second implementation ends. Where progress is asked for, lines of it are told, which it does not know."""
+    """How the second implementation ends. Where progress is asked for, lines of it are told, which
+    it does not know."""
     wanted = built.wanted(case)
     is_told = wanted.told == b"" and b"--progress" in case.words
     return wanted._replace(told=re.compile(rb"(dmf: .*\n)+")) if is_told else wanted
@@ -157,7 +234,9 @@ def wanted_of(case: Case) -> Outcome:
 
 def having(*parts: str) -> re.Pattern[bytes]:
     """The texts that have these parts, each after the one before."""
-    return re.compile(b".*".join([b"", *(re.escape(part.encode()) for part in parts), b""]), re.DOTALL)
+    return re.compile(
+        b".*".join([b"", *(re.escape(part.encode()) for part in parts), b""]), re.DOTALL
+    )
 
 
 def row(words: str, outcome: Outcome) -> Worked:
@@ -169,7 +248,11 @@ def judge(worked: Worked) -> str | None:
     """Says what is wrong with the run on a row's words."""
     case, wanted = worked
     run = built.run(case)
-    return None if wanted.allows(*run) else f"{case.name}: {wanted} is wanted, and the program ends so: {run}"
+    return (
+        None
+        if wanted.allows(*run)
+        else f"{case.name}: {wanted} is wanted, and the program ends so: {run}"
+    )
 
 
 ROWS = [

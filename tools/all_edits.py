@@ -1,14 +1,17 @@
 #!/usr/bin/env python3
-"""Tries all must-fail edits, also those that the gate leaves out: crates/*/more-must-fail/ beside crates/*/must-fail/.
+"""Tries all must-fail edits, also those that the gate leaves out: crates/*/more-must-fail/ beside
+crates/*/must-fail/.
 
     python3 tools/all_edits.py [CRATE..]
 
-In a copy of the checkout, `rt must-fail` tries the edits of each crate that has more than the gate tries, or of the crates that are
-named. Several crates are tried side by side, as many as processors and memory allow. What was said of an edit is printed once its crate
-is done. The last line is 'N passed, M failed', and the status is 0 only if nothing failed.
+In a copy of the checkout, `rt must-fail` tries the edits of each crate that has more than the gate
+tries, or of the crates that are named. Several crates are tried side by side, as many as processors
+and memory allow. What was said of an edit is printed once its crate is done. The last line is 'N
+passed, M failed', and the status is 0 only if nothing failed.
 
-An edit passes if the prover refuses it at a goal, which is then printed (tools/must_fail.py). It fails if the prover takes it or cannot
-read it, if it cannot be made, or if it is refused by a limit, or for a lost name.
+An edit passes if the prover refuses it at a goal, which is then printed (tools/must_fail.py). It
+fails if the prover takes it or cannot read it, if it cannot be made, or if it is refused by a
+limit, or for a lost name.
 """
 
 from __future__ import annotations
@@ -32,7 +35,9 @@ MEMORY = 3.5
 def crates_with_more() -> list[str]:
     """The crates that have edits that the gate leaves out, the one with the most edits first."""
     crates = {folder.parent for folder in ROOT.glob(f"crates/*/{MORE}")}
-    return [crate.name for crate in sorted(crates, key=lambda crate: (-len(all_of(crate)), crate.name))]
+    return [
+        crate.name for crate in sorted(crates, key=lambda crate: (-len(all_of(crate)), crate.name))
+    ]
 
 
 def all_of(crate: Path) -> list[Path]:
@@ -41,9 +46,12 @@ def all_of(crate: Path) -> list[Path]:
 
 
 def copy_checkout(to: Path) -> None:
-    """Copies the files of the checkout, new ones too, and the libraries that are built, and puts all edits of a crate side by side."""
+    """Copies the files of the checkout, new ones too, and the libraries that are built, and puts
+    all edits of a crate side by side."""
     listed = ["git", "ls-files", "-z", "--cached", "--others", "--exclude-standard"]
-    names = subprocess.run(listed, cwd=ROOT, capture_output=True, text=True, check=True).stdout.split("\0")
+    names = subprocess.run(
+        listed, cwd=ROOT, capture_output=True, text=True, check=True
+    ).stdout.split("\0")
     for name in {*filter(None, names)}:
         # A file that is removed and still tracked is not there.
         if (ROOT / name).is_file():
@@ -65,7 +73,12 @@ def at_once() -> int:
 def tried(crate: str, root: Path) -> str:
     """What `rt must-fail` says of the crate's edits."""
     ran = subprocess.run(
-        ["rt", "must-fail", crate], cwd=root, stdin=subprocess.DEVNULL, stdout=subprocess.PIPE, stderr=subprocess.STDOUT, text=True
+        ["rt", "must-fail", crate],
+        cwd=root,
+        stdin=subprocess.DEVNULL,
+        stdout=subprocess.PIPE,
+        stderr=subprocess.STDOUT,
+        text=True,
     )
     return ran.stdout
 
@@ -80,7 +93,9 @@ def verdicts(crate: str, said: str) -> list[Verdict]:
 def try_all(crates: list[str]) -> int:
     """Tries the edits of these crates, and returns the status."""
     judged: list[Verdict] = []
-    with tempfile.TemporaryDirectory(prefix="dmf-edits-") as room, ThreadPoolExecutor(at_once()) as pool:
+    with tempfile.TemporaryDirectory(prefix="dmf-edits-") as room, ThreadPoolExecutor(
+        at_once()
+    ) as pool:
         root = Path(room)
         copy_checkout(root)
         runs = {pool.submit(tried, crate, root): crate for crate in crates}
@@ -97,13 +112,21 @@ def try_all(crates: list[str]) -> int:
 
 def main() -> int:
     parser = argparse.ArgumentParser(description=(__doc__ or "").splitlines()[0])
-    parser.add_argument("crates", nargs="*", metavar="CRATE", help="a crate with must-fail edits; all that have more where none is named")
+    parser.add_argument(
+        "crates",
+        nargs="*",
+        metavar="CRATE",
+        help="a crate with must-fail edits; all that have more where none is named",
+    )
     crates = parser.parse_args().crates or crates_with_more()
     for crate in crates:
         if not all_of(ROOT / "crates" / crate):
             sys.exit(f"all_edits.py: no crate {crate} has must-fail edits")
-    # The copy takes the libraries that this builds; otherwise two crates might build one library at the same time.
-    if subprocess.run([ROOT / "dmf", "--version"], stdin=subprocess.DEVNULL, stdout=subprocess.DEVNULL).returncode:
+    # The copy takes the libraries that this builds; otherwise two crates might build one library at
+    # the same time.
+    if subprocess.run(
+        [ROOT / "dmf", "--version"], stdin=subprocess.DEVNULL, stdout=subprocess.DEVNULL
+    ).returncode:
         print("all_edits.py: the program is not built, so no edit was tried")
         print("0 passed, 1 failed")
         return 1

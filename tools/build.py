@@ -3,13 +3,15 @@
 
     python3 tools/build.py
 
-A crate begins once the crates below it are built, the one with the longest chain above it first. Several are built side by side, as
-many as processors and memory allow. Standard error shows which are in work and which are built, how long it has taken, and how long
-the rest is likely to take: on a terminal in one line, which is rewritten, and elsewhere in a line for each crate.
+A crate begins once the crates below it are built, the one with the longest chain above it first.
+Several are built side by side, as many as processors and memory allow. Standard error shows which
+are in work and which are built, how long it has taken, and how long the rest is likely to take: on
+a terminal in one line, which is rewritten, and elsewhere in a line for each crate.
 
-Each crate is built in a folder of its own, with links to the crates below it, since no two calls of `rt` may work on one crate. The
-result moves to the crate's out/ once it is whole, so an interrupt leaves nothing half made, and the next call goes on with the crates
-that are missing. Of two calls at once, one waits for the other.
+Each crate is built in a folder of its own, with links to the crates below it, since no two calls of
+`rt` may work on one crate. The result moves to the crate's out/ once it is whole, so an interrupt
+leaves nothing half made, and the next call goes on with the crates that are missing. Of two calls
+at once, one waits for the other.
 
 The status is 0 if the program is built, 70 if a crate fails, and 130 after an interrupt.
 """
@@ -36,18 +38,35 @@ PROGRAM = "dmf"
 FAILED, INTERRUPTED = 70, 130
 # The most memory that proving one crate takes, in GiB.
 MEMORY = 3.5
-# The processor seconds that each crate takes by one job, from nothing (`/usr/bin/time rt lib --jobs 1`): they say which begins first, and
-# how long the rest takes. On processors of 2.5 GHz on 2026-11-25; those of half of the crates are estimates by the size of their proofs.
+# The processor seconds that each crate takes by one job, from nothing (`/usr/bin/time rt lib --jobs
+# 1`): they say which begins first, and how long the rest takes. On processors of 2.5 GHz on
+# 2026-11-25; those of half of the crates are estimates by the size of their proofs.
 SECONDS = {
-    "dmf_node": 2, "dmf_arguments": 75, "dmf_state": 85, "dmf_history": 40, "dmf_links": 55, "dmf_path": 190, "dmf_text": 160,
-    "dmf_streams": 26, "dmf_solver": 170, "dmf_solving": 36, "dmf_session": 104, "dmf_explain": 130, "dmf_terminal": 55,
-    "dmf_progress": 35, "dmf_runs": 102, "dmf_host": 51, "dmf_program": 30, "dmf": 95,
-}  # fmt: skip
+    "dmf_node": 2,
+    "dmf_arguments": 75,
+    "dmf_state": 85,
+    "dmf_history": 40,
+    "dmf_links": 55,
+    "dmf_path": 190,
+    "dmf_text": 160,
+    "dmf_streams": 26,
+    "dmf_solver": 170,
+    "dmf_solving": 36,
+    "dmf_session": 104,
+    "dmf_explain": 130,
+    "dmf_terminal": 55,
+    "dmf_progress": 35,
+    "dmf_runs": 102,
+    "dmf_host": 51,
+    "dmf_program": 30,
+    "dmf": 95,
+}
 UNKNOWN_SECONDS = 60
-# A crate that delays nothing though it takes this many times its seconds more is built by one job, which takes a quarter less processor time
-# than several.
+# A crate that delays nothing though it takes this many times its seconds more is built by one job,
+# which takes a quarter less processor time than several.
 ROOM_FOR_ONE_JOB = 2
-# How much nicer a crate is than the one with the next longer chain. It then gets a third of that one's processor time where both want all.
+# How much nicer a crate is than the one with the next longer chain. It then gets a third of that
+# one's processor time where both want all.
 NICER = 5
 NICEST = 19
 
@@ -79,8 +98,10 @@ class Crate:
 
     @property
     def command(self) -> list[str]:
-        """The command that builds it. `rt run` also runs the program, so it gets a session without commands, which ends with 0. One
-        job builds the program in two thirds of the time of several, which each load all crates below."""
+        """The command that builds it. `rt run` also runs the program, so it gets a session without
+        commands, which ends with 0. One job builds the program in two thirds of the time of
+        several, which each load all crates below.
+        """
         if self.name == PROGRAM:
             return ["rt", "run", "--jobs", "1", "--", "session", str(ROOT / "examples/a.max")]
         return ["rt", "lib"]
@@ -88,7 +109,10 @@ class Crate:
 
 def read_crates() -> dict[str, Crate]:
     """The program's crate and all crates below it, the lowest first."""
-    lines = (line.partition("#")[0].partition(":") for line in (ROOT / "crates.txt").read_text().splitlines())
+    lines = (
+        line.partition("#")[0].partition(":")
+        for line in (ROOT / "crates.txt").read_text().splitlines()
+    )
     libraries = {name.strip(): rest.split() for name, _, rest in lines if name.strip()}
     crates: dict[str, Crate] = {}
 
@@ -98,7 +122,9 @@ def read_crates() -> dict[str, Crate]:
             for library in crate.libraries:
                 add(library)
                 if library in crates:
-                    crate.below += [it for it in [*crates[library].below, library] if it not in crate.below]
+                    crate.below += [
+                        it for it in [*crates[library].below, library] if it not in crate.below
+                    ]
             crates[name] = crate
 
     add(PROGRAM)
@@ -163,7 +189,8 @@ class Work:
         shutil.move(made, out)
 
     def be_nice(self, niceness: int) -> None:
-        """Gives the crate this niceness, where the system has one for each session: the crate is built in a session of its own."""
+        """Gives the crate this niceness, where the system has one for each session: the crate is
+        built in a session of its own."""
         with contextlib.suppress(OSError):
             Path(f"/proc/{self.process.pid}/autogroup").write_text(str(niceness))
 
@@ -201,9 +228,15 @@ def begin(crate: Crate, crates: dict[str, Crate], place: Path, slack: float) -> 
     """Begins to build a crate that has this slack."""
     folder = Path(tempfile.mkdtemp(prefix="dmf-build-", dir=place))
     names = [*crate.below, crate.name]
-    (folder / "crates.txt").write_text("".join(f"{name}: {' '.join(crates[name].libraries)}\n" for name in names))
+    (folder / "crates.txt").write_text(
+        "".join(f"{name}: {' '.join(crates[name].libraries)}\n" for name in names)
+    )
     for name in names:
-        lay_out(crates[name], folder / "crates" / name, ["src", "specs", "proofs"] + ["out/rlib"] * (name != crate.name))
+        lay_out(
+            crates[name],
+            folder / "crates" / name,
+            ["src", "specs", "proofs"] + ["out/rlib"] * (name != crate.name),
+        )
     # The result of an earlier call is copied, since `rt` may write to it.
     if (crate.folder / "out").is_dir():
         shutil.copytree(crate.folder / "out", folder / "crates" / crate.name / "out")
@@ -239,11 +272,14 @@ class Build:
         """The seconds left for each crate, on the machine of the table."""
         left = {it.name: 0.0 if it.name in self.took else it.seconds for it in self.crates.values()}
         for work in self.running:
-            left[work.crate.name] = max(work.crate.seconds - work.seconds / self.pace(), work.crate.seconds / 20)
+            left[work.crate.name] = max(
+                work.crate.seconds - work.seconds / self.pace(), work.crate.seconds / 20
+            )
         return left
 
     def pace(self) -> float:
-        """How many times as long as in the table this machine takes, by the crates that are built."""
+        """How many times as long as in the table this machine takes, by the crates that are
+        built."""
         known = sum(self.crates[name].seconds for name in self.took)
         return (sum(self.took.values()) + UNKNOWN_SECONDS) / (known + UNKNOWN_SECONDS)
 
@@ -255,7 +291,11 @@ class Build:
     def ready(self) -> list[Crate]:
         """The crates that can be begun, the one with the longest chain first."""
         begun = {*self.took, *(it.crate.name for it in self.running)}
-        ready = [it for it in self.crates.values() if it.name not in begun and all(name in self.took for name in it.below)]
+        ready = [
+            it
+            for it in self.crates.values()
+            if it.name not in begun and all(name in self.took for name in it.below)
+        ]
         left = self.left()
         return sorted(ready, key=lambda it: -self.chain(it, left))
 
@@ -264,13 +304,17 @@ class Build:
         left = self.left()
         longest = max(self.chain(it, left) for it in self.crates.values())
         for crate in self.ready()[: at_once() - len(self.running)]:
-            self.running.append(begin(crate, self.crates, self.place, longest - self.chain(crate, left)))
+            self.running.append(
+                begin(crate, self.crates, self.place, longest - self.chain(crate, left))
+            )
 
     def rank(self) -> None:
-        """Gives processor time to the crates in the order of their chains, the longest first. What is done of a crate counts for nothing, since
-        a nice one may have had no time."""
+        """Gives processor time to the crates in the order of their chains, the longest first. What
+        is done of a crate counts for nothing, since a nice one may have had no time."""
         left = {it.name: 0.0 if it.name in self.took else it.seconds for it in self.crates.values()}
-        for rank, work in enumerate(sorted(self.running, key=lambda it: -self.chain(it.crate, left))):
+        for rank, work in enumerate(
+            sorted(self.running, key=lambda it: -self.chain(it.crate, left))
+        ):
             work.be_nice(min(rank * NICER, NICEST))
 
     def take_ended(self) -> None:
@@ -280,7 +324,10 @@ class Build:
             try:
                 if work.process.returncode != 0:
                     work.said.seek(0)
-                    raise Failure(f"{work.crate.name} is not built\n{work.said.read().decode(errors='replace')}")
+                    raise Failure(
+                        f"{work.crate.name} is not built\n"
+                        f"{work.said.read().decode(errors='replace')}"
+                    )
                 work.keep()
                 self.took[work.crate.name] = work.seconds
             finally:
@@ -290,14 +337,17 @@ class Build:
     def tell_built(self, crate: Crate, seconds: float) -> None:
         if not self.told.is_terminal:
             count = f"{len(self.took)} of {len(self.crates)}"
-            rest = f"; about {duration(self.rest())} left" if len(self.took) < len(self.crates) else ""
+            rest = (
+                f"; about {duration(self.rest())} left" if len(self.took) < len(self.crates) else ""
+            )
             self.told.line(f"{count}: {crate.name} is built, after {duration(seconds)}{rest}")
 
     def tell_status(self) -> None:
         names = ", ".join(it.crate.name for it in self.running)
         so_far = duration(time.monotonic() - self.begun)
         self.told.status(
-            f"{len(self.took)} of {len(self.crates)} built; in work: {names}; {so_far} so far, about {duration(self.rest())} left"
+            f"{len(self.took)} of {len(self.crates)} built; in work: {names}; {so_far} so far, "
+            f"about {duration(self.rest())} left"
         )
 
     def run(self) -> None:
@@ -342,8 +392,8 @@ def number_of(file: Path) -> int | None:
 
 
 def build(told: Told) -> None:
-    """Builds the program, except what is built already, and gives it the time at which the build began: a source that is edited
-    meanwhile is newer."""
+    """Builds the program, except what is built already, and gives it the time at which the build
+    began: a source that is edited meanwhile is newer."""
     program = ROOT / "crates" / PROGRAM / "out" / PROGRAM
     before = number_of(program)
     with alone(told):
@@ -352,9 +402,17 @@ def build(told: Told) -> None:
         begun = time.time()
         crates = read_crates()
         if before is not None and all(it.is_kept for it in crates.values() if it.name != PROGRAM):
-            told.line("a source has changed since the program was built. What depends on it is proved and built again.")
+            told.line(
+                "a source has changed since the program was built. What depends on it is proved "
+                "and "
+                "built again."
+            )
         else:
-            told.line("the program is proved and built. This happens once, and takes 9 to 15 minutes on 4 idle processors.")
+            told.line(
+                "the program is proved and built. This happens once, and takes 9 to 15 minutes on "
+                "4 "
+                "idle processors."
+            )
         git = ROOT / ".git"
         place = git if git.is_dir() and os.access(git, os.W_OK) else Path(tempfile.gettempdir())
         if place == git:

@@ -1,13 +1,17 @@
 #!/usr/bin/env python3
-"""Prints what is claimed: each contract of the calls that callers have, and each definition and type that these contracts rest on.
+"""Prints what is claimed: each contract of the calls that callers have, and each definition and
+type that these contracts rest on.
 
     python3 tools/claims.py            prints it
     python3 tools/claims.py --write    writes it to docs/CLAIMS.txt
 
-The calls are those of the fronts `dmf_net`, `dmf_text`, `dmf_session` and `dmf_run`, those of `dmf_program`, by which `main` runs what its words
-ask for, the functions of `main`'s crate with contracts, and the calls of C in `dmf_c`. Of a call stand here its signature and its clauses, of a type its members and what contracts see of it, of a definition its text: without comments and bodies. So
-whatever makes a claim weaker or stronger changes a line of that file, and what only changes code or a proof changes none. The definitions of
-std and of the toolchain's other libraries are not followed.
+The calls are those of the fronts `dmf_net`, `dmf_text`, `dmf_session` and `dmf_run`, those of
+`dmf_program`, by which `main` runs what its words ask for, the functions of `main`'s crate with
+contracts, and the calls of C in `dmf_c`. Of a call stand here its signature and its clauses, of a
+type its members and what contracts see of it, of a definition its text: without comments and
+bodies. So whatever makes a claim weaker or stronger changes a line of that file, and what only
+changes code or a proof changes none. The definitions of std and of the toolchain's other libraries
+are not followed.
 """
 
 from __future__ import annotations
@@ -30,23 +34,36 @@ PLACE = CRATES.parent / "docs" / "CLAIMS.txt"
 COMMENT = re.compile(r"^ *(?://.*|#!?\[[^\n]*\])\n|(?<=[;,{}]) *// [^\n]*$", re.MULTILINE)
 # An item of a file, at its left edge: of one line, or up to the bracket there that closes it.
 VISIBLE = r"(?:pub(?:\(crate\))? )?(?:const )?(?:unsafe )?(?:extern \"C\" )?"
-ITEM = re.compile(rf"^{VISIBLE}(?P<kind>fn|struct|enum|trait|impl|[A-Z_]+(?=:))\b(?:[^\n]*(?:;|\{{\}})$|.*?^(?:\}}|\{{\}})$)", re.MULTILINE | re.DOTALL)
-NAME = re.compile(r"\b(?:fn|struct|enum|trait|const) (\w+)")
-# A function with a body, at any depth: what stands before the body, without the last line's bracket.
-FUNCTION = re.compile(
-    rf"^(?P<indent> *)(?P<head>{VISIBLE}fn [^\n]*(?:\n(?!(?P=indent)[{{}}])[^\n]*)*?)(?:\n(?P=indent)\{{(?:\}}|.*?\n(?P=indent)\}})$| \{{(?:\}}|\n.*?\n(?P=indent)\}})$)",
+ITEM = re.compile(
+    rf"^{VISIBLE}(?P<kind>fn|struct|enum|trait|impl|[A-Z_]+(?=:))\b"
+    r"(?:[^\n]*(?:;|\{\})$|.*?^(?:\}|\{\})$)",
     re.MULTILINE | re.DOTALL,
 )
-GHOST_USE = re.compile(r"^ *(?:pub )?(?:ghost )?use Rattle\.(\w+)\.specs\.([\w.]+?)(?:\.\{([^}]*)\}| as (\w+));", re.MULTILINE)
-# A member of an impl that contracts see. How a model is made of private fields, and what these keep, they do not see; laws are proofs.
-GHOST = re.compile(r"^    ghost (?!use |laws|view|invariant).*?\};(?=\n(?: {4}\S|\}|\n))", re.MULTILINE | re.DOTALL)
+NAME = re.compile(r"\b(?:fn|struct|enum|trait|const) (\w+)")
+# A function with a body, at any depth: what stands before the body, without the last line's
+# bracket.
+FUNCTION = re.compile(
+    rf"^(?P<indent> *)(?P<head>{VISIBLE}fn [^\n]*(?:\n(?!(?P=indent)[{{}}])[^\n]*)*?)"
+    r"(?:\n(?P=indent)\{(?:\}|.*?\n(?P=indent)\})$| \{(?:\}|\n.*?\n(?P=indent)\})$)",
+    re.MULTILINE | re.DOTALL,
+)
+GHOST_USE = re.compile(
+    r"^ *(?:pub )?(?:ghost )?use Rattle\.(\w+)\.specs\.([\w.]+?)(?:\.\{([^}]*)\}| as (\w+));",
+    re.MULTILINE,
+)
+# A member of an impl that contracts see. How a model is made of private fields, and what these
+# keep, they do not see; laws are proofs.
+GHOST = re.compile(
+    r"^    ghost (?!use |laws|view|invariant).*?\};(?=\n(?: {4}\S|\}|\n))", re.MULTILINE | re.DOTALL
+)
 # A private field of a struct.
 PRIVATE = re.compile(r"^    (?!pub |ghost )\w+: .*\n", re.MULTILINE)
 WORD = re.compile(r"[\w◌']+")
 
 
 class Item(NamedTuple):
-    """Something that is claimed: where it stands, its name, and its text without comments and bodies."""
+    """Something that is claimed: where it stands, its name, and its text without comments and
+    bodies."""
 
     file: Path
     name: str
@@ -60,25 +77,36 @@ def without_comments(text: str) -> str:
 def heads(text: str, indent: str, public_only: bool) -> Iterator[str]:
     """The functions of a text at this depth, each with its clauses and without its body."""
     for function in FUNCTION.finditer(text):
-        if function["indent"] == indent and (function["head"].startswith("pub ") or not public_only):
+        if function["indent"] == indent and (
+            function["head"].startswith("pub ") or not public_only
+        ):
             yield f"{indent}{function['head']}"
 
 
 def shown(item: str, kind: str) -> str:
-    """What an item claims: of a function its head, of an impl the heads of its calls and its ghost members, of the rest all of it."""
+    """What an item claims: of a function its head, of an impl the heads of its calls and its ghost
+    members, of the rest all of it."""
     first = item.partition("{")[0].rstrip()
     if kind == "fn":
         return next(heads(f"{item}\n", "", False), item)
     if kind == "impl":
         # A call of a trait has the trait's clauses, and in an impl at times more.
         is_own = " for " not in first
-        calls = [head for head in heads(item, "    ", is_own) if is_own or re.search(r"^ +(?:requires|ensures)\b", head, re.MULTILINE)]
+        calls = [
+            head
+            for head in heads(item, "    ", is_own)
+            if is_own or re.search(r"^ +(?:requires|ensures)\b", head, re.MULTILINE)
+        ]
         inside = [*GHOST.findall(item), *calls]
         return "\n".join([f"{first} {{", *inside, "}"]) if inside else ""
     item = re.sub(r"^ *ghost use .*\n", "", item, flags=re.MULTILINE)
     if kind == "struct":
         item = PRIVATE.sub("", item)
-    return FUNCTION.sub(lambda it: f"{it['indent']}{it['head']} {{ .. }}", item) if kind == "trait" else item
+    return (
+        FUNCTION.sub(lambda it: f"{it['indent']}{it['head']} {{ .. }}", item)
+        if kind == "trait"
+        else item
+    )
 
 
 @lru_cache(maxsize=None)
@@ -87,14 +115,24 @@ def items_of(file: Path) -> list[Item]:
     found = []
     for match in ITEM.finditer(without_comments(file.read_text())):
         name = NAME.search(match[0])
-        about = type_of(match[0].partition("{")[0].removeprefix("impl")) if match["kind"] == "impl" else name[1] if name else ""
+        about = (
+            type_of(match[0].partition("{")[0].removeprefix("impl"))
+            if match["kind"] == "impl"
+            else name[1]
+            if name
+            else ""
+        )
         found.append(Item(file, about, shown(match[0], match["kind"])))
     return [it for it in found if it.text]
 
 
 @lru_cache(maxsize=None)
 def code_of(crate: str) -> list[Path]:
-    return sorted(file for file in (CRATES / crate / "src").rglob("*.rt") if "tests" not in file.parts and file.name != "tests.rt")
+    return sorted(
+        file
+        for file in (CRATES / crate / "src").rglob("*.rt")
+        if "tests" not in file.parts and file.name != "tests.rt"
+    )
 
 
 @lru_cache(maxsize=None)
@@ -109,18 +147,27 @@ def calls_of_c() -> list[Item]:
 
 def calls_of_main() -> list[Item]:
     """The functions of the program's crate that promise something."""
-    return [item for file in code_of(OF_MAIN) for item in items_of(file) if re.search(r"^ +ensures\b", item.text, re.MULTILINE)]
+    return [
+        item
+        for file in code_of(OF_MAIN)
+        for item in items_of(file)
+        if re.search(r"^ +ensures\b", item.text, re.MULTILINE)
+    ]
 
 
 def claimed() -> dict[str, list[Item]]:
     """What each front exports."""
-    found = {front: [it for _, name in exports(front) for it in named(home_of(front, name), name)] for front in FRONTS}
+    found = {
+        front: [it for _, name in exports(front) for it in named(home_of(front, name), name)]
+        for front in FRONTS
+    }
     return {**found, OF_MAIN: calls_of_main(), OF_C: calls_of_c()}
 
 
 @lru_cache(maxsize=None)
 def brought_by(file: Path) -> dict[str, Definition]:
-    """The definitions that a file of code brings by `ghost use`, by the names that it gives them."""
+    """The definitions that a file of code brings by `ghost use`, by the names that it gives
+    them."""
     found = {}
     for crate, path, names, short in GHOST_USE.findall(file.read_text()):
         place = CRATES / crate / "specs" / (path.replace(".", "/") + ".antt")
@@ -149,11 +196,14 @@ def is_type(item: Item) -> bool:
 
 
 def declared(definition: Definition) -> list[Item]:
-    """The type of the code that a definition stands for: `specs/declared/module/Type.antt` is made of `src/module.rt`."""
+    """The type of the code that a definition stands for: `specs/declared/module/Type.antt` is made
+    of `src/module.rt`."""
     crate, _, kind, *path = definition.file.relative_to(CRATES).with_suffix("").parts
     if kind not in ("declared", "contracts"):
         raise ValueError(f"{definition.file} is not there")
-    return [item for part in path if part[0].isupper() for item in named(crate, part) if is_type(item)]
+    return [
+        item for part in path if part[0].isupper() for item in named(crate, part) if is_type(item)
+    ]
 
 
 def in_own_file(definition: Definition) -> Iterator[tuple[str, str]]:
@@ -191,7 +241,10 @@ def rests_on(item: Item) -> Iterator[Item]:
         if not is_ours(definition):
             continue
         if definition.file.exists():
-            yield from (Item(definition.file, name, without_dashes(text)) for name, text in in_own_file(definition))
+            yield from (
+                Item(definition.file, name, without_dashes(text))
+                for name, text in in_own_file(definition)
+            )
         else:
             yield from declared(definition)
 
@@ -203,13 +256,19 @@ def without_dashes(text: str) -> str:
 
 def lines() -> Iterator[str]:
     """The lines of the list."""
-    yield "What is claimed: the contracts of all calls that callers have, and what these rest on. `python3 tools/claims.py --write` writes this file."
+    yield (
+        "What is claimed: the contracts of all calls that callers have, and what these rest on. "
+        "`python3 tools/claims.py --write` writes this file."
+    )
     all_claimed = claimed()
     for front, items in all_claimed.items():
         yield f"\n==== {front}"
         yield from told(items)
     rest = below([item for items in all_claimed.values() for item in items])
-    for title, suffix in ("types on which these rest", ".rt"), ("definitions on which these rest", ".antt"):
+    for title, suffix in ("types on which these rest", ".rt"), (
+        "definitions on which these rest",
+        ".antt",
+    ):
         yield f"\n==== {title}"
         yield from told([item for item in rest if item.file.suffix == suffix])
 

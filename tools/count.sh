@@ -4,8 +4,8 @@
 passed=0
 failed=0
 
-# Runs a command, and adds up the last line 'N passed, M failed' that it prints. Without such a line, or where it fails and names
-# no failure, it failed.
+# Runs a command, and adds up the last line 'N passed, M failed' that it prints. Without such a
+# line, or where it fails and names no failure, it failed.
 count() {
     local said status line
     said=$(mktemp) || exit 1

@@ -1,11 +1,12 @@
 #!/usr/bin/env python3
-"""Lists what a definition rests on: the definitions that it names, those that they name, and so on, by the files that have them.
+"""Lists what a definition rests on: the definitions that it names, those that they name, and so on,
+by the files that have them.
 
     python3 tools/list_definitions.py [NAME]
 
-NAME is by default `RunsWords`, which says what the program makes of its words. A line has a file, how many of its definitions are among these, and
-how many lines they have with their comments. The last line adds up. Types that stand beside the code and the definitions of std are not
-followed.
+NAME is by default `RunsWords`, which says what the program makes of its words. A line has a file,
+how many of its definitions are among these, and how many lines they have with their comments. The
+last line adds up. Types that stand beside the code and the definitions of std are not followed.
 """
 
 from __future__ import annotations
@@ -29,7 +30,8 @@ class Definition(NamedTuple):
 
 
 class Module(NamedTuple):
-    """A file of definitions: the text of each definition, and where a name comes from that a `use` line brings."""
+    """A file of definitions: the text of each definition, and where a name comes from that a `use`
+    line brings."""
 
     texts: dict[str, str]
     brought: dict[str, Definition]
@@ -37,7 +39,8 @@ class Module(NamedTuple):
 
 
 def blocks(text: str) -> Iterator[tuple[str, str]]:
-    """The definitions of a file, each with its text: up to the comment, or the blank line, before the next one."""
+    """The definitions of a file, each with its text: up to the comment, or the blank line, before
+    the next one."""
     for block in re.split(r"\n\s*\n", text):
         heads = [match for match in map(HEAD.match, block.split("\n")) if match]
         if heads:
@@ -81,7 +84,11 @@ def below(start: Definition) -> dict[Definition, str]:
         module = modules.setdefault(definition.file, module_of(definition.file))
         if definition.name not in module.texts:
             # A constructor belongs to the definition of its type.
-            owners = [name for name, text in module.texts.items() if re.search(rf"^\s+(pub )?{re.escape(definition.name)} ", text, re.MULTILINE)]
+            owners = [
+                name
+                for name, text in module.texts.items()
+                if re.search(rf"^\s+(pub )?{re.escape(definition.name)} ", text, re.MULTILINE)
+            ]
             waiting += [Definition(definition.file, name) for name in owners]
             if not owners:
                 raise AssertionError(definition)
@@ -92,7 +99,9 @@ def below(start: Definition) -> dict[Definition, str]:
 
 
 def start_of(name: str) -> Definition:
-    files = [file for file in sorted(CRATES.glob("*/specs/*.antt")) if name in module_of(file).texts]
+    files = [
+        file for file in sorted(CRATES.glob("*/specs/*.antt")) if name in module_of(file).texts
+    ]
     if len(files) != 1:
         sys.exit(f"list_definitions.py: {len(files)} files define {name}")
     return Definition(files[0], name)
@@ -105,8 +114,14 @@ def main() -> None:
     files = sorted({definition.file for definition in found})
     for file in files:
         texts = [text for definition, text in found.items() if definition.file == file]
-        print(f"{file.relative_to(CRATES)}: {len(texts)} definitions, {sum(len(text.splitlines()) for text in texts)} lines")
-    print(f"{len(files)} files, {len(found)} definitions, {sum(len(text.splitlines()) for text in found.values())} lines")
+        print(
+            f"{file.relative_to(CRATES)}: {len(texts)} definitions, "
+            f"{sum(len(text.splitlines()) for text in texts)} lines"
+        )
+    print(
+        f"{len(files)} files, {len(found)} definitions, "
+        f"{sum(len(text.splitlines()) for text in found.values())} lines"
+    )
 
 
 if __name__ == "__main__":

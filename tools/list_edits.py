@@ -1,16 +1,19 @@
 #!/usr/bin/env python3
-"""Prints for each call of the libraries that callers use which must-fail edit breaks each clause of its contract.
+"""Prints for each call of the libraries that callers use which must-fail edit breaks each clause of
+its contract.
 
     python3 tools/list_edits.py [CALL..]
 
-The calls are the functions, the methods of types and the methods of traits that `dmf_net`, `dmf_text`, `dmf_session` and `dmf_run` export, and
-`dmf_program`, by which `main` runs what its words ask for, and the functions of C's in `dmf_c`; the clauses are what they ensure. An edit names
+The calls are the functions, the methods of types and the methods of traits that `dmf_net`,
+`dmf_text`, `dmf_session` and `dmf_run` export, and `dmf_program`, by which `main` runs what its
+words ask for, and the functions of C's in `dmf_c`; the clauses are what they ensure. An edit names
 the clauses that it breaks, itself or in a call below, in lines of the form
 
     covers: CALL (CLAUSE, ..), CALL, ..
 
-where CALL without clauses means the one clause without a name. The gate tries the edits of must-fail/; those of more-must-fail/ are in
-brackets. Where the gate tries none, the table says why, or MISSING.
+where CALL without clauses means the one clause without a name. The gate tries the edits of
+must-fail/; those of more-must-fail/ are in brackets. Where the gate tries none, the table says why,
+or MISSING.
 """
 
 from __future__ import annotations
@@ -41,12 +44,18 @@ OF_EACH_VALUE = "an invariant: it holds of each value of the type"
 OF_ITS_ANSWER = "follows from the clause of what the call answers"
 FOR_CALLERS = "for a caller's type to keep: the bodies here do nothing"
 READ_ONLY = "a body changes no session without the heap, which it does not get"
-C_NUMBERS = {"value": "value", "source": "node", "sink": "node", **dict.fromkeys(("past", "future", "arcs", "nodes"), "count")}
+C_NUMBERS = {
+    "value": "value",
+    "source": "node",
+    "sink": "node",
+    **dict.fromkeys(("past", "future", "arcs", "nodes"), "count"),
+}
 REASONS = {
     "run_solve (optimal)": A_LAW,
     "run_solve_any (optimal)": A_LAW,
     "run_solve_brief (optimal)": A_LAW,
     "run_solve_watched (optimal)": A_LAW,
+    "run_vital (one_text)": A_LAW,
     "write_problem (stands)": A_LAW,
     "Side::eq (same)": OF_ITS_ANSWER,
     "Side::ids (ascending)": OF_ITS_ANSWER,
@@ -56,22 +65,47 @@ REASONS = {
     "refusal_text (short)": OF_ITS_ANSWER,
     "Session::step (optimal)": OF_ITS_ANSWER,
     "Session::step_watched (optimal)": OF_ITS_ANSWER,
-    "dmf_abi": "a number that the contract and the body have alike; a test compares it with the header",
-    "dmf_version": "a number that the contract and the body have alike; a test compares it with the other versions",
+    "dmf_abi": "a number that the contract and the body have alike; a test compares it with the "
+    "header",
+    "dmf_version": "a number that the contract and the body have alike; a test compares it with "
+    "the other "
+    "versions",
     "Session::new": "a body has no other history to give than the one that it gets",
-    **{f"dmf_session_{call} (unchanged)": READ_ONLY for call in (*C_NUMBERS, "flows", "capacities")},
+    **{
+        f"dmf_session_{call} (unchanged)": READ_ONLY for call in (*C_NUMBERS, "flows", "capacities")
+    },
     "Files::open": FOR_CALLERS,
-    **{f"Watch::{call} ({name})": FOR_CALLERS for call in ("begun", "augmented", "lowered") for name in ("told", "drained")},
+    **{
+        f"Watch::{call} ({name})": FOR_CALLERS
+        for call in ("begun", "augmented", "lowered")
+        for name in ("told", "drained")
+    },
 }
 # Clauses so plain that the gate leaves their edits out.
 ONE_FIELD = "left out, since the body gives or sets one field"
 LEFT_OUT = {
     *(f"State::{field} (value)" for field in ("nodes", "source", "sink", "arcs", "flows")),
-    *(f"{history}::{field} (count)" for history in ("History", "Session") for field in ("past", "bound")),
-    *(f"{stream}::new ({part})" for stream in ("StdSource", "StdSink") for part in ("bytes", "mark")),
+    *(
+        f"{history}::{field} (count)"
+        for history in ("History", "Session")
+        for field in ("past", "bound")
+    ),
+    *(
+        f"{stream}::new ({part})"
+        for stream in ("StdSource", "StdSink")
+        for part in ("bytes", "mark")
+    ),
     *("Source::read (mark)", "Sink::put (mark)", "Sink::flush (mark)"),
     *(f"dmf_session_{call} ({name})" for call, name in C_NUMBERS.items()),
-    *("Side::new", "Side::capacity", "Arc::with_cap", "Arc::closed", "LineBuffer::as_bytes", "Direction::step", "Direction::cap"),
+    *(
+        "Side::new",
+        "Side::capacity",
+        "Arc::with_cap",
+        "Arc::closed",
+        "LineBuffer::as_bytes",
+        "Direction::step",
+        "Direction::cap",
+    ),
 }
 # Clauses that are broken as those of another call are, for which the gate tries an edit.
 AS_ANOTHER = "left out, since the gate tries the like for another call"
@@ -81,11 +115,14 @@ LIKE_OTHERS = {
     *(f"dmf_session_{call} (unchanged)" for call in ("side", "problem", "solution")),
 }
 # A clause which tells that the value that a call reads is one of its type.
-INVARIANT = re.compile(r"ensures (\w+) \{ (?:IsState self\.now|IsTimeline \((?:H\.)?timeline self\.now\)) \}")
+INVARIANT = re.compile(
+    r"ensures (\w+) \{ (?:IsState self\.now|IsTimeline \((?:H\.)?timeline self\.now\)) \}"
+)
 
 
 class Clause(NamedTuple):
-    """A clause of a call's contract, by its name, which is empty if the contract has no name for it."""
+    """A clause of a call's contract, by its name, which is empty if the contract has no name for
+    it."""
 
     call: str
     name: str
@@ -131,20 +168,25 @@ def type_of(about: str) -> str:
 
 
 def functions(text: str, indent: str, is_public: bool) -> Iterator[tuple[str, str]]:
-    """The names and heads of the functions of a text at this depth: of those that are public, or of all."""
+    """The names and heads of the functions of a text at this depth: of those that are public, or of
+    all."""
     for function in FUNCTION.finditer(text):
         if function[1] == indent and (function[2] or not is_public):
             yield function[3], function[4]
 
 
 def calls_of(file: Path, name: str) -> Iterator[tuple[str, str]]:
-    """The calls, with their heads, that stand in a file and that whoever knows this name can make."""
+    """The calls, with their heads, that stand in a file and that whoever knows this name can
+    make."""
     text = file.read_text()
     yield from ((name, head) for function, head in functions(text, "", True) if function == name)
     for kind, about, inside in BLOCK.findall(text):
         if type_of(about) == name:
             is_public = kind == "impl" and " for " not in about
-            yield from ((f"{name}::{function}", head) for function, head in functions(inside, "    ", is_public))
+            yield from (
+                (f"{name}::{function}", head)
+                for function, head in functions(inside, "    ", is_public)
+            )
 
 
 def c_calls() -> Iterator[tuple[Path, str, str]]:
@@ -155,12 +197,18 @@ def c_calls() -> Iterator[tuple[Path, str, str]]:
 
 def front_clauses() -> dict[Clause, Home]:
     """The clauses of all calls of the fronts."""
-    found = {Clause(name, clause): Home(file, head) for file, name, head in c_calls() for clause in CLAUSE.findall(head)}
+    found = {
+        Clause(name, clause): Home(file, head)
+        for file, name, head in c_calls()
+        for clause in CLAUSE.findall(head)
+    }
     for front in FRONTS:
         for _, name in exports(front):
             for file in sorted((CRATES / home_of(front, name) / "src").rglob("*.rt")):
                 for call, head in calls_of(file, name):
-                    found.update({Clause(call, clause): Home(file, head) for clause in CLAUSE.findall(head)})
+                    found.update(
+                        {Clause(call, clause): Home(file, head) for clause in CLAUSE.findall(head)}
+                    )
     return found
 
 
@@ -191,7 +239,13 @@ def covering() -> dict[Clause, Edits]:
 def reason(clause: Clause, home: Home, has_edit: bool) -> str:
     """Why the gate tries no edit for a clause; empty if it should."""
     if has_edit:
-        return ONE_FIELD if str(clause) in LEFT_OUT else AS_ANOTHER if str(clause) in LIKE_OTHERS else ""
+        return (
+            ONE_FIELD
+            if str(clause) in LEFT_OUT
+            else AS_ANOTHER
+            if str(clause) in LIKE_OTHERS
+            else ""
+        )
     if home.file.name == "laws.rt":
         return A_LAW
     if clause.name in INVARIANT.findall(home.head):
@@ -200,29 +254,43 @@ def reason(clause: Clause, home: Home, has_edit: bool) -> str:
 
 
 def told(clause: Clause, home: Home, edits: Edits) -> str:
-    """The edits that break a clause, those that the gate leaves out in brackets. Where it tries none, why, or that one is missing."""
+    """The edits that break a clause, those that the gate leaves out in brackets. Where it tries
+    none, why, or that one is missing."""
     names = [*edits.kept, *(f"[{edit}]" for edit in edits.more)]
     if not edits.kept:
         names.append(reason(clause, home, bool(edits.more)) or "MISSING")
     return ", ".join(names)
 
 
-def rows(clauses: dict[Clause, Home], edits: dict[Clause, Edits], wanted: list[str]) -> Iterator[str]:
+def rows(
+    clauses: dict[Clause, Home], edits: dict[Clause, Edits], wanted: list[str]
+) -> Iterator[str]:
     """The lines of the table, for these calls or for all."""
     for clause, home in clauses.items():
         if not wanted or clause.call in wanted:
-            yield f"| `{clause.call}` | {clause.name} | {told(clause, home, edits.get(clause, Edits([], [])))} |"
+            yield (
+                f"| `{clause.call}` | {clause.name} | "
+                f"{told(clause, home, edits.get(clause, Edits([], [])))} |"
+            )
 
 
 def main() -> None:
     parser = argparse.ArgumentParser(description=(__doc__ or "").splitlines()[0])
-    parser.add_argument("calls", nargs="*", metavar="CALL", help="a call, such as State::push_arc; all where none is named")
+    parser.add_argument(
+        "calls",
+        nargs="*",
+        metavar="CALL",
+        help="a call, such as State::push_arc; all where none is named",
+    )
     wanted = parser.parse_args().calls
     clauses, edits = front_clauses(), covering()
     for call in {*wanted} - {clause.call for clause in clauses}:
         sys.exit(f"list_edits.py: callers have no call {call} with a contract")
     for clause in edits.keys() - clauses.keys():
-        sys.exit(f"list_edits.py: {', '.join([*edits[clause].kept, *edits[clause].more])} covers {clause}, and callers have no such clause")
+        sys.exit(
+            f"list_edits.py: {', '.join([*edits[clause].kept, *edits[clause].more])} covers "
+            f"{clause}, and callers have no such clause"
+        )
     for name in {*REASONS, *LEFT_OUT, *LIKE_OTHERS} - {*map(str, clauses)}:
         sys.exit(f"list_edits.py: it gives a reason for {name}, and callers have no such clause")
     print("| Call | Clause | Edits |\n| --- | --- | --- |", *rows(clauses, edits, wanted), sep="\n")

@@ -1,10 +1,11 @@
 #!/usr/bin/env python3
-"""Prints the contents of each file of definitions and of lemmas, by the comment at its head, as tables in Markdown.
+"""Prints the contents of each file of definitions and of lemmas, by the comment at its head, as
+tables in Markdown.
 
     python3 tools/list_files.py [CRATE..]
 
-A file of definitions is public if public contracts use it: who asks what is proved has to read these. A private one serves contracts
-inside the crate, the crates above it, and proofs.
+A file of definitions is public if public contracts use it: who asks what is proved has to read
+these. A private one serves contracts inside the crate, the crates above it, and proofs.
 """
 
 from __future__ import annotations
@@ -22,35 +23,57 @@ CRATES = Path(__file__).resolve().parents[1] / "crates"
 def first_words(file: Path) -> tuple[str, str]:
     """The comment at the head of a file: its contents, and 'public' or 'private' if it says so."""
     head = takewhile(lambda line: line.startswith("--"), file.read_text().splitlines())
-    what, *kind = re.split(r"\s*\b(Public|Private): ", " ".join(line.removeprefix("--").strip() for line in head))
+    what, *kind = re.split(
+        r"\s*\b(Public|Private): ", " ".join(line.removeprefix("--").strip() for line in head)
+    )
     return what, kind[0].lower() if kind else ""
 
 
 def says_something(file: Path) -> bool:
-    """Whether it has definitions or lemmas: it is no proof of one function, and no list of other files."""
-    return file.stem not in ("Lib", "Answers", "Invariants", "Proof") and not file.with_suffix("").is_dir()
+    """Whether it has definitions or lemmas: it is no proof of one function, and no list of other
+    files."""
+    return (
+        file.stem not in ("Lib", "Answers", "Invariants", "Proof")
+        and not file.with_suffix("").is_dir()
+    )
 
 
 def tables(crate: Path) -> Iterator[str]:
     """The lines of a crate's tables: its definitions, and then its lemmas."""
-    for part, head in ("specs", "| Definitions | What | |\n| --- | --- | --- |"), ("proofs", "| Lemmas | What |\n| --- | --- |"):
+    for part, head in ("specs", "| Definitions | What | |\n| --- | --- | --- |"), (
+        "proofs",
+        "| Lemmas | What |\n| --- | --- |",
+    ):
         files = [file for file in sorted((crate / part).rglob("*.antt")) if says_something(file)]
         if files:
             yield head
         for file in files:
             what, kind = first_words(file)
-            yield f"| `{file.relative_to(crate / part).with_suffix('')}` | {what} |" + (f" {kind} |" if part == "specs" else "")
+            yield f"| `{file.relative_to(crate / part).with_suffix('')}` | {what} |" + (
+                f" {kind} |" if part == "specs" else ""
+            )
         if files:
             yield ""
 
 
 def main() -> None:
     parser = argparse.ArgumentParser(description=(__doc__ or "").splitlines()[0])
-    known = sorted(folder.parent.name for folder in CRATES.glob("*/specs") if folder.parent.name.startswith("dmf_"))
-    parser.add_argument("crates", nargs="*", metavar="CRATE", help=f"one of {', '.join(known)}; all where none is named")
+    known = sorted(
+        folder.parent.name
+        for folder in CRATES.glob("*/specs")
+        if folder.parent.name.startswith("dmf_")
+    )
+    parser.add_argument(
+        "crates",
+        nargs="*",
+        metavar="CRATE",
+        help=f"one of {', '.join(known)}; all where none is named",
+    )
     for name in parser.parse_args().crates or known:
         if name not in known:
-            sys.exit(f"list_files.py: no crate {name} has definitions; these have: {', '.join(known)}")
+            sys.exit(
+                f"list_files.py: no crate {name} has definitions; these have: {', '.join(known)}"
+            )
         print(f"## `{name}`\n", *tables(CRATES / name), sep="\n")
 
 

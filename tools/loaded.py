@@ -3,9 +3,11 @@
 
     python3 tools/loaded.py LOG
 
-A check says how many modules of each library it loaded, and, if it began with kept work, how many of its own. Modules of this repository
-may be loaded only from a library that this run has proved. `rt` also says which crates and edits it kept, and whose work a check began
-with. The last line but the list says how many modules were loaded from before. The status is 0 if there were none, and nothing was kept.
+A check says how many modules of each library it loaded, and, if it began with kept work, how many
+of its own. Modules of this repository may be loaded only from a library that this run has proved.
+`rt` also says which crates and edits it kept, and whose work a check began with. The last line but
+the list says how many modules were loaded from before. The status is 0 if there were none, and
+nothing was kept.
 """
 
 from __future__ import annotations
@@ -20,12 +22,14 @@ PROVED = re.compile(r"^rt: (\w+) proved$")
 LOADED = re.compile(r"^(crate|library|statements) (\w+): modules loaded=(\d+) checked=(\d+)")
 # What else says that something is believed that this run did not do.
 KEPT = re.compile(
-    r"^rt: \w+ is kept:|were tried by an earlier run|: begins with what a check kept in |the others are kept from earlier runs"
+    r"^rt: \w+ is kept:|were tried by an earlier run|: begins with what a check kept in "
+    r"|the others are kept from earlier runs"
 )
 
 
 def from_before(lines: list[str], own: set[str]) -> Iterator[tuple[int, str]]:
-    """Yield what was loaded from before: how many modules, and the line that says so, given the names of the repository's crates."""
+    """Yield what was loaded from before: how many modules, and the line that says so, given the
+    names of the repository's crates."""
     proved: set[str] = set()
     for line in lines:
         if done := PROVED.match(line):

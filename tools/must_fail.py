@@ -1,8 +1,9 @@
 """What a must-fail edit is, and what the prover says of it: shared by the scripts that try them.
 
-An edit shows that a contract forbids a body only if the prover refuses that body at a goal: at a promise of the function that was changed,
-or at one that a caller makes with it. It shows nothing if it cannot be made, compiled or read, if it changes what is promised, if a proof
-only names what it took away, or if the prover reached a limit of steps, time or memory."""
+An edit shows that a contract forbids a body only if the prover refuses that body at a goal: at a
+promise of the function that was changed, or at one that a caller makes with it. It shows nothing if
+it cannot be made, compiled or read, if it changes what is promised, if a proof only names what it
+took away, or if the prover reached a limit of steps, time or memory."""
 
 from __future__ import annotations
 
@@ -16,11 +17,20 @@ KEPT, MORE = "must-fail", "more-must-fail"
 # What `rt` says of one edit: the crate with the edit's file, and the rest of the line.
 SAID = re.compile(r"^rt: must-fail (\S+/\S+\.edit): (.*)$")
 REFUSED = "refused, as it must be"
-# The first complaint of the prover, cut off where it is long: at a place of the code, that something is not proved, with the goal's name
-# in brackets; or in the file that answers a function's goals, with the name of the goal. `rt` passes over complaints of lost names.
-AT_CODE = re.compile(r"(?:note: )?(?:\./)?(src/\S+?):(\d+):\d+: it is not proved that .*?(?:\(`([^`)]+)|$)")
-AT_ANSWER = re.compile(r"(?:note: )?(?:\./)?(proofs/\S+/(?:Answers|Proof|Invariants)\.antt):(\d+):\d+: error: `([^`]+)(?:`: (.*)|$)")
-LOST_NAME = re.compile(r"is not in scope|has no field|has no `|was not admitted|is no name|operand is missing|expected the end|cannot continue")
+# The first complaint of the prover, cut off where it is long: at a place of the code, that
+# something is not proved, with the goal's name in brackets; or in the file that answers a
+# function's goals, with the name of the goal. `rt` passes over complaints of lost names.
+AT_CODE = re.compile(
+    r"(?:note: )?(?:\./)?(src/\S+?):(\d+):\d+: it is not proved that .*?(?:\(`([^`)]+)|$)"
+)
+AT_ANSWER = re.compile(
+    r"(?:note: )?(?:\./)?(proofs/\S+/(?:Answers|Proof|Invariants)\.antt):(\d+):\d+: "
+    r"error: `([^`]+)(?:`: (.*)|$)"
+)
+LOST_NAME = re.compile(
+    r"is not in scope|has no field|has no `|was not admitted|is no name|operand is missing"
+    r"|expected the end|cannot continue"
+)
 GAVE_UP = re.compile(r"`search` gave|gave up at one of its limits")
 # Why an edit that is not refused at a goal is not, by how the line begins.
 REASONS = {
@@ -33,23 +43,32 @@ REASONS = {
 
 
 class Verdict(NamedTuple):
-    """What became of an edit: the goal at which it was refused, with its place, or why it shows nothing."""
+    """What became of an edit: the goal at which it was refused, with its place, or why it shows
+    nothing."""
 
     edit: str
     goal: str
     reason: str
 
     def __str__(self) -> str:
-        return f"{self.edit}: {'refused at ' + self.goal if self.goal else 'not refused at a goal: ' + self.reason}"
+        return (
+            f"{self.edit}: "
+            f"{'refused at ' + self.goal if self.goal else 'not refused at a goal: ' + self.reason}"
+        )
 
 
 def goal_of(complaint: str) -> str:
-    """Return the goal that a complaint of the prover is about, with its place, or '' if it is about none."""
+    """Return the goal that a complaint of the prover is about, with its place, or '' if it is about
+    none."""
     if at := AT_CODE.match(complaint):
         name = f"goal {at[3]}" if at[3] else "an unnamed goal"
-        return f"{name} of {at[1]}:{at[2]}{' (search gave up)' if GAVE_UP.search(complaint) else ''}"
+        return (
+            f"{name} of {at[1]}:{at[2]}{' (search gave up)' if GAVE_UP.search(complaint) else ''}"
+        )
     at = AT_ANSWER.match(complaint)
-    return f"the answer {at[3]} in {at[1]}:{at[2]}" if at and not LOST_NAME.search(at[4] or "") else ""
+    return (
+        f"the answer {at[3]} in {at[1]}:{at[2]}" if at and not LOST_NAME.search(at[4] or "") else ""
+    )
 
 
 def judge(line: str) -> Verdict | None:

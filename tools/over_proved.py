@@ -1,9 +1,11 @@
-"""Builds a static library over the crates that `rt ci` has just proved, and left in their out/: `rt lib` would prove each once more.
+"""Builds a static library over the crates that `rt ci` has just proved, and left in their out/: `rt
+lib` would prove each once more.
 
     python3 tools/over_proved.py KIT ROOT CRATE
 
-KIT is the toolchain's folder, ROOT the repository's, CRATE the library's crate, which is proved here, from nothing. The status is 0 if it
-was built, and 2 where other work than that of `rt ci` lies in out/, or none.
+KIT is the toolchain's folder, ROOT the repository's, CRATE the library's crate, which is proved
+here, from nothing. The status is 0 if it was built, and 2 where other work than that of `rt ci`
+lies in out/, or none.
 """
 
 from __future__ import annotations
@@ -21,9 +23,13 @@ def main(kit: str, root: str, name: str) -> int:
     rtlib: Any = importlib.import_module("rtlib")
     crate = next(it for it in rtlib.crates_below(root) if it.name == name)
     # Other commands leave a stamp, by which they know of which sources their work is.
-    if not all(os.path.isdir(it.rlib) and not os.path.exists(f"{it.folder}/out/rlib/stamp") for it in crate.below()):
+    if not all(
+        os.path.isdir(it.rlib) and not os.path.exists(f"{it.folder}/out/rlib/stamp")
+        for it in crate.below()
+    ):
         return 2
-    # Otherwise the check begins with what out/ keeps of an earlier one, and its own jobs leave work there for each other.
+    # Otherwise the check begins with what out/ keeps of an earlier one, and its own jobs leave work
+    # there for each other.
     rtlib.KEPT = []
     os.makedirs(f"{crate.folder}/out", exist_ok=True)
     return int(crate.build_static(["--jobs", "2"]))

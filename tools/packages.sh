@@ -9,8 +9,8 @@ missing() {
     done
 }
 
-# Installs packages. If the present list of packages does not do, it is fetched anew. Waits for another call of apt-get.
-# Prints nothing but why it failed, in a line.
+# Installs packages. If the present list of packages does not do, it is fetched anew. Waits for
+# another call of apt-get. Prints nothing but why it failed, in a line.
 install_packages() {
     local said install=(apt-get install -y -q --no-install-recommends -o DPkg::Lock::Timeout=300 "$@")
     export DEBIAN_FRONTEND=noninteractive
@@ -18,8 +18,8 @@ install_packages() {
     said=$(apt-get update -q 2>&1 && "${install[@]}" 2>&1) || grep -m 1 '^[EW]: ' <<<"$said" || tail -n 1 <<<"$said"
 }
 
-# Wants packages for a script of this name. If root calls, missing ones are installed; otherwise, or if that fails, one line says
-# which they are, and the status is 2.
+# Wants packages for a script of this name. If root calls, missing ones are installed; otherwise, or
+# if that fails, one line says which they are, and the status is 2.
 want_packages() {
     local name=$1 wanted why=''
     shift

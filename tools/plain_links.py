@@ -1,5 +1,6 @@
 #!/usr/bin/env python3
-"""Makes plain text of each link of the pages below a folder, in Markdown, that leads to no file or folder there.
+"""Makes plain text of each link of the pages below a folder, in Markdown, that leads to no file or
+folder there.
 
     python3 tools/plain_links.py FOLDER
 """

@@ -1,12 +1,15 @@
 #!/usr/bin/env python3
-"""Proves each crate and its tests from nothing, and tries the must-fail edits of each: `rt ci --anew`, with a stricter count of the edits.
+"""Proves each crate and its tests from nothing, and tries the must-fail edits of each: `rt ci
+--anew`, with a stricter count of the edits.
 
     python3 tools/prove_crates.py
 
-What `rt` says is passed on. Then come lines that say when each crate was proved, in minutes and seconds from the beginning, and a line
-for each edit of crates/*/must-fail/: the goal at which the prover refused it, or why it shows nothing (tools/must_fail.py). `rt` itself
-lets edits pass that cannot be made, or that are refused by a limit or a lost name. Here these fail, and so does an edit that was not
-tried. The last line is 'N passed, M failed', and the status is 0 only if nothing failed.
+What `rt` says is passed on. Then come lines that say when each crate was proved, in minutes and
+seconds from the beginning, and a line for each edit of crates/*/must-fail/: the goal at which the
+prover refused it, or why it shows nothing (tools/must_fail.py). `rt` itself lets edits pass that
+cannot be made, or that are refused by a limit or a lost name. Here these fail, and so does an edit
+that was not tried. The last line is 'N passed, M failed', and the status is 0 only if nothing
+failed.
 """
 
 from __future__ import annotations
@@ -26,16 +29,26 @@ COUNT = re.compile(r"^(\d+) passed, (\d+) failed", re.MULTILINE)
 PASSED = re.compile(rf"^rt: must-fail \S+: {REFUSED}", re.MULTILINE)
 FAILED = re.compile(r"^rt: must-fail \S+: NOT (?:REFUSED|TRIED)", re.MULTILINE)
 # What tells where the time goes.
-STEP = re.compile(r"^rt: \w+(?:: its tests are)? (?:NOT )?(?:PROVED|proved)$|^rt: \w+: (?:trying its must-fail edits|its tests )|^rt: \w+ ran")
+STEP = re.compile(
+    r"^rt: \w+(?:: its tests are)? (?:NOT )?(?:PROVED|proved)$"
+    r"|^rt: \w+: (?:trying its must-fail edits|its tests )|^rt: \w+ ran"
+)
 
 
 def run(command: list[str]) -> tuple[int, str]:
-    """Run a command at the root, passing on what it says, and return its status and what it said. Then print when each step was done."""
+    """Run a command at the root, passing on what it says, and return its status and what it said.
+    Then print when each step was done."""
     begun = time.monotonic()
     said: list[str] = []
     steps: list[str] = []
     with subprocess.Popen(
-        command, cwd=ROOT, stdin=subprocess.DEVNULL, stdout=subprocess.PIPE, stderr=subprocess.STDOUT, text=True, errors="replace"
+        command,
+        cwd=ROOT,
+        stdin=subprocess.DEVNULL,
+        stdout=subprocess.PIPE,
+        stderr=subprocess.STDOUT,
+        text=True,
+        errors="replace",
     ) as running:
         for line in running.stdout or ():
             print(line, end="", flush=True)
@@ -50,12 +63,15 @@ def run(command: list[str]) -> tuple[int, str]:
 def verdicts(said: str) -> list[Verdict]:
     """Return what became of each edit that stands in the checkout."""
     found = judge_all(said)
-    names = [name_of(edit) for crate in sorted(ROOT.glob("crates/*")) for edit in edits_of(crate, KEPT)]
+    names = [
+        name_of(edit) for crate in sorted(ROOT.glob("crates/*")) for edit in edits_of(crate, KEPT)
+    ]
     return [found.get(name, Verdict(name, "", "it was not tried")) for name in names]
 
 
 def count(status: int, said: str, judged: list[Verdict]) -> tuple[int, int]:
-    """Return what passed and what failed: the proofs and runs as `rt` counts them, and the edits as they were judged."""
+    """Return what passed and what failed: the proofs and runs as `rt` counts them, and the edits as
+    they were judged."""
     counted = COUNT.findall(said)
     if not counted:
         print("prove_crates.py: rt ended without a count")

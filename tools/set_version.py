@@ -1,8 +1,10 @@
 #!/usr/bin/env python3
-"""Writes the version, which the file VERSION has, into all files that show it. `prebuilt/` shows it once `tools/prebuilt renew` has run.
+"""Writes the version, which the file VERSION has, into all files that show it. `prebuilt/` shows it
+once `tools/prebuilt renew` has run.
 
     tools/set_version.py            writes it
-    tools/set_version.py --check    names the files that show another one, and ends with status 1 if there are any
+    tools/set_version.py --check    names the files that show another one, and ends with status 1
+                                    if there are any
 
 The newest heading of CHANGELOG.md is written by hand, and is only checked.
 """
@@ -15,18 +17,22 @@ from collections.abc import Iterator
 from pathlib import Path
 
 ROOT = Path(__file__).resolve().parents[1]
-# What stands before the version in each file, and what stands there after it. The C library answers a number: 10,000 for each major version,
-# and 100 for each minor one.
+# What stands before the version in each file, and what stands there after it. The C library answers
+# a number: 10,000 for each major version, and 100 for each minor one.
 TEXTS = {
     "clients/python/dmf/__init__.py": [('__version__ = "', '"')],
     "crates/dmf_arguments/src/help.rt": [('pub const VERSION: &str = "', '"')],
     "docs/TUTORIAL.md": [("    $ ./dmf --version\n    dmf ", "\n")],
-    "docs/*.[13]": [(' "" "dmf ', '"')],
+    "docs/*.[135]": [(' "" "dmf ', '"')],
     "include/dmf.h": [('#define DMF_VERSION "', '"')],
     "include/dmf.pc": [("\nVersion: ", "\n")],
+    "include/dmfConfigVersion.cmake": [('\nset(PACKAGE_VERSION "', '"')],
 }
 NUMBERS = {
-    "crates/dmf_c/src/version.rt": [("pub extern \"C\" fn dmf_version() -> u32\n    ensures { result ≡ ", " }\n{\n    "), (" }\n{\n    ", "\n}\n")],
+    "crates/dmf_c/src/version.rt": [
+        ('pub extern "C" fn dmf_version() -> u32\n    ensures { result ≡ ', " }\n{\n    "),
+        (" }\n{\n    ", "\n}\n"),
+    ],
 }
 CHECKED = {
     "CHANGELOG.md": [("\n## ", " - ")],
@@ -61,7 +67,10 @@ def wrong(texts: dict[str, list[tuple[str, str]]], shown: str) -> Iterator[str]:
     for path, place in places(texts):
         found = place.search(path.read_text())
         if not found or found[2] != shown:
-            yield f"{path.relative_to(ROOT)} shows {found[2] if found else 'no version'} and not {shown}"
+            yield (
+                f"{path.relative_to(ROOT)} shows {found[2] if found else 'no version'} and not "
+                f"{shown}"
+            )
 
 
 def main() -> int:

@@ -1,6 +1,8 @@
-"""Builds the wheel of the package `dmf` for pip, which asks for it by the names of PEP 517. Nothing but Python is needed.
+"""Builds the wheel of the package `dmf` for pip, which asks for it by the names of PEP 517. Nothing
+but Python is needed.
 
-The wheel has the executable and the C library, if there are such for this machine, and the tools as commands."""
+The wheel has the executable and the C library, if there are such for this machine, and the tools as
+commands."""
 
 from __future__ import annotations
 
@@ -21,13 +23,15 @@ from typing import Any
 HERE = Path(__file__).resolve().parent
 # A source archive has beside this file what the repository has above it.
 ROOT = HERE if (HERE / "PKG-INFO").is_file() else HERE.parents[1]
-# The executable, the C library and its header in the wheel and in a source archive.
-INSIDE, LIBRARY, HEADER = "dmf/bin/dmf", "dmf/bin/libdmf.so.0", "dmf/include/dmf.h"
+# The executable, the C library and its headers in the wheel and in a source archive.
+INSIDE, LIBRARY, HEADERS = "dmf/bin/dmf", "dmf/bin/libdmf.so.0", ("dmf.h", "dmf.hpp")
 
 
 def version() -> str:
     """The version that the package itself has."""
-    (found,) = re.findall(r'^__version__ = "(.*)"$', (HERE / "dmf" / "__init__.py").read_text(), re.MULTILINE)
+    (found,) = re.findall(
+        r'^__version__ = "(.*)"$', (HERE / "dmf" / "__init__.py").read_text(), re.MULTILINE
+    )
     return str(found)
 
 
@@ -36,66 +40,109 @@ def licence() -> bytes:
     try:
         return (ROOT / "LICENSE").read_bytes()
     except FileNotFoundError:
-        raise RuntimeError(f"{HERE} is not in its repository; pip before 21.3 builds it there with --use-feature=in-tree-build") from None
+        raise RuntimeError(
+            f"{HERE} is not in its repository; pip before 21.3 builds it there with "
+            "--use-feature=in-tree-build"
+        ) from None
 
 
 def metadata() -> bytes:
     """What the package is."""
-    lines = ["Metadata-Version: 2.1", "Name: dmf", f"Version: {version()}", "License: MIT", "License-File: LICENSE"]
-    lines += ["Summary: Maximum flows and what-if sessions, by the program dmf", "Requires-Python: >=3.9"]
-    lines += ["Provides-Extra: tables", *(f"Requires-Dist: {name}; extra == 'tables'" for name in ("odfpy", "charset-normalizer"))]
+    lines = [
+        "Metadata-Version: 2.1",
+        "Name: dmf",
+        f"Version: {version()}",
+        "License: MIT",
+        "License-File: LICENSE",
+    ]
+    lines += [
+        "Summary: Maximum flows and what-if sessions, by the program dmf",
+        "Requires-Python: >=3.9",
+    ]
+    lines += [
+        "Provides-Extra: tables",
+        *(f"Requires-Dist: {name}; extra == 'tables'" for name in ("odfpy", "charset-normalizer")),
+    ]
     return "".join(f"{line}\n" for line in lines).encode()
 
 
 def package() -> dict[str, bytes]:
     """The files of the package."""
-    files = sorted(file for file in (HERE / "dmf").rglob("*.*") if file.suffix in (".py", ".typed", ".html", ".css", ".js"))
+    files = sorted(
+        file
+        for file in (HERE / "dmf").rglob("*.*")
+        if file.suffix in (".py", ".typed", ".txt", ".html", ".css", ".js")
+    )
     return {str(file.relative_to(HERE)): file.read_bytes() for file in files}
 
 
 def executable() -> dict[str, bytes]:
-    """The executable, if there is one that runs here: that of a source archive, or that of the repository, which is built if need be."""
+    """The executable, if there is one that runs here: that of a source archive, or that of the
+    repository, which is built if need be."""
     inside = HERE / INSIDE
-    call, path = (inside, inside) if inside.is_file() else (ROOT / "dmf", ROOT / "crates/dmf/out/dmf")
+    call, path = (
+        (inside, inside) if inside.is_file() else (ROOT / "dmf", ROOT / "crates/dmf/out/dmf")
+    )
     try:
-        told = subprocess.run([call, "--version"], stdin=subprocess.DEVNULL, stdout=subprocess.PIPE).stdout
+        told = subprocess.run(
+            [call, "--version"], stdin=subprocess.DEVNULL, stdout=subprocess.PIPE
+        ).stdout
     except OSError:
         told = b""
     if told != f"dmf {version()}\n".encode():
-        print("dmf: there is no program for this machine, so what is made has none", file=sys.stderr)
+        print("dmf: no program runs on this machine, so what is built has none", file=sys.stderr)
         return {}
     if not path.is_file():
         # In a repository that cannot be written it is put elsewhere.
-        take = subprocess.run([ROOT / "tools/prebuilt", "take"], stdout=subprocess.PIPE, text=True, check=True)
+        take = subprocess.run(
+            [ROOT / "tools/prebuilt", "take"], stdout=subprocess.PIPE, text=True, check=True
+        )
         path = Path(take.stdout.rstrip("\n"))
     return {INSIDE: path.read_bytes(), **library()}
 
 
 def library() -> dict[str, bytes]:
-    """The C library and its header, if there is one of these sources: that of a source archive, or that of the repository. Without it the
-    package asks the executable."""
-    for path in HERE / LIBRARY, *([] if (ROOT / "tools/prebuilt").is_file() else [ROOT / "crates/dmf_c/out/libdmf.so.0"]):
+    """The C library and its headers, if there is one of these sources: that of a source archive, or
+    that of the repository. Without it the package asks the executable."""
+    for path in HERE / LIBRARY, *(
+        [] if (ROOT / "tools/prebuilt").is_file() else [ROOT / "crates/dmf_c/out/libdmf.so.0"]
+    ):
         if path.is_file():
-            return {LIBRARY: path.read_bytes(), **header()}
+            return {LIBRARY: path.read_bytes(), **headers()}
     try:
-        take = subprocess.run([ROOT / "tools/prebuilt", "library"], stdout=subprocess.PIPE, text=True)
+        take = subprocess.run(
+            [ROOT / "tools/prebuilt", "library"], stdout=subprocess.PIPE, text=True
+        )
     except OSError:
         return {}
-    return {LIBRARY: Path(take.stdout.rstrip("\n")).read_bytes(), **header()} if take.returncode == 0 else {}
+    return (
+        {LIBRARY: Path(take.stdout.rstrip("\n")).read_bytes(), **headers()}
+        if take.returncode == 0
+        else {}
+    )
 
 
-def header() -> dict[str, bytes]:
-    """The header, for programs in C that use the library of the wheel."""
-    return {HEADER: path.read_bytes() for path in (HERE / HEADER, ROOT / "include/dmf.h") if path.is_file()}
+def headers() -> dict[str, bytes]:
+    """The headers, for programs in C and C++ that use the library of the wheel."""
+    return {
+        f"dmf/include/{name}": path.read_bytes()
+        for name in HEADERS
+        for path in (HERE / "dmf/include" / name, ROOT / "include" / name)
+        if path.is_file()
+    }
 
 
 def tools() -> dict[str, bytes]:
     """The tools as commands, which pip has run by the Python of its environment."""
-    return {tool.name: re.sub(rb"\A#!.*", b"#!python", tool.read_bytes()) for tool in sorted((ROOT / "tools").glob("dmf-*"))}
+    return {
+        tool.name: re.sub(rb"\A#!.*", b"#!python", tool.read_bytes())
+        for tool in sorted((ROOT / "tools").glob("dmf-*"))
+    }
 
 
 def tag(program: bytes) -> str:
-    """For which systems a wheel with this executable and library is: with glibc from the newest version on whose symbols they name."""
+    """For which systems a wheel with this executable and library is: with glibc from the newest
+    version on whose symbols they name."""
     if not program:
         return "py3-none-any"
     needed = [int(minor) for minor in re.findall(rb"GLIBC_2\.(\d+)", program)]
@@ -104,21 +151,41 @@ def tag(program: bytes) -> str:
     return f"py3-none-{re.sub('[-.]', '_', sysconfig.get_platform())}"
 
 
-def build_wheel(wheel_directory: str, config_settings: Any = None, metadata_directory: Any = None) -> str:
+def build_wheel(
+    wheel_directory: str, config_settings: Any = None, metadata_directory: Any = None
+) -> str:
     """Writes the wheel, and returns its name. The same files give the same bytes."""
     base, program = f"dmf-{version()}", executable()
-    info, commands = f"{base}.dist-info", {f"{base}.data/scripts/{name}": content for name, content in tools().items()}
+    info, commands = f"{base}.dist-info", {
+        f"{base}.data/scripts/{name}": content for name, content in tools().items()
+    }
     if program:
-        commands[f"{base}.data/scripts/dmf"] = re.sub(rb"\A#!.*", b"#!python", (HERE / "command.py").read_bytes())
+        commands[f"{base}.data/scripts/dmf"] = re.sub(
+            rb"\A#!.*", b"#!python", (HERE / "command.py").read_bytes()
+        )
     kind = tag(b"".join(program.values()))
-    about = f"Wheel-Version: 1.0\nGenerator: dmf\nRoot-Is-Purelib: {str(not program).lower()}\nTag: {kind}\n"
-    files = {**package(), **program, **commands, f"{info}/METADATA": metadata(), f"{info}/WHEEL": about.encode(), f"{info}/LICENSE": licence()}
-    record = "".join(f"{name},sha256={_sum(content)},{len(content)}\n" for name, content in files.items())
+    about = (
+        f"Wheel-Version: 1.0\nGenerator: dmf\nRoot-Is-Purelib: {str(not program).lower()}\nTag: "
+        f"{kind}\n"
+    )
+    files = {
+        **package(),
+        **program,
+        **commands,
+        f"{info}/METADATA": metadata(),
+        f"{info}/WHEEL": about.encode(),
+        f"{info}/LICENSE": licence(),
+    }
+    record = "".join(
+        f"{name},sha256={_sum(content)},{len(content)}\n" for name, content in files.items()
+    )
     files[f"{info}/RECORD"] = f"{record}{info}/RECORD,,\n".encode()
     with zipfile.ZipFile(Path(wheel_directory) / f"{base}-{kind}.whl", "w") as wheel:
         for name, content in files.items():
             member = zipfile.ZipInfo(name, (1980, 1, 1, 0, 0, 0))
-            member.external_attr = (0o100755 if name == INSIDE or name in commands else 0o100644) << 16
+            member.external_attr = (
+                0o100755 if name == INSIDE or name in commands else 0o100644
+            ) << 16
             wheel.writestr(member, content, zipfile.ZIP_DEFLATED)
     return f"{base}-{kind}.whl"
 
@@ -128,11 +195,17 @@ def _sum(content: bytes) -> str:
 
 
 def build_sdist(sdist_directory: str, config_settings: Any = None) -> str:
-    """Writes the source archive, with the executable if there is one, and returns its name. The same files give the same bytes."""
+    """Writes the source archive, with the executable if there is one, and returns its name. The
+    same files give the same bytes."""
     base, program = f"dmf-{version()}", executable()
     files = {**package(), **program, "PKG-INFO": metadata(), "LICENSE": licence()}
-    files.update((name, (HERE / name).read_bytes()) for name in ("pyproject.toml", "build_wheel.py", "command.py"))
-    files.update((f"tools/{tool.name}", tool.read_bytes()) for tool in sorted((ROOT / "tools").glob("dmf-*")))
+    files.update(
+        (name, (HERE / name).read_bytes())
+        for name in ("pyproject.toml", "build_wheel.py", "command.py")
+    )
+    files.update(
+        (f"tools/{tool.name}", tool.read_bytes()) for tool in sorted((ROOT / "tools").glob("dmf-*"))
+    )
     text = io.BytesIO()
     with tarfile.open(fileobj=text, mode="w") as archive:
         for name, content in files.items():

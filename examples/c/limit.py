@@ -15,7 +15,13 @@ capacities = (c_uint64 * 5)(3, 2, 5, 2, 3)
 flows = (c_uint64 * 5)()
 session, bad_arc = c_void_p(), c_size_t()
 ends = (tails, five, heads, five, capacities, five)
-status = library.dmf_session_new(c_uint32(4), c_uint32(1), c_uint32(4), *ends, c_uint32(100), byref(session), byref(bad_arc))
-if status == 0 and library.dmf_session_solve(session) == 0 and library.dmf_session_flows(session, flows, five) == 0:
+status = library.dmf_session_new(
+    c_uint32(4), c_uint32(1), c_uint32(4), *ends, c_uint32(100), byref(session), byref(bad_arc)
+)
+if (
+    status == 0
+    and library.dmf_session_solve(session) == 0
+    and library.dmf_session_flows(session, flows, five) == 0
+):
     print(library.dmf_session_value(session), list(flows))
     library.dmf_session_free(session)

@@ -1,4 +1,5 @@
-"""Makes a table of arcs of a rota: hours flow from the staff to the people, to their days, to shifts, and to the rota.
+"""Makes a table of arcs of a rota: hours flow from the staff to the people, to their days, to
+shifts, and to the rota.
 
     python3 arcs.py <rota.csv | dmf-problem Staff Rota >rota.max
 """
@@ -13,7 +14,9 @@ from collections.abc import Iterator
 SHIFT = 8
 
 
-def arcs(shifts: list[str], needed: dict[str, str], people: list[dict[str, str]]) -> Iterator[tuple[str, str, str | int, str]]:
+def arcs(
+    shifts: list[str], needed: dict[str, str], people: list[dict[str, str]]
+) -> Iterator[tuple[str, str, str | int, str]]:
     for person in people:
         yield "Staff", person["name"], person["hours"], f"hours of {person['name']}"
     for person in people:

@@ -1,9 +1,11 @@
 #!/usr/bin/env python3
-"""Reads the table of pipes with pandas, finds the ten pipes whose loss is the worst, tries three widenings, and draws the best.
+"""Reads the table of pipes with pandas, finds the ten pipes whose loss is the worst, tries three
+widenings, and draws the best.
 
     PYTHONPATH=../../clients/python python3 worst.py [PICTURE]    in this folder
 
-The picture, best.svg by default, is drawn where Graphviz is there. In a notebook each part is a cell.
+The picture, best.svg by default, is drawn where Graphviz is there. In a notebook each part is a
+cell.
 """
 
 import sys

@@ -1,5 +1,5 @@
-"""What tools/dmf-names prints of answers, sessions and transcripts, and what it says of those that do not fit, worked out by hand.
-Between lines stands a slash."""
+"""What tools/dmf-names prints of answers, sessions and transcripts, and what it says of those that
+do not fit, worked out by hand. Between lines stands a slash."""
 
 from __future__ import annotations
 
@@ -11,9 +11,15 @@ ROADS = (
     " / p max 3 3 / n 1 s / n 3 t / a 1 2 5 / a 2 3 4 / a 1 3 2"
 )
 ANSWER = "s 6 / f 1 2 4 / f 2 3 4 / f 1 3 2"
-TOLD = "value 6 /   1 Mill Lane, Quarry -> Hill: 4 of 5 /   2 Hill -> Site: 4 of 4 /   3 Old Road, Quarry -> Site: 2 of 2"
+TOLD = (
+    "value 6 /   1 Mill Lane, Quarry -> Hill: 4 of 5 /   2 Hill -> Site: 4 of 4 /   3 Old Road, "
+    "Quarry -> Site: 2 of 2"
+)
 CUT = "c cut 6 / c side 1 / c side 2"
-LIMIT = "limit 6 /   source's side: Quarry, Hill /   2 Hill -> Site: 4 /   3 Old Road, Quarry -> Site: 2"
+LIMIT = (
+    "limit 6 /   source's side: Quarry, Hill /   2 Hill -> Site: 4 /   3 Old Road, Quarry -> Site: "
+    "2"
+)
 # A session: command, reply, what is told of it. Arc 2 is widened; an arc is added; a node is shut.
 TURNS = [
     ("solve", ANSWER, TOLD),
@@ -22,30 +28,46 @@ TURNS = [
     (
         "solve",
         "s 7 / f 1 2 5 / f 2 3 5 / f 1 3 2",
-        "value 7 /   1 Mill Lane, Quarry -> Hill: 5 of 5 /   2 Hill -> Site: 5 of 9 /   3 Old Road, Quarry -> Site: 2 of 2",
+        "value 7 /   1 Mill Lane, Quarry -> Hill: 5 of 5 /   2 Hill -> Site: 5 of 9 /   3 Old "
+        "Road, Quarry -> Site: 2 of 2",
     ),
     (
         "print cut",
         "c cut 7 / c side 1",
-        "limit 7 /   source's side: Quarry /   1 Mill Lane, Quarry -> Hill: 5 /   3 Old Road, Quarry -> Site: 2",
+        "limit 7 /   source's side: Quarry /   1 Mill Lane, Quarry -> Hill: 5 /   3 Old Road, "
+        "Quarry -> Site: 2",
     ),
     ("undo 2", "c undo value 6", "c undo value 6"),
     ("print flow", ANSWER, TOLD),
     ("add 1 3 7", "c add 4 value 6", "c add 4 value 6"),
-    ("solve", "s 13 / f 1 2 4 / f 2 3 4 / f 1 3 2 / f 1 3 7", TOLD.replace("6", "13", 1) + " /   4 Quarry -> Site: 7 of 7"),
-    ("print cut", "c cut 13 / c side 1 / c side 2", LIMIT.replace("6", "13", 1) + " /   4 Quarry -> Site: 7"),
+    (
+        "solve",
+        "s 13 / f 1 2 4 / f 2 3 4 / f 1 3 2 / f 1 3 7",
+        TOLD.replace("6", "13", 1) + " /   4 Quarry -> Site: 7 of 7",
+    ),
+    (
+        "print cut",
+        "c cut 13 / c side 1 / c side 2",
+        LIMIT.replace("6", "13", 1) + " /   4 Quarry -> Site: 7",
+    ),
     ("close 9", "c refused 11 no such arc", "c refused 11 no such arc"),
     ("shut 2", "c shut value 9", "c shut value 9"),
     (
         "print problem",
         "p max 3 2 / n 1 s / n 3 t / a 1 3 2 / a 1 3 7",
-        "c node 1 Quarry / c node 2 Hill / c node 3 Site / c arc 1 Old Road / p max 3 2 / n 1 s / n 3 t / a 1 3 2 / a 1 3 7",
+        "c node 1 Quarry / c node 2 Hill / c node 3 Site / c arc 1 Old Road / p max 3 2 / n 1 s / "
+        "n 3 t / a 1 3 2 / a 1 3 7",
     ),
-    ("solve", "s 9 / f 1 3 2 / f 1 3 7", "value 9 /   3 Old Road, Quarry -> Site: 2 of 2 /   4 Quarry -> Site: 7 of 7"),
+    (
+        "solve",
+        "s 9 / f 1 3 2 / f 1 3 7",
+        "value 9 /   3 Old Road, Quarry -> Site: 2 of 2 /   4 Quarry -> Site: 7 of 7",
+    ),
     (
         "print cut",
         "c cut 9 / c side 1",
-        "limit 9 /   source's side: Quarry /   3 Old Road, Quarry -> Site: 2 /   4 Quarry -> Site: 7",
+        "limit 9 /   source's side: Quarry /   3 Old Road, Quarry -> Site: 2 /   4 Quarry -> Site: "
+        "7",
     ),
     ("undo 2", "c undo value 13", "c undo value 13"),
     ("redo", "c redo value 9", "c redo value 9"),
@@ -55,11 +77,21 @@ COMMANDS, REPLIES, SESSION_TOLD = (" / ".join(turn[at] for turn in TURNS) for at
 TRANSCRIPT = " / ".join(f"{command} / {reply}" for command, reply, _ in TURNS)
 TRANSCRIPT_TOLD = " / ".join(f"{command} / {told}" for command, _, told in TURNS)
 # A place with a limit: two nodes of one name, and the arc between them.
-LIMITED = "c inner node 4 half 2 / c inner arc 3 limit 2 / c node 1 Port / c node 2 Depot / c node 3 Shop / c node 4 Depot / c arc 3 limit of Depot / p max 4 3 / n 1 s / n 3 t"
+LIMITED = (
+    "c inner node 4 half 2 / c inner arc 3 limit 2 / c node 1 Port / c node 2 Depot / c node 3 "
+    "Shop "
+    "/ c node 4 Depot / c arc 3 limit of Depot / p max 4 3 / n 1 s / n 3 t"
+)
 LIMITED += " / a 1 2 9 / a 4 3 7 / a 2 4 5"
-ODD_NAMES = b"c node 1 a\x1b[31mb\nc node 2 \xe2\x80\xaeabc\nc arc 1 x\x07\xc2\x9by\np max 2 1\nn 1 s\nn 2 t\na 1 2 5\n"
+ODD_NAMES = (
+    b"c node 1 a\x1b[31mb\nc node 2 \xe2\x80\xaeabc\nc arc 1 x\x07\xc2\x9by\np max 2 1\nn 1 s\nn 2 "
+    b"t\na 1 2 5\n"
+)
 FORGED = "c arc 1 Mill Lane / p max 3 2 / n 1 s / n 3 t / a 1 2 5 / a 2 3 4"
-UNKNOWN = "commands that are not known changed the network, so capacities and the arcs of cuts are left out from here on; "
+UNKNOWN = (
+    "commands that are not known changed the network, so capacities and the arcs of cuts are left "
+    "out from here on; "
+)
 UNKNOWN += "give the commands by --commands FILE"
 # Of which rows this is told, and for which line.
 WARNED = {
@@ -90,34 +122,42 @@ TOLD_OF: dict[str, tuple[Text, Text | None, Text, Text]] = {
     "comments, blank lines and faulty ones among the commands": (
         ROADS,
         "c solve /  / solve it / \tsolve  / print Flow / cap 1 x",
-        f"c refused 3 wrong number of fields / {ANSWER} / c refused 5 unknown command / c refused 6 not a number",
-        f"c refused 3 wrong number of fields / {TOLD} / c refused 5 unknown command / c refused 6 not a number",
+        f"c refused 3 wrong number of fields / {ANSWER} / c refused 5 unknown command / c refused "
+        "6 not a number",
+        f"c refused 3 wrong number of fields / {TOLD} / c refused 5 unknown command / c refused 6 "
+        "not a number",
     ),
     "a session that keeps one change": (
         ROADS,
         "cap 1 9 / cap 1 8 / undo 2 / undo / add 1 3 0",
-        "c cap value 0 / c cap value 0 / c refused 3 nothing to undo / c undo value 0 / c add 4 value 0",
-        "c cap value 0 / c cap value 0 / c refused 3 nothing to undo / c undo value 0 / c add 4 value 0",
+        "c cap value 0 / c cap value 0 / c refused 3 nothing to undo / c undo value 0 / c add 4 "
+        "value 0",
+        "c cap value 0 / c cap value 0 / c refused 3 nothing to undo / c undo value 0 / c add 4 "
+        "value 0",
     ),
     "a transcript": (ROADS, None, TRANSCRIPT, TRANSCRIPT_TOLD),
     "a transcript of which commands were typed ahead, one of them no command": (
         ROADS,
         None,
-        f"solve / hello / print cut / cap 2 9 / {ANSWER} / c refused 2 unknown command / {CUT} / c cap value 6",
-        f"solve / hello / print cut / cap 2 9 / {TOLD} / c refused 2 unknown command / {LIMIT} / c cap value 6",
+        f"solve / hello / print cut / cap 2 9 / {ANSWER} / c refused 2 unknown command / {CUT} / c "
+        "cap value 6",
+        f"solve / hello / print cut / cap 2 9 / {TOLD} / c refused 2 unknown command / {LIMIT} / c "
+        "cap value 6",
     ),
     "a session whose commands are not known": (
         ROADS,
         None,
         f"{ANSWER} / {LOST} / c close value 2",
-        f"{TOLD} / c cap value 6 / value 7 /   Quarry -> Hill: 5 /   Hill -> Site: 5 /   Quarry -> Site: 2"
+        f"{TOLD} / c cap value 6 / value 7 /   Quarry -> Hill: 5 /   Hill -> Site: 5 /   Quarry -> "
+        "Site: 2"
         " / limit 7 /   source's side: Quarry / c close value 2",
     ),
     "a transcript that begins after its first command": (
         ROADS,
         None,
         f"{ANSWER} / undo / c undo value 0 / print flow / s 0 / f 1 2 0 / f 2 3 0 / f 1 3 0",
-        f"{TOLD} / undo / c undo value 0 / print flow / value 0 /   Quarry -> Hill: 0 /   Hill -> Site: 0 /   Quarry -> Site: 0",
+        f"{TOLD} / undo / c undo value 0 / print flow / value 0 /   Quarry -> Hill: 0 /   Hill -> "
+        "Site: 0 /   Quarry -> Site: 0",
     ),
     "a name of an arc that is not there is none of one that is added": (
         ROADS + " / c arc 4 Tunnel / c node 4 Town",
@@ -128,28 +168,33 @@ TOLD_OF: dict[str, tuple[Text, Text | None, Text, Text]] = {
     "a printed problem makes the capacities known": (
         ROADS,
         None,
-        "c close value 2 / p max 3 1 / n 1 s / n 3 t / a 1 3 2 / s 2 / f 1 3 2 / c cut 2 / c side 1",
-        "c close value 2 / c node 1 Quarry / c node 2 Hill / c node 3 Site / p max 3 1 / n 1 s / n 3 t / a 1 3 2 / value 2"
+        "c close value 2 / p max 3 1 / n 1 s / n 3 t / a 1 3 2 / s 2 / f 1 3 2 / c cut 2 / c side "
+        "1",
+        "c close value 2 / c node 1 Quarry / c node 2 Hill / c node 3 Site / p max 3 1 / n 1 s / n "
+        "3 t / a 1 3 2 / value 2"
         " /   Quarry -> Site: 2 of 2 / limit 2 /   source's side: Quarry /   Quarry -> Site: 2",
     ),
     "a node whose name is another one's number": (
         "c node 2 1 / p max 3 2 / n 1 s / n 3 t / a 1 2 5 / a 2 3 4",
         None,
         "s 4 / f 1 2 4 / f 2 3 4 / c cut 4 / c side 1 / c side 2",
-        "value 4 /   1 1 -> 1: 4 of 5 /   2 1 -> 3: 4 of 4 / limit 4 /   source's side: 1, 1 /   2 1 -> 3: 4",
+        "value 4 /   1 1 -> 1: 4 of 5 /   2 1 -> 3: 4 of 4 / limit 4 /   source's side: 1, 1 /   2 "
+        "1 -> 3: 4",
     ),
     "a place with a limit": (
         LIMITED,
         None,
         "s 5 / f 1 2 5 / f 4 3 5 / f 2 4 5 / c cut 5 / c side 1 / c side 2",
-        "value 5 /   1 Port -> Depot: 5 of 9 /   2 Depot -> Shop: 5 of 7 /   3 what Depot lets through: 5 of 5"
+        "value 5 /   1 Port -> Depot: 5 of 9 /   2 Depot -> Shop: 5 of 7 /   3 what Depot lets "
+        "through: 5 of 5"
         " / limit 5 /   source's side: Port, Depot /   3 what Depot lets through: 5",
     ),
     "both nodes of a place on one side": (
         LIMITED.replace("a 4 3 7", "a 4 3 4"),
         None,
         "s 4 / f 1 2 4 / f 4 3 4 / f 2 4 4 / c cut 4 / c side 1 / c side 2 / c side 4",
-        "value 4 /   1 Port -> Depot: 4 of 9 /   2 Depot -> Shop: 4 of 4 /   3 what Depot lets through: 4 of 5"
+        "value 4 /   1 Port -> Depot: 4 of 9 /   2 Depot -> Shop: 4 of 4 /   3 what Depot lets "
+        "through: 4 of 5"
         " / limit 4 /   source's side: Port, Depot /   2 Depot -> Shop: 4",
     ),
     "names that would steer a terminal": (
@@ -161,7 +206,9 @@ TOLD_OF: dict[str, tuple[Text, Text | None, Text, Text]] = {
     "carriage returns, tabs and leading zeros": (
         ROADS.replace(" / ", "\r / "),
         text("solve\r / print cut\r"),
-        b"s\t0006\r\n f 1 2  04\r\nf 2 3 4\nf 1 3 " + b"0" * 5000 + b"2\r\nc cut 6\r\nc side 1\r\nc side 2\r\n",
+        b"s\t0006\r\n f 1 2  04\r\nf 2 3 4\nf 1 3 "
+        + b"0" * 5000
+        + b"2\r\nc cut 6\r\nc side 1\r\nc side 2\r\n",
         f"{TOLD} / {LIMIT}",
     ),
     "ten arcs, whose numbers stand below each other": (
@@ -177,11 +224,22 @@ TOLD_OF: dict[str, tuple[Text, Text | None, Text, Text]] = {
             "s 4 / f 1 2 4 / f 2 3 4",
             "value 4 /   1 Mill Lane, 1 -> 2: 4 of 5 /   2 2 -> 3: 4 of 4",
         )
-        for odd in (b"\x0c", b"\r", b"\x0b", b"\x1c", b"\x1d", b"\x85", "\x85".encode(), "\u2028".encode(), "\u2029".encode())
+        for odd in (
+            b"\x0c",
+            b"\r",
+            b"\x0b",
+            b"\x1c",
+            b"\x1d",
+            b"\x85",
+            "\x85".encode(),
+            "\u2028".encode(),
+            "\u2029".encode(),
+        )
     },
 }
 ANSWER_7 = "f 1 2 5 / f 2 3 5 / f 1 3 2"
-# What is said of an answer that does not fit the problem or the commands, and the lines of it that are told before that.
+# What is said of an answer that does not fit the problem or the commands, and the lines of it that
+# are told before that.
 FAULTS: list[tuple[Text, Text | None, Text, str]] = [
     (
         ROADS,
@@ -190,50 +248,161 @@ FAULTS: list[tuple[Text, Text | None, Text, str]] = [
         "line 3 of the answer: over capacity: arc 2, from 2 to 3, carries at most 4, and not 150",
     ),
     (ROADS, None, ANSWER.replace("f 2 3", "f 3 2"), "line 3 of the answer: no such arc: 3 to 2"),
-    (ROADS, None, "s 6 / f 1 3 2", "line 2 of the answer: arc 1 leads from 1 to 2, and not from 1 to 3"),
-    (ROADS, None, "s 6 / f 1 2 4 / f 2 3 4", "line 4 of the answer: the solution has 2 flows, and the network 3 arcs"),
-    (ROADS, None, f"s 6 / f 1 2 4 / {CUT}", "line 3 of the answer: the solution has 1 flows, and the network 3 arcs"),
-    (ROADS, None, ANSWER.replace("f 1 2 4", "f 1 2 5"), "line 4 of the answer: flow not conserved at node 2"),
-    (ROADS, None, ANSWER.replace("s 6", "s 5"), "line 4 of the answer: value differs: 6 flows out of the source, and not 5"),
+    (
+        ROADS,
+        None,
+        "s 6 / f 1 3 2",
+        "line 2 of the answer: arc 1 leads from 1 to 2, and not from 1 to 3",
+    ),
+    (
+        ROADS,
+        None,
+        "s 6 / f 1 2 4 / f 2 3 4",
+        "line 4 of the answer: the solution has 2 flows, and the network 3 arcs",
+    ),
+    (
+        ROADS,
+        None,
+        f"s 6 / f 1 2 4 / {CUT}",
+        "line 3 of the answer: the solution has 1 flows, and the network 3 arcs",
+    ),
+    (
+        ROADS,
+        None,
+        ANSWER.replace("f 1 2 4", "f 1 2 5"),
+        "line 4 of the answer: flow not conserved at node 2",
+    ),
+    (
+        ROADS,
+        None,
+        ANSWER.replace("s 6", "s 5"),
+        "line 4 of the answer: value differs: 6 flows out of the source, and not 5",
+    ),
     (ROADS, None, "s 6 / f 1 2 x", "line 2 of the answer: not a number"),
     (ROADS, None, "s 6 / f 1 2 ²", "line 2 of the answer: not a number"),
     (ROADS, None, "s 6 / f 1 2 " + "9" * 5000, "line 2 of the answer: number too large"),
     (ROADS, None, "s 18446744073709551616", "line 1 of the answer: number too large"),
     (ROADS, None, "s 6 / f 1 2", "line 2 of the answer: wrong number of fields"),
     (ROADS, None, "s 6 6", "line 1 of the answer: wrong number of fields"),
-    (ROADS, None, "f 1 2 4", "line 1 of the answer: a flow before its value line, or one more than the network has arcs"),
-    (ROADS, None, "c side 1", "line 1 of the answer: a side before its cut, or one more than the cut has"),
+    (
+        ROADS,
+        None,
+        "f 1 2 4",
+        "line 1 of the answer: a flow before its value line, or one more than the network has arcs",
+    ),
+    (
+        ROADS,
+        None,
+        "c side 1",
+        "line 1 of the answer: a side before its cut, or one more than the cut has",
+    ),
     (ROADS, None, "a 1 2 3", "line 1 of the answer: unknown line: a"),
-    (ROADS, None, "c cut 8 / c side 1 / c side 2", "line 1 of the answer: the arcs of this cut carry 6, and not 8"),
-    (ROADS, None, "c cut 6 / c side 2", "line 1 of the answer: the side of this cut has not the source, or has the sink"),
+    (
+        ROADS,
+        None,
+        "c cut 8 / c side 1 / c side 2",
+        "line 1 of the answer: the arcs of this cut carry 6, and not 8",
+    ),
+    (
+        ROADS,
+        None,
+        "c cut 6 / c side 2",
+        "line 1 of the answer: the side of this cut has not the source, or has the sink",
+    ),
     (ROADS, None, "c cut 5 / c side 4", "line 2 of the answer: no such node: 4"),
-    (ROADS, None, "c cut 5 / c side 1 / c side 1", "line 3 of the answer: node 1 is on the side twice"),
+    (
+        ROADS,
+        None,
+        "c cut 5 / c side 1 / c side 1",
+        "line 3 of the answer: node 1 is on the side twice",
+    ),
     (ROADS, None, "c cut x", "line 1 of the answer: not a number"),
-    (ROADS, None, "p max 3 1 / n 1 s / n 3 t / a 1 2 5", "line 1 of the answer: this is a problem with other arcs"),
-    (ROADS, None, "p max 4 0 / n 1 s / n 3 t", "line 1 of the answer: this is a problem with other nodes"),
-    (ROADS, None, "p max 3 1 / n 1 s / a 1 2 5 / n 3 t", "line 3 of the answer: arc before source and sink"),
+    (
+        ROADS,
+        None,
+        "p max 3 1 / n 1 s / n 3 t / a 1 2 5",
+        "line 1 of the answer: this is a problem with other arcs",
+    ),
+    (
+        ROADS,
+        None,
+        "p max 4 0 / n 1 s / n 3 t",
+        "line 1 of the answer: this is a problem with other nodes",
+    ),
+    (
+        ROADS,
+        None,
+        "p max 3 1 / n 1 s / a 1 2 5 / n 3 t",
+        "line 3 of the answer: arc before source and sink",
+    ),
     (ROADS, None, "p max 3 3 / n 1 s / s 6", "line 3 of the answer: source or sink missing"),
-    (ROADS, "close 1", "c cap value 0", "line 1 of the answer: this does not answer `close 1`, line 1 of the commands"),
+    (
+        ROADS,
+        "close 1",
+        "c cap value 0",
+        "line 1 of the answer: this does not answer `close 1`, line 1 of the commands",
+    ),
     (
         ROADS,
         "c / close 9",
         "c close value 0",
         "line 1 of the answer: this does not answer `close 9`, line 2 of the commands: no such arc",
     ),
-    (ROADS, "wash", "c close value 0", "line 1 of the answer: this does not answer `wash`, line 1 of the commands"),
-    (ROADS, "close 9", "c refused 2 no such arc", "line 1 of the answer: this does not answer `close 9`, line 1 of the commands"),
-    (ROADS, "close 1", "c refused 1 no such arc", "line 1 of the answer: this does not answer `close 1`, line 1 of the commands"),
-    (ROADS, "cap 1 7", "c cap value 3", "line 1 of the answer: value differs: cap 1 7 does not make 3 of 0"),
+    (
+        ROADS,
+        "wash",
+        "c close value 0",
+        "line 1 of the answer: this does not answer `wash`, line 1 of the commands",
+    ),
+    (
+        ROADS,
+        "close 9",
+        "c refused 2 no such arc",
+        "line 1 of the answer: this does not answer `close 9`, line 1 of the commands",
+    ),
+    (
+        ROADS,
+        "close 1",
+        "c refused 1 no such arc",
+        "line 1 of the answer: this does not answer `close 1`, line 1 of the commands",
+    ),
+    (
+        ROADS,
+        "cap 1 7",
+        "c cap value 3",
+        "line 1 of the answer: value differs: cap 1 7 does not make 3 of 0",
+    ),
     (ROADS, "add 1 3 7", "c add 5 value 0", "line 1 of the answer: the added arc has the number 4"),
-    (ROADS, "undo", "c undo value 0", "line 1 of the answer: this does not answer `undo`, line 1 of the commands: nothing to undo"),
+    (
+        ROADS,
+        "undo",
+        "c undo value 0",
+        "line 1 of the answer: this does not answer `undo`, line 1 of the commands: nothing to "
+        "undo",
+    ),
     (ROADS, "", "c undo value 0", "line 1 of the answer: no command is left that this answers"),
     (ROADS, "solve / c done / undo", "", "line 1 of the commands: no reply to `solve`"),
     (ROADS, None, "solve / ", "line 1 of the answer: no reply to `solve`"),
-    (ROADS, None, "solve / c undo value 0", "line 2 of the answer: this does not answer `solve`, line 1 of the answer"),
-    (ROADS, "solve", "s 7 / " + ANSWER_7, "line 3 of the answer: over capacity: arc 2, from 2 to 3, carries at most 4, and not 5"),
+    (
+        ROADS,
+        None,
+        "solve / c undo value 0",
+        "line 2 of the answer: this does not answer `solve`, line 1 of the answer",
+    ),
+    (
+        ROADS,
+        "solve",
+        "s 7 / " + ANSWER_7,
+        "line 3 of the answer: over capacity: arc 2, from 2 to 3, carries at most 4, and not 5",
+    ),
     ("p max 2 1 / a 1 2", None, "", "line 2 of the problem: arc before source and sink"),
     ("p max 2 1 / n 1 s / n 2 t / a 1 2 ²", None, "", "line 4 of the problem: not a number"),
-    (b"p max 2 1\nn 1 s\nn 2 t\na 1 2 " + b"9" * 200_000, None, "", "line 4 of the problem: number too large"),
+    (
+        b"p max 2 1\nn 1 s\nn 2 t\na 1 2 " + b"9" * 200_000,
+        None,
+        "",
+        "line 4 of the problem: number too large",
+    ),
 ]
 # The same, of answers that fit at first: what is told before the fault.
 LATER = [
@@ -249,7 +418,12 @@ LATER = [
         f"{TOLD} / c cap value 6 / {TOLD}",
         "line 10 of the answer: no command is left that this answers",
     ),
-    ("cap 1 9 / undo", "c cap value 0 / c undo value 3", "c cap value 0", "line 2 of the answer: value differs: it was 0 there"),
+    (
+        "cap 1 9 / undo",
+        "c cap value 0 / c undo value 3",
+        "c cap value 0",
+        "line 2 of the answer: value differs: it was 0 there",
+    ),
     (
         "solve / print flow",
         f"{ANSWER} / {ANSWER.replace('6', '5', 1).replace('3 2', '3 1')}",
@@ -264,14 +438,22 @@ LATER = [
     ),
 ]
 TITLES = ["number", "name", "from", "to", "flow", "capacity", "full", "in cut"]
-MILL, HILL, OLD = (1, "Mill Lane", "Quarry", "Hill"), (2, "", "Hill", "Site"), (3, "Old Road", "Quarry", "Site")
+MILL, HILL, OLD = (
+    (1, "Mill Lane", "Quarry", "Hill"),
+    (2, "", "Hill", "Site"),
+    (3, "Old Road", "Quarry", "Site"),
+)
 TABLES: list[tuple[str, tuple[Text, Text | None, Text], list[tuple[object, ...]]]] = [
     (
         "a solution and its cut",
         (ROADS, None, f"{ANSWER} / {CUT}"),
         [(*MILL, 4, 5, "no", "no"), (*HILL, 4, 4, "yes", "yes"), (*OLD, 2, 2, "yes", "yes")],
     ),
-    ("a solution", (ROADS, None, ANSWER), [(*MILL, 4, 5, "no", ""), (*HILL, 4, 4, "yes", ""), (*OLD, 2, 2, "yes", "")]),
+    (
+        "a solution",
+        (ROADS, None, ANSWER),
+        [(*MILL, 4, 5, "no", ""), (*HILL, 4, 4, "yes", ""), (*OLD, 2, 2, "yes", "")],
+    ),
     (
         "the last solution of a session, with the network as it was then",
         (ROADS, COMMANDS, REPLIES),
@@ -284,19 +466,32 @@ TABLES: list[tuple[str, tuple[Text, Text | None, Text], list[tuple[object, ...]]
     ),
     (
         "a cut of another state",
-        (ROADS, "solve / print cut / cap 2 9 / solve", f"{ANSWER} / {CUT} / c cap value 6 / s 7 / {ANSWER_7}"),
+        (
+            ROADS,
+            "solve / print cut / cap 2 9 / solve",
+            f"{ANSWER} / {CUT} / c cap value 6 / s 7 / {ANSWER_7}",
+        ),
         [(*MILL, 5, 5, "yes", ""), (*HILL, 5, 9, "no", ""), (*OLD, 2, 2, "yes", "")],
     ),
     (
         "names with commas, quotation marks and ends of lines",
-        (b'c node 1 a, "b"\nc arc 1 x\ry\np max 2 1\nn 1 s\nn 2 t\na 1 2 5\n', None, "s 5 / f 1 2 5"),
+        (
+            b'c node 1 a, "b"\nc arc 1 x\ry\np max 2 1\nn 1 s\nn 2 t\na 1 2 5\n',
+            None,
+            "s 5 / f 1 2 5",
+        ),
         [(1, "x\\x0dy", 'a, "b"', "2", 5, 5, "yes", "")],
     ),
 ]
 NO_TABLES: list[tuple[Text, Text | None, Text, str]] = [
     (ROADS, None, CUT, "the answer ends without a solution and its flows"),
     (ROADS, None, f"{ANSWER} / s 6", "the answer ends without a solution and its flows"),
-    (ROADS, None, f"{ANSWER} / {LOST}", "the arcs of the last solution are not known; give the commands by --commands FILE"),
+    (
+        ROADS,
+        None,
+        f"{ANSWER} / {LOST}",
+        "the arcs of the last solution are not known; give the commands by --commands FILE",
+    ),
     (
         ROADS,
         None,
@@ -306,9 +501,16 @@ NO_TABLES: list[tuple[Text, Text | None, Text, str]] = [
 ]
 # The roads of examples/town.max, with one that is added.
 TOWN_ROADS = {
-    1: "Quarry -> Hill", 2: "Quarry -> Valley", 3: "Hill -> Bridge", 4: "Hill -> Valley", 5: "Valley -> Bridge",
-    6: "Valley -> Tunnel", 7: "Bridge -> Site", 8: "Tunnel -> Site", 9: "Hill -> Site",
-}  # fmt: skip
+    1: "Quarry -> Hill",
+    2: "Quarry -> Valley",
+    3: "Hill -> Bridge",
+    4: "Hill -> Valley",
+    5: "Valley -> Bridge",
+    6: "Valley -> Tunnel",
+    7: "Bridge -> Site",
+    8: "Tunnel -> Site",
+    9: "Hill -> Site",
+}
 
 
 def carrying(flows: dict[int, str]) -> str:
@@ -318,8 +520,26 @@ def carrying(flows: dict[int, str]) -> str:
 
 # Commands, the plan of today, what is told once they are changed, and the picture of that.
 TOWN_CHANGES = "solve\nprint cut\ncap 6 9\nadd 2 6 3\nclose 7\nsolve\nprint cut\n"
-_TODAY = {1: "5 of 8", 2: "6 of 7", 3: "5 of 5", 4: "0 of 4", 5: "2 of 2", 6: "4 of 4", 7: "7 of 9", 8: "4 of 6"}
-_CHANGED = {1: "3 of 8", 2: "6 of 7", 3: "0 of 5", 4: "0 of 4", 5: "0 of 2", 6: "6 of 9", 8: "6 of 6", 9: "3 of 3"}
+_TODAY = {
+    1: "5 of 8",
+    2: "6 of 7",
+    3: "5 of 5",
+    4: "0 of 4",
+    5: "2 of 2",
+    6: "4 of 4",
+    7: "7 of 9",
+    8: "4 of 6",
+}
+_CHANGED = {
+    1: "3 of 8",
+    2: "6 of 7",
+    3: "0 of 5",
+    4: "0 of 4",
+    5: "0 of 2",
+    6: "6 of 9",
+    8: "6 of 6",
+    9: "3 of 3",
+}
 TOWN_PLAN = f"value 11\n{carrying(_TODAY)}"
 TOWN_TOLD = f"""limit 11
   source's side: Quarry, Hill, Valley

@@ -1,8 +1,12 @@
-"""What tools/dmf-dot draws of problems, answers and sessions, and what it says of those that it does not draw, worked out by hand."""
+"""What tools/dmf-dot draws of problems, answers and sessions, and what it says of those that it
+does not draw, worked out by hand."""
 
 from __future__ import annotations
 
-HEAD = 'digraph dmf {\n  rankdir=LR\n  node [fontname="Helvetica"]\n  edge [fontname="Helvetica", fontsize=11]\n'
+HEAD = (
+    'digraph dmf {\n  rankdir=LR\n  node [fontname="Helvetica"]\n  edge [fontname="Helvetica", '
+    "fontsize=11]\n"
+)
 SIDE = 'style="filled", fillcolor="#d3e4f5"'
 CUT = 'color="#c62828", fontcolor="#c62828"'
 UNUSED = 'color="#8f8f8f", fontcolor="#8f8f8f"'
@@ -41,18 +45,23 @@ DRAWN: dict[str, tuple[str, list[str], list[str], str]] = {
 """,
     ),
     "a problem alone, with names": (
-        'c arc 1 a "wide" pipe\n' + TWO + "c node 1  the lake \r\ncnode 2 x\nc node names follow\na 1 2 7\nc node 2 a\\b\n",
+        'c arc 1 a "wide" pipe\n'
+        + TWO
+        + "c node 1  the lake \r\ncnode 2 x\nc node names follow\na 1 2 7\nc node 2 a\\b\n",
         [],
         [],
-        '  1 [label="the lake", peripheries=2]\n  2 [label="a\\\\b", peripheries=2]\n  1 -> 2 [label="a \\"wide\\" pipe\\n7"]\n',
+        '  1 [label="the lake", peripheries=2]\n  2 [label="a\\\\b", peripheries=2]\n  1 -> 2 '
+        '[label="a \\"wide\\" pipe\\n7"]\n',
     ),
     "a solution and a cut apart": (
         TWO + "a 1 2 7",
         ["f 1 2 7\ns 7", "c cut 7\nc side 1"],
         [],
-        f'  1 [label="1", peripheries=2, {SIDE}]\n  2 [label="2", peripheries=2]\n  1 -> 2 [label="7/7", penwidth=2.5, {CUT}]\n',
+        f'  1 [label="1", peripheries=2, {SIDE}]\n  2 [label="2", peripheries=2]\n  1 -> 2 '
+        f'[label="7/7", penwidth=2.5, {CUT}]\n',
     ),
-    # A line for each arc in order: the second of the parallel arcs is full, and the first has no flow.
+    # A line for each arc in order: the second of the parallel arcs is full, and the first has no
+    # flow.
     "lines in the order of the arcs": (
         PARALLEL,
         ["s 3\nf 1 2 0\nf 1 2 3\nf 2 2 0\nf 2 3 3\n"],
@@ -77,7 +86,8 @@ DRAWN: dict[str, tuple[str, list[str], list[str], str]] = {
         "p max 16777216 1\nn 1 s\nn 2 t\na 5 2 3\n",
         [],
         [],
-        '  1 [label="1", peripheries=2]\n  2 [label="2", peripheries=2]\n  5 [label="5"]\n  5 -> 2 [label="3"]\n',
+        '  1 [label="1", peripheries=2]\n  2 [label="2", peripheries=2]\n  5 [label="5"]\n  5 -> 2 '
+        '[label="3"]\n',
     ),
     # The cut is the arc from 2 to 3. Arcs of the nodes 1 and 4 are left out.
     "what lies around the cut": (
@@ -96,43 +106,57 @@ DRAWN: dict[str, tuple[str, list[str], list[str], str]] = {
         "p max 4 2\nn 1 s\nn 4 t\na 2 3 5\na 3 4 5\n",
         ["c cut 0\nc side 1\n"],
         ["--most", "1"],
-        '  label="1 of 2 arcs: those nearest the cut"\n  3 [label="3", style="dashed"]\n  4 [label="4", peripheries=2]\n'
+        '  label="1 of 2 arcs: those nearest the cut"\n  3 [label="3", style="dashed"]\n  4 '
+        '[label="4", peripheries=2]\n'
         '  3 -> 4 [label="5"]\n',
     ),
 }
 LINE = TWO + "a 1 2 7\n"
-# Two ways of which the lower is closed, one of its nodes shut, and an arc added, which is named in no comment.
-WAYS = "c node 3 Mill\nc arc 1 Upper\nc arc 2 Lower\np max 4 4\nn 1 s\nn 4 t\na 1 2 3\na 1 3 2\na 2 4 3\na 3 4 2\n"
+# Two ways of which the lower is closed, one of its nodes shut, and an arc added, which is named in
+# no comment.
+WAYS = (
+    "c node 3 Mill\nc arc 1 Upper\nc arc 2 Lower\np max 4 4\nn 1 s\nn 4 t\na 1 2 3\na 1 3 2\na 2 4 "
+    "3\na 3 4 2\n"
+)
 WAYS_FLOW = "s 5\nf 1 2 3\nf 1 3 2\nf 2 4 3\nf 3 4 2\n"
 SHUT_FLOW = "s 7\nf 1 2 3\nf 2 4 3\nf 1 4 4\n"
 ENDS = ['  1 [label="1", peripheries=2', '  2 [label="2"]\n', '  4 [label="4", peripheries=2]\n']
 SHUT_MILL = f'  3 [label="Mill\\nshut", {UNUSED}]\n'
 SHUT_ARC = f'  1 -> 3 [label="Lower\\nclosed", style="dashed", {UNUSED}]\n'
 SHUT_END = f'  3 -> 4 [label="closed", style="dashed", {UNUSED}]\n'
-AFTER_FLOWS, AFTER_CUT = "the network was changed after these flows", "the network was changed after this cut"
-# What is drawn of a session on these ways: its commands (None where they stand among its replies), what it wrote, and notes.
+AFTER_FLOWS, AFTER_CUT = (
+    "the network was changed after these flows",
+    "the network was changed after this cut",
+)
+# What is drawn of a session on these ways: its commands (None where they stand among its replies),
+# what it wrote, and notes.
 SESSIONS: dict[str, tuple[str | None, str, list[str], str]] = {
     "a node is shut and an arc added": (
         "shut 3\nadd 1 4 4\nsolve\nprint cut\n",
         f"c shut value 0\nc add 5 value 0\n{SHUT_FLOW}c cut 7\nc side 1\n",
         [],
-        f'{ENDS[0]}, {SIDE}]\n{ENDS[1]}{SHUT_MILL}{ENDS[2]}  1 -> 2 [label="Upper\\n3/3", penwidth=2.5, {CUT}]\n{SHUT_ARC}'
-        f'  2 -> 4 [label="3/3", penwidth=2.5]\n{SHUT_END}  1 -> 4 [label="4/4", penwidth=2.5, {CUT}]\n',
+        f'{ENDS[0]}, {SIDE}]\n{ENDS[1]}{SHUT_MILL}{ENDS[2]}  1 -> 2 [label="Upper\\n3/3", '
+        f"penwidth=2.5, {CUT}]\n{SHUT_ARC}"
+        f'  2 -> 4 [label="3/3", penwidth=2.5]\n{SHUT_END}  1 -> 4 [label="4/4", penwidth=2.5, '
+        f"{CUT}]\n",
     ),
     "a transcript with a change that is undone": (
         None,
         f"solve\n{WAYS_FLOW}cap 1 9\nc cap value 5\nundo\nc undo value 5\n",
         [],
-        f'{ENDS[0]}]\n{ENDS[1]}  3 [label="Mill"]\n{ENDS[2]}  1 -> 2 [label="Upper\\n3/3", penwidth=2.5]\n'
+        f'{ENDS[0]}]\n{ENDS[1]}  3 [label="Mill"]\n{ENDS[2]}  1 -> 2 [label="Upper\\n3/3", '
+        "penwidth=2.5]\n"
         '  1 -> 3 [label="Lower\\n2/2", penwidth=2.5]\n'
         '  2 -> 4 [label="3/3", penwidth=2.5]\n  3 -> 4 [label="2/2", penwidth=2.5]\n',
     ),
     "changes after the last solution": (
         None,
-        f"solve\n{WAYS_FLOW}c cut 5\nc side 1\nshut 3\nc shut value 3\nadd 1 4 4\nc add 5 value 3\n",
+        f"solve\n{WAYS_FLOW}c cut 5\nc side 1\nshut 3\nc shut value 3\nadd 1 4 4\nc add 5 value "
+        "3\n",
         [AFTER_FLOWS, AFTER_CUT],
         f'  label="{AFTER_FLOWS}\\n{AFTER_CUT}"\n'
-        f'{ENDS[0]}, {SIDE}]\n{ENDS[1]}{SHUT_MILL}{ENDS[2]}  1 -> 2 [label="Upper\\n3/3", penwidth=2.5, {CUT}]\n{SHUT_ARC}'
+        f'{ENDS[0]}, {SIDE}]\n{ENDS[1]}{SHUT_MILL}{ENDS[2]}  1 -> 2 [label="Upper\\n3/3", '
+        f"penwidth=2.5, {CUT}]\n{SHUT_ARC}"
         f'  2 -> 4 [label="3/3", penwidth=2.5]\n{SHUT_END}  1 -> 4 [label="4", {CUT}]\n',
     ),
 }
@@ -141,10 +165,19 @@ SESSION_FAULTS: list[tuple[str | None, str, str]] = [
     (
         None,
         "s 7\nf 1 2 7\nc cap value 3\n",
-        "answer: line 3: commands that are not known changed the network; give them by --commands FILE",
+        "answer: line 3: commands that are not known changed the network; give them by --commands "
+        "FILE",
     ),
-    ("cap 1 9\nsolve\n", "c cap value 0\ns 9\nf 1 2 8\n", "answer: line 3: value differs: 8 flows out of the source, and not 9"),
-    ("close 1\n", "c cap value 0\n", "answer: line 1: this does not answer `close 1`, line 1 of the commands"),
+    (
+        "cap 1 9\nsolve\n",
+        "c cap value 0\ns 9\nf 1 2 8\n",
+        "answer: line 3: value differs: 8 flows out of the source, and not 9",
+    ),
+    (
+        "close 1\n",
+        "c cap value 0\n",
+        "answer: line 1: this does not answer `close 1`, line 1 of the commands",
+    ),
     ("close 1\nundo\n", "c close value 0\n", "commands: line 2: no reply to `undo`"),
 ]
 # Names that are shown as they are, but for what would steer a terminal or end a text.
@@ -168,7 +201,8 @@ PROBLEM_FAULTS = {
     TWO + TWO: "line 4: second problem line",
     TWO + "b 1 2 3\n": "line 4: unknown line: b",
     TWO + "a 1 3 1\n": "line 4: no such node: 3",
-    TWO.replace("1", "2", 1) + "a 1 2 18446744073709551615\na 1 2 1\n": "line 5: capacities past 64 bits",
+    TWO.replace("1", "2", 1)
+    + "a 1 2 18446744073709551615\na 1 2 1\n": "line 5: capacities past 64 bits",
     TWO + "a 1 2 1\na 1 2 1\n": "line 5: too many arcs",
     TWO + "c end\n": "line 5: too few arcs",
     "p max 2 1\nn 1 s\na 1 2 1\n": "line 3: arc before source and sink",
@@ -198,7 +232,8 @@ ANSWER_FAULTS = {
     "c cut 7\nc cut 7\n": "line 2: second cut",
     "c cut 6\nc side 1\n": "line 1: the arcs of this cut carry 7, and not 6",
     "c cut 7\n": "line 1: the side of this cut has not the source, or has the sink",
-    "c cut 0\nc side 1\nc side 2\n": "line 1: the side of this cut has not the source, or has the sink",
+    "c cut 0\nc side 1\nc side 2\n": "line 1: the side of this cut has not the source, or has the "
+    "sink",
     "s " + "9" * 5000: "line 1: number too large: " + "9" * 60 + "..",
 }
 FAULTS = [

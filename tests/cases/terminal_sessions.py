@@ -1,5 +1,5 @@
-"""What the program is to say on a terminal in a session and of words that it does not take: rows for tests/program/test_terminal.py, worked out
-by hand."""
+"""What the program is to say on a terminal in a session and of words that it does not take: rows
+for tests/program/test_terminal.py, worked out by hand."""
 
 from __future__ import annotations
 
@@ -27,7 +27,9 @@ a 3 4 3
 """
 SOLVED = "s 5\nf 1 2 3\nf 1 3 2\nf 2 3 1\nf 2 4 2\nf 3 4 3\n"
 INVITATION = "dmf: reads a problem from the terminal; Ctrl-D ends it (dmf --help says more)\n"
-COMMANDS = f"the commands are {', '.join(LISTED)} and {', '.join(LISTED_PRINTS)}; Ctrl-D ends the session"
+COMMANDS = (
+    f"the commands are {', '.join(LISTED)} and {', '.join(LISTED_PRINTS)}; Ctrl-D ends the session"
+)
 ADD_FORM = "add takes two nodes and a capacity (add V W U, 4 fields)"
 LARGEST = 18446744073709551615
 BOUNDS = f"is no whole number from 0 to {LARGEST}"
@@ -35,14 +37,16 @@ BOUNDS = f"is no whole number from 0 to {LARGEST}"
 
 @dataclass(frozen=True)
 class Words:
-    """Words that ask for a run that fails, with the status, and what is said after the fixed text."""
+    """Words that ask for a run that fails, with the status, and what is said after the fixed
+    text."""
 
     words: str
     status: int
     meant: str
 
 
-# Of a session before its first change, by what they are refused for: command lines, each with what is said of it.
+# Of a session before its first change, by what they are refused for: command lines, each with what
+# is said of it.
 REFUSED = {
     "unknown command": {
         **dict.fromkeys(("help", "?", "quit", "exit"), COMMANDS),
@@ -53,7 +57,8 @@ REFUSED = {
     "not a number": {
         "close Tunnel": "arcs go by number here: 2 is Tunnel",
         "cap Bridge 1": "arcs go by number here: 4 is Bridge, and so is another",
-        "close Nobody": "'Nobody' is no number: arcs go by number here, from 1 in the order of the problem",
+        "close Nobody": "'Nobody' is no number: arcs go by number here, from 1 in the order of the "
+        "problem",
         "shut Reservoir": "nodes go by number here: 3 is Reservoir",
         "add 1 Reservoir 1": "nodes go by number here: 3 is Reservoir",
         "shut Tunnel": "'Tunnel' is no number: nodes go by number here",
@@ -81,25 +86,42 @@ REFUSED = {
     "no such arc": dict.fromkeys(("cap 99 1", "close 0"), "there are arcs 1 to 5"),
     "no such node": {"shut 9": "there are nodes 1 to 4"},
     "number too large": {"cap 1 99999999999999999999": f"the largest number is {LARGEST}"},
-    "capacities past 64 bits": {f"cap 1 {LARGEST}": "the sum of all capacities would pass 2^64 - 1: give a smaller number"},
-    "nothing to undo": {"undo": "there are not so many changes to undo; undo K takes back all K or none"},
-    "nothing to redo": {"redo 3": "there are not so many undone changes; a new change drops them, and redo K makes all K or none"},
+    "capacities past 64 bits": {
+        f"cap 1 {LARGEST}": "the sum of all capacities would pass 2^64 - 1: give a smaller number"
+    },
+    "nothing to undo": {
+        "undo": "there are not so many changes to undo; undo K takes back all K or none"
+    },
+    "nothing to redo": {
+        "redo 3": "there are not so many undone changes; a new change drops them, and redo K makes "
+        "all K "
+        "or none"
+    },
     "flow is not greatest": {"print cut": "solve first: a cut is told of a greatest flow alone"},
 }
-# Command lines after these, each with what it is refused for and what is said of it, or with its reply.
+# Command lines after these, each with what it is refused for and what is said of it, or with its
+# reply.
 CHANGED = [
     ("c close Tunnel", "", ""),
     ("add 1 4 2", "", "c add 6 value 0\n"),
-    ("cap 99 1", "no such arc", "the problem has arcs 1 to 5, and added ones follow by the number in their reply"),
+    (
+        "cap 99 1",
+        "no such arc",
+        "the problem has arcs 1 to 5, and added ones follow by the number in their reply",
+    ),
     ("close 1", "", "c close value 0\n"),
     ("close 1", "arc is closed", "undo alone opens a closed arc"),
     ("x" * 5000, "line too long", "a command line has at most 4096 bytes"),
     ("close Tunnel", "not a number", "arcs go by number here: 2 is Tunnel"),
 ]
-LINES = [(line, refusal, said) for refusal, lines in REFUSED.items() for line, said in lines.items()] + CHANGED
+LINES = [
+    (line, refusal, said) for refusal, lines in REFUSED.items() for line, said in lines.items()
+] + CHANGED
 # Each command line, its reply, and the line that is said of it.
 SESSION = [
-    (line.encode(), f"c refused {number} {refusal}\n", f"dmf: {said}\n") if refusal else (line.encode(), said, "")
+    (line.encode(), f"c refused {number} {refusal}\n", f"dmf: {said}\n")
+    if refusal
+    else (line.encode(), said, "")
     for number, (line, refusal, said) in enumerate(LINES, 1)
 ]
 
@@ -110,6 +132,8 @@ WORDS = [
     Words("solve --cut named.max", 2, "dmf solve --cut <named.max\n"),
     Words("solve named.max --progress", 2, SOLVE_THIS),
     Words("solve none.max", 2, "dmf solve <none.max\n"),
+    Words("vital none.max", 2, "dmf vital <none.max\n"),
+    Words("vital none.max --cut", 2, ""),
     Words("solve one.max two.max", 2, ""),
     Words("solve it's", 2, ""),
     Words("check named.max plan.sol", 2, "dmf check named.max <plan.sol\n"),

@@ -1,6 +1,7 @@
-"""A planner's table, made with a fixed seed: 40 places and 71 pipes in German, with decimals, a unit, a remark on some rows, two sources, a
-sink with a demand, a place with a limit and a row that stands twice. It comes as a CSV file and as workbooks; and its value and cut are computed
-a second time, in exact fractions, by networkx."""
+"""A planner's table, made with a fixed seed: 40 places and 71 pipes in German, with decimals, a
+unit, a remark on some rows, two sources, a sink with a demand, a place with a limit and a row that
+stands twice. It comes as a CSV file and as workbooks; and its value and cut are computed a second
+time, in exact fractions, by networkx."""
 
 from __future__ import annotations
 
@@ -34,14 +35,24 @@ def pipes() -> list[Pipe]:
     """The 71 pipes, the last of which is the 12th once more."""
     chance = random.Random("town")
     places = [*SOURCES, LIMITED, *(f"Knoten {number}" for number in range(1, PLACES - 3)), SINK]
-    ends = [(tail, head) for tail, head in zip(places[1:], places[2:])] + [(places[0], places[2]), (places[0], places[3])]
+    ends = [(tail, head) for tail, head in zip(places[1:], places[2:])] + [
+        (places[0], places[2]),
+        (places[0], places[3]),
+    ]
     while len(ends) < 70:
         tail, head = sorted(chance.sample(range(PLACES), 2))
         if head > 1 and head - tail < 12:
             ends.append((places[tail], places[head]))
     chance.shuffle(ends)
     made = [
-        Pipe(f"R{number}", tail, head, Decimal(chance.randrange(300, 6000)).scaleb(-chance.choice([1, 1, 2])), chance.randrange(9999), remark)
+        Pipe(
+            f"R{number}",
+            tail,
+            head,
+            Decimal(chance.randrange(300, 6000)).scaleb(-chance.choice([1, 1, 2])),
+            chance.randrange(9999),
+            remark,
+        )
         for number, (tail, head) in enumerate(ends, 1)
         for remark in [chance.choice(["", "alt; prüfen", 'sagt "gut"'])]
     ]
@@ -57,28 +68,45 @@ def csv_text() -> str:
     lines = [";".join(TITLES)]
     for pipe in pipes():
         remark = '"' + pipe.remark.replace('"', '""') + '"' if pipe.remark else ""
-        lines.append(";".join([pipe.name, pipe.tail, pipe.head, german(pipe.capacity), str(pipe.length), remark]))
+        lines.append(
+            ";".join(
+                [pipe.name, pipe.tail, pipe.head, german(pipe.capacity), str(pipe.length), remark]
+            )
+        )
     return "".join(f"{line}\r\n" for line in lines)
 
 
 def put(folder: Path) -> list[str]:
-    """Puts the table into a file, and the limits of places into another. Gives the words that name them, the sources and the sink."""
+    """Puts the table into a file, and the limits of places into another. Gives the words that name
+    them, the sources and the sink."""
     (folder / "netz.csv").write_text(csv_text())
     (folder / "grenzen.csv").write_text(f"Ort;Grenze\n{LIMITED};{german(LIMIT)}\n")
     first, second = SOURCES
-    ends = ["--source", first, "--source", f"{second}={german(Decimal('61.7'))}", "--sink", f"{SINK}={german(DEMAND)}"]
+    ends = [
+        "--source",
+        first,
+        "--source",
+        f"{second}={german(Decimal('61.7'))}",
+        "--sink",
+        f"{SINK}={german(DEMAND)}",
+    ]
     return [f"{folder}/netz.csv", *ends, "--node-limits", f"{folder}/grenzen.csv"]
 
 
 def places_rows() -> list[list[Any]]:
     """The table of places."""
     rows: list[list[Any]] = [["Ort", "Angebot", "Bedarf", "Grenze"]]
-    rows += [[place, "x" if most is None else float(most), None, None] for place, most in SOURCES.items()]
+    rows += [
+        [place, "x" if most is None else float(most), None, None] for place, most in SOURCES.items()
+    ]
     return [*rows, [SINK, None, float(DEMAND), None], [LIMITED, None, None, float(LIMIT)]]
 
 
 def places_text() -> str:
-    return "".join(";".join("" if cell is None else str(cell).replace(".", ",") for cell in row) + "\n" for row in places_rows())
+    return "".join(
+        ";".join("" if cell is None else str(cell).replace(".", ",") for cell in row) + "\n"
+        for row in places_rows()
+    )
 
 
 def arc_rows() -> list[list[Any]]:
@@ -90,7 +118,11 @@ def save_xlsx(path: Path) -> None:
     import openpyxl
 
     book = openpyxl.Workbook()
-    for title, rows in {"Notizen": [["Stand: heute"]], "Rohre": arc_rows(), "Orte": places_rows()}.items():
+    for title, rows in {
+        "Notizen": [["Stand: heute"]],
+        "Rohre": arc_rows(),
+        "Orte": places_rows(),
+    }.items():
         sheet = book.create_sheet(title)
         for row in rows:
             sheet.append(row)
@@ -129,8 +161,9 @@ class Wanted(NamedTuple):
 
 
 def wanted(closed: str = "", changed: dict[str, Decimal] = {}) -> Wanted:
-    """What is right, by networkx in fractions. A place with a limit is two nodes, and sources and sinks are joined. `closed` is the name of a
-    pipe that is closed, and `changed` has other capacities."""
+    """What is right, by networkx in fractions. A place with a limit is two nodes, and sources and
+    sinks are joined. `closed` is the name of a pipe that is closed, and `changed` has other
+    capacities."""
     graph = networkx.DiGraph()
 
     def add(tail: str, head: str, most: Decimal | None) -> None:
@@ -143,12 +176,18 @@ def wanted(closed: str = "", changed: dict[str, Decimal] = {}) -> Wanted:
 
     for pipe in pipes():
         if pipe.name != closed:
-            add(pipe.tail + "'" * (pipe.tail == LIMITED), pipe.head, changed.get(pipe.name, pipe.capacity))
+            add(
+                pipe.tail + "'" * (pipe.tail == LIMITED),
+                pipe.head,
+                changed.get(pipe.name, pipe.capacity),
+            )
     add(LIMITED, LIMITED + "'", LIMIT)
     for place, most in SOURCES.items():
         add("from all", place, most)
     add(SINK, "to all", DEMAND)
-    value, flow = networkx.maximum_flow(graph, "from all", "to all", flow_func=networkx.algorithms.flow.edmonds_karp)
+    value, flow = networkx.maximum_flow(
+        graph, "from all", "to all", flow_func=networkx.algorithms.flow.edmonds_karp
+    )
     # What the source reaches over arcs with residual capacity: the smallest side.
     residual = networkx.DiGraph()
     for tail, head, data in graph.edges(data=True):
@@ -157,4 +196,8 @@ def wanted(closed: str = "", changed: dict[str, Decimal] = {}) -> Wanted:
         if flow[tail][head] > 0:
             residual.add_edge(head, tail)
     residual.add_node("from all")
-    return Wanted(value, networkx.descendants(residual, "from all") & {place for pipe in pipes() for place in pipe[1:3]})
+    return Wanted(
+        value,
+        networkx.descendants(residual, "from all")
+        & {place for pipe in pipes() for place in pipe[1:3]},
+    )

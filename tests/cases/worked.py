@@ -6,8 +6,26 @@ from collections.abc import Iterator
 
 from built import PROBLEM, Case
 from oracle.program import Outcome
-from worked_forms import CROSSED, CROSSED_CUT, CROSSED_FLOW, CUT, LARGEST, LOOSE, LOOSE_FLOW, TWO
-from worked_forms import Worked, checked, faulty, held, solved, text, wrong
+from worked_forms import (
+    CROSSED,
+    CROSSED_CUT,
+    CROSSED_FLOW,
+    CUT,
+    JOINED,
+    LARGEST,
+    LOOSE,
+    LOOSE_FLOW,
+    PARALLEL,
+    TWO,
+    Worked,
+    checked,
+    faulty,
+    held,
+    solved,
+    text,
+    valued,
+    wrong,
+)
 from worked_sessions import BRIEF_SESSIONS, HISTORIES, SESSIONS
 
 SOLVES = [
@@ -29,9 +47,51 @@ CHECKS = [
         "f 3 4 3 / s 5 / f 1 2 3 / f 2 4 2 / f 1 3 2 / f 2 3 1",
         "c greatest 5",
     ),
-    checked("a flow that is not greatest", CROSSED, "s 3 / f 1 2 3 / f 2 3 1 / f 2 4 2 / f 3 4 1", "c flow 3"),
+    checked(
+        "a flow that is not greatest",
+        CROSSED,
+        "s 3 / f 1 2 3 / f 2 3 1 / f 2 4 2 / f 3 4 1",
+        "c flow 3",
+    ),
     checked("one line for parallel arcs", LOOSE, "s 9 / f 1 2 9 / f 2 3 9", "c greatest 9"),
     checked("no flow is possible", f"{TWO} / a 2 1 5", "s 0", "c greatest 0"),
+]
+VITAL = [
+    valued(
+        "without each arc of two ways that cross",
+        CROSSED,
+        "c value 5 / v 1 2 / v 2 3 / v 3 4 / v 4 3 / v 5 2",
+    ),
+    valued(
+        "without the only arc, of the largest capacity",
+        LARGEST,
+        "c value 18446744073709551615 / v 1 0",
+    ),
+    valued("no arc to lose", "p max 2 0 / n 1 s / n 2 t", "c value 0"),
+    valued(
+        "an arc for which another stands in",
+        JOINED,
+        "c value 1 / v 1 1 / v 2 1 / v 3 1 / v 4 1 / v 5 0",
+    ),
+    valued(
+        "without arcs of a loose text", LOOSE, "c value 9 / v 1 7 / v 2 9 / v 3 4 / v 4 9 / v 5 0"
+    ),
+    valued(
+        "without parallel arcs",
+        PARALLEL,
+        "c value 5 / v 1 4 / v 2 5 / v 3 3 / v 4 2 / v 5 3 / v 6 3",
+    ),
+    valued(
+        "without arcs that carry nothing",
+        "p max 2 4 / n 1 s / n 2 t / a 1 2 0 / a 2 1 5 / a 1 2 3 / a 1 1 4",
+        "c value 3 / v 1 3 / v 2 3 / v 3 0 / v 4 3",
+    ),
+    valued("no arc leads on", f"{TWO} / a 2 1 5", "c value 0 / v 1 0"),
+    valued(
+        "without one of two halves of 64 bits",
+        "p max 2 2 / n 1 s / n 2 t / a 1 2 9223372036854775807 / a 1 2 9223372036854775808",
+        "c value 18446744073709551615 / v 1 9223372036854775808 / v 2 9223372036854775807",
+    ),
 ]
 FAULTS = [
     wrong(CROSSED, "s 4 / f 1 2 3 / f 2 3 1 / f 2 4 2 / f 3 4 1", "line 6: value differs"),
@@ -46,6 +106,7 @@ FAULTS = [
     faulty(CROSSED.removesuffix(" / a 3 4 3"), "line 8: too few arcs"),
     faulty(CROSSED.replace("a 1 2 3", "a 1 2 0 3 5"), "line 4: wrong number of fields", b"session"),
     faulty("", "line 1: problem line expected"),
+    faulty(f"{TWO} / a 1 3 1", "line 4: no such node", b"vital"),
     faulty("n 1 s", "line 1: problem line expected"),
     faulty("a 9", "line 1: problem line expected", b"check"),
     faulty("x", "line 1: unknown line"),
@@ -78,24 +139,43 @@ FAULTS = [
         "line 5: capacities past 64 bits",
     ),
 ]
-WORKED = SOLVES + SESSIONS + BRIEF_SESSIONS + HISTORIES + CHECKS + FAULTS
+WORKED = SOLVES + SESSIONS + BRIEF_SESSIONS + HISTORIES + CHECKS + VITAL + FAULTS
 # As many command lines as a session takes, and one more.
 LIMITS = [
-    held("a million command lines", CROSSED, b"undo\n" + b"\n" * 999_999, "c refused 1 nothing to undo"),
+    held(
+        "a million command lines",
+        CROSSED,
+        b"undo\n" + b"\n" * 999_999,
+        "c refused 1 nothing to undo",
+    ),
     Worked(
-        Case("a million command lines and one", (b"session", PROBLEM), text(CROSSED), b"undo\n" + b"\n" * 1_000_000),
+        Case(
+            "a million command lines and one",
+            (b"session", PROBLEM),
+            text(CROSSED),
+            b"undo\n" + b"\n" * 1_000_000,
+        ),
         Outcome(4, text("c refused 1 nothing to undo"), b"dmf: too much input\n"),
     ),
 ]
 
 
 def prefixes() -> Iterator[tuple[Case, int | None]]:
-    """Cases with each prefix of a text: a problem, commands and a solution that end anywhere. Each is given with its status, where
-    that is known: a problem is whole where at most the end of its last line is missing."""
+    """Cases with each prefix of a text: a problem, commands and a solution that end anywhere. Each
+    is given with its status, where that is known: a problem is whole where at most the end of its
+    last line is missing."""
     problem = text(CROSSED)
     commands, solution = SESSIONS[-1].case.input, text(CROSSED_FLOW)
-    for command, whole in (b"solve", problem), (b"session", commands), (b"check", solution):
-        words = (command,) if command == b"solve" else (command, PROBLEM)
+    for command, whole in (
+        (b"solve", problem),
+        (b"vital", problem),
+        (b"session", commands),
+        (b"check", solution),
+    ):
+        reads_problem = command in (b"solve", b"vital")
+        words = (command,) if reads_problem else (command, PROBLEM)
         for end in range(len(whole) + 1):
-            status = 3 * (end + 1 < len(whole)) if command == b"solve" else None
-            yield Case(f"the first {end} bytes for {command.decode()}", words, problem, whole[:end]), status
+            status = 3 * (end + 1 < len(whole)) if reads_problem else None
+            yield Case(
+                f"the first {end} bytes for {command.decode()}", words, problem, whole[:end]
+            ), status

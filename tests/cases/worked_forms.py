@@ -21,10 +21,14 @@ def text(lines: str | bytes) -> bytes:
 
 
 def solved(name: str, problem: str | bytes, written: str, *flags: bytes) -> Worked:
-    return Worked(Case(name, (b"solve", *flags), text(problem), text(problem)), Outcome(0, text(written)))
+    return Worked(
+        Case(name, (b"solve", *flags), text(problem), text(problem)), Outcome(0, text(written))
+    )
 
 
-def held(name: str, problem: str | bytes, commands: str | bytes, replies: str, *flags: bytes) -> Worked:
+def held(
+    name: str, problem: str | bytes, commands: str | bytes, replies: str, *flags: bytes
+) -> Worked:
     case = Case(name, (b"session", *flags, PROBLEM), text(problem), text(commands))
     return Worked(case, Outcome(int("refused" in replies), text(replies)))
 
@@ -34,10 +38,18 @@ def checked(name: str, problem: str | bytes, solution: str | bytes, verdict: str
     return Worked(case, Outcome(int("flow" in verdict), text(verdict)))
 
 
+def valued(name: str, problem: str | bytes, written: str) -> Worked:
+    """What is left without each arc of a problem."""
+    return Worked(Case(name, (b"vital",), text(problem), text(problem)), Outcome(0, text(written)))
+
+
 def faulty(problem: str | bytes, told: str, command: bytes = b"solve") -> Worked:
     """A problem that is refused. Standard input has it too, where it is read."""
-    words = (command,) if command == b"solve" else (command, PROBLEM)
-    return Worked(Case(f"a problem: {told}", words, text(problem), text(problem)), Outcome(3, b"", f"dmf: {told}\n".encode()))
+    words = (command,) if command in (b"solve", b"vital") else (command, PROBLEM)
+    return Worked(
+        Case(f"a problem: {told}", words, text(problem), text(problem)),
+        Outcome(3, b"", f"dmf: {told}\n".encode()),
+    )
 
 
 def wrong(problem: str | bytes, solution: str | bytes, told: str) -> Worked:
@@ -59,10 +71,15 @@ NARROW_CUT = "c cut 3 / c side 1 / c side 2 / c side 3"
 # Five nodes: two ways of the same length, which share their last arc.
 JOINED = "p max 5 5 / n 1 s / n 5 t / a 1 2 1 / a 1 3 1 / a 2 4 1 / a 3 4 1 / a 4 5 1"
 SECOND_WAY = "s 1 / f 1 2 0 / f 1 3 1 / f 2 4 0 / f 3 4 1 / f 4 5 1"
-# Parallel arcs, an arc that comes back to its tail, and one into the source, in a text that is as loose as may be.
-LOOSE = b"cNote\r\n\r\np  max\t3   5\r\nn 3 t\r\nn 1 s\r\na 1 2 4\r\n  a 2 2 9\r\na 1 2 007 \r\na 2 1 6\r\na 2 3 9"
+# Parallel arcs, an arc that comes back to its tail, and one into the source, in a text that is as
+# loose as may be.
+LOOSE = (
+    b"cNote\r\n\r\np  max\t3   5\r\nn 3 t\r\nn 1 s\r\na 1 2 4\r\n  a 2 2 9\r\na 1 2 007 \r\na 2 1 "
+    b"6\r\na 2 3 9"
+)
 LOOSE_FLOW = "s 9 / f 1 2 4 / f 2 2 0 / f 1 2 5 / f 2 1 0 / f 2 3 9"
-# Four nodes: one way of parallel arcs, with an arc that comes back to its tail, and another way beside it.
+# Four nodes: one way of parallel arcs, with an arc that comes back to its tail, and another way
+# beside it.
 PARALLEL = "p max 4 6 / n 1 s / n 4 t / a 1 2 1 / a 2 2 5 / a 1 2 2 / a 2 4 3 / a 1 3 2 / a 3 4 2"
 PARALLEL_FLOW = "s 5 / f 1 2 1 / f 2 2 0 / f 1 2 2 / f 2 4 3 / f 1 3 2 / f 3 4 2"
 LARGEST = "p max 2 1 / n 1 s / n 2 t / a 1 2 18446744073709551615"

@@ -1,9 +1,26 @@
-"""More cases that were worked out by hand. None of their requests for memory is refused, and none of their reads and writes fails."""
+"""More cases that were worked out by hand. None of their requests for memory is refused, and none
+of their reads and writes fails."""
 
 from __future__ import annotations
 
-from worked_forms import CROSSED, CROSSED_CUT, CROSSED_FLOW, CUT, LARGEST, LOOSE, LOOSE_FLOW, NARROW_FLOW, NO_FLOW, TWO
-from worked_forms import checked, faulty, held, solved, text, wrong
+from worked_forms import (
+    CROSSED,
+    CROSSED_CUT,
+    CROSSED_FLOW,
+    CUT,
+    LARGEST,
+    LOOSE,
+    LOOSE_FLOW,
+    NARROW_FLOW,
+    NO_FLOW,
+    TWO,
+    checked,
+    faulty,
+    held,
+    solved,
+    text,
+    wrong,
+)
 
 NO_ARCS = "p max 2 0 / n 1 s / n 2 t"
 LARGEST_FLOW = "s 18446744073709551615 / f 1 2 18446744073709551615"
@@ -18,8 +35,8 @@ ADDED = CROSSED.replace("4 5 /", "4 7 /", 1) + " / a 1 4 7" * 2
 OPEN = "p max 4 4 / n 1 s / n 4 t / a 1 2 3 / a 2 4 2 / a 1 4 7 / a 1 4 7"
 OPEN_FLOW = "s 16 / f 1 2 2 / f 2 4 2 / f 1 4 7 / f 1 4 7"
 OPEN_CUT = "c cut 16 / c side 1 / c side 2"
-# Command lines that are refused for their words, their fields or their numbers, each with the text that tells it. Of two carriage
-# returns the first is a byte of a field.
+# Command lines that are refused for their words, their fields or their numbers, each with the text
+# that tells it. Of two carriage returns the first is a byte of a field.
 REFUSED_LINES = {
     b"cNote": "unknown command",
     b"ca 1 2": "unknown command",
@@ -70,12 +87,20 @@ REFUSED_LINES = {
 
 SOLVES = [
     solved("no arcs", NO_ARCS, "s 0"),
-    solved("the largest capacity, with the cut", LARGEST, f"{LARGEST_FLOW} / c cut 18446744073709551615 / c side 1", CUT),
-    solved("a loose text, with the cut", LOOSE, f"{LOOSE_FLOW} / c cut 9 / c side 1 / c side 2", CUT),
+    solved(
+        "the largest capacity, with the cut",
+        LARGEST,
+        f"{LARGEST_FLOW} / c cut 18446744073709551615 / c side 1",
+        CUT,
+    ),
+    solved(
+        "a loose text, with the cut", LOOSE, f"{LOOSE_FLOW} / c cut 9 / c side 1 / c side 2", CUT
+    ),
     solved(
         "of two ways of the same length the one whose arcs come first, with the cut",
         "p max 5 5 / n 1 s / n 5 t / a 1 3 1 / a 1 2 1 / a 2 4 1 / a 3 4 1 / a 4 5 1",
-        "s 1 / f 1 3 1 / f 1 2 0 / f 2 4 0 / f 3 4 1 / f 4 5 1 / c cut 1 / c side 1 / c side 2 / c side 3 / c side 4",
+        "s 1 / f 1 3 1 / f 1 2 0 / f 2 4 0 / f 3 4 1 / f 4 5 1 / c cut 1 / c side 1 / c side 2 / c "
+        "side 3 / c side 4",
         CUT,
     ),
     solved("the last line has no end", text(CROSSED)[:-1], CROSSED_FLOW),
@@ -91,82 +116,106 @@ SESSIONS = [
         "undo gives a drained flow back, redo takes it off again, and neither solves",
         CROSSED,
         "solve / cap 5 1 / undo / print flow / redo / print flow / print problem",
-        f"{CROSSED_FLOW} / c cap value 3 / c undo value 5 / {CROSSED_FLOW} / c redo value 3 / {NARROW_FLOW} / "
-        + CROSSED.replace("a 3 4 3", "a 3 4 1"),
+        f"{CROSSED_FLOW} / c cap value 3 / c undo value 5 / {CROSSED_FLOW} / c redo value 3 / "
+        f"{NARROW_FLOW} / " + CROSSED.replace("a 3 4 3", "a 3 4 1"),
     ),
     held(
-        "each change is tried on what was solved: it is undone with its own solve, and redone without it",
+        "each change is tried on what was solved: it is undone with its own solve, and redone "
+        "without it",
         CROSSED,
         "solve / cap 4 1 / solve / undo 2 / cap 2 1 / cap 2 2 / solve / undo 3 / redo / solve",
-        f"{CROSSED_FLOW} / c cap value 4 / s 4 / f 1 2 2 / f 1 3 2 / f 2 3 1 / f 2 4 1 / f 3 4 3 / c undo value 5 / "
+        f"{CROSSED_FLOW} / c cap value 4 / s 4 / f 1 2 2 / f 1 3 2 / f 2 3 1 / f 2 4 1 / f 3 4 3 / "
+        "c undo value 5 / "
         f"c cap value 4 / c cap value 4 / {CROSSED_FLOW} / c undo value 5 / c redo value 4 / "
         "s 4 / f 1 2 3 / f 1 3 1 / f 2 3 1 / f 2 4 2 / f 3 4 2",
     ),
     held(
         "arcs that are not there, and a number with a sign",
         CROSSED,
-        "closed 1 / cap 9 1 / cap 1 -1 / cap 0 1 / cap 6 1 / close 0 / close 6 / close 4294967297 / cap 5 1 / close 5",
-        "c refused 1 unknown command / c refused 2 no such arc / c refused 3 not a number / c refused 4 no such arc / "
-        "c refused 5 no such arc / c refused 6 no such arc / c refused 7 no such arc / c refused 8 no such arc / "
+        "closed 1 / cap 9 1 / cap 1 -1 / cap 0 1 / cap 6 1 / close 0 / close 6 / close 4294967297 "
+        "/ cap 5 1 / close 5",
+        "c refused 1 unknown command / c refused 2 no such arc / c refused 3 not a number / c "
+        "refused 4 no such arc / "
+        "c refused 5 no such arc / c refused 6 no such arc / c refused 7 no such arc / c refused 8 "
+        "no such arc / "
         "c cap value 0 / c close value 0",
     ),
     held(
-        "a closed arc keeps its number, is left out of what is written, and is opened by undo alone",
+        "a closed arc keeps its number, is left out of what is written, and is opened by undo "
+        "alone",
         CROSSED,
-        "close 1 / print problem / print flow / add 1 2 9 / cap 6 4 / cap 1 4 / print problem / solve / undo 4 / cap 1 4",
+        "close 1 / print problem / print flow / add 1 2 9 / cap 6 4 / cap 1 4 / print problem / "
+        "solve / undo 4 / cap 1 4",
         "c close value 0 / p max 4 4 / n 1 s / n 4 t / a 1 3 2 / a 2 3 5 / a 2 4 2 / a 3 4 3 / "
-        "s 0 / f 1 3 0 / f 2 3 0 / f 2 4 0 / f 3 4 0 / c add 6 value 0 / c cap value 0 / c refused 6 arc is closed / "
+        "s 0 / f 1 3 0 / f 2 3 0 / f 2 4 0 / f 3 4 0 / c add 6 value 0 / c cap value 0 / c refused "
+        "6 arc is closed / "
         "p max 4 5 / n 1 s / n 4 t / a 1 3 2 / a 2 3 5 / a 2 4 2 / a 3 4 3 / a 1 2 4 / "
         "s 5 / f 1 3 2 / f 2 3 1 / f 2 4 2 / f 3 4 3 / f 1 2 3 / c undo value 0 / c cap value 0",
     ),
     held(
         "the largest sum of capacities, and one more",
         CROSSED,
-        "cap 1 18446744073709551603 / cap 1 18446744073709551604 / cap 2 3 / cap 2 2 / solve / cap 3 18446744073709551615",
-        "c cap value 0 / c refused 2 capacities past 64 bits / c refused 3 capacities past 64 bits / c cap value 0 / "
+        "cap 1 18446744073709551603 / cap 1 18446744073709551604 / cap 2 3 / cap 2 2 / solve / cap "
+        "3 18446744073709551615",
+        "c cap value 0 / c refused 2 capacities past 64 bits / c refused 3 capacities past 64 bits "
+        "/ c cap value 0 / "
         f"{CROSSED_FLOW} / c refused 6 capacities past 64 bits",
     ),
     held(
         "a change that alters nothing is a change",
         CROSSED,
         "solve / cap 1 3 / undo / undo / undo",
-        f"{CROSSED_FLOW} / c cap value 5 / c undo value 5 / c undo value 0 / c refused 5 nothing to undo",
+        f"{CROSSED_FLOW} / c cap value 5 / c undo value 5 / c undo value 0 / c refused 5 nothing "
+        "to undo",
     ),
     held(
         "many changes that alter nothing",
         CROSSED,
         "cap 1 3 / " * 200 + "undo 200 / undo / redo 200 / redo",
-        "c cap value 0 / " * 200 + "c undo value 0 / c refused 202 nothing to undo / c redo value 0 / c refused 204 nothing to redo",
+        "c cap value 0 / " * 200
+        + "c undo value 0 / c refused 202 nothing to undo / c redo value 0 / c refused 204 "
+        "nothing to redo",
     ),
     held(
         "a refused change is no state",
         CROSSED,
         "add 1 5 1 / add 1 4 18446744073709551615 / undo / redo",
-        "c refused 1 no such node / c refused 2 capacities past 64 bits / c refused 3 nothing to undo / c refused 4 nothing to redo",
+        "c refused 1 no such node / c refused 2 capacities past 64 bits / c refused 3 nothing to "
+        "undo / c refused 4 nothing to redo",
     ),
     held(
         "refused changes stand between others, which are undone together",
         CROSSED,
-        "solve / cap 5 1 / close 1 / close 1 / cap 1 1 / cap 6 1 / close 0 / cap 2 18446744073709551615 / undo 2 / redo 1 / redo 2 / "
+        "solve / cap 5 1 / close 1 / close 1 / cap 1 1 / cap 6 1 / close 0 / cap 2 "
+        "18446744073709551615 / undo 2 / redo 1 / redo 2 / "
         "print problem",
-        f"{CROSSED_FLOW} / c cap value 3 / c close value 0 / c refused 4 arc is closed / c refused 5 arc is closed / "
-        "c refused 6 no such arc / c refused 7 no such arc / c refused 8 capacities past 64 bits / c undo value 5 / c redo value 3 / "
+        f"{CROSSED_FLOW} / c cap value 3 / c close value 0 / c refused 4 arc is closed / c refused "
+        "5 arc is closed / "
+        "c refused 6 no such arc / c refused 7 no such arc / c refused 8 capacities past 64 bits / "
+        "c undo value 5 / c redo value 3 / "
         f"c refused 11 nothing to redo / {CROSSED.replace('a 3 4 3', 'a 3 4 1')}",
     ),
     held(
         "a node that is shut twice",
         CROSSED,
-        "solve / shut 3 / shut 0 / shut 5 / shut 3 / close 5 / undo 2 / redo 1 / redo 2 / print problem",
-        f"{CROSSED_FLOW} / c shut value 2 / c refused 3 no such node / c refused 4 no such node / c shut value 2 / "
-        "c refused 6 arc is closed / c undo value 5 / c redo value 2 / c refused 9 nothing to redo / "
+        "solve / shut 3 / shut 0 / shut 5 / shut 3 / close 5 / undo 2 / redo 1 / redo 2 / print "
+        "problem",
+        f"{CROSSED_FLOW} / c shut value 2 / c refused 3 no such node / c refused 4 no such node / "
+        "c "
+        "shut value 2 / "
+        "c refused 6 arc is closed / c undo value 5 / c redo value 2 / c refused 9 nothing to redo "
+        "/ "
         "p max 4 2 / n 1 s / n 4 t / a 1 2 3 / a 2 4 2",
     ),
     held(
         "too few fields, too many, no steps, what is not printed, and a last line without an end",
         CROSSED,
-        b"print\r\nprint side\r\nundo 1 1\nundo 0\n\tredo  0 \nundo 18446744073709551616\nundo -1\nredo",
-        "c refused 1 wrong number of fields / c refused 2 unknown command / c refused 3 wrong number of fields / "
-        "c undo value 0 / c redo value 0 / c refused 6 number too large / c refused 7 not a number / c refused 8 nothing to redo",
+        b"print\r\nprint side\r\nundo 1 1\nundo 0\n\tredo  0 \nundo 18446744073709551616\nundo "
+        b"-1\nredo",
+        "c refused 1 wrong number of fields / c refused 2 unknown command / c refused 3 wrong "
+        "number of fields / "
+        "c undo value 0 / c redo value 0 / c refused 6 number too large / c refused 7 not a number "
+        "/ c refused 8 nothing to redo",
     ),
     held(
         "the rest of a long line is skipped",
@@ -178,7 +227,8 @@ SESSIONS = [
         "a cut is told of the state that undo and redo lead to",
         CROSSED,
         "solve / print cut / undo / print cut / redo / print cut / add 1 4 1 / print cut",
-        f"{CROSSED_FLOW} / {CROSSED_CUT} / c undo value 0 / c refused 4 flow is not greatest / c redo value 5 / {CROSSED_CUT} / "
+        f"{CROSSED_FLOW} / {CROSSED_CUT} / c undo value 0 / c refused 4 flow is not greatest / c "
+        f"redo value 5 / {CROSSED_CUT} / "
         "c add 6 value 5 / c refused 8 flow is not greatest",
     ),
     held(
@@ -197,39 +247,52 @@ SESSIONS = [
         "a printed flow has no cut after it",
         CROSSED,
         "solve / print flow / undo / redo / print cut",
-        f"{CROSSED_FLOW} / {CROSSED_CUT} / {CROSSED_FLOW} / c undo value 0 / c redo value 5 / {CROSSED_CUT}",
+        f"{CROSSED_FLOW} / {CROSSED_CUT} / {CROSSED_FLOW} / c undo value 0 / c redo value 5 / "
+        f"{CROSSED_CUT}",
         CUT,
     ),
     held(
         "the cut is that of the network with the arcs that were added",
         NO_ARCS,
         "solve / add 1 2 7 / print cut / solve",
-        "s 0 / c cut 0 / c side 1 / c add 1 value 0 / c refused 3 flow is not greatest / s 7 / f 1 2 7 / c cut 7 / c side 1",
+        "s 0 / c cut 0 / c side 1 / c add 1 value 0 / c refused 3 flow is not greatest / s 7 / f 1 "
+        "2 7 / c cut 7 / c side 1",
         CUT,
     ),
     held(
         "command lines that are refused for what stands in them, and change nothing",
         CROSSED,
         b"\n".join([*REFUSED_LINES, b"print problem", b"undo"]),
-        " / ".join(f"c refused {line} {told}" for line, told in enumerate(REFUSED_LINES.values(), 1))
+        " / ".join(
+            f"c refused {line} {told}" for line, told in enumerate(REFUSED_LINES.values(), 1)
+        )
         + f" / {CROSSED} / c refused 47 nothing to undo",
     ),
     held(
         "the largest capacity, with and without leading zeros, spaces and tabs",
         NINE,
-        "cap 9 18446744073709551615 / print problem / undo /  cap\t09 18446744073709551615 / print problem",
+        "cap 9 18446744073709551615 / print problem / undo /  cap\t09 18446744073709551615 / print "
+        "problem",
         f"c cap value 0 / {NINTH_LARGEST} / c undo value 0 / c cap value 0 / {NINTH_LARGEST}",
     ),
     held(
         "each other command, with and without leading zeros, spaces and tabs",
         CROSSED,
-        "add 1 4 7 / \tadd  01 4   7  / print problem / close 3 / close  0\t / shut 3 /  shut\t00  / shut 18446744073709551615 / "
-        "print problem / solve /  solve\t / print flow /  print\tcut  / print cut / undo 0 / undo / undo 3 / print problem / "
+        "add 1 4 7 / \tadd  01 4   7  / print problem / close 3 / close  0\t / shut 3 /  shut\t00  "
+        "/ shut 18446744073709551615 / "
+        "print problem / solve /  solve\t / print flow /  print\tcut  / print cut / undo 0 / undo "
+        "/ "
+        "undo 3 / print problem / "
         "redo / redo 18446744073709551615 / print problem",
-        f"c add 6 value 0 / c add 7 value 0 / {ADDED} / c close value 0 / c refused 5 no such arc / c shut value 0 / "
-        f"c refused 7 no such node / c refused 8 no such node / {OPEN} / {OPEN_FLOW} / {OPEN_FLOW} / {OPEN_FLOW} / "
-        f"{OPEN_CUT} / {OPEN_CUT} / c undo value 16 / c undo value 16 / c undo value 0 / {ADDED} / c redo value 0 / "
-        "c refused 20 nothing to redo / p max 4 6 / n 1 s / n 4 t / a 1 2 3 / a 1 3 2 / a 2 4 2 / a 3 4 3 / a 1 4 7 / a 1 4 7",
+        f"c add 6 value 0 / c add 7 value 0 / {ADDED} / c close value 0 / c refused 5 no such arc "
+        "/ "
+        "c shut value 0 / "
+        f"c refused 7 no such node / c refused 8 no such node / {OPEN} / {OPEN_FLOW} / {OPEN_FLOW} "
+        f"/ {OPEN_FLOW} / "
+        f"{OPEN_CUT} / {OPEN_CUT} / c undo value 16 / c undo value 16 / c undo value 0 / {ADDED} / "
+        "c redo value 0 / "
+        "c refused 20 nothing to redo / p max 4 6 / n 1 s / n 4 t / a 1 2 3 / a 1 3 2 / a 2 4 2 / "
+        "a 3 4 3 / a 1 4 7 / a 1 4 7",
     ),
     held(
         "blank lines and comments have no reply, and count",
@@ -241,22 +304,49 @@ SESSIONS = [
 CHECKS = [
     checked("no flow", CROSSED, b"s 0", "c flow 0"),
     checked("no arcs", NO_ARCS, "s 0", "c greatest 0"),
-    checked("the largest value, in one line for parallel arcs", FULL, LARGEST_FLOW, "c greatest 18446744073709551615"),
-    checked("two lines for it", FULL, b"f 1 2 18446744073709551614\ns 18446744073709551615\nf 1 2 1", "c greatest 18446744073709551615"),
-    checked("an arc without a line", CROSSED, b"s 3\nf 1 2 3\nf 2 3 1\nf 2 4 2\nf 3 4 1", "c flow 3"),
+    checked(
+        "the largest value, in one line for parallel arcs",
+        FULL,
+        LARGEST_FLOW,
+        "c greatest 18446744073709551615",
+    ),
+    checked(
+        "two lines for it",
+        FULL,
+        b"f 1 2 18446744073709551614\ns 18446744073709551615\nf 1 2 1",
+        "c greatest 18446744073709551615",
+    ),
+    checked(
+        "an arc without a line", CROSSED, b"s 3\nf 1 2 3\nf 2 3 1\nf 2 4 2\nf 3 4 1", "c flow 3"
+    ),
     checked("lines that put no flow on arcs", CROSSED, b"s 0\nf 1 2 0\nf 3 4 0", "c flow 0"),
-    checked("lines with the same ends add up", CROSSED, "s 2 / f 1 2 1 / f 2 4 1 / f 1 2 1 / f 2 4 0 / f 2 4 1", "c flow 2"),
+    checked(
+        "lines with the same ends add up",
+        CROSSED,
+        "s 2 / f 1 2 1 / f 2 4 1 / f 1 2 1 / f 2 4 0 / f 2 4 1",
+        "c flow 2",
+    ),
     checked(
         "a loose solution",
         CROSSED,
-        b"comment\r\n\r\n \t\r\n  f 1\t3 002 \r\nf  3 4 0000000000000000000000002\r\n\ts 2\r\ncx\r\n",
+        b"comment\r\n\r\n \t\r\n  f 1\t3 002 \r\nf  3 4 0000000000000000000000002\r\n\ts 2\r\n"
+        b"cx\r\n",
         "c flow 2",
     ),
     checked("a blank line at the end", CROSSED, b"s 2\nf 2 4 2\nf 1 2 2\n\n", "c flow 2"),
-    checked("two lines for parallel arcs", LOOSE, b"s 9\nf 1 2 5\nf 2 3 9\nf 1 2 4", "c greatest 9"),
+    checked(
+        "two lines for parallel arcs", LOOSE, b"s 9\nf 1 2 5\nf 2 3 9\nf 1 2 4", "c greatest 9"
+    ),
     checked("just the first of parallel arcs", LOOSE, b"s 4\nf 1 2 4\nf 2 3 4", "c flow 4"),
-    checked("less than the first of parallel arcs takes", LOOSE, b"s 3\nf 1 2 3\nf 2 3 3", "c flow 3"),
-    checked("parallel arcs that are full, and flow back into the source", LOOSE, b"s 5\nf 1 2 11\nf 2 1 6\nf 2 3 5", "c flow 5"),
+    checked(
+        "less than the first of parallel arcs takes", LOOSE, b"s 3\nf 1 2 3\nf 2 3 3", "c flow 3"
+    ),
+    checked(
+        "parallel arcs that are full, and flow back into the source",
+        LOOSE,
+        b"s 5\nf 1 2 11\nf 2 1 6\nf 2 3 5",
+        "c flow 5",
+    ),
     checked("flow on an arc that comes back to its tail", LOOSE, b"s 0\nf 2 2 9", "c flow 0"),
 ]
 # Problems with their faults, which a solve and a session tell alike.
@@ -316,13 +406,21 @@ SOLUTIONS: dict[str | bytes, str] = {
     b"f 1 2 3": "line 2: value line missing",
 }
 FAULTS = [
-    *(faulty(problem, told, command) for problem, told in PROBLEMS.items() for command in (b"solve", b"session")),
+    *(
+        faulty(problem, told, command)
+        for problem, told in PROBLEMS.items()
+        for command in (b"solve", b"session")
+    ),
     *(faulty(text(CROSSED)[:count], told) for count, told in FRONTS.items()),
     *(wrong(CROSSED, solution, told) for solution, told in SOLUTIONS.items()),
     wrong(LOOSE, "f 1 2 11 / s 9 / f 1 2 0 / f 1 2 1", "line 4: over capacity"),
     wrong(f"{TWO} / a 2 1 5", "s 3 / f 2 1 3", "line 3: value differs"),
     wrong(FULL, "s 0 / f 1 2 18446744073709551615 / f 1 2 1", "line 3: over capacity"),
-    wrong(FULL, "s 0 / f 1 2 18446744073709551615 / f 1 2 18446744073709551615", "line 3: over capacity"),
+    wrong(
+        FULL,
+        "s 0 / f 1 2 18446744073709551615 / f 1 2 18446744073709551615",
+        "line 3: over capacity",
+    ),
     wrong(FULL, "s 0 / f 1 2 18446744073709551616", "line 2: number too large"),
     # A fault of the problem is told before one of its solution.
     wrong("p max 1 0", "x", "line 1: count out of range"),

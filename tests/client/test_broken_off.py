@@ -1,5 +1,6 @@
-"""Calls that are broken off before any of their lines and at any time, by both ways: the network is as it was before the call. What it is
-compared with is another network that made the same steps and was never broken off."""
+"""Calls that are broken off before any of their lines and at any time, by both ways: the network is
+as it was before the call. What it is compared with is another network that made the same steps and
+was never broken off."""
 
 from __future__ import annotations
 
@@ -18,7 +19,8 @@ import pytest
 from broken_off import CALLS, Step, all_told, prepared, told
 from client_shared import dmf
 
-# Lines before which Python heeds no signal: those that take the program and give it back are made so.
+# Lines before which Python heeds no signal: those that take the program and give it back are made
+# so.
 UNHEEDED = re.compile(r"^ *try:$|self\._taken")
 
 
@@ -44,7 +46,9 @@ def interrupted(network: dmf.Network[str], call: Step, count: int) -> bool:
         nonlocal left
         if not frame.f_code.co_filename.startswith(folder):
             return None
-        if event == "line" and not UNHEEDED.search(linecache.getline(frame.f_code.co_filename, frame.f_lineno)):
+        if event == "line" and not UNHEEDED.search(
+            linecache.getline(frame.f_code.co_filename, frame.f_lineno)
+        ):
             left -= 1
             if left < 0:
                 sys.settrace(None)
@@ -64,7 +68,8 @@ def interrupted(network: dmf.Network[str], call: Step, count: int) -> bool:
 
 @pytest.mark.parametrize("seed", range(8))
 def test_at_any_time(seed: int) -> None:
-    """Random steps, each of which may be broken off after a random time. One that came to its end at that moment may count as made."""
+    """Random steps, each of which may be broken off after a random time. One that came to its end
+    at that moment may count as made."""
     random = Random(f"interrupted {seed}")
     before = signal.signal(signal.SIGALRM, signal.default_int_handler)
     broken_off = 0
@@ -73,7 +78,10 @@ def test_at_any_time(seed: int) -> None:
             for _ in range(60):
                 name, place = random.choice(sorted(CALLS)), network._kept.place
                 try:
-                    signal.setitimer(signal.ITIMER_REAL, random.choice([random.random() / 5_000, random.random() / 500]))
+                    signal.setitimer(
+                        signal.ITIMER_REAL,
+                        random.choice([random.random() / 5_000, random.random() / 500]),
+                    )
                     try:
                         CALLS[name](network)
                     finally:
@@ -95,7 +103,8 @@ def test_at_any_time(seed: int) -> None:
 
 
 def test_a_call_that_gave_nothing_back() -> None:
-    """Ctrl-C came just when a call ended, and the next one of this thread goes on; a call of another thread, or within a call, does not."""
+    """Ctrl-C came just when a call ended, and the next one of this thread goes on; a call of
+    another thread, or within a call, does not."""
     with prepared() as network, prepared() as other:
         network._taken[0] = [threading.get_ident()]
         assert all_told(network) == all_told(other)

@@ -25,7 +25,11 @@ def test_cut() -> None:
     with pipes() as network:
         network.solve()
         cut = network.cut()
-        assert (cut.capacity, cut.side, ends(cut.arcs)) == (5, frozenset({"lake"}), [("lake", "mill"), ("lake", "town")])
+        assert (cut.capacity, cut.side, ends(cut.arcs)) == (
+            5,
+            frozenset({"lake"}),
+            [("lake", "mill"), ("lake", "town")],
+        )
         network.cap(("town", "sea"), 1)
         network.solve()
         cut = network.cut()
@@ -67,7 +71,12 @@ def test_an_added_arc_goes_and_comes_back() -> None:
 
 
 def test_parallel_arcs() -> None:
-    rows: list[dmf.Row[str]] = [("a", "b", 3), ("a", "b", 4), ("a", "b", 1, "bypass"), ("b", "c", 6)]
+    rows: list[dmf.Row[str]] = [
+        ("a", "b", 3),
+        ("a", "b", 4),
+        ("a", "b", 1, "bypass"),
+        ("b", "c", 6),
+    ]
     with dmf.Network(rows, "a", "c") as network:
         plan = network.solve()
         with pytest.raises(dmf.AmbiguousArc):
@@ -84,21 +93,35 @@ def test_parallel_arcs() -> None:
 
 
 def test_a_named_arc_by_its_ends() -> None:
-    with dmf.Network([("a", "b", 3, "main"), ("b", "c", 4, "out"), ("c", "c", 1)], "a", "c") as network:
+    with dmf.Network(
+        [("a", "b", 3, "main"), ("b", "c", 4, "out"), ("c", "c", 1)], "a", "c"
+    ) as network:
         main, out, _ = network.arcs
         plan = network.solve()
-        assert (network.arc(("a", "b")), network.arc("main"), plan["a", "b"], plan["main"]) == (main, main, 3, 3)
+        assert (network.arc(("a", "b")), network.arc("main"), plan["a", "b"], plan["main"]) == (
+            main,
+            main,
+            3,
+            3,
+        )
         assert (network.cap(("b", "c"), 2), network.capacity("out")) == (2, 2)
         # A second arc has the same ends, so that they name neither; each is still named by its key.
         other = network.add("a", "b", 5, "other")
-        message = "2 open arcs have the key or the ends ('a', 'b'): <Arc 1: 'a' to 'b', 'main'>, <Arc 4: 'a' to 'b', 'other'>"
+        message = (
+            "2 open arcs have the key or the ends ('a', 'b'): <Arc 1: 'a' to 'b', 'main'>, <Arc 4: "
+            "'a' to 'b', 'other'>"
+        )
         with pytest.raises(dmf.AmbiguousArc) as caught:
             network.close(("a", "b"))
         assert str(caught.value) == message
         with pytest.raises(dmf.AmbiguousArc):
             network.flow().get(("a", "b"))
         assert (network.arc("other"), network.close("main")) == (other, 0)
-        assert (network.arc(("a", "b")), network.undo(2), network.arc(("a", "b"))) == (other, 2, main)
+        assert (network.arc(("a", "b")), network.undo(2), network.arc(("a", "b"))) == (
+            other,
+            2,
+            main,
+        )
 
 
 def test_a_named_arc_beside_one_without_a_name() -> None:
@@ -124,10 +147,18 @@ def test_a_key_that_is_the_ends() -> None:
 def test_between() -> None:
     with pipes() as network:
         plan = network.solve()
-        assert (plan.between("mill", "town"), plan.between("town", "mill"), plan.between("lake", "sea")) == (1, 0, 0)
+        assert (
+            plan.between("mill", "town"),
+            plan.between("town", "mill"),
+            plan.between("lake", "sea"),
+        ) == (1, 0, 0)
         with pytest.raises(dmf.NoSuchNode):
             plan.between("lake", "see")
-        assert (plan.get("canal"), plan.get("canal", 0), plan.get(("mill", "town"), 9)) == (None, 0, 1)
+        assert (plan.get("canal"), plan.get("canal", 0), plan.get(("mill", "town"), 9)) == (
+            None,
+            0,
+            1,
+        )
 
 
 def test_any_names() -> None:
@@ -153,7 +184,10 @@ def test_problem_has_names() -> None:
     with pipes() as network:
         network.add("lake", "sea", 7, "the canal")
         network.close(("lake", "town"))
-        wanted = "c node 1 lake\nc node 2 mill\nc node 3 town\nc node 4 sea\nc arc 5 the canal\np max 4 5\nn 1 s\nn 4 t\n"
+        wanted = (
+            "c node 1 lake\nc node 2 mill\nc node 3 town\nc node 4 sea\nc arc 5 the canal\np max 4 "
+            "5\nn 1 s\nn 4 t\n"
+        )
         wanted += "a 1 2 3\na 2 3 5\na 2 4 2\na 3 4 3\na 1 4 7\n"
         assert network.problem() == wanted
 
@@ -166,7 +200,11 @@ def test_read() -> None:
         file.flush()
         with dmf.read(file.name) as network:
             # Two nodes have the same name, so both are called by their numbers.
-            assert (network.nodes, network.source, network.sink) == (["the lake", 2, 3, 4], "the lake", 2)
+            assert (network.nodes, network.source, network.sink) == (
+                ["the lake", 2, 3, 4],
+                "the lake",
+                2,
+            )
             assert (network.solve().value, network.capacity("Mill Street")) == (5, 7)
 
 
@@ -184,7 +222,10 @@ def test_shut() -> None:
     with pipes() as network:
         first = network.solve()
         assert network.shut("mill") == 2
-        assert (ends(network.arcs), flows(network.flow())) == ([("lake", "town"), ("town", "sea")], [2, 2])
+        assert (ends(network.arcs), flows(network.flow())) == (
+            [("lake", "town"), ("town", "sea")],
+            [2, 2],
+        )
         assert (network.undo(), network.flow()) == (5, first)
         assert (network.redo(), network.undo()) == (2, 5)
         assert (network.shut("town"), flows(network.flow())) == (2, [2, 2])

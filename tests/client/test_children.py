@@ -36,7 +36,9 @@ def test_statuses() -> None:
 
 def test_standard_error_is_shown_safely() -> None:
     answer = r"printf '\033]0;title\007\033[31mred\nsecond\r\200 \342\200\256line\n' >&2; exit 1"
-    wanted = "dmf ended with status 1: \\x1b]0;title\\x07\\x1b[31mred\nsecond\\x0d\ufffd \\u202eline"
+    wanted = (
+        "dmf ended with status 1: \\x1b]0;title\\x07\\x1b[31mred\nsecond\\x0d\ufffd \\u202eline"
+    )
     assert ended(answer) == wanted
 
 
@@ -45,7 +47,9 @@ def test_a_reason_is_shown_safely() -> None:
         with pytest.raises(dmf.Refused, match=r"^refused: too \\x1b\[31mwindy: solve$"):
             network.solve()
     with script(r"printf 'dmf: line 4: too \033[31mwindy\n' >&2; exit 3") as program:
-        with pytest.raises(dmf.Refused, match=r"^refused: too \\x1b\[31mwindy: <Arc 1: 'lake' to 'mill'>$"):
+        with pytest.raises(
+            dmf.Refused, match=r"^refused: too \\x1b\[31mwindy: <Arc 1: 'lake' to 'mill'>$"
+        ):
             pipes(program=program)
 
 
@@ -80,8 +84,20 @@ def test_a_long_number_in_an_answer() -> None:
 
 @pytest.mark.parametrize("closing", ["<&-", "2>&-", "<&- 2>&-"])
 def test_closed_streams(closing: str) -> None:
-    """Where this process has a standard stream no more, no file of a network takes the place that the program's stream has."""
-    code = 'import dmf; arcs = [("a", "b", 3)]; print(dmf.Network(arcs, "a", "b").solve().value, dmf.value(arcs, "a", "b"))'
-    words = ["sh", "-c", f'cd "$1" && exec "$2" -c "$3" {closing}', "sh", CLIENT, sys.executable, code]
+    """Where this process has a standard stream no more, no file of a network takes the place that
+    the program's stream has."""
+    code = (
+        'import dmf; arcs = [("a", "b", 3)]; print(dmf.Network(arcs, "a", "b").solve().value, '
+        'dmf.value(arcs, "a", "b"))'
+    )
+    words = [
+        "sh",
+        "-c",
+        f'cd "$1" && exec "$2" -c "$3" {closing}',
+        "sh",
+        CLIENT,
+        sys.executable,
+        code,
+    ]
     ran = subprocess.run(words, stdout=subprocess.PIPE, text=True, timeout=60)
     assert (ran.returncode, ran.stdout) == (0, "3 3\n")

@@ -10,9 +10,9 @@ from oracle.network import is_greatest, smallest_side
 from oracle.problem import problem_text
 from oracle.session import Session, SolveReply
 from oracle.texts import LARGEST, Fault
+from packages import load
 from random_cases import fitting
 from random_cases import network as random_network
-from packages import load
 
 SESSIONS = 150
 numpy, networkx = map(load, ("numpy", "networkx"))
@@ -39,7 +39,9 @@ def hold(random: Random) -> None:
             state = model.present()
             if random.random() < 0.5:
                 # It is looked at when the network is another one, or has ended.
-                plans.append((network.flow(), [flow for _, flow in state.open_arcs()], state.value()))
+                plans.append(
+                    (network.flow(), [flow for _, flow in state.open_arcs()], state.value())
+                )
             if random.random() < 0.7:
                 compare(state, network)
     for plan, flows, value in plans:
@@ -49,16 +51,25 @@ def hold(random: Random) -> None:
 
 
 def try_out(model: Any, network: dmf.Network[str], random: Random) -> None:
-    """Steps that are tried out, on the network alone, with an error at the end or none. All is then as it was."""
+    """Steps that are tried out, on the network alone, with an error at the end or none. All is then
+    as it was."""
     text, plan, value = network.problem(), network.flow(), network.value
     try:
         with network.try_out():
             for _ in range(random.randrange(6)):
                 arcs = network.arcs
-                steps: list[Callable[[], object]] = [network.solve, network.undo, network.redo, lambda: network.shut("n2")]
+                steps: list[Callable[[], object]] = [
+                    network.solve,
+                    network.undo,
+                    network.redo,
+                    lambda: network.shut("n2"),
+                ]
                 steps += [lambda: network.add("n1", "n2", 3), lambda: network.undo(2)]
                 if arcs:
-                    steps += [lambda: network.close(random.choice(arcs)), lambda: network.cap(random.choice(arcs), 1)]
+                    steps += [
+                        lambda: network.close(random.choice(arcs)),
+                        lambda: network.cap(random.choice(arcs), 1),
+                    ]
                 try:
                     random.choice(steps)()
                 except dmf.Refused:
@@ -81,8 +92,12 @@ def try_out(model: Any, network: dmf.Network[str], random: Random) -> None:
 
 def step(model: Any, network: dmf.Network[str], random: Random) -> None:
     """One random command to both. They agree, also where it is refused."""
-    word = random.choice(["solve", "cap", "cap", "close", "add", "shut", "undo", "undo", "redo", "redo"])
-    arc, count = random.randint(1, max(1, len(network._kept.capacities))), random.choice([0, 1, 1, 2, 3])
+    word = random.choice(
+        ["solve", "cap", "cap", "close", "add", "shut", "undo", "undo", "redo", "redo"]
+    )
+    arc, count = random.randint(1, max(1, len(network._kept.capacities))), random.choice(
+        [0, 1, 1, 2, 3]
+    )
     tail, head, node = (random.randint(1, model.present().nodes) for _ in range(3))
     amount = random.choice([0, 1, 2, 5, 9, 2**63])
     if word in ("cap", "close") and not network._kept.capacities:
@@ -92,7 +107,10 @@ def step(model: Any, network: dmf.Network[str], random: Random) -> None:
         "solve": ([], lambda: network.solve().value),
         "cap": ([arc, amount], lambda: network.cap(handle, amount)),
         "close": ([arc], lambda: network.close(handle)),
-        "add": ([tail, head, amount], lambda: (network.add(f"n{tail}", f"n{head}", amount), network.value)[1]),
+        "add": (
+            [tail, head, amount],
+            lambda: (network.add(f"n{tail}", f"n{head}", amount), network.value)[1],
+        ),
         "undo": ([count], lambda: network.undo(count)),
         "redo": ([count], lambda: network.redo(count)),
         "shut": ([node], lambda: network.shut(f"n{node}")),
@@ -111,7 +129,9 @@ def step(model: Any, network: dmf.Network[str], random: Random) -> None:
 def compare(state: Any, network: dmf.Network[str]) -> None:
     opened = state.open_arcs()
     assert list(network.flow().values()) == [flow for _, flow in opened]
-    assert [(arc.tail, arc.head) for arc in network.arcs] == [(f"n{arc.tail}", f"n{arc.head}") for arc, _ in opened]
+    assert [(arc.tail, arc.head) for arc in network.arcs] == [
+        (f"n{arc.tail}", f"n{arc.head}") for arc, _ in opened
+    ]
     assert [network.capacity(arc) for arc in network.arcs] == [arc.cap for arc, _ in opened]
     assert (network.value, network.flow().value) == (state.value(), state.value())
     text = "".join(line for line in network.problem().splitlines(True) if not line.startswith("c"))
@@ -169,7 +189,9 @@ def test_refused() -> None:
 def test_values() -> None:
     random = Random("networkx")
     for _ in range(20):
-        graph = networkx.gnp_random_graph(12, 0.3, seed=random.randrange(10**6), directed=random.random() < 0.5)
+        graph = networkx.gnp_random_graph(
+            12, 0.3, seed=random.randrange(10**6), directed=random.random() < 0.5
+        )
         for _, _, data in graph.edges(data=True):
             data["capacity"] = random.randrange(20)
         with dmf.from_networkx(graph, 0, 11) as network:

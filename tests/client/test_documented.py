@@ -4,7 +4,9 @@ from __future__ import annotations
 
 import ast
 import doctest
+import inspect
 import os
+import re
 import subprocess
 import sys
 from pathlib import Path
@@ -15,6 +17,8 @@ from client_shared import CLIENT, ROOT, dmf
 from dmf import errors
 from dmf.sweeps import cases as sweeping
 
+ONE_CALL = "value", "minimum_cut", "maximum_flow", "from_networkx", "from_scipy"
+
 
 @pytest.mark.parametrize("module", [dmf, sweeping], ids=["dmf", "sweeping"])
 def test_docstrings(module: ModuleType) -> None:
@@ -22,6 +26,38 @@ def test_docstrings(module: ModuleType) -> None:
     names = {name: getattr(dmf, name) for name in dir(dmf)}
     failed, tried = doctest.testmod(module, extraglobs=names, verbose=False)
     assert (failed, tried > 0) == (0, True)
+
+
+# The calls of these have docstrings in numpy's style.
+CALLS = {
+    **{f"Network.{name}": getattr(dmf.Network, name) for name in vars(dmf.Network)},
+    **{name: getattr(dmf, name) for name in ONE_CALL},
+}
+PUBLIC_CALLS = {name: call for name, call in CALLS.items() if "._" not in name}
+
+
+@pytest.mark.parametrize("name", PUBLIC_CALLS)
+def test_call(name: str) -> None:
+    """Each public call of a network and of a graph says first what it does, then names its
+    parameters, and has an example, which is run."""
+    call = PUBLIC_CALLS[name]
+    text = inspect.cleandoc(call.__doc__ or "")
+    first, below, *_ = [*text.split("\n"), ""]
+    assert re.fullmatch(r"[A-Z][a-z]+ .*[.]", first) and not below, first
+    assert text.count("\nExamples\n--------\n>>> ") == 1
+    for title, rule in re.findall(r"^([A-Z][a-z]+)\n(-+)$", text, re.MULTILINE):
+        assert title in ("Parameters", "Returns", "Raises", "Examples")
+        assert len(title) == len(rule)
+    told = re.findall(r"^([a-z_, ]+)\n    ", text.partition("Parameters\n")[2], re.MULTILINE)
+    parameters = {*inspect.signature(call).parameters} if callable(call) else set()
+    named = {word.strip() for words in told for word in words.split(",")} & parameters
+    # A call of few words may name none; one that names some names all.
+    assert not named or named == parameters - {"self"}
+    names = {name: getattr(dmf, name) for name in dir(dmf)}
+    runner = doctest.DocTestRunner()
+    for test in doctest.DocTestFinder().find(call, name, module=False, globs=names):
+        assert runner.run(test).failed == 0, name
+    assert runner.tries > 0
 
 
 def test_readme() -> None:
@@ -32,10 +68,16 @@ def test_readme() -> None:
 def test_names() -> None:
     """What a type checker reads of the package is what Python finds in it."""
     tree = ast.parse(Path(dmf.__file__).read_text())
-    imports = [node for node in ast.walk(tree) if isinstance(node, ast.ImportFrom) and node.level == 1 and node.names[0].asname]
+    imports = [
+        node
+        for node in ast.walk(tree)
+        if isinstance(node, ast.ImportFrom) and node.level == 1 and node.names[0].asname
+    ]
     static = {(name.name, node.module) for node in imports for name in node.names}
     assert all(name.name == name.asname for node in imports for name in node.names)
-    assert static == {(name, home) for name, home in dmf._HOMES.items()} | {(name, "errors") for name in errors.PUBLIC}
+    assert static == {(name, home) for name, home in dmf._HOMES.items()} | {
+        (name, "errors") for name in errors.PUBLIC
+    }
     for name, home in static:
         assert getattr(dmf, name) is getattr(sys.modules[f"dmf.{home}"], name), name
     assert {name for name in dir(dmf) if not name.startswith("_")} >= {name for name, _ in static}
@@ -45,6 +87,14 @@ def test_names() -> None:
 
 def test_nothing_is_loaded_before_it_is_asked_for() -> None:
     for asked, wanted in ("", {"dmf"}), ("dmf.NoSuchArc", {"dmf", "dmf.errors"}):
-        script = f"import sys, dmf\n{asked}\nprint(*(name for name in sys.modules if name.partition('.')[0] == 'dmf'))"
-        ran = subprocess.run([sys.executable, "-c", script], env={**os.environ, "PYTHONPATH": CLIENT}, capture_output=True, text=True)
+        script = (
+            f"import sys, dmf\n{asked}\nprint(*(name for name in sys.modules if "
+            "name.partition('.')[0] == 'dmf'))"
+        )
+        ran = subprocess.run(
+            [sys.executable, "-c", script],
+            env={**os.environ, "PYTHONPATH": CLIENT},
+            capture_output=True,
+            text=True,
+        )
         assert set(ran.stdout.split()) == wanted, ran.stderr

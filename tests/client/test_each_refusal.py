@@ -5,6 +5,7 @@ import pickle
 import re
 import tempfile
 from collections.abc import Callable
+from pathlib import Path
 from typing import Any
 
 import pytest
@@ -14,9 +15,8 @@ LARGEST = 2**64 - 1
 
 
 def test_texts_are_those_of_the_formats() -> None:
-    with open(f"{ROOT}/docs/FORMATS.md") as file:
-        page = file.read()
-    (problem,) = re.findall(r"^1\. its kind: .*?(?=^Fields|^## Names)", page, re.MULTILINE | re.DOTALL)
+    formats, page = (Path(ROOT, "docs", name).read_text() for name in ("FORMATS.md", "SESSION.md"))
+    (problem,) = re.findall(r"^1\. its kind: .*?(?=^## Names)", formats, re.MULTILINE | re.DOTALL)
     (session,) = re.findall(r"^\| TEXT \| When \|\n.*?\n\n", page, re.MULTILINE | re.DOTALL)
     for text in dmf.Refused.kinds:
         assert text in " ".join((problem + session).split())
@@ -36,7 +36,9 @@ def refuse(kind: type[dmf.Error], call: Callable[..., object], *arguments: objec
 def test_commands() -> None:
     with pipes() as network:
         before = network.problem()
-        assert refuse(dmf.NoSuchArc, network.cap, ("lake", "sea"), 1) == "no such arc: ('lake', 'sea')"
+        assert (
+            refuse(dmf.NoSuchArc, network.cap, ("lake", "sea"), 1) == "no such arc: ('lake', 'sea')"
+        )
         with pipes() as other:
             refuse(dmf.NoSuchArc, network.close, other.arcs[0])
         refuse(dmf.NoSuchNode, network.add, "lake", "see", 1)
@@ -59,7 +61,8 @@ def test_commands() -> None:
 
 @pytest.mark.pipe
 def test_lines() -> None:
-    """Refusals of lines that no method sends, and of numbers that are judged before they are sent."""
+    """Refusals of lines that no method sends, and of numbers that are judged before they are
+    sent."""
     lines = {
         dmf.UnknownCommand: "wash",
         dmf.WrongNumberOfFields: "solve 1",
@@ -78,7 +81,9 @@ def test_lines() -> None:
 def test_networks() -> None:
     refuse(dmf.SourceAndSinkAreTheSame, dmf.Network, PIPES, "lake", "lake")
     refuse(dmf.CountOutOfRange, dmf.Network, [("a", "a", 1)], "a", "a")
-    message = refuse(dmf.CapacitiesPast64Bits, dmf.Network, [("a", "b", 1), ("b", "a", LARGEST)], "a", "b")
+    message = refuse(
+        dmf.CapacitiesPast64Bits, dmf.Network, [("a", "b", 1), ("b", "a", LARGEST)], "a", "b"
+    )
     assert message == "capacities past 64 bits: <Arc 2: 'b' to 'a'>"
     message = refuse(dmf.NotANumber, dmf.Network, [("a", "b", 1.5)], "a", "b")
     assert message == "not a number: 1.5 in ('a', 'b', 1.5)"
@@ -104,7 +109,10 @@ def test_files() -> None:
         dmf.TooManyArcs: (head + "a 1 2 3\n" * 2, 5),
         dmf.TooFewArcs: (head, 4),
         dmf.SourceOrSinkMissing: ("p max 2 0\nn 2 t\n", 3),
-        dmf.CapacitiesPast64Bits: (head.replace("1\n", "2\n", 1) + f"a 1 2 {LARGEST}\na 1 2 1\n", 5),
+        dmf.CapacitiesPast64Bits: (
+            head.replace("1\n", "2\n", 1) + f"a 1 2 {LARGEST}\na 1 2 1\n",
+            5,
+        ),
     }
     with tempfile.TemporaryDirectory() as folder:
         path = f"{folder}/problem.max"
@@ -121,7 +129,12 @@ def test_files() -> None:
 
 def test_copies() -> None:
     """An exception that is copied or sent to another process is the same one."""
-    for error in dmf.NoSuchArc("'x'"), dmf.NoMemory(), dmf.Refused.of("too windy", "solve"), dmf.NotAnArc("not an arc: ()"):
+    for error in (
+        dmf.NoSuchArc("'x'"),
+        dmf.NoMemory(),
+        dmf.Refused.of("too windy", "solve"),
+        dmf.NotAnArc("not an arc: ()"),
+    ):
         for again in copy.copy(error), pickle.loads(pickle.dumps(error)):
             assert (type(again), str(again), vars(again)) == (type(error), str(error), vars(error))
 
@@ -133,12 +146,15 @@ def test_tracebacks_name_the_package() -> None:
     assert set(kinds) >= {dmf.Error, dmf.Refused, *dmf.Refused.kinds.values()}
 
 
-# What a program answers that stands in for dmf: the problem was read, and then one answer to each command.
+# What a program answers that stands in for dmf: the problem was read, and then one answer to each
+# command.
 
 
 def test_each_text() -> None:
     for text, kind in dmf.Refused.kinds.items():
-        with answering(f"case $line in solve) echo 'c refused 2 {text}';; *) echo c undo value 7;; esac") as network:
+        with answering(
+            f"case $line in solve) echo 'c refused 2 {text}';; *) echo c undo value 7;; esac"
+        ) as network:
             with pytest.raises(dmf.Refused) as caught:
                 network.solve()
             assert type(caught.value) is kind
@@ -154,7 +170,14 @@ def test_a_text_that_came_later() -> None:
 
 
 def test_no_answer_that_is_understood() -> None:
-    for answer in "echo hello", "echo s 5", "echo c undo value 5", "echo", "echo c solve value five", "echo c solve":
+    for answer in (
+        "echo hello",
+        "echo s 5",
+        "echo c undo value 5",
+        "echo",
+        "echo c solve value five",
+        "echo c solve",
+    ):
         with answering(answer) as network:
             for _ in range(2):
                 with pytest.raises(dmf.SessionEnded, match="`solve` was not understood"):
@@ -172,7 +195,9 @@ def test_no_flow_that_is_understood() -> None:
                 with pytest.raises(dmf.SessionEnded, match="`print flow` was not understood"):
                     list(plan.values())
     for line in "f 1 2", "f 1 2 x", "f 1 2 -1", "f 1 2 99999999999999999999", "f 1 2 3 4":
-        with answering(f"case $line in solve) echo c solve value 5;; *) echo s 5; {five} {line}; done;; esac") as network:
+        with answering(
+            f"case $line in solve) echo c solve value 5;; *) echo s 5; {five} {line}; done;; esac"
+        ) as network:
             plan = network.solve()
             with pytest.raises(dmf.SessionEnded, match="was not understood: it told no flow"):
                 list(plan.values())
@@ -205,11 +230,18 @@ NEAR: list[tuple[Callable[[Any], object], str]] = [
     (lambda network: network.shut(9), "no such node: 9"),
     (lambda network: network.add("Mill", "Twon", 1), "no such node: 'Twon'; is it 'Town'?"),
     (lambda network: network.close("cannal"), "no such arc: 'cannal'; is it 'canal'?"),
-    (lambda network: network.close(("Town", "Mill")), "no such arc: ('Town', 'Mill'); is it ('Mill', 'Town')?"),
+    (
+        lambda network: network.close(("Town", "Mill")),
+        "no such arc: ('Town', 'Mill'); is it ('Mill', 'Town')?",
+    ),
     (lambda network: network.close(("Mil", "Town")), "no such arc: ('Mil', 'Town'); is it 'Mill'?"),
     (lambda network: network.flow()["cannal"], "no such arc: 'cannal'; is it 'canal'?"),
     (lambda network: network.arc("river"), "no such arc: 'river'"),
-    (lambda network: next(dmf.sweep(network, [[("close", "cannal")]])).refusal and network.close("cannal"), "no such arc: 'cannal'; is it 'canal'?"),
+    (
+        lambda network: next(dmf.sweep(network, [[("close", "cannal")]])).refusal
+        and network.close("cannal"),
+        "no such arc: 'cannal'; is it 'canal'?",
+    ),
 ]
 
 
@@ -224,6 +256,8 @@ def test_what_was_meant(call: Callable[[Any], object], wanted: str) -> None:
 
 def test_many_names() -> None:
     """Among many names none is looked for."""
-    with dmf.Network([(f"n{number}", f"n{number + 1}", 1) for number in range(3_000)], "n0", "n3000") as network:
+    with dmf.Network(
+        [(f"n{number}", f"n{number + 1}", 1) for number in range(3_000)], "n0", "n3000"
+    ) as network:
         with pytest.raises(dmf.NoSuchNode, match="^no such node: 'n3001'$"):
             network.shut("n3001")

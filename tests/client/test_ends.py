@@ -36,15 +36,27 @@ def test_nothing_refers_to_it() -> None:
 
 def test_the_interpreter_ends() -> None:
     for last in "", "raise SystemExit(3)", "network.loop = network":
-        script = f"import dmf\nnetwork = dmf.Network([('a', 'b', 1)], 'a', 'b')\nprint(network._session.process.pid)\n{last}"
+        script = (
+            "import dmf\nnetwork = dmf.Network([('a', 'b', 1)], 'a', 'b')\n"
+            f"print(network._session.process.pid)\n{last}"
+        )
         environment = {**os.environ, "PYTHONPATH": CLIENT}
-        ran = subprocess.run([sys.executable, "-c", script], env=environment, capture_output=True, text=True, timeout=SECONDS)
+        ran = subprocess.run(
+            [sys.executable, "-c", script],
+            env=environment,
+            capture_output=True,
+            text=True,
+            timeout=SECONDS,
+        )
         assert (ran.returncode, ran.stderr) == (3 if "3" in last else 0, "")
         assert not is_running(int(ran.stdout))
 
 
 def test_it_is_killed() -> None:
-    commands: list[Callable[[dmf.Network[str]], object]] = [dmf.Network.solve, lambda network: network.cap(("lake", "mill"), 1)]
+    commands: list[Callable[[dmf.Network[str]], object]] = [
+        dmf.Network.solve,
+        lambda network: network.cap(("lake", "mill"), 1),
+    ]
     for command in commands:
         with pipes() as network:
             process_of(network).kill()

@@ -1,4 +1,5 @@
-"""Sessions by the C library in this process: what its calls answer, how they are broken off, and when it is freed."""
+"""Sessions by the C library in this process: what its calls answer, how they are broken off, and
+when it is freed."""
 
 from __future__ import annotations
 
@@ -21,24 +22,30 @@ from broken_off import CALLS, all_told, prepared
 from built import heed_interrupts
 from c_library import library_file
 from client_shared import BUILT, PIPES, dmf, environment, interrupted_soon, pipes, script
+from dmf import graphs as once
 from dmf.session import library as loaded
 from dmf.session import worker_threads
-from dmf import graphs as once
 from tool_runs import wait_until_asleep
 
 SECONDS = 60
-# A network large enough that its calls run beside, whose solve takes a second on an idle processor: a grid with arcs in three directions.
+# A network large enough that its calls run beside, whose solve takes a second on an idle processor:
+# a grid with arcs in three directions.
 GRID = """
 import os, random, sys, time
 import dmf
 
 def grid(side):
     draw = random.Random(side)
-    ends = [((x, y), to) for x in range(side) for y in range(side) for to in ((x + 1, y), (x, y + 1), (x, y - 1))]
-    rows = [(tail, head, draw.randint(1, 99)) for tail, head in ends if 0 <= head[0] < side and 0 <= head[1] < side]
-    return rows + [("s", (0, y), 10**6) for y in range(side)] + [((side - 1, y), "t", 10**6) for y in range(side)]
+    places = [(x, y) for x in range(side) for y in range(side)]
+    ends = [((x, y), to) for x, y in places for to in ((x + 1, y), (x, y + 1), (x, y - 1))]
+    inside = range(side)
+    rows = [(*it, draw.randint(1, 99)) for it in ends if it[1][0] in inside and it[1][1] in inside]
+    rows += [("s", (0, y), 10**6) for y in inside]
+    return rows + [((side - 1, y), "t", 10**6) for y in inside]
 """
-BROKEN_OFF = GRID + """
+BROKEN_OFF = (
+    GRID
+    + """
 network = dmf.Network(grid(200), "s", "t")
 print("begun", flush=True)
 input()
@@ -52,6 +59,7 @@ print(network.solve().value, network.undo(), time.monotonic() - began, flush=Tru
 print(dmf.value(grid(200), "s", "t"), flush=True)
 os._exit(0) if "now" in sys.argv else None
 """
+)
 pytestmark = pytest.mark.usefixtures("by_library")
 
 
@@ -67,14 +75,22 @@ def bound(request: pytest.FixtureRequest, monkeypatch: pytest.MonkeyPatch) -> in
 def test_each_call(bound: int, call: str) -> None:
     """As by the program, in each state that can be undone and redone."""
     with prepared() as network, prepared(program=BUILT) as other:
-        assert [isinstance(it._session, loaded.LibrarySession) for it in (network, other)] == [True, False]
+        assert [isinstance(it._session, loaded.LibrarySession) for it in (network, other)] == [
+            True,
+            False,
+        ]
         CALLS[call](network)
         CALLS[call](other)
         assert all_told(network) == all_told(other)
 
 
 def test_what_is_refused(bound: int) -> None:
-    calls: list[Callable[[Any], object]] = [lambda it: it.undo(9), lambda it: it.redo(2), lambda it: it.cut(), lambda it: it.shut(7)]
+    calls: list[Callable[[Any], object]] = [
+        lambda it: it.undo(9),
+        lambda it: it.redo(2),
+        lambda it: it.cut(),
+        lambda it: it.shut(7),
+    ]
     calls.append(lambda it: it.add("lake", "sea", 2**64 - 1))
     said: list[list[tuple[type, str]]] = [[], []]
     for told, program in zip(said, (None, BUILT)):
@@ -89,17 +105,29 @@ def test_what_is_refused(bound: int) -> None:
 
 def test_a_sweep(bound: int) -> None:
     with prepared() as network, prepared(program=BUILT) as other:
-        cases: list[Any] = [[("cap", ("lake", "mill"), 1)], [("close", "canal")], [("shut", "pond")]]
+        cases: list[Any] = [
+            [("cap", ("lake", "mill"), 1)],
+            [("close", "canal")],
+            [("shut", "pond")],
+        ]
         cases.append([("shut", "mill"), ("add", "lake", "sea", 2)])
         for want_cut in False, True:
-            found = [[*dmf.sweep(one, cases * 20, want_cut=want_cut, jobs=2)] for one in (network, other)]
-            told = [[(it.value, str(it.refusal), it.cut and len(it.cut)) for it in results] for results in found]
+            found = [
+                [*dmf.sweep(one, cases * 20, want_cut=want_cut, jobs=2)] for one in (network, other)
+            ]
+            told = [
+                [(it.value, str(it.refusal), it.cut and len(it.cut)) for it in results]
+                for results in found
+            ]
             assert told[0] == told[1]
 
 
 @contextlib.contextmanager
-def slow_solve(monkeypatch: pytest.MonkeyPatch) -> Iterator[tuple[threading.Event, threading.Event]]:
-    """A block in which the next solve goes on until the second event comes, and begins with the first."""
+def slow_solve(
+    monkeypatch: pytest.MonkeyPatch,
+) -> Iterator[tuple[threading.Event, threading.Event]]:
+    """A block in which the next solve goes on until the second event comes, and begins with the
+    first."""
     begun, until = threading.Event(), threading.Event()
     commands: Any = loaded.load(library_file()).commands
     solve: Callable[[int], int] = commands["solve"]
@@ -143,7 +171,8 @@ def wait_until_freed(freed: list[int]) -> None:
 
 
 def test_it_is_freed(monkeypatch: pytest.MonkeyPatch) -> None:
-    """By `end`, when nothing refers to it, and when a problem is refused or a call was broken off; once each."""
+    """By `end`, when nothing refers to it, and when a problem is refused or a call was broken off;
+    once each."""
     with counted(monkeypatch) as freed:
         with pipes() as network:
             network.solve()
@@ -169,9 +198,12 @@ def test_it_is_freed(monkeypatch: pytest.MonkeyPatch) -> None:
 
 
 def test_what_was_broken_off_is_freed_at_its_end(monkeypatch: pytest.MonkeyPatch) -> None:
-    """Ctrl-C leaves the call alone, whose session is freed once that ends; meanwhile the network goes on by another one."""
+    """Ctrl-C leaves the call alone, whose session is freed once that ends; meanwhile the network
+    goes on by another one."""
     monkeypatch.setattr(loaded, "MOST_AT_ONCE", 0)
-    with counted(monkeypatch) as freed, prepared() as network, prepared(program=BUILT) as other, slow_solve(monkeypatch) as (begun, until):
+    with counted(monkeypatch) as freed, prepared() as network, prepared(
+        program=BUILT
+    ) as other, slow_solve(monkeypatch) as (begun, until):
         with pytest.raises(KeyboardInterrupt), interrupted_soon(0.3):
             network.solve()
         assert begun.is_set() and all_told(network) == all_told(other) and freed == []
@@ -181,7 +213,10 @@ def test_what_was_broken_off_is_freed_at_its_end(monkeypatch: pytest.MonkeyPatch
 
 def test_another_thread_breaks_it_off(monkeypatch: pytest.MonkeyPatch, bound: int) -> None:
     """A call that runs beside is left at once; another one is left when it ends."""
-    with counted(monkeypatch) as freed, prepared() as network, slow_solve(monkeypatch) as (begun, until):
+    with counted(monkeypatch) as freed, prepared() as network, slow_solve(monkeypatch) as (
+        begun,
+        until,
+    ):
         said: list[str] = []
 
         def wait() -> None:
@@ -206,7 +241,8 @@ def test_another_thread_breaks_it_off(monkeypatch: pytest.MonkeyPatch, bound: in
 
 
 def test_one_thread_runs_call_after_call(monkeypatch: pytest.MonkeyPatch) -> None:
-    """Another one begins only while a call was left and goes on; and a forked process has its own."""
+    """Another one begins only while a call was left and goes on; and a forked process has its
+    own."""
     monkeypatch.setattr(loaded, "MOST_AT_ONCE", 0)
     worker_threads.threads.cache_clear()
     begun: list[object] = []
@@ -273,10 +309,12 @@ def test_a_forked_process_leaves_it_alone(monkeypatch: pytest.MonkeyPatch) -> No
 @pytest.mark.parametrize("how", ["now", "at the end"])
 @pytest.mark.seconds(6)
 def test_ctrl_c(how: str) -> None:
-    """A signal to a process of its own, in a solve of 119,600 arcs: it comes back at once, and the next call begins anew. An abandoned call
-    keeps no interpreter from ending."""
+    """A signal to a process of its own, in a solve of 119,600 arcs: it comes back at once, and the
+    next call begins anew. An abandoned call keeps no interpreter from ending."""
     words, pipe = [sys.executable, "-c", BROKEN_OFF, how], subprocess.PIPE
-    with subprocess.Popen(words, env=environment(), stdin=pipe, stdout=pipe, text=True, preexec_fn=heed_interrupts) as user:
+    with subprocess.Popen(
+        words, env=environment(), stdin=pipe, stdout=pipe, text=True, preexec_fn=heed_interrupts
+    ) as user:
         try:
             assert user.stdin and user.stdout and user.stdout.readline() == "begun\n"
             user.stdin.write("\n")
@@ -303,19 +341,22 @@ def test_large_networks_are_solved_by_the_program(monkeypatch: pytest.MonkeyPatc
 
 
 def short(monkeypatch: pytest.MonkeyPatch, word: str, arc: int) -> None:
-    """Lets the library answer that memory is short to a command about an arc, or to one about none."""
+    """Lets the library answer that memory is short to a command about an arc, or to one about
+    none."""
     commands: Any = loaded.load(library_file()).commands
     call = commands[word]
 
     def refusing(address: int, *numbers: int) -> int:
-        return loaded.NO_MEMORY if not numbers or numbers[0] == arc else int(call(address, *numbers))
+        return (
+            loaded.NO_MEMORY if not numbers or numbers[0] == arc else int(call(address, *numbers))
+        )
 
     monkeypatch.setitem(commands, word, refusing)
 
 
 def test_want_of_memory(monkeypatch: pytest.MonkeyPatch, bound: int) -> None:
-    """A call that is refused changes nothing; of cases that are tried together the others have their values; one that is made again when a
-    session begins anew ends that."""
+    """A call that is refused changes nothing; of cases that are tried together the others have
+    their values; one that is made again when a session begins anew ends that."""
     with pipes() as network:
         network.solve()
         with monkeypatch.context() as patched:
@@ -323,7 +364,10 @@ def test_want_of_memory(monkeypatch: pytest.MonkeyPatch, bound: int) -> None:
             with pytest.raises(dmf.NoMemory, match="^no memory: <Arc 2: 'lake' to 'town'>$"):
                 network.close(("lake", "town"))
             # Each pipe closed in turn, worked by hand.
-            told = [it.value if it.refusal is None else type(it.refusal) for it in dmf.sweep(network, dmf.each_arc_closed(), jobs=1)]
+            told = [
+                it.value if it.refusal is None else type(it.refusal)
+                for it in dmf.sweep(network, dmf.each_arc_closed(), jobs=1)
+            ]
             assert told == [2, dmf.NoMemory, 4, 3, 2]
         assert (network.value, network.close(("lake", "town"))) == (5, 3)
         with monkeypatch.context() as patched:
@@ -331,7 +375,10 @@ def test_want_of_memory(monkeypatch: pytest.MonkeyPatch, bound: int) -> None:
             network._session.break_off("it was stopped")
             with pytest.raises(dmf.SessionEnded):
                 network.solve()
-            with pytest.raises(dmf.SessionEnded, match="^the session could not begin anew: `close 2` was refused: no memory$"):
+            with pytest.raises(
+                dmf.SessionEnded,
+                match="^the session could not begin anew: `close 2` was refused: no memory$",
+            ):
                 network.begin_again()
         assert network.begin_again() == 3
         with monkeypatch.context() as patched:
@@ -347,7 +394,9 @@ def test_cases_that_go_wrong_in_the_middle(monkeypatch: pytest.MonkeyPatch) -> N
         short(monkeypatch, "close", 3)
         found: list[int] = []
         with pytest.raises(dmf.SessionEnded, match="was not understood"):
-            network._try_cases([[("close", 1)], [("close", 2)], [("close", 3)], [("close", 4)]], found)
+            network._try_cases(
+                [[("close", 1)], [("close", 2)], [("close", 3)], [("close", 4)]], found
+            )
         assert found == [2, 3]
         assert network.begin_again() == 5
 

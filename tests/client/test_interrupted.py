@@ -1,5 +1,6 @@
-"""Calls that are broken off, by Ctrl-C above all: the network is as it was before the call, and the next call begins a new session that
-comes to the same state. What it is compared with is another network that made the same steps and was never broken off."""
+"""Calls that are broken off, by Ctrl-C above all: the network is as it was before the call, and the
+next call begins a new session that comes to the same state. What it is compared with is another
+network that made the same steps and was never broken off."""
 
 from __future__ import annotations
 
@@ -14,7 +15,18 @@ from pathlib import Path
 import pytest
 from broken_off import CALLS, all_told, prepared, told
 from built import heed_interrupts
-from client_shared import BUILT, CLIENT, dmf, ends, interrupted_soon, is_running, pipes, process_of, script, stop
+from client_shared import (
+    BUILT,
+    CLIENT,
+    dmf,
+    ends,
+    interrupted_soon,
+    is_running,
+    pipes,
+    process_of,
+    script,
+    stop,
+)
 from desk_shared import wait_until_asked
 from dmf import session_holder as running
 from tool_runs import wait_until_asleep
@@ -41,7 +53,11 @@ def test_each_call(call: str, history: int | None) -> None:
         # What is known without the program.
         assert (network.value, ends(network.arcs)) == (other.value, ends(other.arcs))
         assert all_told(network) == all_told(other)
-        assert (plan, pump.flow, network.capacity(pump)) == (network.flow(), other.arc("pump").flow, 1)
+        assert (plan, pump.flow, network.capacity(pump)) == (
+            network.flow(),
+            other.arc("pump").flow,
+            1,
+        )
         CALLS[call](network)
         CALLS[call](other)
         assert all_told(network) == all_told(other)
@@ -63,7 +79,8 @@ def test_a_solution_that_nobody_has_looked_at() -> None:
 
 @pytest.mark.parametrize("nested", [False, True])
 def test_what_is_tried_out(nested: bool) -> None:
-    """At the end of the block all is as it was, without waiting for a program. A flow that nobody has looked at is lost."""
+    """At the end of the block all is as it was, without waiting for a program. A flow that nobody
+    has looked at is lost."""
     with prepared() as network, prepared() as other:
         with pytest.raises(KeyboardInterrupt), network.try_out():
             network.cap(("lake", "mill"), 2)
@@ -76,7 +93,11 @@ def test_what_is_tried_out(nested: bool) -> None:
                 with stopped(network):
                     network.shut("mill")
                 raise KeyboardInterrupt
-        assert (network.value, ends(network.arcs), network._kept.floors) == (other.value, ends(other.arcs), ())
+        assert (network.value, ends(network.arcs), network._kept.floors) == (
+            other.value,
+            ends(other.arcs),
+            (),
+        )
         with pytest.raises(dmf.SessionEnded, match="was broken off$"):
             lost.values().__iter__()
         assert plan == seen and told(network) == told(other)
@@ -92,7 +113,8 @@ def test_the_end_of_what_is_tried_out() -> None:
 
 
 def test_twice() -> None:
-    """Ctrl-C while the session begins anew ends it for good, and says so; `begin_again` tries once more."""
+    """Ctrl-C while the session begins anew ends it for good, and says so; `begin_again` tries once
+    more."""
     with script(f'[ ! -e "$0.slow" ] || kill -STOP $$\nexec {BUILT} "$@"') as program:
         with prepared(program=program) as network, prepared() as other:
             with stopped(network):
@@ -102,7 +124,11 @@ def test_twice() -> None:
                 network.solve()
             os.remove(f"{program}.slow")
             for _ in range(2):
-                with pytest.raises(dmf.SessionEnded, match="^the session was ended for good: it was broken off, and again while it began anew$"):
+                with pytest.raises(
+                    dmf.SessionEnded,
+                    match="^the session was ended for good: it was broken off, and again while it "
+                    "began anew$",
+                ):
                     network.solve()
             assert (network.value, network.begin_again()) == (other.value, other.value)
             assert all_told(network) == all_told(other)
@@ -110,25 +136,38 @@ def test_twice() -> None:
 
 def test_another_value() -> None:
     """A program that does not come to the same value the second time is not trusted."""
-    count = 'read line\necho c undo value 0\nread line\nif [ -e "$0.slow" ]; then echo c solve value 4; else echo c solve value 5; fi\nexec sleep 60'
+    count = (
+        'read line\necho c undo value 0\nread line\nif [ -e "$0.slow" ]; then echo c solve value '
+        "4; "
+        "else echo c solve value 5; fi\nexec sleep 60"
+    )
     with script(count) as program, pipes(program=program) as network:
         network.solve()
         with interrupted_soon(), pytest.raises(KeyboardInterrupt):
             network.solve()
         Path(f"{program}.slow").touch()
         for _ in range(2):
-            with pytest.raises(dmf.SessionEnded, match="^the session was ended: begun anew, it came to the value 4, and not to 5$"):
+            with pytest.raises(
+                dmf.SessionEnded,
+                match="^the session was ended: begun anew, it came to the value 4, and not to 5$",
+            ):
                 network.solve()
 
 
 def test_a_refusal_when_it_begins_anew() -> None:
-    count = 'read line\necho c undo value 0\nread line\nif [ -e "$0.slow" ]; then echo c refused 2 no memory; else echo c solve value 5; fi\nexec sleep 60'
+    count = (
+        'read line\necho c undo value 0\nread line\nif [ -e "$0.slow" ]; then echo c refused 2 no '
+        "memory; else echo c solve value 5; fi\nexec sleep 60"
+    )
     with script(count) as program, pipes(program=program) as network:
         network.solve()
         with interrupted_soon(), pytest.raises(KeyboardInterrupt):
             network.solve()
         Path(f"{program}.slow").touch()
-        with pytest.raises(dmf.SessionEnded, match="^the session could not begin anew: `solve` was refused: no memory$"):
+        with pytest.raises(
+            dmf.SessionEnded,
+            match="^the session could not begin anew: `solve` was refused: no memory$",
+        ):
             network.solve()
 
 
@@ -159,7 +198,11 @@ def test_a_copy() -> None:
         copy.open(canal)
         copy.cap(copy.add("mill", "sea", 3), 4)
         copy.solve()
-        assert (pump.is_open, copy.arc("pump").is_open, copy.arc(pump).is_open) == (True, False, False)
+        assert (pump.is_open, copy.arc("pump").is_open, copy.arc(pump).is_open) == (
+            True,
+            False,
+            False,
+        )
         assert all_told(network) == all_told(other)
         again = copy.copy()
         assert all_told(again) == all_told(copy)
@@ -211,7 +254,11 @@ def test_ctrl_c() -> None:
     """A signal to a process of its own, which waits for a program that does not answer."""
     words = [sys.executable, "-c", SCRIPT]
     with subprocess.Popen(
-        words, env={**os.environ, "PYTHONPATH": CLIENT}, stdin=subprocess.PIPE, stdout=subprocess.PIPE, preexec_fn=heed_interrupts
+        words,
+        env={**os.environ, "PYTHONPATH": CLIENT},
+        stdin=subprocess.PIPE,
+        stdout=subprocess.PIPE,
+        preexec_fn=heed_interrupts,
     ) as user:
         try:
             assert user.stdin and user.stdout
@@ -223,6 +270,10 @@ def test_ctrl_c() -> None:
             wait_until_asleep(user.pid)
             user.send_signal(signal.SIGINT)
             said, _ = user.communicate(timeout=SECONDS)
-            assert (said, user.returncode, is_running(session)) == (b"broken off 2 2\n1 2 0 1\n3\n", 0, False)
+            assert (said, user.returncode, is_running(session)) == (
+                b"broken off 2 2\n1 2 0 1\n3\n",
+                0,
+                False,
+            )
         finally:
             user.kill()

@@ -1,4 +1,5 @@
-"""Which library the package takes for sessions in this process, and what it says of one that cannot be used."""
+"""Which library the package takes for sessions in this process, and what it says of one that cannot
+be used."""
 
 from __future__ import annotations
 
@@ -19,18 +20,22 @@ SECONDS = 60
 SILENT = """
 import sys
 begun = []
-sys.addaudithook(lambda event, _: begun.append(event) if event in ("subprocess.Popen", "os.fork", "os.posix_spawn", "os.exec") else None)
+PROCESSES = "subprocess.Popen", "os.fork", "os.posix_spawn", "os.exec"
+sys.addaudithook(lambda event, _: begun.append(event) if event in PROCESSES else None)
 import dmf
 network = dmf.Network([("a", "b", 3), ("b", "c", 2)], "a", "c")
 print(network.solve().value, dmf.value({"a": {"b": 3}, "b": {"c": 2}}, "a", "c"), begun)
-print({"dataclasses", "decimal", "inspect", "numpy", "queue", "subprocess", "tempfile", "threading"} & {*sys.modules})
+UNWANTED = "dataclasses", "decimal", "inspect", "numpy", "queue", "subprocess", "tempfile"
+print({*UNWANTED, "threading"} & {*sys.modules})
 """
 pytestmark = pytest.mark.usefixtures("by_library")
 
 
 def test_which_is_taken(monkeypatch: pytest.MonkeyPatch) -> None:
     with pipes() as network:
-        assert isinstance(network._session, loaded.LibrarySession) and dmf.library() == library_file()
+        assert (
+            isinstance(network._session, loaded.LibrarySession) and dmf.library() == library_file()
+        )
     with pipes(program=BUILT) as network:
         assert isinstance(network._session, ProgramSession)
     monkeypatch.setenv("DMF_LIBRARY", "")
@@ -61,7 +66,9 @@ class OtherLibrary:
         (201, 1, "has the interface 1, and this package needs 0"),
     ],
 )
-def test_other_libraries(monkeypatch: pytest.MonkeyPatch, version: int, interface: int, told: str) -> None:
+def test_other_libraries(
+    monkeypatch: pytest.MonkeyPatch, version: int, interface: int, told: str
+) -> None:
     monkeypatch.setattr(dmf, "__version__", "0.2.4")
     monkeypatch.setattr(ctypes, "CDLL", lambda path: OtherLibrary(version, interface))
     monkeypatch.setenv("DMF_LIBRARY", "/there/libdmf.so.0")
@@ -73,7 +80,8 @@ def test_other_libraries(monkeypatch: pytest.MonkeyPatch, version: int, interfac
 
 
 def test_one_that_cannot_be_used(monkeypatch: pytest.MonkeyPatch, tmp_path: Path) -> None:
-    """One that is named, and cannot be loaded, is told; so is one of another version, here the library with another number."""
+    """One that is named, and cannot be loaded, is told; so is one of another version, here the
+    library with another number."""
     missing, text = tmp_path / "missing.so", tmp_path / "text.so"
     text.write_text("no library\n")
     for path in missing, text:
@@ -86,7 +94,10 @@ def test_one_that_cannot_be_used(monkeypatch: pytest.MonkeyPatch, tmp_path: Path
     release = dmf.__version__
     monkeypatch.setattr(dmf, "__version__", "7.8.9")
     loaded.load.cache_clear()
-    with pytest.raises(dmf.NoProgram, match=rf" is dmf {re.escape(release)}; this package is dmf 7\.8\.9, and needs 7\.8\.x$"):
+    with pytest.raises(
+        dmf.NoProgram,
+        match=rf" is dmf {re.escape(release)}; this package is dmf 7\.8\.9, and needs 7\.8\.x$",
+    ):
         pipes()
 
 
@@ -96,14 +107,31 @@ def test_one_that_is_found_and_cannot_be_used(tmp_path: Path) -> None:
     (tmp_path / "dmf/bin").mkdir()
     (tmp_path / "dmf/bin/libdmf.so.0").write_text("of another machine\n")
     ask = "import dmf; print(dmf.library(), dmf.Network([('a', 'b', 1)], 'a', 'b').solve().value)"
-    variables = {name: value for name, value in environment(PYTHONPATH=str(tmp_path)).items() if name not in ("DMF", "DMF_LIBRARY")}
+    variables = {
+        name: value
+        for name, value in environment(PYTHONPATH=str(tmp_path)).items()
+        if name not in ("DMF", "DMF_LIBRARY")
+    }
     path = f"{Path(BUILT).parent}:{variables['PATH']}"
     variables["PATH"] = path
-    ran = subprocess.run([sys.executable, "-c", ask], env=variables, capture_output=True, text=True, cwd=tmp_path, timeout=SECONDS)
+    ran = subprocess.run(
+        [sys.executable, "-c", ask],
+        env=variables,
+        capture_output=True,
+        text=True,
+        cwd=tmp_path,
+        timeout=SECONDS,
+    )
     assert (ran.stdout, ran.stderr) == ("None 1\n", "")
 
 
 def test_no_process_is_begun() -> None:
     """Nor is loaded what other calls need, which takes longer than all else together."""
-    ran = subprocess.run([sys.executable, "-c", SILENT], env=environment(), capture_output=True, text=True, timeout=SECONDS)
+    ran = subprocess.run(
+        [sys.executable, "-c", SILENT],
+        env=environment(),
+        capture_output=True,
+        text=True,
+        timeout=SECONDS,
+    )
     assert (ran.stdout, ran.stderr) == ("2 2 []\nset()\n", "")

@@ -1,4 +1,5 @@
-"""Columns with values that are missing or hidden, tables in the place of columns, and nodes that are none."""
+"""Columns with values that are missing or hidden, tables in the place of columns, and nodes that
+are none."""
 
 from __future__ import annotations
 
@@ -26,9 +27,9 @@ def refused(call: Callable[[], object], said: str) -> None:
 
 
 NO_NODES: list[tuple[list[Any], str]] = [
-    ([("a", "b", 1), ("b", NAN, 2)], "number 2, ('b', nan, 2): nan is no node"),
-    ([(NAN, "b", 1), ("b", NAN, 2)], "number 1, (nan, 'b', 1): nan is no node"),
-    ([(1, 2, 1), (2, NAN, 2)], "number 2, (2, nan, 2): nan is no node"),
+    ([("a", "b", 1), ("b", NAN, 2)], "number 2, ('b', nan, 2): nan is not a node"),
+    ([(NAN, "b", 1), ("b", NAN, 2)], "number 1, (nan, 'b', 1): nan is not a node"),
+    ([(1, 2, 1), (2, NAN, 2)], "number 2, (2, nan, 2): nan is not a node"),
 ]
 
 
@@ -43,22 +44,39 @@ def test_none_is_a_node_of_rows_alone() -> None:
     """A row names its nodes. In a column None is what is missing, unless `nodes` names it."""
     with dmf.Network([("a", None, 3)], "a", None) as network:
         assert network.solve().value == 3
-    refused(lambda: make(["a", "b"], ["b", None], [1, 2], source="a", sink="b"), "number 2, ('b', None, 2): None is no node")
+    refused(
+        lambda: make(["a", "b"], ["b", None], [1, 2], source="a", sink="b"),
+        "number 2, ('b', None, 2): None is not a node",
+    )
     with make(["a"], [None], [3], source="a", sink=None, nodes=[None]) as network:
         assert network.solve().value == 3
-    refused(lambda: dmf.Network([("a", "b", 1)], "a", "b", nodes=[NAN]), "the node nan is no name")
+    refused(
+        lambda: dmf.Network([("a", "b", 1)], "a", "b", nodes=[NAN]),
+        "nan cannot be the name of a node",
+    )
 
 
 def test_a_node_in_arrays() -> None:
     hidden = numpy.ma.masked_array([1, 2], [False, True])
-    refused(lambda: make(hidden, numpy.array([2, 3]), numpy.array([5, 6]), source=1, sink=3), "number 2, (None, 3, 6): None is no node")
-    refused(lambda: make(numpy.array([1.0, NAN]), numpy.array([2, 3]), [5, 6], source=1, sink=3), "number 2, (nan, 3, 6): nan is no node")
+    refused(
+        lambda: make(hidden, numpy.array([2, 3]), numpy.array([5, 6]), source=1, sink=3),
+        "number 2, (None, 3, 6): None is not a node",
+    )
+    refused(
+        lambda: make(numpy.array([1.0, NAN]), numpy.array([2, 3]), [5, 6], source=1, sink=3),
+        "number 2, (nan, 3, 6): nan is not a node",
+    )
 
 
 def test_a_node_in_frames() -> None:
     for kind, tail in ("string", ["a", pandas.NA]), ("Int64", [1, pandas.NA]):
-        frame = pandas.DataFrame({"tail": pandas.Series(tail, dtype=kind), "head": [2, 3], "capacity": [5, 6]})
-        refused(lambda: dmf.Network.from_frame(frame, source=2, sink=3), "number 2, (<NA>, 3, 6): <NA> is no node")
+        frame = pandas.DataFrame(
+            {"tail": pandas.Series(tail, dtype=kind), "head": [2, 3], "capacity": [5, 6]}
+        )
+        refused(
+            lambda: dmf.Network.from_frame(frame, source=2, sink=3),
+            "number 2, (<NA>, 3, 6): <NA> is not a node",
+        )
 
 
 def test_a_table_is_no_column() -> None:
@@ -66,9 +84,18 @@ def test_a_table_is_no_column() -> None:
         columns: list[Any] = [*whole_numbers(), numpy.array([5, 6]), numpy.array([7, 8])]
         columns[place] = columns[place].reshape(2, 1)
         tail, head, capacity, key = columns
-        refused(lambda: make(tail, head, capacity, key=key, source=1, sink=3), "a column has 2 dimensions, and not one")
-    refused(lambda: make(*whole_numbers(), numpy.array([[1, 2], [3, 4]]), source=1, sink=3), "a column has 2 dimensions, and not one")
-    refused(lambda: make(*whole_numbers(), numpy.array(7), source=1, sink=3), "a column has 0 dimensions, and not one")
+        refused(
+            lambda: make(tail, head, capacity, key=key, source=1, sink=3),
+            "a column has 2 dimensions, and not one",
+        )
+    refused(
+        lambda: make(*whole_numbers(), numpy.array([[1, 2], [3, 4]]), source=1, sink=3),
+        "a column has 2 dimensions, and not one",
+    )
+    refused(
+        lambda: make(*whole_numbers(), numpy.array(7), source=1, sink=3),
+        "a column has 0 dimensions, and not one",
+    )
 
 
 @pytest.mark.parametrize("kind", ["datetime64[ns]", "timedelta64[ns]"])
@@ -77,7 +104,11 @@ def test_times_that_would_become_whole_numbers(kind: str) -> None:
     times = numpy.array([1, 2], kind)
     for place in range(4):
         columns: list[Any] = [[1, 2], [2, 3], [5, 6], [7, 8]]
-        for column in times, numpy.ma.masked_array(times, [False, True]), *([pandas.Series(times)] if pandas else []):
+        for column in (
+            times,
+            numpy.ma.masked_array(times, [False, True]),
+            *([pandas.Series(times)] if pandas else []),
+        ):
             columns[place] = column
             tail, head, capacity, key = columns
             said = f"a column of {kind}, whose times would become whole numbers: make texts of them"
@@ -100,7 +131,8 @@ def test_a_hidden_capacity(kind: str) -> None:
 
 
 def test_capacities_and_keys_of_frames() -> None:
-    """What pandas writes as missing is missing, in the columns that are taken together and in those that are taken row by row."""
+    """What pandas writes as missing is missing, in the columns that are taken together and in those
+    that are taken row by row."""
     rooms = pandas.Series([4, pandas.NA], dtype="Int64")
     keys = pandas.Series(["x", pandas.NA], dtype="string")
     ends: list[tuple[Any, Any]] = [(["a", "b"], ["b", "c"]), whole_numbers()]
@@ -116,17 +148,33 @@ def test_capacities_and_keys_of_frames() -> None:
 
 def test_capacities_of_numpy_in_rows() -> None:
     """Every width of floats is taken where it is whole."""
-    for kind in numpy.float16, numpy.float32, numpy.float64, numpy.longdouble, numpy.int8, numpy.uint64:
+    for kind in (
+        numpy.float16,
+        numpy.float32,
+        numpy.float64,
+        numpy.longdouble,
+        numpy.int8,
+        numpy.uint64,
+    ):
         with dmf.Network([("a", "b", kind(3))], "a", "b") as network:
             assert (network.cap(("a", "b"), kind(2)), network.solve().value) == (0, 2)
-    for number in numpy.float32(3.5), numpy.float32(NAN), numpy.float32("inf"), numpy.float32(-1), float, "3":
+    for number in (
+        numpy.float32(3.5),
+        numpy.float32(NAN),
+        numpy.float32("inf"),
+        numpy.float32(-1),
+        float,
+        "3",
+    ):
         with pytest.raises(dmf.NotANumber):
             dmf.Network([("a", "b", number)], "a", "b")
 
 
 def test_keys_that_cannot_be_hashed() -> None:
     for key in [1], numpy.array([1, 2]):
-        with pytest.raises(dmf.NotAnArc, match=r"^not an arc: number 1: its key .* cannot be hashed$"):
+        with pytest.raises(
+            dmf.NotAnArc, match=r"^not an arc: number 1: its key .* cannot be hashed$"
+        ):
             make(*whole_numbers(), numpy.array([4, 5]), key=[key, "y"], source=1, sink=3)
         with pytest.raises(dmf.NotAnArc, match=r"^not an arc: \('a', 'b', 4, "):
             make(["a", "b"], ["b", "c"], [4, 5], key=[key, "y"], source="a", sink="c")

@@ -1,4 +1,5 @@
-"""What a network refuses by itself, before the program is asked: rows, bounds, copies, and calls from two sides at once."""
+"""What a network refuses by itself, before the program is asked: rows, bounds, copies, and calls
+from two sides at once."""
 
 import copy
 import os
@@ -22,7 +23,16 @@ def program_of(network: dmf.Network[Any]) -> str:
 
 
 def test_rows_of_another_form() -> None:
-    rows: list[Any] = [("a", "b"), (), ("a", "b", 1, "key", 2), 7, None, (["a"], "b", 1), ("a", {}, 1), ("a", "b", 1, [])]
+    rows: list[Any] = [
+        ("a", "b"),
+        (),
+        ("a", "b", 1, "key", 2),
+        7,
+        None,
+        (["a"], "b", 1),
+        ("a", {}, 1),
+        ("a", "b", 1, []),
+    ]
     for row in rows:
         with pytest.raises(dmf.NotAnArc) as caught:
             dmf.Network([("a", "b", 3), row], "a", "b")
@@ -44,7 +54,7 @@ def test_history() -> None:
         with pytest.raises(dmf.HistoryOutOfRange) as caught:
             # No program is started.
             pipes(history=bound, program="/nowhere/dmf")
-        wanted = f"history out of range: {bound!r} is no whole number from 0 to 1,000,000"
+        wanted = f"history out of range: {bound!r} is not a whole number from 0 to 1,000,000"
         assert (str(caught.value), isinstance(caught.value, ValueError)) == (wanted, True)
         with pytest.raises(dmf.HistoryOutOfRange):
             dmf.read("/nowhere.max", history=bound)
@@ -54,7 +64,8 @@ def test_history() -> None:
 
 
 class Graph:
-    """What stands in for a graph of networkx, with two edges of which the second has no capacity."""
+    """What stands in for a graph of networkx, with two edges of which the second has no
+    capacity."""
 
     def __init__(self, is_multigraph: bool) -> None:
         self.is_multigraph = lambda: is_multigraph
@@ -78,16 +89,25 @@ def test_an_edge_without_capacity() -> None:
 
 
 def test_copies() -> None:
-    calls: list[Callable[[Any], Any]] = [copy.copy, copy.deepcopy, pickle.dumps, lambda network: copy.deepcopy([network])]
+    calls: list[Callable[[Any], Any]] = [
+        copy.copy,
+        copy.deepcopy,
+        pickle.dumps,
+        lambda network: copy.deepcopy([network]),
+    ]
     with pipes() as network:
         for call in calls:
-            with pytest.raises(TypeError, match="^a network cannot be copied or pickled, since it is a running program"):
+            with pytest.raises(
+                TypeError,
+                match="^a network cannot be copied or pickled, since it is a running program",
+            ):
                 call(network)
         assert network.solve().value == 5
 
 
 def test_copies_of_what_a_network_gives() -> None:
-    """A copy of an arc is that arc, so that copies of flows and cuts are equal, and name arcs of the network."""
+    """A copy of an arc is that arc, so that copies of flows and cuts are equal, and name arcs of
+    the network."""
     with pipes() as network:
         plan = network.solve()
         for again in copy.copy(plan), copy.deepcopy(plan):
@@ -97,7 +117,9 @@ def test_copies_of_what_a_network_gives() -> None:
 
 def test_a_solution_in_another_process() -> None:
     """It is pickled with its arcs, but without the network, which is a running program."""
-    with dmf.Network([("a", "b", 3, "x"), ("a", "b", 4), ("b", "c", 5, "out")], "a", "c") as network:
+    with dmf.Network(
+        [("a", "b", 3, "x"), ("a", "b", 4), ("b", "c", 5, "out")], "a", "c"
+    ) as network:
         network.solve()
         network.close("x")
         network.add("b", "c", 1, "new")
@@ -105,7 +127,13 @@ def test_a_solution_in_another_process() -> None:
         pickled = pickle.dumps(plan)
     for again in pickle.loads(pickled), pickle.loads(pickle.dumps(plan)):
         # The arc that is left carries 4, and the way out 5 + 1.
-        assert (again.value, len(again), again["a", "b"], again["out"] + again["new"], again.between("b", "c")) == (4, 3, 4, 4, 4)
+        assert (
+            again.value,
+            len(again),
+            again["a", "b"],
+            again["out"] + again["new"],
+            again.between("b", "c"),
+        ) == (4, 3, 4, 4, 4)
         told = [(arc.number, arc.tail, arc.head, arc.given_key) for arc in again]
         assert told == [(2, "a", "b", None), (3, "b", "c", "out"), (4, "b", "c", "new")]
         assert [again[arc] for arc in again] == list(again.values())
@@ -116,7 +144,8 @@ def test_a_solution_in_another_process() -> None:
 
 
 def test_a_call_beside_another() -> None:
-    """Each call is refused while another thread waits for its answer, which comes once the file `go` is there."""
+    """Each call is refused while another thread waits for its answer, which comes once the file
+    `go` is there."""
     wait = 'touch "$0.got"; while [ ! -e "$0.go" ]; do sleep 0.01; done; echo c undo value 9'
     with answering(wait) as network:
         program = program_of(network)
@@ -126,8 +155,19 @@ def test_a_call_beside_another() -> None:
         deadline = time.monotonic() + SECONDS
         while not os.path.exists(f"{program}.got") and time.monotonic() < deadline:
             time.sleep(0.01)
-        calls: list[Callable[[], object]] = [network.solve, network.flow, network.cut, network.undo, network.redo, network.end]
-        calls += [network.problem, lambda: network.cap(("lake", "mill"), 1), lambda: network.close(("lake", "mill"))]
+        calls: list[Callable[[], object]] = [
+            network.solve,
+            network.flow,
+            network.cut,
+            network.undo,
+            network.redo,
+            network.end,
+        ]
+        calls += [
+            network.problem,
+            lambda: network.cap(("lake", "mill"), 1),
+            lambda: network.close(("lake", "mill")),
+        ]
         calls += [lambda: network.shut("mill"), lambda: network.add("lake", "sea", 1)]
         for call in calls:
             with pytest.raises(dmf.UsedByTwoThreads, match="^used by two threads at once: "):
@@ -195,7 +235,11 @@ def test_names_that_cannot_be_hashed() -> None:
         for call in network.arc, network.close, network.open, network.capacity:
             with pytest.raises(dmf.NoSuchArc, match=r"^no such arc: \['lake'\]$"):
                 call(name)
-        changes: list[Callable[[], object]] = [lambda: network.shut(name), lambda: network.add(name, "sea", 1), lambda: network.add("lake", name, 1)]
+        changes: list[Callable[[], object]] = [
+            lambda: network.shut(name),
+            lambda: network.add(name, "sea", 1),
+            lambda: network.add("lake", name, 1),
+        ]
         for change in changes:
             with pytest.raises(dmf.NoSuchNode, match=r"^no such node: \['lake'\]$"):
                 change()

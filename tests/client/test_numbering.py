@@ -1,5 +1,5 @@
-"""The numbers of nodes, against a dictionary: nodes are whole numbers that one array has, or anything else, or first these and then
-those."""
+"""The numbers of nodes, against a dictionary: nodes are whole numbers that one array has, or
+anything else, or first these and then those."""
 
 from __future__ import annotations
 
@@ -14,9 +14,17 @@ from hypothesis import given
 from hypothesis import strategies as st
 
 # Where nodes are whole numbers, how large they may be for each row: a few rows, and many.
-few, others = st.integers(0, 6), st.one_of(st.integers(-3, 300), st.sampled_from(["a", "", (1, 2), 1.0, 2.5, True, False, 2**31, 2**64, b"x"]))
+few, others = st.integers(0, 6), st.one_of(
+    st.integers(-3, 300),
+    st.sampled_from(["a", "", (1, 2), 1.0, 2.5, True, False, 2**31, 2**64, b"x"]),
+)
 nodes = st.one_of(few, few, few, few, others)
-rows = st.lists(st.one_of(st.tuples(few, few, few), st.tuples(nodes, nodes, few), st.tuples(few, few, few, nodes)), max_size=30)
+rows = st.lists(
+    st.one_of(
+        st.tuples(few, few, few), st.tuples(nodes, nodes, few), st.tuples(few, few, few, nodes)
+    ),
+    max_size=30,
+)
 
 
 @pytest.fixture(autouse=True, scope="module")
@@ -43,7 +51,11 @@ def test_rows(rows: list[Any], first: list[Any], asked: list[Any]) -> None:
     columns = columns_of(iter(rows) if len(rows) % 2 else rows, first)
     copy = pickle.loads(pickle.dumps(columns))
     for numbers in columns.numbers, copy.numbers:
-        assert (named(numbers), list(map(numbers.get, wanted)), len(numbers)) == (named(wanted), list(wanted.values()), len(wanted))
+        assert (named(numbers), list(map(numbers.get, wanted)), len(numbers)) == (
+            named(wanted),
+            list(wanted.values()),
+            len(wanted),
+        )
         assert [numbers.get(node) for node in asked] == [wanted.get(node) for node in asked]
         assert [node in numbers for node in asked] == [node in wanted for node in asked]
     assert named(columns.names) == named(wanted)
@@ -53,9 +65,17 @@ def test_rows(rows: list[Any], first: list[Any], asked: list[Any]) -> None:
 
 @pytest.mark.parametrize("count", [10, 300])
 def test_what_is_kept(count: int) -> None:
-    """Small whole numbers take an array; large ones, negative ones and those of another type a dictionary."""
+    """Small whole numbers take an array; large ones, negative ones and those of another type a
+    dictionary."""
     small = [(at % 7, at % 5, 1) for at in range(count)]
-    kinds: dict[Any, bool] = {(3, 4, 1): True, (4 * count, 1, 1): True, (2**40, 1, 1): False, (-1, 2, 1): False, ("a", 2, 1): False, (True, 2, 1): False}
+    kinds: dict[Any, bool] = {
+        (3, 4, 1): True,
+        (4 * count, 1, 1): True,
+        (2**40, 1, 1): False,
+        (-1, 2, 1): False,
+        ("a", 2, 1): False,
+        (True, 2, 1): False,
+    }
     for row, is_whole in kinds.items():
         numbers = columns_of([*small, row], ()).numbers
         assert isinstance(numbers, WholeNodes) == is_whole, row

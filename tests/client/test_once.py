@@ -1,4 +1,5 @@
-"""Maximum flows, minimum cuts and greatest values by one call each, compared with those of networkx and scipy on random graphs."""
+"""Maximum flows, minimum cuts and greatest values by one call each, compared with those of networkx
+and scipy on random graphs."""
 
 from __future__ import annotations
 
@@ -16,14 +17,22 @@ names = "numpy", "pandas", "networkx", "igraph", "scipy.sparse", "scipy.sparse.c
 numpy, pandas, networkx, igraph, sparse, csgraph = map(load, names)
 SECONDS = 20
 DICTIONARY = {"lake": {"mill": 3, "town": 2}, "mill": {"town": 5, "sea": 2}, "town": {"sea": 3}}
-FLOWS = {"lake": {"mill": 3, "town": 2}, "mill": {"town": 1, "sea": 2}, "town": {"sea": 3}, "sea": {}}
+FLOWS = {
+    "lake": {"mill": 3, "town": 2},
+    "mill": {"town": 1, "sea": 2},
+    "town": {"sea": 3},
+    "sea": {},
+}
 
 
 def test_dictionaries() -> None:
     assert dmf.maximum_flow(DICTIONARY, "lake", "sea") == (5, FLOWS)
     assert dmf.minimum_cut(DICTIONARY, "lake", "sea") == (5, ({"lake"}, {"mill", "town", "sea"}))
     assert dmf.value(DICTIONARY, "lake", "sea") == 5
-    attributes = {tail: {head: {"capacity": room, "width": 1} for head, room in heads.items()} for tail, heads in DICTIONARY.items()}
+    attributes = {
+        tail: {head: {"capacity": room, "width": 1} for head, room in heads.items()}
+        for tail, heads in DICTIONARY.items()
+    }
     assert dmf.maximum_flow(attributes, "lake", "sea") == (5, FLOWS)
     # Of two pipes one wide leads to the sea each way.
     assert dmf.value(attributes, "lake", "sea", "width") == 2
@@ -31,9 +40,16 @@ def test_dictionaries() -> None:
 
 def test_rows_and_columns() -> None:
     assert dmf.value(PIPES, "lake", "sea") == dmf.value(iter(PIPES), "lake", "sea") == 5
-    assert dmf.minimum_cut([*PIPES, ("lake", "sea", 1, "canal")], "lake", "sea") == (6, ({"lake"}, {"mill", "town", "sea"}))
+    assert dmf.minimum_cut([*PIPES, ("lake", "sea", 1, "canal")], "lake", "sea") == (
+        6,
+        ({"lake"}, {"mill", "town", "sea"}),
+    )
     assert dmf.value([("a", "b", None), ("b", "c", 3)], "a", "c", infinite=9) == 3
-    with pytest.raises(TypeError, match="^a flow in the shape of the graph needs a graph of networkx, .* and not a list: make a Network of it$"):
+    with pytest.raises(
+        TypeError,
+        match="^a flow in the shape of the graph needs a graph of networkx, .* and not a list: "
+        "make a Network of it$",
+    ):
         dmf.maximum_flow(PIPES, "lake", "sea")
     with dmf.Network(PIPES, "lake", "sea") as network:
         with pytest.raises(TypeError, match="^a Network has the method solve"):
@@ -42,9 +58,16 @@ def test_rows_and_columns() -> None:
 
 def test_frames_and_arrays() -> None:
     frame = pandas.DataFrame(PIPES, columns=["tail", "head", "capacity"])
-    assert (dmf.value(frame, "lake", "sea"), dmf.minimum_cut(frame, "lake", "sea")[1][0]) == (5, {"lake"})
+    assert (dmf.value(frame, "lake", "sea"), dmf.minimum_cut(frame, "lake", "sea")[1][0]) == (
+        5,
+        {"lake"},
+    )
     assert dmf.value(frame.rename(columns={"capacity": "room"}), "lake", "sea", "room") == 5
-    columns = numpy.array([0, 0, 1, 1, 2]), numpy.array([1, 2, 2, 3, 3]), numpy.array([3, 2, 5, 2, numpy.inf])
+    columns = (
+        numpy.array([0, 0, 1, 1, 2]),
+        numpy.array([1, 2, 2, 3, 3]),
+        numpy.array([3, 2, 5, 2, numpy.inf]),
+    )
     assert dmf.value(columns, 0, 3, infinite=3) == 5
 
 
@@ -53,7 +76,11 @@ def random_graph(random: Random, kind: Any) -> Any:
     count = random.randrange(2, 9)
     graph.add_nodes_from(f"n{node}" for node in range(count))
     for _ in range(random.randrange(20)):
-        graph.add_edge(f"n{random.randrange(count)}", f"n{random.randrange(count)}", capacity=random.randrange(9))
+        graph.add_edge(
+            f"n{random.randrange(count)}",
+            f"n{random.randrange(count)}",
+            capacity=random.randrange(9),
+        )
     return graph
 
 
@@ -64,7 +91,9 @@ def judge_flow(edges: list[tuple[Any, Any, int, int]], value: int) -> None:
         assert 0 <= flow <= room
         excess[head] += flow
         excess[tail] -= flow
-    assert {node: amount for node, amount in excess.items() if amount} == ({"n0": -value, "n1": value} if value else {})
+    assert {node: amount for node, amount in excess.items() if amount} == (
+        {"n0": -value, "n1": value} if value else {}
+    )
 
 
 @pytest.mark.parametrize("kind", ["Graph", "DiGraph"])
@@ -74,22 +103,50 @@ def test_graphs(kind: str, seed: int) -> None:
     wanted, flows = networkx.maximum_flow(graph, "n0", "n1")
     value, found = dmf.maximum_flow(graph, "n0", "n1")
     assert (value, dmf.value(graph, "n0", "n1")) == (wanted, wanted)
-    assert {node: set(heads) for node, heads in found.items()} == {node: set(heads) for node, heads in flows.items()}
-    judge_flow([(tail, head, graph[tail][head]["capacity"], flow) for tail, heads in found.items() for head, flow in heads.items()], wanted)
+    assert {node: set(heads) for node, heads in found.items()} == {
+        node: set(heads) for node, heads in flows.items()
+    }
+    judge_flow(
+        [
+            (tail, head, graph[tail][head]["capacity"], flow)
+            for tail, heads in found.items()
+            for head, flow in heads.items()
+        ],
+        wanted,
+    )
     # An edge without a direction carries in one of them.
-    assert kind == "DiGraph" or not any(flow and found[head][tail] for tail, heads in found.items() for head, flow in heads.items())
+    assert kind == "DiGraph" or not any(
+        flow and found[head][tail] for tail, heads in found.items() for head, flow in heads.items()
+    )
     amount, (side, others) = dmf.minimum_cut(graph, "n0", "n1")
     _, (largest, _) = networkx.minimum_cut(graph, "n0", "n1")
     # Every minimum cut has the smallest side on the side of the source.
-    assert (amount, side | others, side & others, side <= largest) == (wanted, set(graph), set(), True)
+    assert (amount, side | others, side & others, side <= largest) == (
+        wanted,
+        set(graph),
+        set(),
+        True,
+    )
     edges = graph.edges(data="capacity")
-    assert sum(room for tail, head, room in edges if tail in side and head in others or kind == "Graph" and tail in others and head in side) == wanted
+    assert (
+        sum(
+            room
+            for tail, head, room in edges
+            if tail in side
+            and head in others
+            or kind == "Graph"
+            and tail in others
+            and head in side
+        )
+        == wanted
+    )
 
 
 @pytest.mark.parametrize("kind", ["MultiGraph", "MultiDiGraph"])
 @pytest.mark.parametrize("seed", range(10))
 def test_multigraphs(kind: str, seed: int) -> None:
-    """networkx has no flows of these, but those of the graph whose edges carry as much as all between two nodes."""
+    """networkx has no flows of these, but those of the graph whose edges carry as much as all
+    between two nodes."""
     graph = random_graph(Random(f"multigraph {kind} {seed}"), getattr(networkx, kind))
     single = networkx.DiGraph() if kind == "MultiDiGraph" else networkx.Graph()
     single.add_nodes_from(graph)
@@ -98,17 +155,41 @@ def test_multigraphs(kind: str, seed: int) -> None:
         single.add_edge(tail, head, capacity=so_far + room)
     value, found = dmf.maximum_flow(graph, "n0", "n1")
     assert value == networkx.maximum_flow_value(single, "n0", "n1")
-    edges = [(tail, head, key, flow) for tail, heads in found.items() for head, flows in heads.items() for key, flow in flows.items()]
-    assert {edge[:3] for edge in edges} == {(tail, head, key) for tail, heads in graph.adjacency() for head in heads for key in heads[head]}
-    judge_flow([(tail, head, graph[tail][head][key]["capacity"], flow) for tail, head, key, flow in edges], value)
+    edges = [
+        (tail, head, key, flow)
+        for tail, heads in found.items()
+        for head, flows in heads.items()
+        for key, flow in flows.items()
+    ]
+    assert {edge[:3] for edge in edges} == {
+        (tail, head, key)
+        for tail, heads in graph.adjacency()
+        for head in heads
+        for key in heads[head]
+    }
+    judge_flow(
+        [(tail, head, graph[tail][head][key]["capacity"], flow) for tail, head, key, flow in edges],
+        value,
+    )
 
 
 def test_edges_without_a_bound() -> None:
     """As in networkx: an edge without the attribute, or with an infinite one, has no bound."""
-    graph = networkx.DiGraph([("a", "b", {"capacity": float("inf")}), ("b", "c", {"capacity": 4}), ("a", "c", {"capacity": 2}), ("b", "d")])
+    graph = networkx.DiGraph(
+        [
+            ("a", "b", {"capacity": float("inf")}),
+            ("b", "c", {"capacity": 4}),
+            ("a", "c", {"capacity": 2}),
+            ("b", "d"),
+        ]
+    )
     assert dmf.maximum_flow(graph, "a", "c") == networkx.maximum_flow(graph, "a", "c")
     assert dmf.minimum_cut(graph, "a", "c")[0] == networkx.minimum_cut_value(graph, "a", "c") == 6
-    for call, theirs in (dmf.value, networkx.maximum_flow_value), (dmf.maximum_flow, networkx.maximum_flow), (dmf.minimum_cut, networkx.minimum_cut):
+    for call, theirs in (
+        (dmf.value, networkx.maximum_flow_value),
+        (dmf.maximum_flow, networkx.maximum_flow),
+        (dmf.minimum_cut, networkx.minimum_cut),
+    ):
         with pytest.raises(networkx.NetworkXUnbounded):
             theirs(graph, "a", "d")
         with pytest.raises(dmf.Unbounded, match="^the flow has no bound: "):
@@ -127,7 +208,11 @@ def test_matrices(seed: int) -> None:
     matrix = sparse.csr_matrix(dense.astype(numpy.int32))
     theirs = csgraph.maximum_flow(matrix, 0, count - 1)
     found = dmf.maximum_flow(matrix, 0, count - 1)
-    assert (found.flow_value, type(found.flow_value), dmf.value(matrix, 0, count - 1)) == (theirs.flow_value, int, theirs.flow_value)
+    assert (found.flow_value, type(found.flow_value), dmf.value(matrix, 0, count - 1)) == (
+        theirs.flow_value,
+        int,
+        theirs.flow_value,
+    )
     flow = found.flow.toarray()
     assert (found.flow.format, found.flow.shape) == (theirs.flow.format, theirs.flow.shape)
     assert (flow == -flow.T).all() and (flow <= dense).all()
@@ -141,31 +226,51 @@ def test_matrices(seed: int) -> None:
 
 @pytest.mark.parametrize("amount", [2**62, 2**63 - 1, 2**63, 2**64 - 3])
 def test_matrices_of_64_bits(amount: int) -> None:
-    """The flow is signed as long as it can be, and then unsigned, without the entries that would be negative."""
+    """The flow is signed as long as it can be, and then unsigned, without the entries that would be
+    negative."""
     dense = numpy.array([[0, amount, 0], [2, 0, amount], [0, 0, 0]], object)
     dense[1, 2] = min(amount, 2**64 - 1 - amount - 2)
     matrix, value = sparse.csr_matrix(dense.astype(numpy.uint64)), int(dense[1, 2])
     found = dmf.maximum_flow(matrix, 0, 2)
     wanted = [[0, value, 0], [-value, 0, value], [0, -value, 0]]
-    assert (found.flow_value, found.flow.toarray().tolist(), found.flow.dtype) == (value, wanted, numpy.int64)
+    assert (found.flow_value, found.flow.toarray().tolist(), found.flow.dtype) == (
+        value,
+        wanted,
+        numpy.int64,
+    )
     alone = sparse.csr_matrix(numpy.array([[0, amount], [2, 0]], numpy.uint64))
     found = dmf.maximum_flow(alone, 0, 1)
     is_signed = amount < 2**63
-    assert (found.flow_value, found.flow.dtype) == (amount, numpy.int64 if is_signed else numpy.uint64)
+    assert (found.flow_value, found.flow.dtype) == (
+        amount,
+        numpy.int64 if is_signed else numpy.uint64,
+    )
     assert found.flow.toarray().tolist() == [[0, amount], [-amount if is_signed else 0, 0]]
     # Entries at one place are added up, and together they are below 2^64.
     parts = [amount // 3, amount // 3, amount - 2 * (amount // 3)]
-    twice = sparse.coo_matrix((numpy.array(parts, numpy.uint64), ([0, 0, 0], [1, 1, 1])), shape=(2, 2))
+    twice = sparse.coo_matrix(
+        (numpy.array(parts, numpy.uint64), ([0, 0, 0], [1, 1, 1])), shape=(2, 2)
+    )
     found = dmf.maximum_flow(twice, 0, 1)
-    assert (found.flow_value, found.flow.toarray()[0, 1], found.flow.dtype.kind) == (amount, amount, "i" if is_signed else "u")
+    assert (found.flow_value, found.flow.toarray()[0, 1], found.flow.dtype.kind) == (
+        amount,
+        amount,
+        "i" if is_signed else "u",
+    )
 
 
 def test_a_matrix_past_64_bits() -> None:
-    matrix = sparse.coo_matrix((numpy.array([2**63, 2**63], numpy.uint64), ([0, 0], [1, 1])), shape=(2, 2))
+    matrix = sparse.coo_matrix(
+        (numpy.array([2**63, 2**63], numpy.uint64), ([0, 0], [1, 1])), shape=(2, 2)
+    )
     for call in dmf.value, dmf.minimum_cut, dmf.maximum_flow:
-        with pytest.raises(dmf.CapacitiesPast64Bits, match="^capacities past 64 bits: <Arc 2: 0 to 1>$"):
+        with pytest.raises(
+            dmf.CapacitiesPast64Bits, match="^capacities past 64 bits: <Arc 2: 0 to 1>$"
+        ):
             call(matrix, 0, 1)
-        with pytest.raises(dmf.NumberTooLarge, match=r"^number too large: one of 65 bits in \(0, 1, "):
+        with pytest.raises(
+            dmf.NumberTooLarge, match=r"^number too large: one of 65 bits in \(0, 1, "
+        ):
             call(sparse.csr_matrix(numpy.array([[0, 2.0**64], [0, 0]])), 0, 1)
 
 
@@ -177,7 +282,9 @@ def test_faults() -> None:
             call(DICTIONARY, "lake", "lake")
         with pytest.raises(dmf.NotANumber, match=r"^not a number: -1 in \('a', 'b', -1, None\)$"):
             call({"a": {"b": -1}}, "a", "b")
-        with pytest.raises(dmf.CapacitiesPast64Bits, match="^capacities past 64 bits: <Arc 2: 'b' to 'c'>$"):
+        with pytest.raises(
+            dmf.CapacitiesPast64Bits, match="^capacities past 64 bits: <Arc 2: 'b' to 'c'>$"
+        ):
             call({"a": {"b": 2**63}, "b": {"c": 2**63}}, "a", "c")
         with pytest.raises(dmf.NoProgram, match="^/nowhere/dmf cannot be run: "):
             call(DICTIONARY, "lake", "sea", program="/nowhere/dmf")
@@ -202,7 +309,9 @@ def test_coming_from_igraph(seed: int) -> None:
     """As docs/PYTHON.md says."""
     random = Random(f"igraph {seed}")
     count = random.randrange(2, 9)
-    pairs = [(random.randrange(count), random.randrange(count)) for _ in range(random.randrange(20))]
+    pairs = [
+        (random.randrange(count), random.randrange(count)) for _ in range(random.randrange(20))
+    ]
     graph = igraph.Graph(n=count, edges=pairs, directed=True)
     graph.es["capacity"] = [random.randrange(1, 9) for _ in pairs]
     theirs = graph.maxflow(0, count - 1, "capacity")
@@ -213,9 +322,17 @@ def test_coming_from_igraph(seed: int) -> None:
     with dmf.Network(rows, 0, count - 1, nodes=range(count)) as network:
         flows = list(network.solve().values())
         assert len(flows) == len(theirs.flow)
-        judged = [(str(tail), str(head), room, flow) for (tail, head, room), flow in zip(rows, flows)]
+        judged = [
+            (str(tail), str(head), room, flow) for (tail, head, room), flow in zip(rows, flows)
+        ]
         names = {"0": "n0", str(count - 1): "n1"}
-        judge_flow([(names.get(tail, tail), names.get(head, head), room, flow) for tail, head, room, flow in judged], theirs.value)
+        judge_flow(
+            [
+                (names.get(tail, tail), names.get(head, head), room, flow)
+                for tail, head, room, flow in judged
+            ],
+            theirs.value,
+        )
         cut = network.cut()
         assert (cut.capacity, cut.side | cut.other_side) == (theirs.value, frozenset(range(count)))
         # Theirs is a minimum cut too, and so has the smallest side.

@@ -1,4 +1,5 @@
-"""What pip installs of clients/python in an empty environment: the package, the executable and the tools, without a network."""
+"""What pip installs of clients/python in an empty environment: the package, the executable and the
+tools, without a network."""
 
 from __future__ import annotations
 
@@ -21,6 +22,7 @@ from built import heed_interrupts
 from c_library import library_folder
 from client_shared import BUILT, CLIENT, dmf
 from conftest import ROOT, shared
+from launched import judge_help, judge_streams, judge_words
 from trees import copy_tracked
 
 pytestmark = pytest.mark.seconds(10)
@@ -30,43 +32,81 @@ TABLE = str(ROOT / "examples/water/pipes.csv")
 BUILD = "import build_wheel, sys; print(build_wheel.{}(sys.argv[1]))"
 
 
-def build(folder: Path, target: Path, what: str = "build_wheel", check: bool = True, **environment: str) -> subprocess.CompletedProcess[str]:
+def build(
+    folder: Path, target: Path, what: str = "build_wheel", check: bool = True, **environment: str
+) -> subprocess.CompletedProcess[str]:
     """Calls a hook of the backend as pip does, without the toolchain."""
     target.mkdir(exist_ok=True)
     words = [sys.executable, "-c", BUILD.format(what), str(target)]
     plain = {"PATH": "/usr/bin:/bin", **environment}
-    return subprocess.run(words, cwd=folder, env=plain, capture_output=True, text=True, timeout=SECONDS, check=check)
+    return subprocess.run(
+        words, cwd=folder, env=plain, capture_output=True, text=True, timeout=SECONDS, check=check
+    )
 
 
 def pip_install(environment: Path, *words: object) -> None:
-    pip = [str(environment / "bin/python"), "-m", "pip", "install", "--no-index", "--quiet", "--no-cache-dir"]
-    variables = {"PATH": "/usr/bin:/bin", "HOME": str(environment), "PIP_DISABLE_PIP_VERSION_CHECK": "1"}
-    ran = subprocess.run([*pip, *map(str, words)], env=variables, capture_output=True, text=True, timeout=SECONDS)
+    pip = [
+        str(environment / "bin/python"),
+        "-m",
+        "pip",
+        "install",
+        "--no-index",
+        "--quiet",
+        "--no-cache-dir",
+    ]
+    variables = {
+        "PATH": "/usr/bin:/bin",
+        "HOME": str(environment),
+        "PIP_DISABLE_PIP_VERSION_CHECK": "1",
+    }
+    ran = subprocess.run(
+        [*pip, *map(str, words)], env=variables, capture_output=True, text=True, timeout=SECONDS
+    )
     assert ran.returncode == 0, ran.stdout + ran.stderr
 
 
 @pytest.fixture(scope="session")
 def folder(tmp_path_factory: pytest.TempPathFactory) -> Path:
-    """A copy of the tree, beside an environment in which it is installed. All workers use the same."""
+    """A copy of the tree, beside an environment in which it is installed. All workers use the
+    same."""
     with shared(tmp_path_factory, "packaged") as path:
         if not path.exists():
             path.mkdir()
             copy_tracked(path / "tree")
-            subprocess.run([sys.executable, "-m", "venv", path / "environment"], check=True, timeout=SECONDS)
+            subprocess.run(
+                [sys.executable, "-m", "venv", path / "environment"], check=True, timeout=SECONDS
+            )
             pip_install(path / "environment", path / "tree/clients/python")
     return path
 
 
 def call(folder: Path, *words: object, given: str = "") -> subprocess.CompletedProcess[str]:
     """Runs a command of the environment, where there is neither the toolchain nor another dmf."""
-    variables = {"PATH": f"{folder}/environment/bin:/usr/bin:/bin", "HOME": str(folder), "LC_ALL": "C.UTF-8"}
-    return subprocess.run([*map(str, words)], cwd=folder, env=variables, input=given, capture_output=True, text=True, timeout=SECONDS)
+    variables = {
+        "PATH": f"{folder}/environment/bin:/usr/bin:/bin",
+        "HOME": str(folder),
+        "LC_ALL": "C.UTF-8",
+    }
+    return subprocess.run(
+        [*map(str, words)],
+        cwd=folder,
+        env=variables,
+        input=given,
+        capture_output=True,
+        text=True,
+        timeout=SECONDS,
+    )
+
+
+# What a tool tells of the columns of a table that it reads.
+TOLD = re.compile(r"dmf-\w+: (?:there are no titles: )?from .+, to .+, capacity .+\n")
 
 
 def out(folder: Path, *words: object, given: str = "") -> str:
-    """What a command writes that has to end well."""
+    """What a command writes that has to end well, and tells at most how a table was read."""
     ran = call(folder, *words, given=given)
-    assert (ran.returncode, ran.stderr) == (0, ""), f"{words}: {ran.stdout}{ran.stderr}"
+    told = TOLD.sub("", ran.stderr, count=1)
+    assert (ran.returncode, told) == (0, ""), f"{words}: {ran.stdout}{ran.stderr}"
     return ran.stdout
 
 
@@ -90,7 +130,8 @@ def test_the_package(folder: Path) -> None:
 import dmf, importlib.metadata
 told = importlib.metadata.distribution("dmf")
 assert (told.version, told.metadata["License"]) == (dmf.__version__, "MIT")
-assert any(str(file).endswith("LICENSE") for file in told.files) and any(file.name == "py.typed" for file in told.files)
+assert any(str(file).endswith("LICENSE") for file in told.files)
+assert any(file.name == "py.typed" for file in told.files)
 network = dmf.Network([("a", "b", 3)], "a", "b")
 print(dmf.program(), dmf.library(), type(network._session).__name__, network.solve().value)
 """
@@ -105,18 +146,24 @@ def test_the_examples_of_the_library(folder: Path) -> None:
     library = own(folder).with_name("libdmf.so.0")
     assert out(folder, "python", ROOT / "examples/c/limit.py", library) == "5 [3, 2, 1, 2, 3]\n"
     flags = [f"-I{library.parents[1]}/include", library, f"-Wl,-rpath,{library.parent}"]
-    for compiler, source, last in ("gcc", "limit.c", "again: 5\n"), ("g++", "limit.cpp", "on the source's side: 1\n"):
-        out(folder, compiler, ROOT / "examples/c" / source, "-o", folder / source, *flags)
-        assert out(folder, folder / source).endswith(last)
+    out(folder, "gcc", ROOT / "examples/c/limit.c", "-o", folder / "limit", *flags)
+    assert out(folder, folder / "limit").endswith("again: 5\n")
+    out(folder, "g++", ROOT / "examples/cpp/vital.cpp", "-o", folder / "vital", *flags)
+    assert out(folder, folder / "vital", given=PROBLEM).endswith("arc 1 is closed: 2\n")
 
 
 @pytest.mark.parametrize("words", [["dmf"], ["python", "-m", "dmf"]], ids=["command", "module"])
 def test_the_program(folder: Path, words: list[str]) -> None:
-    """Its output, its status, and that it is the process which the caller began, and heeds each signal."""
+    """Its output, its status, and that it is the process which the caller began, and heeds each
+    signal."""
     assert out(folder, *words, given=PROBLEM) == SOLUTION
     assert out(folder, *words, "solve", "--cut", given=PROBLEM) == f"{SOLUTION}c cut 5\nc side 1\n"
     ran, plain = (call(folder, *which, "check", "/nowhere") for which in (words, [BUILT]))
-    assert (ran.returncode, ran.stdout, ran.stderr) == (plain.returncode, plain.stdout, plain.stderr)
+    assert (ran.returncode, ran.stdout, ran.stderr) == (
+        plain.returncode,
+        plain.stdout,
+        plain.stderr,
+    )
     session = judge_session(folder, folder / "environment/bin" / words[0], *words[1:])
     assert session == Session(str(own(folder)), judge_session(folder, BUILT).ignored)
 
@@ -129,24 +176,51 @@ class Session(NamedTuple):
 
 
 def judge_session(folder: Path, *words: object) -> Session:
-    """Looks at a session that a command began, which has to be the process that its caller began, and to heed each signal."""
+    """Looks at a session that a command began, which has to be the process that its caller began,
+    and to heed each signal."""
     variables = {"PATH": "/usr/bin:/bin", "HOME": str(folder)}
     session = [*map(str, words), "session", str(ROOT / "examples/a.max")]
-    with subprocess.Popen(session, env=variables, stdin=subprocess.PIPE, stdout=subprocess.PIPE, text=True) as running:
+    with subprocess.Popen(
+        session, env=variables, stdin=subprocess.PIPE, stdout=subprocess.PIPE, text=True
+    ) as running:
         assert running.stdin and running.stdout
         running.stdin.write("cap 5 1\n")
         running.stdin.flush()
         assert running.stdout.readline() == "c cap value 0\n"
         status = Path(f"/proc/{running.pid}/status").read_text()
-        found = Session(os.readlink(f"/proc/{running.pid}/exe"), *re.findall(r"^SigIgn:\s(\w+)$", status, re.MULTILINE))
+        found = Session(
+            os.readlink(f"/proc/{running.pid}/exe"),
+            *re.findall(r"^SigIgn:\s(\w+)$", status, re.MULTILINE),
+        )
         running.send_signal(signal.SIGTERM)
     assert running.returncode == -signal.SIGTERM
     return found
 
 
+def test_the_command(folder: Path) -> None:
+    """All that is not a tool's is the program's."""
+    launcher = folder / "environment/bin/dmf"
+    judge_words(launcher, own(folder))
+    judge_help(launcher, own(folder))
+    judge_streams(launcher, own(folder))
+
+
+def test_the_module(folder: Path) -> None:
+    """`python -m dmf` runs the tools and prints the texts too."""
+    module = [folder / "environment/bin/python", "-m", "dmf"]
+    for words in ["help"], ["-h"], ["help", "tables"], ["plan", "--help"], ["help", "names"]:
+        assert out(folder, *module, *words) == out(folder, "dmf", *words)
+    for words in ["plan", "/nowhere"], ["names"]:
+        told, plain = call(folder, *module, *words), call(folder, "dmf", *words)
+        assert (told.returncode, told.stdout) == (plain.returncode, plain.stdout)
+        assert told.stderr == plain.stderr and told.returncode
+
+
 @pytest.mark.parametrize("tool", TOOLS)
 def test_help(folder: Path, tool: str) -> None:
-    assert out(folder, tool, "--help").startswith("usage: ")
+    plain = out(folder, tool, "--help")
+    assert plain.startswith("usage: ")
+    assert plain == out(folder, "dmf", tool.removeprefix("dmf-"), "--help")
     assert os.access(folder / "environment/bin" / tool, os.X_OK)
 
 
@@ -156,26 +230,40 @@ def test_tools(folder: Path) -> None:
     problem = out(folder, "dmf-problem", "Lake", "Sea", given=table)
     (folder / "problem.max").write_text(problem)
     script = "dmf-problem Lake Sea | dmf | dmf-names problem.max"
-    assert out(folder, "sh", "-c", script, given=table).startswith("value 5\n  1 Lake -> Mill: 3 of 3\n")
+    assert out(folder, "sh", "-c", script, given=table).startswith(
+        "value 5\n  1 Lake -> Mill: 3 of 3\n"
+    )
     assert out(folder, "dmf-dot", "problem.max").startswith("digraph dmf {\n")
-    # Without the arc from Lake to Mill 2 is left, without that from Town to Sea 2, and without the others 3, 5 and 3.
+    # Without the arc from Lake to Mill 2 is left, without that from Town to Sea 2, and without the
+    # others 3, 5 and 3.
     swept = csv.DictReader(out(folder, "dmf-sweep", "problem.max", "--close-each").splitlines())
     assert [row["value"] for row in swept] == ["2", "3", "4", "3", "2"]
-    assert out(folder, "dmf-plan", TABLE, "Reservoir", "Harbour", given="solve\n").startswith("value 165 ")
+    assert out(folder, "dmf-plan", TABLE, "Reservoir", "Harbour", given="solve\n").startswith(
+        "value 165 "
+    )
 
 
 def test_board(folder: Path) -> None:
     environment = {"PATH": f"{folder}/environment/bin:/usr/bin:/bin", "HOME": str(folder)}
     words = [f"{folder}/environment/bin/dmf-board", "--no-browser", TABLE, "Reservoir", "Harbour"]
-    board = subprocess.Popen(words, env=environment, stdout=subprocess.PIPE, text=True, preexec_fn=heed_interrupts)
+    board = subprocess.Popen(
+        words, env=environment, stdout=subprocess.PIPE, text=True, preexec_fn=heed_interrupts
+    )
     try:
         assert board.stdout
         address = board.stdout.readline().strip()
-        files = sorted(file.name for file in (ROOT / "clients/python/dmf/desk/board/page").iterdir())
+        files = sorted(
+            file.name for file in (ROOT / "clients/python/dmf/desk/board/page").iterdir()
+        )
         assert {"index.html", "main.js", "style.css"} <= {*files}
         for name in "", *files:
             with urllib.request.urlopen(address + name, timeout=SECONDS) as page:
-                assert (page.status, page.read()) == (200, (ROOT / "clients/python/dmf/desk/board/page" / (name or "index.html")).read_bytes())
+                assert (page.status, page.read()) == (
+                    200,
+                    (
+                        ROOT / "clients/python/dmf/desk/board/page" / (name or "index.html")
+                    ).read_bytes(),
+                )
         board.send_signal(signal.SIGINT)
         assert board.wait(SECONDS) == 130
     finally:
@@ -192,8 +280,11 @@ def wheel(folder: Path, tmp_path_factory: pytest.TempPathFactory) -> Path:
 
 
 def test_the_tag(wheel: Path) -> None:
-    """It names the oldest glibc that has all symbols of the executable, as the tools of the system tell."""
-    told = subprocess.run(["objdump", "-p", BUILT], capture_output=True, text=True, check=True).stdout
+    """It names the oldest glibc that has all symbols of the executable, as the tools of the system
+    tell."""
+    told = subprocess.run(
+        ["objdump", "-p", BUILT], capture_output=True, text=True, check=True
+    ).stdout
     minor = max(int(it) for it in re.findall(r"GLIBC_2\.(\d+)", told))
     tag = f"py3-none-manylinux_2_{minor}_{os.uname().machine}"
     assert wheel.name == f"dmf-{dmf.__version__}-{tag}.whl"
@@ -211,14 +302,21 @@ def test_the_record(wheel: Path) -> None:
         assert [row[0] for row in rows] == names and rows[-1] == [record, "", ""]
         for name, told, size in rows[:-1]:
             content = archive.read(name)
-            digest = base64.urlsafe_b64encode(hashlib.sha256(content).digest()).rstrip(b"=").decode()
+            digest = (
+                base64.urlsafe_b64encode(hashlib.sha256(content).digest()).rstrip(b"=").decode()
+            )
             assert (told, int(size)) == (f"sha256={digest}", len(content))
-        runs = {info.filename for info in archive.infolist() if info.external_attr >> 16 == 0o100755}
+        runs = {
+            info.filename for info in archive.infolist() if info.external_attr >> 16 == 0o100755
+        }
         scripts = f"dmf-{dmf.__version__}.data/scripts"
         assert runs == {"dmf/bin/dmf", f"{scripts}/dmf", *(f"{scripts}/{tool}" for tool in TOOLS)}
         for tool in TOOLS:
             first, rest = archive.read(f"{scripts}/{tool}").split(b"\n", 1)
-            assert first == b"#!python" and rest == (ROOT / "tools" / tool).read_bytes().split(b"\n", 1)[1]
+            assert (
+                first == b"#!python"
+                and rest == (ROOT / "tools" / tool).read_bytes().split(b"\n", 1)[1]
+            )
 
 
 def test_the_same_twice(wheel: Path, tmp_path: Path) -> None:
@@ -229,8 +327,12 @@ def test_the_same_twice(wheel: Path, tmp_path: Path) -> None:
 
 
 def test_the_source_archive(folder: Path, wheel: Path, tmp_path: Path) -> None:
-    """It has the executable, and gives the same wheel, also outside the repository; where its program cannot run, it says so."""
-    names = [build(folder / "tree/clients/python", tmp_path / place, "build_sdist").stdout.strip() for place in ("a", "b")]
+    """It has the executable, and gives the same wheel, also outside the repository; where its
+    program cannot run, it says so."""
+    names = [
+        build(folder / "tree/clients/python", tmp_path / place, "build_sdist").stdout.strip()
+        for place in ("a", "b")
+    ]
     assert names == [f"dmf-{dmf.__version__}.tar.gz"] * 2
     assert (tmp_path / "a" / names[0]).read_bytes() == (tmp_path / "b" / names[1]).read_bytes()
     subprocess.run(["tar", "-xf", tmp_path / "a" / names[0], "-C", tmp_path], check=True)
@@ -244,15 +346,24 @@ def test_the_source_archive(folder: Path, wheel: Path, tmp_path: Path) -> None:
 def judge_pure(built: subprocess.CompletedProcess[str], target: Path) -> None:
     """A wheel without the program says that it has none, and is for each system."""
     assert built.stdout == f"dmf-{dmf.__version__}-py3-none-any.whl\n"
-    assert built.stderr.splitlines()[-1] == "dmf: there is no program for this machine, so what is made has none"
+    assert (
+        built.stderr.splitlines()[-1]
+        == "dmf: no program runs on this machine, so what is built has none"
+    )
     with zipfile.ZipFile(target / built.stdout.strip()) as archive:
         names = archive.namelist()
-        assert "\nRoot-Is-Purelib: true\nTag: py3-none-any\n" in archive.read(f"dmf-{dmf.__version__}.dist-info/WHEEL").decode()
-    assert not any(name.endswith("/dmf") for name in names) and any(name.endswith("/dmf-plan") for name in names)
+        assert (
+            "\nRoot-Is-Purelib: true\nTag: py3-none-any\n"
+            in archive.read(f"dmf-{dmf.__version__}.dist-info/WHEEL").decode()
+        )
+    assert not any(name.endswith("/dmf") for name in names) and any(
+        name.endswith("/dmf-plan") for name in names
+    )
 
 
 def test_without_the_program(folder: Path, tmp_path: Path) -> None:
-    """Where it cannot be built, or is of another version than the package. What pip installs then says what is missing."""
+    """Where it cannot be built, or is of another version than the package. What pip installs then
+    says what is missing."""
     tree = tmp_path / "tree"
     copy_tracked(tree)
     (tree / "dmf").write_text("#!/bin/sh\necho no rt >&2\nexit 70\n")
@@ -262,15 +373,26 @@ def test_without_the_program(folder: Path, tmp_path: Path) -> None:
     (name,) = (tmp_path / "none").iterdir()
     pip_install(folder / "environment", "--target", tmp_path / "pure", name)
     variables = {"PYTHONPATH": str(tmp_path / "pure"), "PATH": ""}
-    ran = subprocess.run([sys.executable, "-m", "dmf"], env=variables, capture_output=True, text=True, timeout=SECONDS)
-    assert (ran.returncode, ran.stdout) == (70, "") and ran.stderr.startswith("dmf: there is no program dmf: ")
+    ran = subprocess.run(
+        [sys.executable, "-m", "dmf"],
+        env=variables,
+        capture_output=True,
+        text=True,
+        timeout=SECONDS,
+    )
+    assert (ran.returncode, ran.stdout) == (70, "") and ran.stderr.startswith(
+        "dmf: no program dmf was found: "
+    )
 
 
 def test_a_repository_that_cannot_be_written(wheel: Path, tmp_path: Path) -> None:
     """The executable and the library are where tools/prebuilt puts them then."""
     copy_tracked(tmp_path / "tree")
     elsewhere = (tmp_path / "tree/crates/dmf/out/dmf").rename(tmp_path / "a program")
-    take = f'case $1 in take) echo "{elsewhere}" ;; library) echo "{library_folder()}/libdmf.so.0" ;; esac'
+    take = (
+        f'case $1 in take) echo "{elsewhere}" ;; library) echo "{library_folder()}/libdmf.so.0" ;; '
+        "esac"
+    )
     for script, text in ("dmf", f'exec "{elsewhere}" "$@"'), ("tools/prebuilt", take):
         (tmp_path / "tree" / script).write_text(f"#!/bin/sh\n{text}\n")
     name = build(tmp_path / "tree/clients/python", tmp_path / "wheel").stdout.strip()
@@ -281,4 +403,8 @@ def test_out_of_its_repository(tmp_path: Path) -> None:
     """As pip before 21.3 copies it."""
     shutil.copytree(CLIENT, tmp_path / "copied", ignore=shutil.ignore_patterns("__pycache__"))
     built = build(tmp_path / "copied", tmp_path / "wheel", check=False)
-    assert built.returncode and "is not in its repository; pip before 21.3 builds it there with --use-feature=in-tree-build" in built.stderr
+    assert (
+        built.returncode
+        and "is not in its repository; pip before 21.3 builds it there with "
+        "--use-feature=in-tree-build" in built.stderr
+    )

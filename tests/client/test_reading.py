@@ -1,4 +1,5 @@
-"""Problems' files that `dmf.read` takes: odd lines, paths of all kinds, and what is no regular file."""
+"""Problems' files that `dmf.read` takes: odd lines, paths of all kinds, and what is no regular
+file."""
 
 from __future__ import annotations
 
@@ -7,6 +8,7 @@ import subprocess
 import sys
 import threading
 from pathlib import Path
+from typing import Any
 
 import pytest
 from client_shared import CLIENT, dmf, written
@@ -30,7 +32,9 @@ def test_carriage_returns_before_line_feeds() -> None:
 
 def test_long_numbers_in_comments() -> None:
     digits = b"9" * 5000
-    text = b"".join(b"c %s %s x\nc node 1 %s\n" % (kind, digits, digits) for kind in (b"node", b"arc"))
+    text = b"".join(
+        b"c %s %s x\nc node 1 %s\n" % (kind, digits, digits) for kind in (b"node", b"arc")
+    )
     with written(TEXT + text) as path, dmf.read(path) as network:
         assert network.nodes == ["9" * 5000, "sea"]
     with written(TEXT + b"c node %s1 pond\n" % (b"0" * 5000)) as path, dmf.read(path) as network:
@@ -39,7 +43,9 @@ def test_long_numbers_in_comments() -> None:
 
 def test_names_of_what_is_not_there() -> None:
     """They name nothing, and take no name away from a node."""
-    with written(TEXT + b"c node 0 sea\nc node 3 lake\nc arc 2 x\nc arc 0 y\n") as path, dmf.read(path) as network:
+    with written(TEXT + b"c node 0 sea\nc node 3 lake\nc arc 2 x\nc arc 0 y\n") as path, dmf.read(
+        path
+    ) as network:
         assert (network.nodes, network.arcs[0].key) == (["lake", "sea"], "the canal")
 
 
@@ -90,12 +96,17 @@ def test_the_end_of_a_pipe() -> None:
 
 def test_standard_input() -> None:
     """Also where it is a file: to the program, standard input is something else."""
-    script = "import dmf; network = dmf.read('/dev/stdin'); print(network.solve().value, network.nodes)"
+    script = (
+        "import dmf; network = dmf.read('/dev/stdin'); print(network.solve().value, network.nodes)"
+    )
     environment = {**os.environ, "PYTHONPATH": CLIENT}
     with written(TEXT) as path, open(path) as file:
-        for given in {"stdin": file}, {"input": TEXT.decode()}:
+        cases: list[dict[str, Any]] = [{"stdin": file}, {"input": TEXT.decode()}]
+        for given in cases:
             words = [sys.executable, "-c", script]
-            ran = subprocess.run(words, env=environment, capture_output=True, text=True, timeout=20, **given)  # type: ignore
+            ran = subprocess.run(
+                words, env=environment, capture_output=True, text=True, timeout=20, **given
+            )
             assert (ran.stdout, ran.stderr) == ("7 ['lake', 'sea']\n", "")
 
 

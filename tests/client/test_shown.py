@@ -1,4 +1,5 @@
-"""What a network shows of itself: files, pictures, dictionaries, both sides of a cut; and nodes that are added."""
+"""What a network shows of itself: files, pictures, dictionaries, both sides of a cut; and nodes
+that are added."""
 
 from __future__ import annotations
 
@@ -36,9 +37,17 @@ def test_a_file(tmp_path: Path) -> None:
 
 
 def test_a_dictionary() -> None:
-    with dmf.Network([*PIPES, ("lake", "sea", 1, "canal"), ("lake", "sea", 2)], "lake", "sea", nodes=["pond"]) as network:
+    with dmf.Network(
+        [*PIPES, ("lake", "sea", 1, "canal"), ("lake", "sea", 2)], "lake", "sea", nodes=["pond"]
+    ) as network:
         network.solve()
-        wanted = {"pond": {}, "lake": {"mill": 3, "town": 2, "sea": 3}, "mill": {"town": 1, "sea": 2}, "town": {"sea": 3}, "sea": {}}
+        wanted = {
+            "pond": {},
+            "lake": {"mill": 3, "town": 2, "sea": 3},
+            "mill": {"town": 1, "sea": 2},
+            "town": {"sea": 3},
+            "sea": {},
+        }
         assert network.flow().flow_dict() == wanted
         network.close("canal")
         network.add("sea", "pond", 4)
@@ -57,7 +66,10 @@ def test_both_sides() -> None:
     with pipes() as network:
         network.solve()
         cut = network.cut()
-        assert (cut.side, cut.other_side) == (frozenset({"lake"}), frozenset({"mill", "town", "sea"}))
+        assert (cut.side, cut.other_side) == (
+            frozenset({"lake"}),
+            frozenset({"mill", "town", "sea"}),
+        )
 
 
 def test_a_node() -> None:
@@ -94,7 +106,10 @@ def test_a_node() -> None:
 def test_a_picture(tmp_path: Path) -> None:
     with pipes() as network:
         network.plot(tmp_path / "net.dot")
-        assert 'label="lake"' in (tmp_path / "net.dot").read_text() and "fillcolor" not in (tmp_path / "net.dot").read_text()
+        assert (
+            'label="lake"' in (tmp_path / "net.dot").read_text()
+            and "fillcolor" not in (tmp_path / "net.dot").read_text()
+        )
         network.solve()
         network.plot(tmp_path / "net.dot")
         assert "fillcolor" in (tmp_path / "net.dot").read_text() and network.value == 5
@@ -118,7 +133,9 @@ def test_axes(monkeypatch: pytest.MonkeyPatch, has_graphviz: bool) -> None:
             monkeypatch.setattr(shutil, "which", lambda name: None)
         axes = network.plot()
         texts = {text.get_text() for text in axes.texts}
-        assert bool(axes.images) == has_graphviz and (has_graphviz or {"lake", "sea", "3/3", "1/5"} <= texts)
+        assert bool(axes.images) == has_graphviz and (
+            has_graphviz or {"lake", "sea", "3/3", "1/5"} <= texts
+        )
 
 
 def test_without_what_draws(tmp_path: Path, monkeypatch: pytest.MonkeyPatch) -> None:
@@ -129,20 +146,33 @@ def test_without_what_draws(tmp_path: Path, monkeypatch: pytest.MonkeyPatch) -> 
         monkeypatch.setitem(modules, "matplotlib", None)
         with pytest.raises(FileNotFoundError, match="a picture needs Graphviz"):
             network.plot(tmp_path / "net.svg")
-        with pytest.raises(ImportError, match="^a plot without a path needs the package matplotlib"):
+        with pytest.raises(
+            ImportError, match="^a plot without a path needs the package matplotlib"
+        ):
             network.plot()
 
 
 def told(*words: str) -> tuple[int, str, str]:
-    ran = subprocess.run([sys.executable, "-m", "dmf", *words], env={**os.environ, "PYTHONPATH": CLIENT}, capture_output=True, text=True)
+    ran = subprocess.run(
+        [sys.executable, "-m", "dmf", *words],
+        env={**os.environ, "PYTHONPATH": CLIENT},
+        capture_output=True,
+        text=True,
+    )
     return ran.returncode, ran.stdout, ran.stderr
 
 
 def test_a_file_at_the_command_line(tmp_path: Path) -> None:
     path = str(tmp_path / "net.max")
-    with dmf.Network([*PIPES[:3], ("mill", "sea", 2, "Mill Lane"), ("town", "sea", 1)], "lake", "sea") as network:
+    with dmf.Network(
+        [*PIPES[:3], ("mill", "sea", 2, "Mill Lane"), ("town", "sea", 1)], "lake", "sea"
+    ) as network:
         network.write(path)
-    assert told(path) == (0, "3 can be sent from lake to sea\nlimit: mill -> sea  2  Mill Lane\nlimit: town -> sea  1\n", "")
+    assert told(path) == (
+        0,
+        "3 can be sent from lake to sea\nlimit: mill -> sea  2  Mill Lane\nlimit: town -> sea  1\n",
+        "",
+    )
     Path(path).write_text("p max 2 1\nn 1 s\nn 2 t\na 1 2 x\n")
     assert told(path) == (3, "", f"dmf: {path}: line 4: not a number\n")
     # A word that is no file is the program's.

@@ -1,5 +1,5 @@
-"""Sweeps of a network that changes meanwhile, and with cases that fail. Worked by hand: over the arcs side by side flows what all of
-them carry together."""
+"""Sweeps of a network that changes meanwhile, and with cases that fail. Worked by hand: over the
+arcs side by side flows what all of them carry together."""
 
 from __future__ import annotations
 
@@ -29,10 +29,17 @@ def beside(**options: Any) -> dmf.Network[str]:
 
 @pytest.mark.parametrize("is_there", [False, True])
 def test_a_sweep_is_of_the_network_as_it_was_asked_for(is_there: bool) -> None:
-    """Whatever becomes of it before the first result is taken: names, capacities, the value and the cut are those of then."""
+    """Whatever becomes of it before the first result is taken: names, capacities, the value and the
+    cut are those of then."""
     with beside() as network, ThreadPoolExecutor(1) as threads:
-        raised = dmf.sweep(network, dmf.each_capacity_raised(2), threads if is_there else None, want_cut=True)
-        closed = dmf.sweep(network, [[("close", "x")], [("cap", "y", 0)], [("close", "new")]], threads if is_there else None)
+        raised = dmf.sweep(
+            network, dmf.each_capacity_raised(2), threads if is_there else None, want_cut=True
+        )
+        closed = dmf.sweep(
+            network,
+            [[("close", "x")], [("cap", "y", 0)], [("close", "new")]],
+            threads if is_there else None,
+        )
         network.cap("y", 100)
         network.close("x")
         network.add("a", "b", 9, "new")
@@ -40,7 +47,11 @@ def test_a_sweep_is_of_the_network_as_it_was_asked_for(is_there: bool) -> None:
         results = list(raised)
         assert [(result.value, result.difference) for result in results] == [(14, 2)] * 3
         assert [[arc.number for arc in result.cut or ()] for result in results] == [[1, 2, 3]] * 3
-        assert [(result.value, str(result.refusal)) for result in closed] == [(9, "None"), (8, "None"), (None, "no such arc: 'new'")]
+        assert [(result.value, str(result.refusal)) for result in closed] == [
+            (9, "None"),
+            (8, "None"),
+            (None, "no such arc: 'new'"),
+        ]
         assert network.value == 114
 
 
@@ -62,19 +73,25 @@ def test_an_error_comes_after_the_results_before_it() -> None:
         for count in 0, 1, 5, 40:
             for executor in None, threads:
                 results = dmf.sweep(network, broken(count), executor, jobs=1)
-                assert [next(results).value for _ in range(count)] == [9 + turn for turn in range(count)]
+                assert [next(results).value for _ in range(count)] == [
+                    9 + turn for turn in range(count)
+                ]
                 with pytest.raises(ZeroDivisionError):
                     next(results)
 
 
 @pytest.mark.parametrize("make", [ThreadPoolExecutor, ProcessPoolExecutor])
 def test_the_program_over_an_executor(make: Any) -> None:
-    """It is the one that the network was made with; where a process of the executor has none of this name, the sweep ends."""
+    """It is the one that the network was made with; where a process of the executor has none of
+    this name, the sweep ends."""
     with script(f'echo >>"$0.ran"; exec {BUILT} "$@"') as program:
         with beside(program=program) as network:
             with make(1) as executor:
-                assert [result.value for result in dmf.sweep(network, dmf.each_arc_closed(), executor)] == [9, 8, 7]
-            # It was asked for its version once, and then ran for the network itself and for its copy.
+                assert [
+                    result.value for result in dmf.sweep(network, dmf.each_arc_closed(), executor)
+                ] == [9, 8, 7]
+            # It was asked for its version once, and then ran for the network itself and for its
+            # copy.
             assert Path(f"{program}.ran").read_text() == "\n\n\n"
             network.close("x")
             network.solve()
@@ -84,7 +101,8 @@ def test_the_program_over_an_executor(make: Any) -> None:
 
 
 class Counting(ThreadPoolExecutor):
-    """An executor of one thread that notes for each piece of cases whether the network was sent with it."""
+    """An executor of one thread that notes for each piece of cases whether the network was sent
+    with it."""
 
     def submit(self, call: Any, /, *arguments: Any, **named: Any) -> Any:
         sent.append(arguments[1] is not None)
@@ -95,13 +113,18 @@ sent: list[bool] = []
 
 
 def test_how_often_the_network_is_sent() -> None:
-    """With the cases that came before it was there, which are those of the piece that is begun first. Later ones find it."""
+    """With the cases that came before it was there, which are those of the piece that is begun
+    first. Later ones find it."""
     sent.clear()
     # No other test has this network, which this process would know of it.
-    with dmf.Network([("a", "b", 3, "sent"), ("a", "b", 9)], "a", "b") as network, Counting(1) as executor:
+    with dmf.Network([("a", "b", 3, "sent"), ("a", "b", 9)], "a", "b") as network, Counting(
+        1
+    ) as executor:
         network.solve()
         cases = [[("cap", "sent", turn)] for turn in range(16 * 10)]
-        assert [result.value for result in dmf.sweep(network, cases, executor)] == [9 + turn for turn in range(160)]
+        assert [result.value for result in dmf.sweep(network, cases, executor)] == [
+            9 + turn for turn in range(160)
+        ]
         assert (sent[:2], sent.count(True)) == ([False, True], 1)
 
 
@@ -119,7 +142,8 @@ class ByHand(Executor):
 
 
 def test_all_workers_begin_at_once() -> None:
-    """None of them has the network, and each is sent it before another one has answered. An error of one comes in its turn."""
+    """None of them has the network, and each is sent it before another one has answered. An error
+    of one comes in its turn."""
     with beside() as network:
         executor = ByHand(4)
         cases = [[("cap", "x", turn)] for turn in range(16 * 4)]
@@ -174,7 +198,11 @@ def test_how_many_cases_are_left(cases: Any, count: int) -> None:
 def test_a_bar(capsys: pytest.CaptureFixture[str]) -> None:
     """It tells of how many cases it is, ready-made ones and others, where that is known."""
     with pipes() as network:
-        told: list[tuple[Any, str]] = [(dmf.each_arc_closed(), "5/5"), (dmf.each_node_shut(), "2/2"), ([[("close", ("lake", "mill"))]] * 7, "7/7")]
+        told: list[tuple[Any, str]] = [
+            (dmf.each_arc_closed(), "5/5"),
+            (dmf.each_node_shut(), "2/2"),
+            ([[("close", ("lake", "mill"))]] * 7, "7/7"),
+        ]
         for cases, bar in [*told, (map(list, ["", ""]), "2case")]:
             list(dmf.sweep(network, cases, progress=True))
             assert bar in capsys.readouterr().err
@@ -210,6 +238,10 @@ def test_jobs() -> None:
             for executor in None, threads:
                 with pytest.raises(dmf.JobsOutOfRange) as caught:
                     dmf.sweep(network, [], executor, jobs=jobs)
-                wanted = f"jobs out of range: {jobs!r} is no whole number from 1 on"
+                wanted = f"jobs out of range: {jobs!r} is not a whole number of at least 1"
                 assert (str(caught.value), isinstance(caught.value, ValueError)) == (wanted, True)
-        assert [result.value for result in dmf.sweep(network, dmf.each_arc_closed(), jobs=1)] == [9, 8, 7]
+        assert [result.value for result in dmf.sweep(network, dmf.each_arc_closed(), jobs=1)] == [
+            9,
+            8,
+            7,
+        ]

@@ -36,12 +36,17 @@ def folder(tmp_path: Path, monkeypatch: pytest.MonkeyPatch) -> Path:
 
 def command(*words: str, before: str = "") -> list[str]:
     """The words that run the tool, or a script that carries it out after something else."""
-    script = f"import sys, runpy\n{before}\nsys.argv[1:2] = []\nrunpy.run_path({TOOL[1]!r}, run_name='__main__')"
+    script = (
+        f"import sys, runpy\n{before}\nsys.argv[1:2] = []\nrunpy.run_path({TOOL[1]!r}, "
+        "run_name='__main__')"
+    )
     return [*([sys.executable, "-c", script, "dmf-sweep"] if before else TOOL), *words]
 
 
 def run_tool(*words: str, before: str = "") -> subprocess.CompletedProcess[str]:
-    return subprocess.run(command(*words, before=before), capture_output=True, text=True, timeout=SECONDS)
+    return subprocess.run(
+        command(*words, before=before), capture_output=True, text=True, timeout=SECONDS
+    )
 
 
 def judge_table() -> None:
@@ -49,7 +54,8 @@ def judge_table() -> None:
     with open("table.csv", newline="") as file:
         _, *rows = csv.reader(file)
     assert [row[:5] for row in rows] == [
-        [str(at), f"close {at}", "1 -> 2", str(sum(ROOMS) - room), str(-room)] for at, room in enumerate(ROOMS, 1)
+        [str(at), f"close {at}", "1 -> 2", str(sum(ROOMS) - room), str(-room)]
+        for at, room in enumerate(ROOMS, 1)
     ]
 
 
@@ -74,7 +80,9 @@ os.write = written
 def begun() -> Iterator[subprocess.Popen[str]]:
     """A sweep that has tried some cases, and waits as long as the block takes."""
     words = command(*INTO_TABLE, before=STOPPING)
-    with subprocess.Popen(words, stderr=subprocess.PIPE, text=True, preexec_fn=heed_interrupts) as process:
+    with subprocess.Popen(
+        words, stderr=subprocess.PIPE, text=True, preexec_fn=heed_interrupts
+    ) as process:
         how = os.waitid(os.P_PID, process.pid, os.WSTOPPED | os.WEXITED | os.WNOWAIT)
         assert how and how.si_code == os.CLD_STOPPED
         try:
@@ -84,20 +92,28 @@ def begun() -> Iterator[subprocess.Popen[str]]:
 
 
 def test_two_at_once() -> None:
-    """The second is refused, and says which process has the table. Nothing is lost, and no case stands twice."""
+    """The second is refused, and says which process has the table. Nothing is lost, and no case
+    stands twice."""
     with begun() as first:
         before = Path("table.csv").read_bytes()
         second = run_tool(*INTO_TABLE)
         assert (second.returncode, second.stdout) == (4, "")
-        assert second.stderr == f"dmf-sweep: table.csv is being written by process {first.pid}; two sweeps cannot write one table\n"
+        assert (
+            second.stderr
+            == f"dmf-sweep: table.csv is being written by process {first.pid}; two sweeps cannot "
+            "write one table\n"
+        )
         assert Path("table.csv").read_bytes() == before
     assert first.returncode == 0
     judge_table()
 
 
 def test_two_that_begin_at_once() -> None:
-    """One of them writes the table, whichever it is; the other is refused, or comes when all is done."""
-    both = [subprocess.Popen(command(*INTO_TABLE), stderr=subprocess.PIPE, text=True) for _ in range(2)]
+    """One of them writes the table, whichever it is; the other is refused, or comes when all is
+    done."""
+    both = [
+        subprocess.Popen(command(*INTO_TABLE), stderr=subprocess.PIPE, text=True) for _ in range(2)
+    ]
     told = [process.communicate(timeout=SECONDS)[1] for process in both]
     statuses = {process.returncode for process in both}
     assert 0 in statuses and statuses <= {0, 4}, told
@@ -121,15 +137,24 @@ def test_another_process_has_it() -> None:
         wanted = "dmf-sweep: table.csv is being written by {}; two sweeps cannot write one table\n"
         assert run_tool(*INTO_TABLE).stderr == wanted.format(f"process {os.getpid()}")
         hidden = "import pathlib; read = pathlib.Path.read_text\n"
-        hidden += "pathlib.Path.read_text = lambda path, *words: '' if str(path) == '/proc/locks' else read(path, *words)"
+        hidden += (
+            "pathlib.Path.read_text = lambda path, *words: '' if str(path) == '/proc/locks' else "
+            "read(path, *words)"
+        )
         assert run_tool(*INTO_TABLE, before=hidden).stderr == wanted.format("another process")
 
 
 def test_a_file_system_without_locks() -> None:
     """The sweep goes on, and says so."""
-    before = f"import fcntl, os\ndef flock(*_): raise OSError({errno.ENOLCK}, os.strerror({errno.ENOLCK}))\nfcntl.flock = flock"
+    before = (
+        f"import fcntl, os\ndef flock(*_): raise OSError({errno.ENOLCK}, "
+        f"os.strerror({errno.ENOLCK}))\nfcntl.flock = flock"
+    )
     ran = run_tool(*INTO_TABLE, before=before)
-    told = "dmf-sweep: table.csv cannot be locked: No locks available. Let no other sweep write it meanwhile\n"
+    told = (
+        "dmf-sweep: table.csv cannot be locked: No locks available. Let no other sweep write it "
+        "meanwhile\n"
+    )
     assert (ran.returncode, ran.stderr) == (0, told)
     judge_table()
 
@@ -154,13 +179,18 @@ os.write = written
 """
 
 
-@pytest.mark.parametrize(("size", "is_real"), [(0, False), (20, False), (12_011, False), (12_000, True), (12_011, True), (20_000, True)])
+@pytest.mark.parametrize(
+    ("size", "is_real"),
+    [(0, False), (20, False), (12_011, False), (12_000, True), (12_011, True), (20_000, True)],
+)
 def test_a_full_disk(size: int, is_real: bool) -> None:
     """It is told, the table has whole lines, and the next run goes on after them."""
     # The problem, which is copied for the program, has room.
     assert Path("net.max").stat().st_size < size or not is_real
     why = "File too large" if is_real else "No space left on device"
-    ran = run_tool(*INTO_TABLE, before=room_for(size) if is_real else FULL.replace("SIZE", str(size)))
+    ran = run_tool(
+        *INTO_TABLE, before=room_for(size) if is_real else FULL.replace("SIZE", str(size))
+    )
     assert (ran.returncode, ran.stderr) == (4, f"dmf-sweep: cannot write table.csv: {why}\n")
     text = Path("table.csv").read_bytes()
     assert len(text) <= size and (text.endswith(b"\n") or not text)
@@ -170,13 +200,19 @@ def test_a_full_disk(size: int, is_real: bool) -> None:
 
 def test_a_table_that_cannot_be_written() -> None:
     Path("table.csv").mkdir()
-    no_file = "dmf-sweep: {} is no file that a sweep can go on with; without --table the table goes to standard output\n"
+    no_file = (
+        "dmf-sweep: {} is not a file in which a sweep can go on; without --table the table goes to "
+        "standard output\n"
+    )
     os.mkfifo("pipe")
     for path in "table.csv", "/dev/full", "/dev/zero", "pipe":
         ran = run_tool(*INTO_TABLE[:-1], path)
         assert (ran.returncode, ran.stdout, ran.stderr) == (4, "", no_file.format(path))
     ran = run_tool(*INTO_TABLE[:-1], "missing/table.csv")
-    assert (ran.returncode, ran.stderr) == (4, "dmf-sweep: cannot write missing/table.csv: No such file or directory\n")
+    assert (ran.returncode, ran.stderr) == (
+        4,
+        "dmf-sweep: cannot write missing/table.csv: No such file or directory\n",
+    )
 
 
 def test_empty_words() -> None:
@@ -198,8 +234,13 @@ def test_no_room_for_the_problem() -> None:
 
 def test_names_of_the_other_form() -> None:
     """A table has names of one form alone."""
-    Path("net.max").write_text("c arc 1 =1+2\nc arc 2 -x\np max 2 2\nn 1 s\nn 2 t\na 1 2 3\na 1 2 4\n")
-    forms: list[tuple[list[str], list[str], str]] = [([], ["--raw-names"], "'=1+2"), (["--raw-names"], [], "=1+2")]
+    Path("net.max").write_text(
+        "c arc 1 =1+2\nc arc 2 -x\np max 2 2\nn 1 s\nn 2 t\na 1 2 3\na 1 2 4\n"
+    )
+    forms: list[tuple[list[str], list[str], str]] = [
+        ([], ["--raw-names"], "'=1+2"),
+        (["--raw-names"], [], "=1+2"),
+    ]
     for first, second, name in forms:
         Path("table.csv").unlink(missing_ok=True)
         assert run_tool(*INTO_TABLE, *first).returncode == 0
@@ -207,7 +248,10 @@ def test_names_of_the_other_form() -> None:
         assert text.splitlines()[1].startswith(f"1,close 1,{name},4,-3,,")
         Path("table.csv").write_text("".join(text.splitlines(keepends=True)[:2]))
         ran = run_tool(*INTO_TABLE, *second)
-        told = "dmf-sweep: table.csv has names of the other form: it was begun with --raw-names, or without\n"
+        told = (
+            "dmf-sweep: table.csv has names of the other form: it was begun with --raw-names, or "
+            "without\n"
+        )
         assert (ran.returncode, ran.stderr) == (3, told)
         assert run_tool(*INTO_TABLE, *first).returncode == 0
         assert Path("table.csv").read_text() == text

@@ -17,7 +17,7 @@ from client_shared import ROOT, is_running
 from tool_runs import Tools
 
 # The pipes of the other tests, whose greatest value is 5.
-PROBLEM = "c node 1 lake\nc node 4 sea\nc arc 5 the \"canal\"\np max 4 5\nn 1 s\nn 4 t\n"
+PROBLEM = 'c node 1 lake\nc node 4 sea\nc arc 5 the "canal"\np max 4 5\nn 1 s\nn 4 t\n'
 PROBLEM += "a 1 2 3\na 1 3 2\na 2 3 5\na 2 4 2\na 3 4 3\n"
 HEAD = ["case", "commands", "name", "value", "difference", "refused"]
 
@@ -68,7 +68,10 @@ def test_each_arc_is_closed() -> None:
 
 
 def test_cases() -> None:
-    cases = "close 1; add 1 4 7\n\nc a comment\nshut 2\ncap 5 18446744073709551615\nclose 6\nadd 1 9 1\nshut 1;close 1\n"
+    cases = (
+        "close 1; add 1 4 7\n\nc a comment\nshut 2\ncap 5 18446744073709551615\nclose 6\nadd 1 9 "
+        "1\nshut 1;close 1\n"
+    )
     Path("cases.txt").write_text(cases)
     wanted = """\
 1|close 1; add 1 4 7|lake -> 2|9|4|
@@ -88,7 +91,9 @@ def test_cases() -> None:
 
 def goes_on(tools: Tools) -> int:
     """The status of a sweep into a table."""
-    return tools.run("dmf-sweep", Path.cwd(), ["net.max", "--close-each", "--table", "table.csv"]).status
+    return tools.run(
+        "dmf-sweep", Path.cwd(), ["net.max", "--close-each", "--table", "table.csv"]
+    ).status
 
 
 def test_it_goes_on_where_its_table_ends(tools: Tools) -> None:
@@ -99,7 +104,11 @@ def test_it_goes_on_where_its_table_ends(tools: Tools) -> None:
     for length in range(len(whole) + 1):
         if length % 7 == 0 or length == len(whole):
             # The value of the first case is wrong, and stays: it is not tried again.
-            table.write_text(whole.replace(",2,-3,", ",8,3,", 1)[: length - 1] if length > 120 else whole[:length])
+            table.write_text(
+                whole.replace(",2,-3,", ",8,3,", 1)[: length - 1]
+                if length > 120
+                else whole[:length]
+            )
             kept = table.read_text().count(",8,3,")
             assert goes_on(tools) == 0
             assert table.read_text().replace(",8,3,", ",2,-3,") == whole, length
@@ -110,15 +119,26 @@ def test_it_goes_on_where_its_table_ends(tools: Tools) -> None:
 
 
 def kept_rows(table: str) -> list[list[str]]:
-    """The rows of the table of a file, without what all have in common, the mark of their problem."""
+    """The rows of the table of a file, without what all have in common, the mark of their
+    problem."""
     head, *found = csv.reader(io.StringIO(table, newline=""))
     assert head == [*HEAD, "problem"] and len({row[-1] for row in found}) <= 1
     return [row[:-1] for row in found]
 
 
-@pytest.mark.parametrize("change", [("a 3 4 3", "a 3 4 2"), ("a 1 3 2", "a 1 2 2"), ("n 4 t", "n 3 t"), ("p max 4", "p max 5"), ("canal", "ditch")])
+@pytest.mark.parametrize(
+    "change",
+    [
+        ("a 3 4 3", "a 3 4 2"),
+        ("a 1 3 2", "a 1 2 2"),
+        ("n 4 t", "n 3 t"),
+        ("p max 4", "p max 5"),
+        ("canal", "ditch"),
+    ],
+)
 def test_the_table_of_another_problem(change: tuple[str, str]) -> None:
-    """It is refused, though the cases are the same; comments that name nothing, blanks and another name of the file make no other one."""
+    """It is refused, though the cases are the same; comments that name nothing, blanks and another
+    name of the file make no other one."""
     assert run_tool("--close-each", "--table", "table.csv").returncode == 0
     table = Path("table.csv")
     lines = table.read_text().splitlines(keepends=True)
@@ -127,64 +147,122 @@ def test_the_table_of_another_problem(change: tuple[str, str]) -> None:
     for text in "".join(lines), begun:
         table.write_text(text)
         run = run_tool("--close-each", "--table", "table.csv")
-        assert (run.returncode, run.stderr) == (3, "dmf-sweep: table.csv is the table of another problem than net.max\n")
+        assert (run.returncode, run.stderr) == (
+            3,
+            "dmf-sweep: table.csv is the table of another problem than net.max\n",
+        )
         assert (run.stdout, table.read_text()) == ("", text)
     Path("net.max").write_text("c of today\n\n" + PROBLEM.replace("a 1 2 3", "a  1 2\t3"))
-    assert (run_tool("--close-each", "--table", "table.csv").returncode, table.read_text()) == (0, "".join(lines))
+    assert (run_tool("--close-each", "--table", "table.csv").returncode, table.read_text()) == (
+        0,
+        "".join(lines),
+    )
 
 
 def test_odd_names_in_a_table(tools: Tools) -> None:
-    """A sweep goes on after names in which other lines could end: the table is whole again, wherever it broke off."""
-    names = 'the "canal"', "ca\rnal", "ca\r\rnal", "ca\x0cnal", "ca\u2028nal", 'ca\r"nal', "ca,nal", "\ufffdnal"
+    """A sweep goes on after names in which other lines could end: the table is whole again,
+    wherever it broke off."""
+    names = (
+        'the "canal"',
+        "ca\rnal",
+        "ca\r\rnal",
+        "ca\x0cnal",
+        "ca\u2028nal",
+        'ca\r"nal',
+        "ca,nal",
+        "\ufffdnal",
+    )
     for name in names:
-        Path("net.max").write_text(PROBLEM.replace('the "canal"', name).replace("lake", "la\rke"), newline="")
+        Path("net.max").write_text(
+            PROBLEM.replace('the "canal"', name).replace("lake", "la\rke"), newline=""
+        )
         Path("table.csv").unlink(missing_ok=True)
         assert goes_on(tools) == 0
         whole = Path("table.csv").read_bytes()
-        wanted = [[it.replace("lake", "la\rke").replace('the "canal"', name) for it in row] for row in CLOSED]
+        wanted = [
+            [it.replace("lake", "la\rke").replace('the "canal"', name) for it in row]
+            for row in CLOSED
+        ]
         assert kept_rows(whole.decode()) == wanted
         for length in len(whole) - 1, len(whole) - 30, len(whole) // 2, whole.index(b"\r") + 1:
             Path("table.csv").write_bytes(whole[:length])
             assert goes_on(tools) == 0
             assert Path("table.csv").read_bytes() == whole, (name, length)
-        ran = subprocess.run([sys.executable, f"{ROOT}/tools/dmf-sweep", "net.max", "--close-each"], capture_output=True, timeout=60)
+        ran = subprocess.run(
+            [sys.executable, f"{ROOT}/tools/dmf-sweep", "net.max", "--close-each"],
+            capture_output=True,
+            timeout=60,
+        )
         assert list(csv.reader(io.StringIO(ran.stdout.decode(), newline="")))[1:] == wanted
     Path("table.csv").write_text("case,commands\rname\n", newline="")
-    assert run_tool("--close-each", "--table", "table.csv").stderr == "dmf-sweep: table.csv is no table of dmf-sweep\n"
+    assert (
+        run_tool("--close-each", "--table", "table.csv").stderr
+        == "dmf-sweep: table.csv is not a table of dmf-sweep\n"
+    )
 
 
 def test_a_table_that_names_no_problem() -> None:
     """One that an older version wrote, whole or broken off."""
     for count in 0, 2, 5:
-        text = "".join(",".join(row) + "\n" for row in [HEAD, *([str(at), f"close {at}", "", "2", "-3", ""] for at in range(1, count + 1))])
+        text = "".join(
+            ",".join(row) + "\n"
+            for row in [
+                HEAD,
+                *([str(at), f"close {at}", "", "2", "-3", ""] for at in range(1, count + 1)),
+            ]
+        )
         Path("table.csv").write_text(text)
         run = run_tool("--close-each", "--table", "table.csv")
         assert (run.returncode, run.stdout) == (3, "")
-        assert run.stderr == "dmf-sweep: table.csv does not say of which problem it is: an older dmf-sweep wrote it\n"
+        assert (
+            run.stderr
+            == "dmf-sweep: table.csv does not say of which problem it is: an older dmf-sweep wrote "
+            "it\n"
+        )
         assert Path("table.csv").read_text() == text
 
 
 def large() -> list[list[str]]:
-    """A problem of so many arcs side by side that a sweep of them takes a while, and the rows of its table."""
+    """A problem of so many arcs side by side that a sweep of them takes a while, and the rows of
+    its table."""
     rooms = [number % 7 + 1 for number in range(1500)]
-    Path("net.max").write_text(f"p max 2 {len(rooms)}\nn 1 s\nn 2 t\n" + "".join(f"a 1 2 {room}\n" for room in rooms))
+    Path("net.max").write_text(
+        f"p max 2 {len(rooms)}\nn 1 s\nn 2 t\n" + "".join(f"a 1 2 {room}\n" for room in rooms)
+    )
     value = sum(rooms)
-    return [[str(at), f"close {at}", "1 -> 2", str(value - room), str(-room), ""] for at, room in enumerate(rooms, 1)]
+    return [
+        [str(at), f"close {at}", "1 -> 2", str(value - room), str(-room), ""]
+        for at, room in enumerate(rooms, 1)
+    ]
 
 
 def test_an_interrupt() -> None:
-    """It ends the tool and its programs, the table has whole lines, and the next run goes on after them."""
+    """It ends the tool and its programs, the table has whole lines, and the next run goes on after
+    them."""
     wanted = large()
-    command = [sys.executable, f"{ROOT}/tools/dmf-sweep", "net.max", "--close-each", "--table", "table.csv", "--jobs", "2"]
+    command = [
+        sys.executable,
+        f"{ROOT}/tools/dmf-sweep",
+        "net.max",
+        "--close-each",
+        "--table",
+        "table.csv",
+        "--jobs",
+        "2",
+    ]
     table = Path("table.csv")
     with subprocess.Popen(command, stderr=subprocess.PIPE, preexec_fn=heed_interrupts) as process:
         deadline = time.monotonic() + 60
-        while not (table.exists() and table.read_bytes().count(b"\n") > 20) and time.monotonic() < deadline:
+        while (
+            not (table.exists() and table.read_bytes().count(b"\n") > 20)
+            and time.monotonic() < deadline
+        ):
             time.sleep(0.01)
         programs = programs_of(process.pid)
         process.send_signal(signal.SIGINT)
         told = process.communicate(timeout=60)[1]
-    # The network's own, and one or two copies: the second begins once the first runs, and only if enough cases are left.
+    # The network's own, and one or two copies: the second begins once the first runs, and only if
+    # enough cases are left.
     assert (process.returncode, told) == (130, b"") and len(programs) in (2, 3)
     assert not [program for program in programs if is_running(program)]
     text = table.read_text()
@@ -218,10 +296,16 @@ def test_faults() -> None:
     assert run_tool("--close-each", "--top", "0").returncode == 2
     Path("net.max").write_text("p max 2 1\n")
     ran = run_tool("--close-each")
-    assert (ran.returncode, ran.stderr) == (3, "dmf-sweep: net.max: source or sink missing: line 2 of the problem\n")
+    assert (ran.returncode, ran.stderr) == (
+        3,
+        "dmf-sweep: net.max: source or sink missing: line 2 of the problem\n",
+    )
     os.remove("net.max")
     ran = run_tool("--close-each")
-    assert (ran.returncode, ran.stderr) == (4, "dmf-sweep: cannot read net.max: No such file or directory\n")
+    assert (ran.returncode, ran.stderr) == (
+        4,
+        "dmf-sweep: cannot read net.max: No such file or directory\n",
+    )
 
 
 def test_a_plot() -> None:

@@ -13,9 +13,9 @@ from client_shared import dmf, is_running, pipes, process_of
 from oracle.network import smallest_side
 from oracle.session import Session, SolveReply
 from oracle.texts import LARGEST, Fault
+from packages import load
 from random_cases import fitting
 from random_cases import network as random_network
-from packages import load
 
 SECONDS = 20
 distributed = load("distributed")
@@ -39,7 +39,8 @@ def close_mill(network: dmf.Network[Any]) -> None:
 
 
 def command(state: Any, random: Random) -> tuple[Any, ...]:
-    """A random command of a case on a network whose nodes are n1, n2 and so on; it may be refused."""
+    """A random command of a case on a network whose nodes are n1, n2 and so on; it may be
+    refused."""
     arcs = len(state.arcs)
     nodes = [f"n{random.randint(1, state.nodes)}" for _ in range(2)]
     word = random.choice(["cap", "close", "shut", "add"] if arcs else ["shut", "add"])
@@ -54,14 +55,18 @@ def solved_anew(state: Any, commands: list[tuple[Any, ...]]) -> tuple[int, int] 
     session = Session(state, SolveReply(False, True))
     try:
         for word, *rest in commands:
-            session.reply(word, *(int(part[1:]) if isinstance(part, str) else part for part in rest))
+            session.reply(
+                word, *(int(part[1:]) if isinstance(part, str) else part for part in rest)
+            )
         session.reply("solve")
     except Fault as fault:
         return str(fault)
     return session.present().value(), smallest_side(session.present())[1]
 
 
-def capacity_after(network: dmf.Network[Any], commands: list[tuple[Any, ...]], numbers: set[int]) -> int:
+def capacity_after(
+    network: dmf.Network[Any], commands: list[tuple[Any, ...]], numbers: set[int]
+) -> int:
     """What the arcs of these numbers carry together once a case was made."""
     with network.try_out():
         for word, *rest in commands:
@@ -76,7 +81,9 @@ def test_random_sweeps(seed: int) -> None:
     if state.capacity_sum() > LARGEST:
         state = fitting(state)
     # The keys are the arcs' numbers.
-    rows = [(f"n{arc.tail}", f"n{arc.head}", arc.cap, place) for place, arc in enumerate(state.arcs, 1)]
+    rows = [
+        (f"n{arc.tail}", f"n{arc.head}", arc.cap, place) for place, arc in enumerate(state.arcs, 1)
+    ]
     nodes = [f"n{node}" for node in range(1, state.nodes + 1)]
     asked = [[command(state, random) for _ in range(random.randint(0, 3))] for _ in range(15)]
     with dmf.Network(rows, f"n{state.source}", f"n{state.sink}", nodes=nodes) as network:
@@ -84,7 +91,9 @@ def test_random_sweeps(seed: int) -> None:
         # Without cuts cases are sent together, and an executor has many of them at once.
         want_cut, jobs = random.random() < 0.5, random.choice([1, 3])
         with ThreadPoolExecutor(jobs) as threads:
-            results = list(dmf.sweep(network, asked, random.choice([None, threads]), want_cut, jobs=jobs))
+            results = list(
+                dmf.sweep(network, asked, random.choice([None, threads]), want_cut, jobs=jobs)
+            )
         for result, commands in zip(results, asked):
             wanted = solved_anew(state, commands)
             if isinstance(wanted, str):
@@ -94,7 +103,11 @@ def test_random_sweeps(seed: int) -> None:
             assert (result.refusal, result.value, result.cut is not None) == (None, value, want_cut)
             if result.cut is None:
                 continue
-            told = (result.value, result.difference, capacity_after(network, commands, {arc.number for arc in result.cut}))
+            told = (
+                result.value,
+                result.difference,
+                capacity_after(network, commands, {arc.number for arc in result.cut}),
+            )
             assert told == (value, value - before, capacity)
         assert (len(results), network.value) == (15, before)
 
@@ -102,7 +115,12 @@ def test_random_sweeps(seed: int) -> None:
 def test_ready_cases() -> None:
     with pipes() as network:
         network.solve()
-        values: dict[str, list[int]] = {"close": [2, 3, 4, 3, 2], "shut": [2, 2], "raise": [6, 6, 5, 5, 5], "pair": [12, 5]}
+        values: dict[str, list[int]] = {
+            "close": [2, 3, 4, 3, 2],
+            "shut": [2, 2],
+            "raise": [6, 6, 5, 5, 5],
+            "pair": [12, 5],
+        }
         # Worked by hand: the network has its limit at the lake.
         sweeps = {
             "close": dmf.each_arc_closed(),
@@ -114,7 +132,11 @@ def test_ready_cases() -> None:
         raised = dmf.each_capacity_raised(2, arcs=[("lake", "mill"), "nothing"])
         with pytest.raises(dmf.NoSuchArc):
             list(dmf.sweep(network, raised))
-        some = list(dmf.sweep(network, dmf.each_arc_closed([("lake", "mill"), ("lake", "pond")]), want_cut=True))
+        some = list(
+            dmf.sweep(
+                network, dmf.each_arc_closed([("lake", "mill"), ("lake", "pond")]), want_cut=True
+            )
+        )
         assert [result.value for result in some] == [2, None]
         assert isinstance(some[1].refusal, dmf.NoSuchArc)
         assert some[0].cut == (network.arc(("lake", "town")),)
@@ -126,8 +148,17 @@ def test_closed_and_added_arcs() -> None:
         network.close(("lake", "town"))
         canal = network.add("lake", "sea", 7, "canal")
         network.solve()
-        closed: list[Callable[[dmf.Network[Any]], object]] = [lambda copy: copy.close(canal), lambda copy: copy.open(("lake", "town"))]
-        results = list(dmf.sweep(network, [*closed, [("open", ("lake", "town"))], [("close", "canal")]], want_cut=True))
+        closed: list[Callable[[dmf.Network[Any]], object]] = [
+            lambda copy: copy.close(canal),
+            lambda copy: copy.open(("lake", "town")),
+        ]
+        results = list(
+            dmf.sweep(
+                network,
+                [*closed, [("open", ("lake", "town"))], [("close", "canal")]],
+                want_cut=True,
+            )
+        )
         assert [result.value for result in results] == [3, 12, 12, 3]
         assert (results[0].difference, canal in (results[3].cut or ())) == (-7, False)
 
@@ -157,12 +188,17 @@ def test_a_program_that_is_killed() -> None:
         # Each sweep is hit once: a case that is hit at both of its tries has no value.
         for hit in 5, 20:
             values = []
-            for turn, result in enumerate(dmf.sweep(network, ([("cap", ("lake", "mill"), turn % 4)] for turn in range(60)), jobs=2)):
+            for turn, result in enumerate(
+                dmf.sweep(
+                    network, ([("cap", ("lake", "mill"), turn % 4)] for turn in range(60)), jobs=2
+                )
+            ):
                 values.append(result.value)
                 if turn == hit:
                     for child in children() - before - mine:
                         os.kill(child, signal.SIGKILL)
             assert values == [2, 3, 4, 5] * 15
+
         # One that dies at each try is told.
         def kill(copy: dmf.Network[Any]) -> None:
             process_of(copy).kill()
@@ -177,6 +213,7 @@ def test_a_program_that_is_killed() -> None:
 def test_an_interrupt_ends_all() -> None:
     before = children()
     with pipes() as network:
+
         def wait(copy: dmf.Network[Any]) -> None:
             os.kill(process_of(copy).pid, signal.SIGSTOP)
             copy.solve()
@@ -206,13 +243,26 @@ def test_names_are_no_commands() -> None:
     for name in "undo 3", "a\nsolve", 'x"', "\t", "close 1\nclose 2":
         with dmf.Network([("s", name, 3, name), (name, "t", 2)], "s", "t") as network:
             network.solve()
-            results = list(dmf.sweep(network, [[("shut", name)], [("close", name)], [("cap", (name, "t"), 9)], [("close", "solve")]]))
+            results = list(
+                dmf.sweep(
+                    network,
+                    [
+                        [("shut", name)],
+                        [("close", name)],
+                        [("cap", (name, "t"), 9)],
+                        [("close", "solve")],
+                    ],
+                )
+            )
             assert [result.value for result in results] == [0, 0, 3, None]
             assert network.value == 2
 
 
 def test_executors() -> None:
-    cases: list[Any] = [[("cap", ("lake", "mill"), turn % 5)] for turn in range(40)] + [[("close", "pond")], close_mill]
+    cases: list[Any] = [[("cap", ("lake", "mill"), turn % 5)] for turn in range(40)] + [
+        [("close", "pond")],
+        close_mill,
+    ]
     with pipes() as network:
         network.close(("mill", "town"))
         network.add("mill", "town", 5, "again")
@@ -222,28 +272,50 @@ def test_executors() -> None:
             with make(2) as executor:
                 results = list(dmf.sweep(network, cases, executor, want_cut=True))
             for result, one in zip(results, wanted):
-                assert (result.value, result.cut, str(result.refusal)) == (one.value, one.cut, str(one.refusal))
+                assert (result.value, result.cut, str(result.refusal)) == (
+                    one.value,
+                    one.cut,
+                    str(one.refusal),
+                )
             assert len(results) == 42
 
 
 def test_a_cluster() -> None:
-    """With two workers, of which one is killed: each result is that of one process, refusals and cuts among them."""
+    """With two workers, of which one is killed: each result is that of one process, refusals and
+    cuts among them."""
     cases: list[Any] = [[("cap", ("lake", "mill"), turn % 5)] for turn in range(300)]
-    cases += [[("close", ("lake", "pond"))], [("shut", "mill"), ("add", "lake", "sea", 4)], close_mill] * 30
+    cases += [
+        [("close", ("lake", "pond"))],
+        [("shut", "mill"), ("add", "lake", "sea", 4)],
+        close_mill,
+    ] * 30
     with pipes() as network:
         network.solve()
-        wanted = [(result.value, result.difference, result.cut, str(result.refusal)) for result in dmf.sweep(network, cases, None, True, jobs=1)]
-        with distributed.LocalCluster(n_workers=2, threads_per_worker=1, dashboard_address=None, silence_logs=50) as cluster:
+        wanted = [
+            (result.value, result.difference, result.cut, str(result.refusal))
+            for result in dmf.sweep(network, cases, None, True, jobs=1)
+        ]
+        with distributed.LocalCluster(
+            n_workers=2, threads_per_worker=1, dashboard_address=None, silence_logs=50
+        ) as cluster:
             with distributed.Client(cluster) as client:
                 results = []
                 workers = [worker.pid for worker in cluster.workers.values()]
-                for turn, result in enumerate(dmf.sweep(network, cases, client.get_executor(), True)):
+                for turn, result in enumerate(
+                    dmf.sweep(network, cases, client.get_executor(), True)
+                ):
                     results.append(result)
                     if turn == 20:
                         os.kill(workers[0], signal.SIGKILL)
         for place, (result, one) in enumerate(zip(results, wanted)):
             told = (result.value, result.difference, result.cut, str(result.refusal))
             # An arc that a case added is one of its copy alone.
-            assert (told[:2], told[3], len(told[2] or ())) == (one[:2], one[3], len(one[2] or ())), place
-            assert [arc for arc in told[2] or () if arc.number <= 5] == [arc for arc in one[2] or () if arc.number <= 5]
+            assert (told[:2], told[3], len(told[2] or ())) == (
+                one[:2],
+                one[3],
+                len(one[2] or ()),
+            ), place
+            assert [arc for arc in told[2] or () if arc.number <= 5] == [
+                arc for arc in one[2] or () if arc.number <= 5
+            ]
         assert len(results) == len(cases)

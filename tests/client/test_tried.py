@@ -1,4 +1,5 @@
-"""What is tried out and taken back, arcs that are opened, histories that are bounded, arcs that tell of themselves, and notebooks."""
+"""What is tried out and taken back, arcs that are opened, histories that are bounded, arcs that
+tell of themselves, and notebooks."""
 
 import contextlib
 
@@ -48,7 +49,8 @@ def test_the_block_takes_back_itself() -> None:
 
 @pytest.mark.parametrize("is_killed", [False, True])
 def test_a_session_that_ends_in_the_block(is_killed: bool) -> None:
-    """What is kept of the network is as it was before the block, so that a sweep is still of that network."""
+    """What is kept of the network is as it was before the block, so that a sweep is still of that
+    network."""
     network = pipes()
     network.solve()
     with pytest.raises(dmf.SessionEnded):
@@ -92,15 +94,20 @@ def test_a_bounded_history() -> None:
             network.solve()
         network.flow()
         # Of a change that cannot be undone the command alone is kept.
-        assert [change if isinstance(change, tuple) else change.command for change in network._kept._changes] == [("solve",)] * 51
-        assert [isinstance(change, tuple) for change in network._kept._changes] == [True] * 49 + [False] * 2
+        assert [
+            change if isinstance(change, tuple) else change.command
+            for change in network._kept._changes
+        ] == [("solve",)] * 51
+        assert [isinstance(change, tuple) for change in network._kept._changes] == [True] * 49 + [
+            False
+        ] * 2
 
 
 @pytest.mark.parametrize("bound", range(4))
 @pytest.mark.parametrize("blocks", [(1, 2), (0, 2, 2), (1, 1, 1, 1), (2, 0, 1), (0, 3)])
 def test_a_bounded_history_of_blocks_in_blocks(bound: int, blocks: tuple[int, ...]) -> None:
-    """Blocks in blocks, each with some changes at its beginning: the bound counts them from the outermost block on, so that all
-    of them can be taken back."""
+    """Blocks in blocks, each with some changes at its beginning: the bound counts them from the
+    outermost block on, so that all of them can be taken back."""
     with pipes(history=bound) as network:
         for _ in range(3):
             network.solve()
@@ -155,14 +162,20 @@ def test_what_is_forgotten_stays_so(how: str) -> None:
         if how == "begin again":
             network._session.kill("the session was ended by a test")
             network.begin_again()
-        chosen: contextlib.AbstractContextManager[dmf.Network[str]] = contextlib.nullcontext(network)
+        chosen: contextlib.AbstractContextManager[dmf.Network[str]] = contextlib.nullcontext(
+            network
+        )
         if how == "copy":
             chosen = network.copy()
         with chosen as tried:
             with pytest.raises(dmf.NothingToUndo, match="^nothing to undo: undo 2$"):
                 tried.undo(2)
             assert (len(tried.arcs), tried.undo(), tried.capacity(("mill", "town"))) == (3, 0, 5)
-            assert [line for line in tried.problem().splitlines() if line[0] == "a"] == ["a 2 3 5", "a 2 4 2", "a 3 4 3"]
+            assert [line for line in tried.problem().splitlines() if line[0] == "a"] == [
+                "a 2 3 5",
+                "a 2 4 2",
+                "a 3 4 3",
+            ]
 
 
 def test_the_session_ends_inside() -> None:
@@ -194,7 +207,8 @@ def test_open() -> None:
 
 
 def test_open_one_of_several_by_their_ends() -> None:
-    """The ends of closed arcs side by side name none of them, until all but one were opened again."""
+    """The ends of closed arcs side by side name none of them, until all but one were opened
+    again."""
     with dmf.Network([("a", "b", 3, "x"), ("a", "b", 4, "y")], "a", "b") as network:
         one, other = network.arcs
         network.close("x")
@@ -202,14 +216,18 @@ def test_open_one_of_several_by_their_ends() -> None:
         with pytest.raises(dmf.ArcIsOpen):
             network.open(("a", "b"))
         network.close("y")
-        several = "2 closed arcs have the key or the ends ('a', 'b'): <Arc 1: 'a' to 'b', 'x'>, <Arc 2: 'a' to 'b', 'y'>"
+        several = (
+            "2 closed arcs have the key or the ends ('a', 'b'): <Arc 1: 'a' to 'b', 'x'>, <Arc 2: "
+            "'a' to 'b', 'y'>"
+        )
         for call in network.open, network.arc, network.capacity:
             with pytest.raises(dmf.AmbiguousArc) as caught:
                 call(("a", "b"))
             assert (str(caught.value), network.arcs) == (several, [])
         new = network.open(one)
         network.close(new)
-        # The closed arcs are the one that was opened in the place of the first, and the second: the first is past.
+        # The closed arcs are the one that was opened in the place of the first, and the second: the
+        # first is past.
         assert (network.arc("x"), network.arc("y")) == (new, other)
         with pytest.raises(dmf.AmbiguousArc, match="^2 closed arcs .*: <Arc 2: .*>, <Arc 3: .*>$"):
             network.open(("a", "b"))
@@ -217,7 +235,12 @@ def test_open_one_of_several_by_their_ends() -> None:
         network.undo(2)
         assert network.arc("x") == one
         network.redo(2)
-        assert (network.arc("x"), network.open("x").number, network.open("y").number, network.solve().value) == (new, 4, 5, 7)
+        assert (
+            network.arc("x"),
+            network.open("x").number,
+            network.open("y").number,
+            network.solve().value,
+        ) == (new, 4, 5, 7)
 
 
 def test_an_arc_tells_of_itself() -> None:
@@ -241,7 +264,8 @@ def test_an_arc_tells_of_itself() -> None:
 
 
 def test_flows_are_those_of_their_time() -> None:
-    """Each solution is looked at when the network is another one, and the last when it has ended."""
+    """Each solution is looked at when the network is another one, and the last when it has
+    ended."""
     with pipes() as network:
         before, solved = network.flow(), network.solve()
         network.close(("lake", "mill"))
@@ -249,7 +273,11 @@ def test_flows_are_those_of_their_time() -> None:
         after = network.solve()
         network.undo(2)
         network.add("sea", "lake", 1)
-    assert [list(plan.values()) for plan in (before, solved, after)] == [[0] * 5, [3, 2, 1, 2, 3], [2, 0, 0, 2, 7]]
+    assert [list(plan.values()) for plan in (before, solved, after)] == [
+        [0] * 5,
+        [3, 2, 1, 2, 3],
+        [2, 0, 0, 2, 7],
+    ]
     assert (after[canal], after["lake", "sea"], after.get(("sea", "lake"))) == (7, 7, None)
     assert ends(after)[-1] == ("lake", "sea")
 
@@ -279,4 +307,6 @@ def test_pictures() -> None:
             assert "<svg" in shown
             assert "1/5" in shown
         # The cut alone has arcs that are red.
-        assert [(look or "").count("#c62828") > 0 for look in (network._repr_svg_(), cut._repr_svg_())] == [False, True]
+        assert [
+            (look or "").count("#c62828") > 0 for look in (network._repr_svg_(), cut._repr_svg_())
+        ] == [False, True]

@@ -23,8 +23,17 @@ MISTAKES = {
 
 def judge(types: Types, *words: str) -> str:
     """What mypy says."""
-    command = ["mypy", "--strict", f"--cache-dir={types.cache}", "--no-error-summary", "--show-error-codes", *words]
-    ran = subprocess.run(command, env={**os.environ, "MYPYPATH": CLIENT}, capture_output=True, text=True, cwd=ROOT)
+    command = [
+        "mypy",
+        "--strict",
+        f"--cache-dir={types.cache}",
+        "--no-error-summary",
+        "--show-error-codes",
+        *words,
+    ]
+    ran = subprocess.run(
+        command, env={**os.environ, "MYPYPATH": CLIENT}, capture_output=True, text=True, cwd=ROOT
+    )
     return ran.stdout + ran.stderr
 
 
@@ -36,4 +45,6 @@ def test_mistakes(types: Types) -> None:
     """mypy reports each mistake in its line, and nothing else."""
     said = judge(types, "-c", "\n".join(["import dmf", *MISTAKES]))
     told = re.findall(r"^(.*?):(\d+): error: .*\[(.*)\]$", said, re.MULTILINE)
-    assert told == [("<string>", str(line), code) for line, code in enumerate(MISTAKES.values(), 2)], said
+    assert told == [
+        ("<string>", str(line), code) for line, code in enumerate(MISTAKES.values(), 2)
+    ], said

@@ -1,4 +1,5 @@
-"""Edges without a bound beside capacities of up to 64 bits: values, cuts and flows as those of networkx."""
+"""Edges without a bound beside capacities of up to 64 bits: values, cuts and flows as those of
+networkx."""
 
 from __future__ import annotations
 
@@ -19,7 +20,8 @@ SOURCE, SINK = "n0", "n1"
 
 
 def random_graph(random: Random, largest: int = LARGEST) -> Any:
-    """Return a graph of which many edges have no bound. The capacities of the others are small, or up to `largest` together."""
+    """Return a graph of which many edges have no bound. The capacities of the others are small, or
+    up to `largest` together."""
     graph = random.choice([networkx.DiGraph, networkx.Graph])()
     count = random.randrange(2, 10)
     graph.add_nodes_from(f"n{node}" for node in range(count))
@@ -52,7 +54,9 @@ def judge_flow(graph: Any, value: int, flows: dict[str, dict[str, int]]) -> None
             assert 0 <= flow <= bound_of(graph, tail, head)
             excess[head] += flow
             excess[tail] -= flow
-    assert {node: amount for node, amount in excess.items() if amount} == ({SOURCE: -value, SINK: value} if value else {})
+    assert {node: amount for node, amount in excess.items() if amount} == (
+        {SOURCE: -value, SINK: value} if value else {}
+    )
 
 
 def judge(graph: Any) -> bool:
@@ -66,7 +70,8 @@ def judge(graph: Any) -> bool:
                 call(graph, SOURCE, SINK)
         return False
     assert dmf.value(graph, SOURCE, SINK) == value
-    # networkx finds the largest side of the source: the smallest one is what is left by the largest of the sink, backward.
+    # networkx finds the largest side of the source: the smallest one is what is left by the largest
+    # of the sink, backward.
     backward = graph.reverse() if graph.is_directed() else graph
     _, (others, side) = networkx.minimum_cut(backward, SINK, SOURCE)
     assert dmf.minimum_cut(graph, SOURCE, SINK) == (value, (side, others))
@@ -85,7 +90,8 @@ def test_random_graphs(batch: int, request: pytest.FixtureRequest) -> None:
 
 
 def test_many_beside_a_large_one() -> None:
-    """Each of 20,000 edges one after another may have to carry all of a capacity that is far from 64 bits."""
+    """Each of 20,000 edges one after another may have to carry all of a capacity that is far from
+    64 bits."""
     graph, count = networkx.path_graph(range(2, 20_003), networkx.DiGraph), 20_000
     graph.add_edge(SOURCE, 2, capacity=10**15)
     graph.add_edge(20_002, SINK, capacity=10**15 - 3)
@@ -93,12 +99,17 @@ def test_many_beside_a_large_one() -> None:
     amount, (side, others) = dmf.minimum_cut(graph, SOURCE, SINK)
     assert (amount, len(side), others) == (10**15 - 3, count + 2, {SINK})
     amount, flows = dmf.maximum_flow(graph, SOURCE, SINK)
-    assert (amount, {flow for heads in flows.values() for flow in heads.values()}) == (10**15 - 3, {10**15 - 3})
+    assert (amount, {flow for heads in flows.values() for flow in heads.values()}) == (
+        10**15 - 3,
+        {10**15 - 3},
+    )
 
 
 def two_rows(random: Random, most: int) -> Any:
-    """Return a graph of two rows of places with many edges between them. Each of these may have to carry all that enters or leaves a
-    place, so they need together much more than the 120 capacities, which are up to `most` together."""
+    """Return a graph of two rows of places with many edges between them. Each of these may have to
+    carry all that enters or leaves a place, so they need together much more than the 120
+    capacities, which are up to `most` together.
+    """
     graph, rows = networkx.DiGraph(), 60
     for place in range(rows):
         graph.add_edge(SOURCE, f"a{place}", capacity=random.randint(most // 300, most // 120))
@@ -112,7 +123,8 @@ def test_many_between_two_rows() -> None:
 
 
 def test_several_rounds(monkeypatch: pytest.MonkeyPatch) -> None:
-    """Only a network of millions of edges takes more than two rounds. With 26 bits in place of 64 a smaller one does."""
+    """Only a network of millions of edges takes more than two rounds. With 26 bits in place of 64 a
+    smaller one does."""
     bits, rounds = 26, 0
     monkeypatch.setattr(unbounded_arcs, "BITS", bits)
     problem = unbounded_arcs._Residual.problem
@@ -130,9 +142,13 @@ def test_several_rounds(monkeypatch: pytest.MonkeyPatch) -> None:
 
 
 def test_capacities_that_are_past_64_bits_themselves() -> None:
-    graph = networkx.DiGraph([("n0", "a", {"capacity": LARGEST}), ("a", "b", {}), ("b", "n1", {"capacity": 1})])
+    graph = networkx.DiGraph(
+        [("n0", "a", {"capacity": LARGEST}), ("a", "b", {}), ("b", "n1", {"capacity": 1})]
+    )
     for call in dmf.value, dmf.minimum_cut, dmf.maximum_flow:
-        with pytest.raises(dmf.CapacitiesPast64Bits, match="^capacities past 64 bits: <Arc 3: 'b' to 'n1'>$"):
+        with pytest.raises(
+            dmf.CapacitiesPast64Bits, match="^capacities past 64 bits: <Arc 3: 'b' to 'n1'>$"
+        ):
             call(graph, SOURCE, SINK)
     graph["b"]["n1"]["capacity"] = 0
     assert judge(graph)

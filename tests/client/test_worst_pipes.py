@@ -1,4 +1,5 @@
-"""examples/water/worst.py, whose numbers the second implementation finds by solving each case anew."""
+"""examples/water/worst.py, whose numbers the second implementation finds by solving each case anew.
+"""
 
 from __future__ import annotations
 
@@ -31,7 +32,9 @@ def value(pipes: list[dict[str, str]], changed: str = "", more: int | None = Non
         if pipe["pipe"] == changed:
             capacity = 0 if more is None else capacity + more
         arcs.append(Arc(numbers[pipe["from"]], numbers[pipe["to"]], capacity))
-    state = State(len(numbers), numbers["Reservoir"], numbers["Harbour"], tuple(arcs), (0,) * len(arcs))
+    state = State(
+        len(numbers), numbers["Reservoir"], numbers["Harbour"], tuple(arcs), (0,) * len(arcs)
+    )
     return int(solved(state).value())
 
 
@@ -39,14 +42,22 @@ def test_the_worst_pipes() -> None:
     with open(f"{FOLDER}/pipes.csv", newline="") as file:
         pipes = list(csv.DictReader(file))
     now = value(pipes)
-    losses = sorted(((now - value(pipes, pipe["pipe"]), -at) for at, pipe in enumerate(pipes)), reverse=True)[:10]
+    losses = sorted(
+        ((now - value(pipes, pipe["pipe"]), -at) for at, pipe in enumerate(pipes)), reverse=True
+    )[:10]
     gains = {pipe: value(pipes, pipe, 40) for pipe in ("North rise", "Mill Lane", "South main")}
     best = max(gains, key=lambda pipe: gains[pipe])
     with tempfile.TemporaryDirectory() as folder:
         picture = Path(folder) / "best.svg"
         words = [sys.executable, "worst.py", str(picture)]
         path = f"{CLIENT}:{os.environ.get('PYTHONPATH', '')}"
-        ran = subprocess.run(words, cwd=FOLDER, env={**os.environ, "PYTHONPATH": path}, capture_output=True, text=True)
+        ran = subprocess.run(
+            words,
+            cwd=FOLDER,
+            env={**os.environ, "PYTHONPATH": path},
+            capture_output=True,
+            text=True,
+        )
         assert (ran.returncode, ran.stderr) == (0, "")
         if shutil.which("dot"):
             assert best in picture.read_text()

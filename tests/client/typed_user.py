@@ -22,15 +22,28 @@ def main() -> None:
         names: list[str] = limit(network)
         canal: dmf.Arc[str] = network.add("lake", "sea", 7, key="canal")
         plan = network.solve()
-        total: int = plan["canal"] + plan[canal] + plan.get("canal", 0) + plan["lake", "mill"] + network.cap(canal, 2.0)
-        print(names, total, busiest(plan).tail.upper(), {arc.head.upper(): flow for arc, flow in plan.items()})
+        total: int = (
+            plan["canal"]
+            + plan[canal]
+            + plan.get("canal", 0)
+            + plan["lake", "mill"]
+            + network.cap(canal, 2.0)
+        )
+        print(
+            names,
+            total,
+            busiest(plan).tail.upper(),
+            {arc.head.upper(): flow for arc, flow in plan.items()},
+        )
         try:
             network.close("bridge")
         except dmf.NoSuchArc as error:
             print(error, error.line)
     mixed: list[dmf.Row[str]] = [("lake", "sea", 3), ("lake", "sea", 2, "canal")]
     print(dmf.Network(mixed, "lake", "sea").value)
-    grid = dmf.Network([((0, 0), (0, 1), 3), ((0, 1), (1, 1), 2, "gate")], source=(0, 0), sink=(1, 1), history=10)
+    grid = dmf.Network(
+        [((0, 0), (0, 1), 3), ((0, 1), (1, 1), 2, "gate")], source=(0, 0), sink=(1, 1), history=10
+    )
     corner: Tuple[int, int] = sorted(grid.nodes)[0]
     print(corner, grid.problem(names=False))
     graph = {"lake": {"mill": 3}, "mill": {"sea": 2}}

@@ -1,5 +1,5 @@
-"""The table of docs/PYTHON.md that says, call by call, how to come from networkx, scipy and igraph: what stands in its cells is run on random
-graphs, and both sides have to agree."""
+"""The table of docs/PYTHON.md that says, call by call, how to come from networkx, scipy and igraph:
+what stands in its cells is run on random graphs, and both sides have to agree."""
 
 from __future__ import annotations
 
@@ -13,8 +13,17 @@ from client_shared import dmf
 from conftest import ROOT
 from packages import load
 
-nx, igraph, sparse, csgraph = map(load, ("networkx", "igraph", "scipy.sparse", "scipy.sparse.csgraph"))
-ROWS = [line for line in (ROOT / "docs/PYTHON.md").read_text().split("| There | Here |\n|---|---|\n")[1].split("\n\n")[0].splitlines()]
+nx, igraph, sparse, csgraph = map(
+    load, ("networkx", "igraph", "scipy.sparse", "scipy.sparse.csgraph")
+)
+ROWS = [
+    line
+    for line in (ROOT / "docs/PYTHON.md")
+    .read_text()
+    .split("| There | Here |\n|---|---|\n")[1]
+    .split("\n\n")[0]
+    .splitlines()
+]
 SEEDS = range(20)
 
 
@@ -23,7 +32,9 @@ class Cells:
 
     def __init__(self, begin: str) -> None:
         (row,) = [line for line in ROWS if f"`{begin}" in line.split("|")[1]]
-        self.there, self.here = (re.findall("`([^`]+)`", cell) for cell in row.strip("|").split(" | "))
+        self.there, self.here = (
+            re.findall("`([^`]+)`", cell) for cell in row.strip("|").split(" | ")
+        )
 
 
 def run(code: list[str], names: dict[str, Any]) -> list[Any]:
@@ -40,9 +51,18 @@ def run(code: list[str], names: dict[str, Any]) -> list[Any]:
 
 
 def test_each_row_is_tried() -> None:
-    tried = ["nx.maximum_flow(", "nx.minimum_cut(", "nx.maximum_flow_value", "G.add_edge", "G.remove_edge", "maximum_flow(matrix"]
+    tried = [
+        "nx.maximum_flow(",
+        "nx.minimum_cut(",
+        "nx.maximum_flow_value",
+        "G.add_edge",
+        "G.remove_edge",
+        "maximum_flow(matrix",
+    ]
     tried += ["found = g.maxflow", "found.value", "found.partition", "found.cut"]
-    assert [re.findall("`([^`]+)`", row)[0].startswith(begin) for row, begin in zip(ROWS, tried)] == [True] * len(ROWS)
+    assert [
+        re.findall("`([^`]+)`", row)[0].startswith(begin) for row, begin in zip(ROWS, tried)
+    ] == [True] * len(ROWS)
     assert len(ROWS) == len(tried)
 
 
@@ -62,7 +82,9 @@ def judge(edges: list[tuple[Any, Any, int]], flows: list[int], value: int, s: An
         assert 0 <= flow <= room
         excess[head] += flow
         excess[tail] -= flow
-    assert {node: amount for node, amount in excess.items() if amount} == ({s: -value, t: value} if value else {})
+    assert {node: amount for node, amount in excess.items() if amount} == (
+        {s: -value, t: value} if value else {}
+    )
 
 
 @pytest.mark.parametrize("kind", ["DiGraph", "Graph"])
@@ -70,14 +92,22 @@ def judge(edges: list[tuple[Any, Any, int]], flows: list[int], value: int, s: An
 def test_networkx(seed: int, kind: str) -> None:
     names = {"nx": nx, "dmf": dmf, "G": graph_of(seed, kind), "s": 0, "t": 7}
     cells = Cells("nx.maximum_flow(")
-    [(wanted, flows)], [(value, found)] = run(cells.there, dict(names)), run(cells.here, dict(names))
-    assert value == wanted and {tail: set(heads) for tail, heads in found.items()} == {tail: set(heads) for tail, heads in flows.items()}
+    [(wanted, flows)], [(value, found)] = run(cells.there, dict(names)), run(
+        cells.here, dict(names)
+    )
+    assert value == wanted and {tail: set(heads) for tail, heads in found.items()} == {
+        tail: set(heads) for tail, heads in flows.items()
+    }
     if kind == "DiGraph":
         edges = list(names["G"].edges(data="capacity"))
         judge(edges, [found[tail][head] for tail, head, _ in edges], value, 0, 7)
     cells = Cells("nx.minimum_cut(")
-    [(wanted, (largest, _))], [(value, (side, other))] = run(cells.there, dict(names)), run(cells.here, dict(names))
-    assert value == wanted and side <= largest and side | other == set(range(8)) and not side & other
+    [(wanted, (largest, _))], [(value, (side, other))] = run(cells.there, dict(names)), run(
+        cells.here, dict(names)
+    )
+    assert (
+        value == wanted and side <= largest and side | other == set(range(8)) and not side & other
+    )
     cells = Cells("nx.maximum_flow_value")
     assert [*run(cells.there, dict(names)), *run(cells.here, dict(names))] == [wanted] * 3
 
@@ -119,11 +149,15 @@ def test_scipy(seed: int) -> None:
 def test_igraph(seed: int, is_directed: bool) -> None:
     random = Random(f"coming {seed}")
     # Here node 3 has no edge, and so may the source.
-    pairs = [(random.choice([0, 1, 2, 4, 5, 6, 7]), random.choice([1, 2, 4, 5, 6, 7])) for _ in range(18)]
+    pairs = [
+        (random.choice([0, 1, 2, 4, 5, 6, 7]), random.choice([1, 2, 4, 5, 6, 7])) for _ in range(18)
+    ]
     g = igraph.Graph(8, pairs, directed=is_directed)
     g.es["capacity"] = [random.randrange(9) for _ in pairs]
     names: dict[str, Any] = {"dmf": dmf, "g": g, "s": seed % 4, "t": 7}
-    begin, numbers, sides, limit = map(Cells, ("found = g.maxflow", "found.value", "found.partition", "found.cut"))
+    begin, numbers, sides, limit = map(
+        Cells, ("found = g.maxflow", "found.value", "found.partition", "found.cut")
+    )
     (wanted,) = run(begin.there, names)
     if not is_directed:
         names["g"] = g = g.as_directed()
@@ -139,4 +173,6 @@ def test_igraph(seed: int, is_directed: bool) -> None:
     assert sum(g.es[edge]["capacity"] for edge in arcs) == value
     if is_directed:
         assert sum(g.es[edge]["capacity"] for edge in run(limit.there, names)[0]) == value
-        assert {(g.es[edge].source in side, g.es[edge].target in other) for edge in arcs} <= {(True, True)}
+        assert {(g.es[edge].source in side, g.es[edge].target in other) for edge in arcs} <= {
+            (True, True)
+        }

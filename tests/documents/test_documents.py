@@ -1,11 +1,15 @@
-"""Compares what stands twice in the repository, and looks for definitions and lemmas that nothing uses:
+"""Compares what stands twice in the repository, and looks for definitions and lemmas that nothing
+uses:
 
-- each file of definitions and of lemmas begins with a comment, and one of definitions says whether it is public or private;
+- each file of definitions and of lemmas begins with a comment, and one of definitions says whether
+  it is public or private;
 - each link between pages leads to a file, and to a heading of it where it names one;
 - each name of code and of a file that a page has in backquotes stands in the repository;
 - no page has more words than its bound, and each names its reader in its first lines;
-- each crate with code has a page that says what is proved, and the page of the Python package names each module;
+- each crate with code has a page that says what is proved, and the page of the Python package names
+  each module;
 - the pictures of docs/SEARCH.md are those of their sources;
+- the index of docs/DECISIONS.md has each decision, and no page breaks a line within a sentence;
 - each definition and lemma is named by the rest of its file, or by a file that names its file."""
 
 from __future__ import annotations
@@ -22,9 +26,15 @@ import pytest
 HEAD = re.compile(r"^(?:[a-z]+ )*([^\s:(]+)(?= *[:(])")
 LINK = re.compile(r"\]\((?![a-z]+:)([^)#]*)#?([^)]*)\)")
 WORD = re.compile(r"[^\s(){}\[\],;.`\"]+")
-# The most words of a page. Pages that only grow, by a line for each release or decision, have no bound.
+# The most words of a page. Pages that only grow, by a line for each release or decision, have no
+# bound.
 MOST_WORDS = 1_800
-MORE_WORDS = {"docs/DEFINITIONS.md": 4_000, "docs/FORMATS.md": 3_300, "docs/PROVED.md": 1_900, "docs/SEARCH.md": 2_600}
+MORE_WORDS = {
+    "CONTRIBUTING.md": 1_900,
+    "docs/DEFINITIONS.md": 4_200,
+    "docs/PROVED.md": 2_000,
+    "docs/SEARCH.md": 2_750,
+}
 GROWING = {"CHANGELOG.md", "docs/DECISIONS.md"}
 
 
@@ -35,11 +45,18 @@ def is_general(file: Path) -> bool:
 
 def headless_files() -> Iterator[str]:
     """The files of definitions and of lemmas that do not say what they are."""
-    for file in sorted(it for part in ("specs", "proofs") for it in Path("crates").glob(f"*/{part}/**/*.antt") if is_general(it)):
+    for file in sorted(
+        it
+        for part in ("specs", "proofs")
+        for it in Path("crates").glob(f"*/{part}/**/*.antt")
+        if is_general(it)
+    ):
         comment = "".join(takewhile(lambda line: line.startswith("--"), file.open()))
         if not comment:
             yield f"{file} begins with no comment"
-        elif file.parent.name == "specs" and not re.search("^-- (Public|Private): ", comment, re.MULTILINE):
+        elif file.parent.name == "specs" and not re.search(
+            "^-- (Public|Private): ", comment, re.MULTILINE
+        ):
             yield f"{file} does not say whether it is public or private"
 
 
@@ -72,27 +89,42 @@ def pages() -> list[Path]:
 
 def names(page: Path) -> list[str]:
     """What stands in backquotes on a page, but in its examples."""
-    prose = re.sub(r"^    [^\n]*$|^```.*?^```$", "", page.read_text(), flags=re.MULTILINE | re.DOTALL)
+    prose = re.sub(
+        r"^    [^\n]*$|^```.*?^```$", "", page.read_text(), flags=re.MULTILINE | re.DOTALL
+    )
     return sorted(set(re.findall(r"`([^`\n]+)`", prose)))
 
 
 def dead_names() -> Iterator[str]:
-    """The names of code and of files that pages have in backquotes, and that stand nowhere else in the repository."""
-    tracked = subprocess.run(["git", "ls-files"], capture_output=True, text=True, check=True).stdout.splitlines()
+    """The names of code and of files that pages have in backquotes, and that stand nowhere else in
+    the repository."""
+    tracked = subprocess.run(
+        ["git", "ls-files"], capture_output=True, text=True, check=True
+    ).stdout.splitlines()
     files = [Path(it) for it in tracked if Path(it).is_file()]
     places = {f"/{place}" for file in files for place in (file, *file.parents)}
-    code = [file.read_text() for file in files if file.suffix in (".rt", ".antt", ".py", ".sh", ".cpp", ".hpp", "")]
+    code = [
+        file.read_text()
+        for file in files
+        if file.suffix in (".rt", ".antt", ".py", ".sh", ".cpp", ".hpp", "")
+    ]
     said: set[str] = set().union(*(re.findall(r"\w+", text) for text in [*code, *places]))
     # What was there before stands in CHANGELOG.md, and words in capitals stand for something else.
     for page in pages():
         for name in names(page) if page.name != "CHANGELOG.md" else ():
             if re.search(r"[*!]|\bout/|[A-Z]{3}", name):
                 continue
-            is_place = any(place.endswith("/" + name.removeprefix("./").rstrip("/")) for place in places)
+            is_place = any(
+                place.endswith("/" + name.removeprefix("./").rstrip("/")) for place in places
+            )
             if re.fullmatch(r"[\w./-]+\.(rt|antt|py|sh|cpp|hpp|max|csv)", name):
                 is_there = is_place
             else:
-                is_there = is_place or not re.search("[_/]|::|[a-z][A-Z]", name) or said.issuperset(re.findall(r"[A-Za-z]\w*", name))
+                is_there = (
+                    is_place
+                    or not re.search("[_/]|::|[a-z][A-Z]", name)
+                    or said.issuperset(re.findall(r"[A-Za-z]\w*", name))
+                )
             if not is_there:
                 yield f"{page}: nothing is called {name}"
 
@@ -113,17 +145,65 @@ def test_length() -> None:
     assert not [*long_pages()]
 
 
+def test_decisions() -> None:
+    """The index names each decision once, in the order of the page and by its first words; a
+    decision that another one has replaced begins with that."""
+    page = Path("docs/DECISIONS.md").read_text()
+    index, *entries = re.split(r"^### ", page, flags=re.MULTILINE)
+    found = {}
+    for entry in entries:
+        number, _, text = entry.partition("\n\n")
+        superseded, title = re.findall(r"\A(Superseded [^*]*)?\*\*(.*?)\.?\*\*", text)[0]
+        found[number] = title[:1].lower() + title[1:]
+        assert bool(superseded) == (
+            "superseded" in index.partition(f"[{number}]")[2].split("\n")[0]
+        )
+    listed = re.findall(
+        r"^- \[(\d+)\]\(#\1\): (.*?)(?: \([a-z ]*superseded\))?$", index, re.MULTILINE
+    )
+    assert [number for number, _ in listed] == [*found]
+    assert {number: title[:1].lower() + title[1:] for number, title in listed} == found
+    assert len(found) > 80 and len(re.findall(r"^## ", page, re.MULTILINE)) == 5
+
+
+def broken_sentences() -> Iterator[str]:
+    """The lines of pages that end within a sentence."""
+    for page in pages():
+        prose = re.sub(r"^```.*?^```$", "", page.read_text(), flags=re.MULTILINE | re.DOTALL)
+        lines = prose.split("\n")
+        for line, below in zip(lines, lines[1:]):
+            is_code = line.startswith("    ") or below.startswith("    ")
+            is_other = re.match(r" *([-*#|<!]|\d+\. )", below) or line.startswith(("#", "|", "<"))
+            if line and below.strip() and not is_code and not is_other:
+                if not re.search(r"[.!?:;][)*\"`]*$", line):
+                    yield f"{page}: {line}"
+
+
+def test_sentences() -> None:
+    assert not [*broken_sentences()]
+
+
 def test_crates() -> None:
     """Each crate with code has a page that says what is proved."""
-    folders = [it for it in Path("crates").glob("[!t]*") if any("fn " in file.read_text() for file in it.glob("src/**/*.rt"))]
+    folders = [
+        it
+        for it in Path("crates").glob("[!t]*")
+        if any("fn " in file.read_text() for file in it.glob("src/**/*.rt"))
+    ]
     assert len(folders) > 10
-    assert not [it for it in folders if not (it / "README.md").exists() or "proved" not in (it / "README.md").read_text().lower()]
+    assert not [
+        it
+        for it in folders
+        if not (it / "README.md").exists() or "proved" not in (it / "README.md").read_text().lower()
+    ]
 
 
 def test_modules() -> None:
     """The page of the Python package names each of its modules."""
     package = Path("clients/python")
-    assert {it.stem for it in (package / "dmf").glob("[!_]*.py")} - {*names(package / "README.md")} == set()
+    assert {it.stem for it in (package / "dmf").glob("[!_]*.py")} - {
+        *names(package / "README.md")
+    } == set()
 
 
 def test_readers() -> None:
@@ -131,10 +211,16 @@ def test_readers() -> None:
     assert not [page for page in pages() if not reader.search("".join(page.open().readlines()[:8]))]
 
 
-@pytest.mark.parametrize("source", sorted(Path(__file__).parents[2].glob("docs/pictures/*.dot")), ids=lambda source: str(source.stem))
+@pytest.mark.parametrize(
+    "source",
+    sorted(Path(__file__).parents[2].glob("docs/pictures/*.dot")),
+    ids=lambda source: str(source.stem),
+)
 def test_picture(source: Path) -> None:
     """A picture says what its source says. Versions of Graphviz place things differently."""
-    drawn = subprocess.run(["dot", "-Tsvg", source], capture_output=True, text=True, check=True).stdout
+    drawn = subprocess.run(
+        ["dot", "-Tsvg", source], capture_output=True, text=True, check=True
+    ).stdout
     texts = re.compile("<text[^>]*>(.*?)</text>")
     assert texts.findall(source.with_suffix(".svg").read_text()) == texts.findall(drawn)
 
@@ -147,7 +233,11 @@ def words(text: str) -> set[str]:
 def definitions(text: str) -> Iterator[tuple[str, int, str]]:
     """Each definition of a file, with the number of its line and the rest of the file."""
     lines = text.split("\n")
-    firsts = [at for at, line in enumerate(lines) if re.match(r"[^\s-]", line) and not line.startswith("use ")]
+    firsts = [
+        at
+        for at, line in enumerate(lines)
+        if re.match(r"[^\s-]", line) and not line.startswith("use ")
+    ]
     name, begin = "", 0
     for at in [*firsts, len(lines)]:
         line = lines[at] if at < len(lines) else ""

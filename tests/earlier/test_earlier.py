@@ -1,4 +1,5 @@
-"""What version 0.1.0 has kept is still read: pickles of answers and errors, and projects with an unwritten journal.
+"""What version 0.1.0 has kept is still read: pickles of answers and errors, and projects with an
+unwritten journal.
 
 Each is compared with what the same calls give now."""
 
@@ -29,7 +30,14 @@ MODULES = {
     "project.live": ["OpenProject", "new_project", "open_project"],
     "solution": ["Cut", "Solution"],
     "sources": ["from_networkx", "from_scipy", "read"],
-    "sweeping": ["SweepResult", "each_arc_closed", "each_capacity_raised", "each_node_shut", "each_pair_added", "sweep"],
+    "sweeping": [
+        "SweepResult",
+        "each_arc_closed",
+        "each_capacity_raised",
+        "each_node_shut",
+        "each_pair_added",
+        "sweep",
+    ],
     "tables.faults": ["TableFault"],
     "tables.live": ["TableNetwork"],
     "tables.opened": ["read_table"],
@@ -53,7 +61,10 @@ def same_project(name: str, folder: Path) -> dmf.OpenProject:
     folder.mkdir()
     for path in (HERE / name).glob("*.csv"):
         shutil.copy(path, folder)
-    arguments = {key: folder / value if str(value).endswith(".csv") else value for key, value in given.items()}
+    arguments = {
+        key: folder / value if str(value).endswith(".csv") else value
+        for key, value in given.items()
+    }
     project = dmf.new_project(folder / table, **arguments)
     play(project, first + second)
     return project
@@ -77,7 +88,9 @@ def states(project: dmf.OpenProject) -> list[object]:
 
 @pytest.mark.parametrize("name", PROJECTS)
 def test_a_project(name: str, tmp_path: Path) -> None:
-    with earlier_project(name, tmp_path / "earlier") as before, same_project(name, tmp_path / "now") as now:
+    with earlier_project(name, tmp_path / "earlier") as before, same_project(
+        name, tmp_path / "now"
+    ) as now:
         assert before.news == []
         assert states(before) == states(now)
     # What the journal had is in the file now.
@@ -89,21 +102,43 @@ def test_a_project(name: str, tmp_path: Path) -> None:
 def test_values_of_water(tmp_path: Path) -> None:
     """The limit of each scenario, added up by hand from the table and the acts."""
     with earlier_project("water", tmp_path / "earlier") as project:
-        # Of Wider one step is left: without the Mill pipe, the Mill has the 30 of the Canal pipe, and 60 + 30 + 50 flow.
-        assert (project.scenarios, project.scenario, project.value) == (["first", "Wider", "Flood"], "Wider", 140)
+        # Of Wider one step is left: without the Mill pipe, the Mill has the 30 of the Canal pipe,
+        # and 60 + 30 + 50 flow.
+        assert (project.scenarios, project.scenario, project.value) == (
+            ["first", "Wider", "Flood"],
+            "Wider",
+            140,
+        )
         # Flood: without Market Street and South Tower all goes by the Station pipe, of 40.
-        assert (project.go("Flood"), [step.text for step in project.steps]) == (40, ["shut South Tower", "close Market Street"])
+        assert (project.go("Flood"), [step.text for step in project.steps]) == (
+            40,
+            ["shut South Tower", "close Market Street"],
+        )
 
 
 def shown(answer: Any) -> object:
-    """Return what an answer holds. Arcs are equal only to themselves, so they are compared by what they say."""
+    """Return what an answer holds. Arcs are equal only to themselves, so they are compared by what
+    they say."""
     if isinstance(answer, dmf.Solution):
-        flows = [(arc.number, arc.tail, arc.head, arc.given_key, flow) for arc, flow in answer.items()]
+        flows = [
+            (arc.number, arc.tail, arc.head, arc.given_key, flow) for arc, flow in answer.items()
+        ]
         return type(answer), answer.value, flows, answer.flow_dict(), answer._repr_html_()
     if isinstance(answer, dmf.Cut):
-        parts = answer.capacity, answer.side, answer.other_side, repr(answer.arcs), getattr(answer, "terms", ())
+        parts = (
+            answer.capacity,
+            answer.side,
+            answer.other_side,
+            repr(answer.arcs),
+            getattr(answer, "terms", ()),
+        )
         return type(answer), parts, answer._repr_svg_(), answer._repr_html_()
-    return type(answer), str(answer), repr(answer), getattr(answer, "__dict__", None) and sorted(vars(answer))
+    return (
+        type(answer),
+        str(answer),
+        repr(answer),
+        getattr(answer, "__dict__", None) and sorted(vars(answer)),
+    )
 
 
 @pytest.mark.parametrize("module", MODULES)

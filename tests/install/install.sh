@@ -1,7 +1,8 @@
 #!/usr/bin/env bash
-# Tests ./install in folders of its own: what it puts, replaces, refuses, leaves and removes, with a stand-in for rt that makes a
-# program which writes its version; then the built program, the tools and the package, once installed. Each failed case is named. The
-# last line is 'N passed, M failed', and the status is 0 only if nothing failed.
+# Tests ./install in folders of its own: what it puts, replaces, refuses, leaves and removes, with a
+# stand-in for rt that makes a program which writes its version; then the built program, the tools
+# and the package, once installed. Each failed case is named. The last line is 'N passed, M failed',
+# and the status is 0 only if nothing failed.
 set -u
 cd "$(dirname "$0")/../.." || exit 1
 
@@ -19,8 +20,8 @@ fail() {
     echo "failed: $*"
 }
 
-# Judges a run that left its output in the files out and err: the case's name, its status and the wanted one, and what
-# is wanted on standard output and on standard error.
+# Judges a run that left its output in the files out and err: the case's name, its status and the
+# wanted one, and what is wanted on standard output and on standard error.
 judge() {
     local name=$1 status=$2 wanted=$3
     printf '%s' "$4" >"$work/wanted_out"
@@ -41,7 +42,7 @@ root="$work/a clone"
 prefix="$work/a place"
 mkdir -p "$root/bin" "$root/crates/dmf/src" "$root/docs" "$root/clients/python/dmf" "$root/prebuilt"
 cp -r install dmf completions tools include "$root"
-cp docs/*.[13] "$root/docs"
+cp docs/*.[135] "$root/docs"
 git ls-files -z --cached --others --exclude-standard clients/python/dmf | xargs -0 cp --parents -t "$root"
 printf 'dmf:\n' >"$root/crates.txt"
 echo 1 >"$root/crates/dmf/src/version"
@@ -59,8 +60,9 @@ stand_in() {
     chmod 755 "$root/bin/rt"
 }
 
-# Calls the script, which a link leads to, from another folder and with no other variable than PATH, and judges it: the case's
-# name, the status, what is written and what is told, without times. The words come last.
+# Calls the script, which a link leads to, from another folder and with no other variable than PATH,
+# and judges it: the case's name, the status, what is written and what is told, without times. The
+# words come last.
 ln -s "$root/install" "$work/linked"
 call() {
     local name=$1 wanted=$2 out=$3 err=$4 status
@@ -88,16 +90,22 @@ tree() {
 # What stands in a line for each file: the word before it, and the folder.
 lines() {
     local file name
+    for file in dmf commands.sh tables.txt tools.txt; do
+        echo "$1 $2/lib/dmf/$file"
+    done
     for file in dmf dmf-problem dmf-names dmf-dot dmf-sweep dmf-plan dmf-board; do
         echo "$1 $2/bin/$file"
     done
-    for file in docs/*.[13]; do
+    for file in docs/*.[135]; do
         echo "$1 $2/share/man/man${file##*.}/${file#docs/}"
     done
     echo "$1 $2/lib/libdmf.so.0"
     echo "$1 $2/lib/libdmf.so"
     echo "$1 $2/lib/pkgconfig/dmf.pc"
+    echo "$1 $2/lib/cmake/dmf/dmfConfig.cmake"
+    echo "$1 $2/lib/cmake/dmf/dmfConfigVersion.cmake"
     echo "$1 $2/include/dmf.h"
+    echo "$1 $2/include/dmf.hpp"
     for file in $(git ls-files --cached --others --exclude-standard clients/python/dmf); do
         echo "$1 $2/share/dmf/python/${file#clients/python/}"
     done
@@ -106,7 +114,6 @@ lines() {
         echo "$1 $2/share/fish/vendor_completions.d/$name.fish"
     done
     echo "$1 $2/share/zsh/site-functions/_dmf"
-    echo "$1 $2/share/zsh/site-functions/_dmf-tools"
 }
 
 # What a call tells that puts all into a folder.
@@ -149,25 +156,26 @@ before=$(tree "$prefix")
 call "the first call" 0 "$putting" "$first$built" --prefix "a place/"
 
 # What is put.
-same "the program is put" "$("$prefix/bin/dmf")" "dmf 1"
-for pair in docs/dmf.1=share/man/man1/dmf.1 docs/dmf.3=share/man/man3/dmf.3 include/dmf.h=include/dmf.h include/libdmf.so=lib/libdmf.so \
-    include/dmf.pc=lib/pkgconfig/dmf.pc completions/dmf.bash=share/bash-completion/completions/dmf \
+same "the program is put" "$("$prefix/lib/dmf/dmf")" "dmf 1"
+same "the launcher runs it" "$("$prefix/bin/dmf")" "dmf 1"
+for pair in docs/dmf.1=share/man/man1/dmf.1 docs/dmf.3=share/man/man3/dmf.3 include/dmf.h=include/dmf.h include/dmf.hpp=include/dmf.hpp \
+    include/libdmf.so=lib/libdmf.so include/dmf.pc=lib/pkgconfig/dmf.pc include/dmfConfig.cmake=lib/cmake/dmf/dmfConfig.cmake \
+    include/dmfConfigVersion.cmake=lib/cmake/dmf/dmfConfigVersion.cmake completions/dmf.bash=share/bash-completion/completions/dmf \
     completions/_dmf=share/zsh/site-functions/_dmf completions/dmf.fish=share/fish/vendor_completions.d/dmf.fish \
-    completions/_dmf-tools=share/zsh/site-functions/_dmf-tools \
-    completions/dmf-tools.bash=share/bash-completion/completions/dmf-names \
-    completions/dmf-tools.fish=share/fish/vendor_completions.d/dmf-dot.fish \
+    completions/dmf.bash=share/bash-completion/completions/dmf-names docs/dmf-tables.5=share/man/man5/dmf-tables.5 \
+    completions/dmf.fish=share/fish/vendor_completions.d/dmf-dot.fish tools/commands.sh=lib/dmf/commands.sh \
     clients/python/dmf/__init__.py=share/dmf/python/dmf/__init__.py; do
     same "${pair%=*} is put" "$(sha256sum <"$prefix/${pair#*=}")" "$(sha256sum <"${pair%=*}")"
     same "${pair%=*} can be read by all" "$(stat -c %a "$prefix/${pair#*=}")" 644
 done
-same "the program can be run by all" "$(stat -c %a "$prefix/bin/dmf")" 755
+same "the program can be run by all" "$(stat -c %a "$prefix/bin/dmf" "$prefix/lib/dmf/dmf" | uniq)" 755
 same "the library is put" "$(cat "$prefix/lib/libdmf.so.0") $(stat -c %a "$prefix/lib/libdmf.so.0")" "a library 644"
 placed=$(tree "$prefix")
 call "a second call" 0 "$putting" "" --prefix="$prefix"
 same "a second call puts the same" "$(tree "$prefix")" "$placed"
 
 # A newer program takes the place of an older one, which whoever has opened it still reads.
-exec 3<"$prefix/bin/dmf"
+exec 3<"$prefix/lib/dmf/dmf"
 echo 2 >"$root/crates/dmf/src/version"
 touch -d '1 hour' "$root/crates/dmf/src"
 call "an upgrade" 0 "$putting" \
@@ -366,7 +374,8 @@ if [ "$(stat -c %W "$work")" -gt 0 ]; then
     call_in "removing by a list that knows no folder above" "" "$made"
     same "they stay" "$(cd "$work/made" && find . -mindepth 1)" ./by
     rm -r "$work/made"
-    # The file system's times of birth have whole seconds here, and those of one call are at most one apart.
+    # The file system's times of birth have whole seconds here, and those of one call are at most
+    # one apart.
     mkdir -p "$work/theirs/empty"
     sleep 2.1
     quiet --prefix "$work/theirs/empty/place"
@@ -412,26 +421,24 @@ env -i PATH=/usr/bin:/bin ./install --prefix "$work/real" >"$work/out" 2>"$work/
 judge "the program is installed" "$?" 0 "$(told "$work/real")"$'\n' ""
 env -i "$work/real/bin/dmf" solve <examples/a.max >"$work/out" 2>"$work/err"
 judge "the installed program runs" "$?" 0 $'s 5\nf 1 2 3\nf 1 3 2\nf 2 3 1\nf 2 4 2\nf 3 4 3\n' ""
-for file in bin/dmf lib/libdmf.so.0; do
+for file in lib/dmf/dmf lib/libdmf.so.0; do
     same "$file needs libc alone" "$(ldd "$work/real/$file" | sed -n 's/^\t\(lib[^ ]*\.so\).*/\1/p')" libc.so
 done
 
-# Programs in C and C++ that find the library as their field does: by pkg-config's file, here read by hand, and by the loader.
+# A program in C that finds the library by pkg-config's file, here read by hand, and by the loader.
+# tests/library does the same by pkg-config and CMake themselves.
 flags="$(sed -n "s|^prefix=.*||; s|\${includedir}|$work/real/include|; s|\${libdir}|$work/real/lib|; s/^\(Libs\|Cflags\): //p" "$work/real/lib/pkgconfig/dmf.pc")"
 # shellcheck disable=SC2086 # It has a word for each flag.
 gcc examples/c/limit.c -o "$work/limit" $flags "-Wl,-rpath,$work/real/lib" >"$work/out" 2>"$work/err"
 same "a C program is linked" "$? $(cat "$work/err")" "0 "
 same "it runs" "$("$work/limit" | tail -n 2)" $'without arc 1: 2\nagain: 5'
-# shellcheck disable=SC2086
-g++ -std=c++17 examples/c/limit.cpp -o "$work/limit" $flags >"$work/out" 2>"$work/err"
-same "a C++ program is linked" "$? $(cat "$work/err")" "0 "
-same "that runs" "$(LD_LIBRARY_PATH="$work/real/lib" "$work/limit")" $'3\n2\n1\n2\n3\non the source\'s side: 1'
 same "the example of ctypes runs" "$(python3 examples/c/limit.py "$work/real/lib/libdmf.so.0")" "5 [3, 2, 1, 2, 3]"
 
 # The tools, from elsewhere and by a link, and the package.
 ln -s "$work/real/bin/dmf-problem" "$work/a tool"
 (cd / && printf 'A,B,3\n' | "$work/a tool" A B) >"$work/out" 2>"$work/err"
-judge "dmf-problem is installed" "$?" 0 $'c node 1 A\nc node 2 B\np max 2 1\nn 1 s\nn 2 t\na 1 2 3\n' ""
+judge "dmf-problem is installed" "$?" 0 $'c node 1 A\nc node 2 B\np max 2 1\nn 1 s\nn 2 t\na 1 2 3\n' \
+    $'dmf-problem: there are no titles: from column 1, to column 2, capacity column 3\n'
 cp "$work/out" "$work/problem"
 "$work/real/bin/dmf-names" "$work/problem" <<<$'s 3\nf 1 2 3' >"$work/out" 2>"$work/err"
 same "dmf-names is installed" "$? $(head -n 1 "$work/out")" "0 value 3"

@@ -1,4 +1,5 @@
-"""Tests what ./dmf says on its first call, in a folder of its own, where a stand-in for rt makes a program that writes its words."""
+"""Tests what ./dmf says on its first call, in a folder of its own, where a stand-in for rt makes a
+program that writes its words."""
 
 from __future__ import annotations
 
@@ -16,9 +17,18 @@ from conftest import ROOT
 
 SECONDS = 60
 NONE_THERE = "dmf: prebuilt/dmf-x86_64-linux.gz is not there, or cannot be read"
-FIRST_CALL = f"{NONE_THERE}.\ndmf: the program is proved and built. This happens once, and takes 9 to 15 minutes on 4 idle processors.\n"
-CHANGED = f"{NONE_THERE}.\ndmf: a source has changed since the program was built. What depends on it is proved and built again.\n"
-BUILT = "".join(f"dmf: {place} of 4: {crate} is built\n" for place, crate in enumerate(["low", "left", "right", "dmf"], 1))
+FIRST_CALL = (
+    f"{NONE_THERE}.\ndmf: the program is proved and built. This happens once, and takes 9 to 15 "
+    "minutes on 4 idle processors.\n"
+)
+CHANGED = (
+    f"{NONE_THERE}.\ndmf: a source has changed since the program was built. What depends on it is "
+    "proved and built again.\n"
+)
+BUILT = "".join(
+    f"dmf: {place} of 4: {crate} is built\n"
+    for place, crate in enumerate(["low", "left", "right", "dmf"], 1)
+)
 CRATES = "# Crates.\nlow:\nleft: low\nright: low\ndmf: left right\nabove: dmf\n"
 # A rt that builds a crate over those that it stands on, and writes down when it begins and ends.
 WORKING = r"""#!/bin/sh
@@ -75,7 +85,7 @@ class Clone:
         for folder in "bin", "tools", "examples":
             (root / folder).mkdir()
         shutil.copy(ROOT / "dmf", root)
-        for tool in "build.py", "prebuilt":
+        for tool in "build.py", "prebuilt", "commands.sh":
             shutil.copy(ROOT / "tools" / tool, root / "tools")
         (root / "crates.txt").write_text(CRATES)
         (root / "bin" / "rt").write_text(stand_in)
@@ -84,18 +94,31 @@ class Clone:
 
     def begin(self, *words: str, by: tuple[str, ...] = ()) -> subprocess.Popen[str]:
         """Calls the script with these words, in a session of its own."""
-        environment = {**os.environ, "LOG": str(self.log), "PATH": f"{self.root / 'bin'}:{os.environ['PATH']}"}
+        environment = {
+            **os.environ,
+            "LOG": str(self.log),
+            "PATH": f"{self.root / 'bin'}:{os.environ['PATH']}",
+        }
         pipe = subprocess.PIPE
         return subprocess.Popen(
             [*by, self.root / "dmf", *words],
-            stdin=subprocess.DEVNULL, stdout=pipe, stderr=pipe, text=True, env=environment, start_new_session=True,
-        )  # fmt: skip
+            stdin=subprocess.DEVNULL,
+            stdout=pipe,
+            stderr=pipe,
+            text=True,
+            env=environment,
+            start_new_session=True,
+        )
 
     def call(self, *words: str, by: tuple[str, ...] = ()) -> tuple[int, str, str]:
         """The status of a call, what it writes, and what standard error shows, without times."""
         ran = self.begin(*words, by=by)
         out, err = ran.communicate(timeout=SECONDS)
-        return ran.returncode, out, re.sub(r", after \d+ s(; about \d+ (s|min).* left)?$", "", err, flags=re.MULTILINE)
+        return (
+            ran.returncode,
+            out,
+            re.sub(r", after \d+ s(; about \d+ (s|min).* left)?$", "", err, flags=re.MULTILINE),
+        )
 
     def logged(self) -> list[str]:
         return self.log.read_text().splitlines()
@@ -113,8 +136,9 @@ def clone(tmp_path: Path) -> Clone:
 
 @pytest.mark.seconds(6)
 def test_calls(clone: Clone) -> None:
-    """The first call builds two crates side by side, between the lowest and the program; the next builds nothing, nor does one after a
-    change in a crate of tests; and one after another change builds again."""
+    """The first call builds two crates side by side, between the lowest and the program; the next
+    builds nothing, nor does one after a change in a crate of tests; and one after another change
+    builds again."""
     assert clone.call("solve", "--cut") == (0, "ran solve --cut\n", FIRST_CALL + BUILT)
     logged = clone.logged()
     # Which of two crates that are begun together writes first is chance.
@@ -133,27 +157,36 @@ def test_calls(clone: Clone) -> None:
 
 @pytest.mark.seconds(4)
 def test_off_the_chain(clone_of: Callable[[str], Clone]) -> None:
-    """A crate that can take three times as long without delaying the program leaves the processors to the longest chain: it is built by
-    one job and, where the system has a niceness for each session, nicer."""
+    """A crate that can take three times as long without delaying the program leaves the processors
+    to the longest chain: it is built by one job and, where the system has a niceness for each
+    session, nicer."""
     first, behind = ("0 ", "5 ") if Path("/proc/self/autogroup").exists() else ("", "")
     clone = clone_of(NOTING)
     (clone.root / "crates.txt").write_text(CHAIN)
     assert clone.call("solve")[:2] == (0, "ran solve\n")
     noted = dict(line.split(" ", 1) for line in clone.logged())
     assert noted.pop("dmf").startswith(f"{first}run --jobs ")
-    assert noted == {"low": f"{first}lib", "left": f"{first}lib", "right": f"{first}lib", "spare": f"{behind}lib --jobs 1"}
+    assert noted == {
+        "low": f"{first}lib",
+        "left": f"{first}lib",
+        "right": f"{first}lib",
+        "spare": f"{behind}lib --jobs 1",
+    }
 
 
 @pytest.mark.seconds(4)
 def test_one_processor(clone: Clone) -> None:
     """One crate after the other on one processor."""
     assert clone.call("solve", by=("taskset", "-c", "0")) == (0, "ran solve\n", FIRST_CALL + BUILT)
-    assert clone.logged() == [f"{what} {crate}" for crate in ("low", "left", "right", "dmf") for what in ("begin", "end")]
+    assert clone.logged() == [
+        f"{what} {crate}" for crate in ("low", "left", "right", "dmf") for what in ("begin", "end")
+    ]
 
 
 @pytest.mark.seconds(6)
 def test_interrupt(clone: Clone) -> None:
-    """An interrupt, once the second crate has begun, ends all that was begun, and leaves nothing half made. The next call goes on."""
+    """An interrupt, once the second crate has begun, ends all that was begun, and leaves nothing
+    half made. The next call goes on."""
     builder = clone.begin("solve")
     until = time.monotonic() + SECONDS
     while "begin left" not in clone.logged() and time.monotonic() < until:
@@ -162,13 +195,21 @@ def test_interrupt(clone: Clone) -> None:
     out, err = builder.communicate(timeout=SECONDS)
     # A shell tells both as 130.
     assert (builder.returncode in (130, -signal.SIGINT), out) == (True, "")
-    assert err.splitlines()[-1] == "dmf: interrupted; the next call goes on with the crates that are missing."
+    assert (
+        err.splitlines()[-1]
+        == "dmf: interrupted; the next call goes on with the crates that are missing."
+    )
     time.sleep(0.5)
-    assert not (clone.root / "crates/left/out").exists() and (clone.root / "crates/low/out/rlib/stamp").exists()
+    assert (
+        not (clone.root / "crates/left/out").exists()
+        and (clone.root / "crates/low/out/rlib/stamp").exists()
+    )
     assert "end left" not in clone.logged()
     clone.log.write_text("")
     assert clone.call("solve", "--cut") == (0, "ran solve --cut\n", FIRST_CALL + BUILT)
-    assert "begin low" not in clone.logged(), "a crate that was built before the interrupt is built again"
+    assert (
+        "begin low" not in clone.logged()
+    ), "a crate that was built before the interrupt is built again"
 
 
 @pytest.mark.seconds(4)
@@ -192,6 +233,12 @@ def test_without_rt(clone: Clone) -> None:
     tools.mkdir()
     for tool in "sh", "dirname", "readlink", "find", "head", "uname", "awk", "sha256sum", "gzip":
         (tools / tool).symlink_to(shutil.which(tool) or tool)
-    ran = subprocess.run([clone.root / "dmf", "--help"], env={"PATH": str(tools)}, capture_output=True, text=True, timeout=SECONDS)
+    ran = subprocess.run(
+        [clone.root / "dmf", "--help"],
+        env={"PATH": str(tools)},
+        capture_output=True,
+        text=True,
+        timeout=SECONDS,
+    )
     told = f"{NONE_THERE}; rt, which is needed to build the program, is not in PATH.\n"
     assert (ran.returncode, ran.stdout, ran.stderr) == (70, "", told)

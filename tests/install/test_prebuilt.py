@@ -35,7 +35,8 @@ def refused(ended: Ended, why: str) -> bool:
 
 
 def test_taken(clone: Clone) -> None:
-    """With no toolchain the first call runs the program, and the next one does not unpack it again."""
+    """With no toolchain the first call runs the program, and the next one does not unpack it
+    again."""
     assert clone.call("solve", "--cut") == (0, "ran the first solve --cut\n", "")
     assert clone.left() == ["dmf"]
     (clone.root / PACKED).unlink()
@@ -43,26 +44,41 @@ def test_taken(clone: Clone) -> None:
 
 
 def test_the_program_itself(tmp_path: Path) -> None:
-    """The built program and all sources of this repository: the first answer takes less than a second of processor time."""
+    """The built program and all sources of this repository: the first answer takes less than a
+    second of processor time."""
     clone = Clone(tmp_path)
     shutil.rmtree(clone.root / "crates")
     shutil.copy(ROOT / "crates.txt", clone.root)
-    shutil.copytree(ROOT / "crates", clone.root / "crates", ignore=shutil.ignore_patterns("out", "must-fail", "more-must-fail"))
+    shutil.copytree(
+        ROOT / "crates",
+        clone.root / "crates",
+        ignore=shutil.ignore_patterns("out", "must-fail", "more-must-fail"),
+    )
     clone.renew("")
     packed, facts = clone.root / PACKED, clone.root / FACTS
     packed.write_bytes(gzip.compress(BUILT.read_bytes()))
-    sums = subprocess.run(["sha256sum", BUILT], capture_output=True, text=True, check=True).stdout.split()
+    sums = subprocess.run(
+        ["sha256sum", BUILT], capture_output=True, text=True, check=True
+    ).stdout.split()
     facts.write_text(re.sub("(?m)^executable: .*", f"executable: {sums[0]}", facts.read_text()))
     before = resource.getrusage(resource.RUSAGE_CHILDREN)
     with (ROOT / "examples/a.max").open() as problem:
-        ran = subprocess.run(clone.words("solve", "--cut"), env=clone.environment(), stdin=problem, capture_output=True, text=True, timeout=SECONDS)
+        ran = subprocess.run(
+            clone.words("solve", "--cut"),
+            env=clone.environment(),
+            stdin=problem,
+            capture_output=True,
+            text=True,
+            timeout=SECONDS,
+        )
     after = resource.getrusage(resource.RUSAGE_CHILDREN)
     assert (ran.returncode, ran.stdout.splitlines()[0], ran.stderr) == (0, "s 5", "")
     assert after.ru_utime + after.ru_stime - before.ru_utime - before.ru_stime < 1
 
 
 def test_a_newer_time(clone: Clone) -> None:
-    """A newer time of a source alone changes nothing, nor does a crate of tests, or a file that is no source."""
+    """A newer time of a source alone changes nothing, nor does a crate of tests, or a file that is
+    no source."""
     (clone.root / "crates/test_low/src/lib.rt").write_text("// Changed.\n")
     (clone.root / "crates/low/src/notes.txt").write_text("a note\n")
     assert clone.call().out == "ran the first\n"
@@ -91,7 +107,10 @@ def test_other_sources(clone: Clone, edit: Callable[[Path], None]) -> None:
     assert clone.check() == (0, "")
     edit(clone.root / "crates/low/src/lib.rt")
     assert refused(clone.call(), r"dmf: prebuilt/ is of other sources")
-    assert clone.check() == (1, "prebuilt/ is of other sources: `tools/prebuilt renew` makes it anew\n")
+    assert clone.check() == (
+        1,
+        "prebuilt/ is of other sources: `tools/prebuilt renew` makes it anew\n",
+    )
 
 
 def test_built_where_it_can_be(clone: Clone) -> None:
@@ -101,7 +120,9 @@ def test_built_where_it_can_be(clone: Clone) -> None:
     ended = clone.call("solve", environment=clone.with_toolchain())
     assert (ended.status, ended.out) == (0, "ran the second solve\n")
     first, second, *_ = ended.err.splitlines()
-    assert first == "dmf: prebuilt/ is of other sources." and second.startswith("dmf: the program is proved and built. This happens once")
+    assert first == "dmf: prebuilt/ is of other sources." and second.startswith(
+        "dmf: the program is proved and built. This happens once"
+    )
 
 
 def flipped(content: bytes) -> bytes:
@@ -125,7 +146,9 @@ def test_damaged(clone: Clone, damage: str) -> None:
     packed.write_bytes(DAMAGES[damage](packed.read_bytes()))
     assert refused(clone.call(), DAMAGED)
     assert clone.left() == []
-    assert clone.check()[0] == 1 and re.fullmatch(DAMAGED + ": `tools/prebuilt renew` makes it anew\n", "dmf: " + clone.check()[1])
+    assert clone.check()[0] == 1 and re.fullmatch(
+        DAMAGED + ": `tools/prebuilt renew` makes it anew\n", "dmf: " + clone.check()[1]
+    )
 
 
 @pytest.mark.parametrize("name", [PACKED, FACTS])
@@ -154,13 +177,21 @@ def test_another_system(clone: Clone) -> None:
     (clone.bin / "uname").unlink()
     (clone.bin / "uname").write_text("#!/bin/sh\necho Linux aarch64\n")
     (clone.bin / "uname").chmod(0o755)
-    assert refused(clone.call(), "dmf: prebuilt/ is for Linux on x86-64, and this is Linux aarch64; on Windows use WSL 2, elsewhere a Linux container .see Containerfile.")
+    assert refused(
+        clone.call(),
+        "dmf: prebuilt/ is for Linux on x86-64, and this is Linux aarch64; on Windows use WSL 2, "
+        "elsewhere a Linux container .see Containerfile.",
+    )
 
 
 def test_does_not_run_here(clone: Clone) -> None:
     """As an executable of a newer C library would not."""
     clone.renew("#!/bin/sh\necho 'no such C library' >&2\necho or so >&2\nexit 1\n")
-    assert refused(clone.call(), "dmf: the executable in prebuilt/ does not run here: no such C library; it needs glibc 2.34 or later, or a Linux container .see Containerfile.")
+    assert refused(
+        clone.call(),
+        "dmf: the executable in prebuilt/ does not run here: no such C library; it needs glibc "
+        "2.34 or later, or a Linux container .see Containerfile.",
+    )
     assert clone.left() == []
 
 
@@ -168,9 +199,14 @@ def test_two_calls(clone: Clone) -> None:
     """Calls at once, each of which unpacks the program: each runs a whole one."""
     pipe = subprocess.PIPE
     calls = [
-        subprocess.Popen(clone.words(str(number)), env=clone.environment(), stdout=pipe, stderr=pipe, text=True) for number in range(8)
+        subprocess.Popen(
+            clone.words(str(number)), env=clone.environment(), stdout=pipe, stderr=pipe, text=True
+        )
+        for number in range(8)
     ]
-    assert [call.communicate(timeout=SECONDS) for call in calls] == [(f"ran the first {number}\n", "") for number in range(8)]
+    assert [call.communicate(timeout=SECONDS) for call in calls] == [
+        (f"ran the first {number}\n", "") for number in range(8)
+    ]
     assert clone.left() == ["dmf"]
 
 
@@ -191,11 +227,17 @@ def somebody(clone: Clone) -> tuple[str, ...]:
     if os.geteuid():
         return ()
     os.chown(clone.home, NOBODY, NOBODY)
-    return (shutil.which("setpriv") or "", f"--reuid={NOBODY}", f"--regid={NOBODY}", "--clear-groups")
+    return (
+        shutil.which("setpriv") or "",
+        f"--reuid={NOBODY}",
+        f"--regid={NOBODY}",
+        "--clear-groups",
+    )
 
 
 def test_read_only(read_only: Clone) -> None:
-    """Where the clone cannot be written, the program lies in the caller's cache, and is looked at before each call."""
+    """Where the clone cannot be written, the program lies in the caller's cache, and is looked at
+    before each call."""
     clone, by = read_only, somebody(read_only)
     assert clone.call("solve", by=by) == (0, "ran the first solve\n", "")
     (kept,) = clone.home.glob(".cache/dmf/*/dmf")
@@ -204,7 +246,10 @@ def test_read_only(read_only: Clone) -> None:
     kept.write_text("#!/bin/sh\necho foreign\n")
     assert clone.call("solve", by=by) == (0, "ran the first solve\n", "")
     made = kept.stat().st_ino
-    assert clone.call("solve", by=by) == (0, "ran the first solve\n", "") and kept.stat().st_ino == made
+    assert (
+        clone.call("solve", by=by) == (0, "ran the first solve\n", "")
+        and kept.stat().st_ino == made
+    )
     # One that others may write.
     kept.chmod(0o757)
     assert clone.call("solve", by=by) == (0, "ran the first solve\n", "")
@@ -218,8 +263,16 @@ def test_nowhere_to_write(read_only: Clone) -> None:
     clone, by = read_only, somebody(read_only)
     clone.home.chmod(0o555)
     ended = clone.call("solve", by=by)
-    assert refused(ended, "dmf: neither .*/crates/dmf/out nor .*/home/.cache/dmf/.* can be written; XDG_CACHE_HOME can name another folder")
-    assert refused(clone.call("solve", by=by, environment={"HOME": ""}), "dmf: .*/crates/dmf/out cannot be written, and neither HOME nor XDG_CACHE_HOME names a folder")
+    assert refused(
+        ended,
+        "dmf: neither .*/crates/dmf/out nor .*/home/.cache/dmf/.* can be written; XDG_CACHE_HOME "
+        "can name another folder",
+    )
+    assert refused(
+        clone.call("solve", by=by, environment={"HOME": ""}),
+        "dmf: .*/crates/dmf/out cannot be written, and neither HOME nor XDG_CACHE_HOME names a "
+        "folder",
+    )
 
 
 def test_compared(clone: Clone) -> None:
@@ -229,14 +282,22 @@ def test_compared(clone: Clone) -> None:
     assert clone.call().status == 0
     assert clone.check(str(built)) == (0, "")
     built.write_bytes(flipped(built.read_bytes()))
-    assert clone.check(str(built)) == (1, f"prebuilt/ has another executable than {built}: `tools/prebuilt renew` makes it anew\n")
+    assert clone.check(str(built)) == (
+        1,
+        f"prebuilt/ has another executable than {built}: `tools/prebuilt renew` makes it anew\n",
+    )
 
 
 def test_of_what_it_was_made(clone: Clone) -> None:
-    """The facts: six lines, the first two of which are those of VERSION and of `rt version`, and the same each time."""
+    """The facts: six lines, the first two of which are those of VERSION and of `rt version`, and
+    the same each time."""
     facts = (clone.root / FACTS).read_text()
     names = ["executable", "sources", "library", "library sources"]
-    assert re.fullmatch("version: 0.9.7\ntoolchain: a kit of the test\n" + "".join(f"{name}: [0-9a-f]{{64}}\n" for name in names), facts)
+    assert re.fullmatch(
+        "version: 0.9.7\ntoolchain: a kit of the test\n"
+        + "".join(f"{name}: [0-9a-f]{{64}}\n" for name in names),
+        facts,
+    )
     files = [clone.root / name for name in (FACTS, PACKED, PACKED_LIBRARY)]
     before = [file.read_bytes() for file in files]
     clone.renew()
@@ -245,7 +306,9 @@ def test_of_what_it_was_made(clone: Clone) -> None:
 
 def take_library(clone: Clone) -> Ended:
     words = [str(clone.root / "tools/prebuilt"), "library"]
-    ran = subprocess.run(words, env=clone.environment(), capture_output=True, text=True, timeout=SECONDS)
+    ran = subprocess.run(
+        words, env=clone.environment(), capture_output=True, text=True, timeout=SECONDS
+    )
     return Ended(ran.returncode, ran.stdout, ran.stderr)
 
 
@@ -259,7 +322,11 @@ def test_the_library(clone: Clone) -> None:
         before = path.read_text()
         path.write_text(f"{before}# Changed.\n")
         assert take_library(clone) == (1, "the C library of prebuilt/ is of other sources\n", "")
-        assert clone.check() == (1, "the C library of prebuilt/ is of other sources: `tools/prebuilt renew` makes it anew\n")
+        assert clone.check() == (
+            1,
+            "the C library of prebuilt/ is of other sources: `tools/prebuilt renew` makes it "
+            "anew\n",
+        )
         assert clone.call().out == "ran the first\n"
         path.write_text(before)
     assert clone.check() == (0, "")
@@ -270,7 +337,11 @@ def test_a_damaged_library(clone: Clone, damage: str) -> None:
     packed = clone.root / PACKED_LIBRARY
     packed.write_bytes(DAMAGES[damage](packed.read_bytes()))
     status, said, _ = take_library(clone)
-    assert status == 1 and said.startswith(f"{PACKED_LIBRARY} is damaged") and not (clone.root / LIBRARY).exists()
+    assert (
+        status == 1
+        and said.startswith(f"{PACKED_LIBRARY} is damaged")
+        and not (clone.root / LIBRARY).exists()
+    )
     assert clone.check() == (1, f"{said[:-1]}: `tools/prebuilt renew` makes it anew\n")
     assert clone.call().out == "ran the first\n"
 
@@ -280,26 +351,46 @@ def test_a_library_compared(clone: Clone) -> None:
     assert (clone.call().status, take_library(clone).status) == (0, 0)
     assert clone.check(str(program), str(library)) == (0, "")
     library.write_bytes(flipped(library.read_bytes()))
-    assert clone.check(str(program), str(library)) == (1, f"prebuilt/ has another library than {library}: `tools/prebuilt renew` makes it anew\n")
+    assert clone.check(str(program), str(library)) == (
+        1,
+        f"prebuilt/ has another library than {library}: `tools/prebuilt renew` makes it anew\n",
+    )
     library.unlink()
     assert clone.check(str(program), str(library)) == (1, f"{library} is not there\n")
 
 
 def test_a_library_read_only(read_only: Clone) -> None:
-    """Where the clone cannot be written, the library lies in the caller's cache, beside the program's."""
+    """Where the clone cannot be written, the library lies in the caller's cache, beside the
+    program's."""
     clone, by = read_only, somebody(read_only)
     (clone.root / "crates/dmf_c").chmod(0o555)
     words = [*by, str(clone.root / "tools/prebuilt"), "library"]
-    ran = subprocess.run(words, env=clone.environment(), capture_output=True, text=True, timeout=SECONDS)
+    ran = subprocess.run(
+        words, env=clone.environment(), capture_output=True, text=True, timeout=SECONDS
+    )
     (clone.root / "crates/dmf_c").chmod(0o755)
     if not by:
         return
     (kept,) = clone.home.glob(".cache/dmf/*/libdmf.so.0")
-    assert (ran.returncode, ran.stdout, ran.stderr, kept.read_text()) == (0, f"{kept}\n", "", "a library\n")
+    assert (ran.returncode, ran.stdout, ran.stderr, kept.read_text()) == (
+        0,
+        f"{kept}\n",
+        "",
+        "a library\n",
+    )
 
 
 def test_words(clone: Clone) -> None:
     """A command that is none, or with words too many, is refused."""
-    for words in (), ("wash",), ("take", "it"), ("library", "it"), ("renew", "it"), ("check", "a", "b", "c"):
-        ran = subprocess.run([clone.root / "tools/prebuilt", *words], capture_output=True, text=True, timeout=SECONDS)
+    for words in (
+        (),
+        ("wash",),
+        ("take", "it"),
+        ("library", "it"),
+        ("renew", "it"),
+        ("check", "a", "b", "c"),
+    ):
+        ran = subprocess.run(
+            [clone.root / "tools/prebuilt", *words], capture_output=True, text=True, timeout=SECONDS
+        )
         assert (ran.returncode, ran.stdout, ran.stderr[:5]) == (2, "", "Usage"), words

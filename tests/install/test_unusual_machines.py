@@ -1,4 +1,5 @@
-"""README's two commands where a machine, a clone or an environment is not the usual one: each works, or says in a line what is missing."""
+"""README's two commands where a machine, a clone or an environment is not the usual one: each
+works, or says in a line what is missing."""
 
 from __future__ import annotations
 
@@ -23,10 +24,12 @@ from pathlib import Path
 
 
 def test_surroundings() -> None:
-    """The Python of Debian, UTF-8, files that others may read, a home, and of the caller's variables not one."""
+    """The Python of Debian, UTF-8, files that others may read, a home, and none of the caller's
+    variables."""
     assert sys.executable == "/usr/bin/python3" and sys.flags.utf8_mode == 0
     assert locale.getpreferredencoding() == "UTF-8" and sys.getfilesystemencoding() == "utf-8"
-    assert subprocess.run(["python3", "-c", "print('M\\u00fchle')"], capture_output=True).stdout == "M\\u00fchle\\n".encode()
+    words = ["python3", "-c", "print('M\\u00fchle')"]
+    assert subprocess.run(words, capture_output=True).stdout == "M\\u00fchle\\n".encode()
     assert not {name for name in os.environ if name.startswith(("DMF_BUILT", "CI", "LANG", "XDG"))}
     home = Path.home()
     assert os.access(home, os.W_OK) and home.parent == Path(os.environ["TMPDIR"]).parent
@@ -37,7 +40,9 @@ def test_surroundings() -> None:
 # A system of packages that lacks one and reaches no source of them.
 LACKING = {
     "dpkg-query": '#!/bin/sh\nfor last; do :; done\n[ "$last" = fish ] || echo installed\n',
-    "apt-get": "#!/bin/sh\necho 'Reading package lists...'\necho 'E: Unable to fetch some archives' >&2\nexit 100\n",
+    "apt-get": "#!/bin/sh\necho 'Reading package lists...'\necho 'E: Unable to fetch some "
+    "archives' >&2\n"
+    "exit 100\n",
 }
 INSTALLING = "test: installing 1 packages of Debian and what they need, which takes some minutes"
 LACKS = "test: packages of Debian are missing: apt install fish"
@@ -56,8 +61,8 @@ class Place(NamedTuple):
 
 
 class Case(NamedTuple):
-    """What is unusual: it is set up by a call, in variables, or by who calls; and how ./dmf and ./test end: the status, the last line on
-    standard output, and what stands on standard error."""
+    """What is unusual: it is set up by a call, in variables, or by who calls; and how ./dmf and
+    ./test end: the status, the last line on standard output, and what stands on standard error."""
 
     name: str
     set_up: Callable[[Place], object] = lambda place: None
@@ -94,18 +99,45 @@ def close(place: Place) -> None:
 CASES = [
     Case("the usual"),
     Case("not root", set_up=lambda place: own(place, NOBODY), by_nobody=True),
-    Case("not root, and a package is missing", set_up=own_and_lack, by_nobody=True, test=(2, "", f"{LACKS}\n")),
-    Case("no network", set_up=lack, test=(2, INSTALLING, f"{LACKS} (E: Unable to fetch some archives)\n")),
     Case(
-        "a read-only clone", set_up=close, by_nobody=True,
-        test=(2, "", "test: {clone} cannot be written, and the tests write in it; clone it to another place\n"),
+        "not root, and a package is missing",
+        set_up=own_and_lack,
+        by_nobody=True,
+        test=(2, "", f"{LACKS}\n"),
+    ),
+    Case(
+        "no network",
+        set_up=lack,
+        test=(2, INSTALLING, f"{LACKS} (E: Unable to fetch some archives)\n"),
+    ),
+    Case(
+        "a read-only clone",
+        set_up=close,
+        by_nobody=True,
+        test=(
+            2,
+            "",
+            "test: {clone} cannot be written, and the tests write in it; clone it to another "
+            "place\n",
+        ),
     ),
     Case("no UTF-8", variables={"LC_ALL": "C", "LANG": "de_DE.ISO-8859-1"}),
     Case("a private umask", umask=0o077),
     Case("no HOME", unset="HOME"),
-    Case("another python3 first in PATH", set_up=lambda place: place.put("python3", "#!/bin/sh\necho another python3 >&2\nexit 9\n")),
-    Case("variables of a gate", variables={"CI": "true", "DMF_BUILT": "/bin/false", "PYTEST_ADDOPTS": "--no-such", "PYTHONPATH": "/nowhere"}),
-]  # fmt: skip
+    Case(
+        "another python3 first in PATH",
+        set_up=lambda place: place.put("python3", "#!/bin/sh\necho another python3 >&2\nexit 9\n"),
+    ),
+    Case(
+        "variables of a gate",
+        variables={
+            "CI": "true",
+            "DMF_BUILT": "/bin/false",
+            "PYTEST_ADDOPTS": "--no-such",
+            "PYTHONPATH": "/nowhere",
+        },
+    ),
+]
 
 
 @pytest.fixture(scope="module")
@@ -136,15 +168,31 @@ def place(tree: Path, tmp_path: Path) -> Iterator[Place]:
 
 def ended(place: Place, case: Case, command: str) -> tuple[int, str, str]:
     """How a command ends that is typed in the clone."""
-    variables = {**PLAIN, "PATH": f"{place.bin}:{PLAIN['PATH']}", "HOME": str(place.home), **case.variables}
+    variables = {
+        **PLAIN,
+        "PATH": f"{place.bin}:{PLAIN['PATH']}",
+        "HOME": str(place.home),
+        **case.variables,
+    }
     variables.pop(case.unset, None)
-    who = {"user": NOBODY, "group": NOBODY, "extra_groups": []} if case.by_nobody and os.geteuid() == 0 else {}
+    who = (
+        {"user": NOBODY, "group": NOBODY, "extra_groups": []}
+        if case.by_nobody and os.geteuid() == 0
+        else {}
+    )
     if who:
         os.chown(place.home, NOBODY, NOBODY)
     ran = subprocess.run(
-        ["/bin/bash", "-c", command], cwd=place.clone, env=variables, stdin=subprocess.DEVNULL, capture_output=True, text=True,
-        timeout=SECONDS, umask=case.umask, **who,  # type: ignore[call-overload]
-    )  # fmt: skip
+        ["/bin/bash", "-c", command],
+        cwd=place.clone,
+        env=variables,
+        stdin=subprocess.DEVNULL,
+        capture_output=True,
+        text=True,
+        timeout=SECONDS,
+        umask=case.umask,
+        **who,  # type: ignore[call-overload]
+    )
     return ran.returncode, ran.stdout, ran.stderr
 
 
@@ -155,6 +203,8 @@ def test_two_commands(place: Place, case: Case) -> None:
     assert ended(place, case, "./dmf solve --cut <examples/a.max") == case.dmf
     status, out, err = ended(place, case, "./test tests/test_surroundings.py -n 0")
     lines = out.splitlines() or [""]
-    assert (status, lines[-1], err) == (case.test[0], case.test[1], case.test[2].format(clone=place.clone)), out
-
-
+    assert (status, lines[-1], err) == (
+        case.test[0],
+        case.test[1],
+        case.test[2].format(clone=place.clone),
+    ), out

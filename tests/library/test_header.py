@@ -1,4 +1,5 @@
-"""What dmf.h says of numbers and of memory, by calls: the faults of texts, what steps of 0 do, and how much a session takes."""
+"""What dmf.h says of numbers and of memory, by calls: the faults of texts, what steps of 0 do, and
+how much a session takes."""
 
 from __future__ import annotations
 
@@ -40,7 +41,12 @@ def library() -> Library:
 
 def numbers(prefix: str) -> dict[str, int]:
     """The numbers of the header whose names begin so."""
-    return {name: int(number) for name, number in re.findall(rf"^    DMF_{prefix}(\w+) = (\d+)", HEADER.read_text(), re.MULTILINE)}
+    return {
+        name: int(number)
+        for name, number in re.findall(
+            rf"^    DMF_{prefix}(\w+) = (\d+)", HEADER.read_text(), re.MULTILINE
+        )
+    }
 
 
 @pytest.mark.parametrize("name", TEXTS)
@@ -48,16 +54,24 @@ def test_a_fault_of_a_text(library: Library, name: str) -> None:
     line, text = TEXTS[name]
     with pytest.raises(Refused) as told:
         library.read(text.encode())
-    assert (told.value.status, told.value.place) == (numbers("")["BAD_TEXT"], 1_000 * line + numbers("FAULT_")[name])
+    assert (told.value.status, told.value.place) == (
+        numbers("")["BAD_TEXT"],
+        1_000 * line + numbers("FAULT_")[name],
+    )
 
 
 def test_the_numbers_are_those_of_the_client() -> None:
     faults = numbers("FAULT_")
     assert list(faults) == list(TEXTS) and list(faults.values()) == list(range(1, len(FAULTS)))
     assert FAULTS[-1] == "no memory"
-    statuses = {name: number for name, number in numbers("").items() if not name.startswith("FAULT_")}
+    statuses = {
+        name: number for name, number in numbers("").items() if not name.startswith("FAULT_")
+    }
     assert list(statuses.values()) == list(range(16))
-    assert [statuses[name] for name in ("NO_MEMORY", "NO_SUCH_NODE", "NO_SUCH_ARC", "CLOSED", "NOT_GREATEST")] == [1, 2, 3, 4, 9]
+    assert [
+        statuses[name]
+        for name in ("NO_MEMORY", "NO_SUCH_NODE", "NO_SUCH_ARC", "CLOSED", "NOT_GREATEST")
+    ] == [1, 2, 3, 4, 9]
     assert set(REASONS) == set(range(1, 10))
 
 
@@ -72,7 +86,11 @@ def test_steps_of_nothing_and_solves_of_nothing(library: Library) -> None:
         session.step("undo", 2)
         assert session.number("future") == 2
         session.step("close", 1)
-        assert (session.number("past"), session.number("future"), session.array("capacities")[0]) == (1, 0, 0)
+        assert (
+            session.number("past"),
+            session.number("future"),
+            session.array("capacities")[0],
+        ) == (1, 0, 0)
 
 
 def test_a_history_of_nothing(library: Library) -> None:

@@ -18,9 +18,14 @@ from oracle.solution import solution_text
 from oracle.texts import Fault
 
 CODES = {
-    "no such node": 2, "no such arc": 3, "arc is closed": 4, "capacities past 64 bits": 6,
-    "nothing to undo": 7, "nothing to redo": 8, "flow is not greatest": 9,
-}  # fmt: skip
+    "no such node": 2,
+    "no such arc": 3,
+    "arc is closed": 4,
+    "capacities past 64 bits": 6,
+    "nothing to undo": 7,
+    "nothing to redo": 8,
+    "flow is not greatest": 9,
+}
 STEPS, BATCHES = 20_000, 20
 # Sessions whose solves begin near a cut, in the gate and by --long, and the steps of each.
 NEAR, MANY_NEAR, NEAR_STEPS, NEAR_BATCHES = 400, 200_000, 30, 4
@@ -42,27 +47,58 @@ def random_step(session: Session, random: Random) -> Step:
     capacity = random.choice([0, 1, random.randint(0, 9), random.randint(0, 99), 2**64 - 1])
     count = random.choice([0, 1, 1, 2, random.randint(0, 12)])
     steps = [
-        Step("solve"), Step("solve"), Step("solve"), Step("cap", (arc, capacity)), Step("cap", (arc, capacity)), Step("close", (arc,)),
-        Step("shut", (node,)), Step("add", (node, random.randint(1, state.nodes), capacity)), Step("undo", (count,)), Step("undo", (count,)),
+        Step("solve"),
+        Step("solve"),
+        Step("solve"),
+        Step("cap", (arc, capacity)),
+        Step("cap", (arc, capacity)),
+        Step("close", (arc,)),
+        Step("shut", (node,)),
+        Step("add", (node, random.randint(1, state.nodes), capacity)),
+        Step("undo", (count,)),
+        Step("undo", (count,)),
         Step("redo", (count,)),
-    ]  # fmt: skip
+    ]
     return random.choice(steps)
 
 
 def step_near_a_cut(session: Session, random: Random) -> Step:
-    """Mostly a change of an arc that is full, or of one that carries nothing: some of these in a row, and then a solve. So many links lead out of
-    the side that the solve before closed, from several nodes and to several, and some paths come back into it."""
+    """Mostly a change of an arc that is full, or of one that carries nothing: some of these in a
+    row, and then a solve. So many links lead out of the side that the solve before closed, from
+    several nodes and to several, and some paths come back into it.
+    """
     state = session.present()
-    arcs = [number for number, (arc, flow) in enumerate(zip(state.arcs, state.flows), 1) if not arc.is_closed and flow in (0, arc.cap)]
+    arcs = [
+        number
+        for number, (arc, flow) in enumerate(zip(state.arcs, state.flows), 1)
+        if not arc.is_closed and flow in (0, arc.cap)
+    ]
     arc = random.choice(arcs or [1])
     flow, capacity = (state.flows[arc - 1], state.arcs[arc - 1].cap) if state.arcs else (0, 0)
     higher = min(capacity + random.randint(1, 9), 2**64 - 1 - state.capacity_sum() + capacity)
     steps = [
-        (8, Step("solve")), (8, Step("cap", (arc, higher))), (3, Step("cap", (arc, flow // 2))), (4, Step("close", (arc,))),
-        (3, Step("add", (random.randint(1, state.nodes), random.randint(1, state.nodes), random.randint(0, 9)))),
-        (1, Step("shut", (random.randint(1, state.nodes),))), (3, Step("undo", (random.randint(1, 4),))),
-        (8 if session.place + 1 < len(session.states) else 1, Step("redo", (random.randint(1, 2),))),
-    ]  # fmt: skip
+        (8, Step("solve")),
+        (8, Step("cap", (arc, higher))),
+        (3, Step("cap", (arc, flow // 2))),
+        (4, Step("close", (arc,))),
+        (
+            3,
+            Step(
+                "add",
+                (
+                    random.randint(1, state.nodes),
+                    random.randint(1, state.nodes),
+                    random.randint(0, 9),
+                ),
+            ),
+        ),
+        (1, Step("shut", (random.randint(1, state.nodes),))),
+        (3, Step("undo", (random.randint(1, 4),))),
+        (
+            8 if session.place + 1 < len(session.states) else 1,
+            Step("redo", (random.randint(1, 2),)),
+        ),
+    ]
     return random.choices([step for _, step in steps], [weight for weight, _ in steps])[0]
 
 
@@ -106,16 +142,23 @@ def compare_texts_and_side(given: CSession, state: State) -> None:
 
 
 def run_session(
-    library: Library, random: Random, steps: int, next_step: Callable[[Session, Random], Step] = random_step, most_nodes: int = 10
+    library: Library,
+    random: Random,
+    steps: int,
+    next_step: Callable[[Session, Random], Step] = random_step,
+    most_nodes: int = 10,
 ) -> Counter[str]:
-    """So many steps on one network, each compared. Counts the steps that are taken and those that are refused."""
+    """So many steps on one network, each compared. Counts the steps that are taken and those that
+    are refused."""
     state = random_cases.network(random, most_nodes)
     if state.capacity_sum() >= 2**64 or state.source == state.sink:
         return Counter()
     bound = random.choice([0, 1, 3, 1_000_000])
     wanted = Session(state, SolveReply(), bound)
     seen: Counter[str] = Counter()
-    with library.open(state.nodes, (state.source, state.sink), [arc[:3] for arc in state.arcs], bound) as given:
+    with library.open(
+        state.nodes, (state.source, state.sink), [arc[:3] for arc in state.arcs], bound
+    ) as given:
         for at in range(steps):
             step = next_step(wanted, random)
             status = wanted_status(wanted, step)
@@ -134,7 +177,21 @@ def test_random_sessions(library: Library, batch: int, request: pytest.FixtureRe
     seen: Counter[str] = Counter()
     while sum(seen.values()) < STEPS // BATCHES:
         seen += run_session(library, random, 50)
-    for kind in ("solve 0", "cap 0", "cap 3", "close 0", "close 4", "shut 0", "shut 2", "add 0", "add 2", "undo 0", "undo 7", "redo 0", "redo 8"):
+    for kind in (
+        "solve 0",
+        "cap 0",
+        "cap 3",
+        "close 0",
+        "close 4",
+        "shut 0",
+        "shut 2",
+        "add 0",
+        "add 2",
+        "undo 0",
+        "undo 7",
+        "redo 0",
+        "redo 8",
+    ):
         assert seen[kind] > 0, kind
 
 
@@ -145,7 +202,9 @@ def test_solves_near_a_cut(library: Library, batch: int, request: pytest.Fixture
     sessions = (MANY_NEAR if request.config.getoption("--long") else NEAR) // NEAR_BATCHES
     seen: Counter[str] = Counter()
     for _ in range(sessions):
-        seen += run_session(library, random, NEAR_STEPS, step_near_a_cut, random.choice([6, 10, 14, 20]))
+        seen += run_session(
+            library, random, NEAR_STEPS, step_near_a_cut, random.choice([6, 10, 14, 20])
+        )
     for kind in ("solve 0", "cap 0", "close 0", "shut 0", "add 0", "undo 0", "redo 0"):
         assert seen[kind] > 0, kind
 
@@ -153,10 +212,16 @@ def test_solves_near_a_cut(library: Library, batch: int, request: pytest.Fixture
 def test_the_first_bad_arc(library: Library) -> None:
     arcs = [(1, 2, 5), (2, 3, 5), (3, 4, 5), (0, 1, 5)]
     cases: list[tuple[int, tuple[int, int], list[tuple[int, int, int]], int, int, int]] = [
-        (3, (1, 3), arcs, 9, 2, 2), (4, (1, 4), arcs, 9, 2, 3), (4, (1, 4), [(1, 2, 2**64 - 1), (2, 4, 1)], 9, 6, 1),
-        (1, (1, 1), [], 9, 11, 0), (4, (2, 2), [], 9, 11, 0), (4, (0, 2), [], 9, 11, 0), (4, (1, 5), [], 9, 11, 0),
-        (2**24 + 1, (1, 2), [], 9, 11, 0), (4, (1, 4), [], 1_000_001, 11, 0),
-    ]  # fmt: skip
+        (3, (1, 3), arcs, 9, 2, 2),
+        (4, (1, 4), arcs, 9, 2, 3),
+        (4, (1, 4), [(1, 2, 2**64 - 1), (2, 4, 1)], 9, 6, 1),
+        (1, (1, 1), [], 9, 11, 0),
+        (4, (2, 2), [], 9, 11, 0),
+        (4, (0, 2), [], 9, 11, 0),
+        (4, (1, 5), [], 9, 11, 0),
+        (2**24 + 1, (1, 2), [], 9, 11, 0),
+        (4, (1, 4), [], 1_000_001, 11, 0),
+    ]
     for nodes, ends, some, past, status, place in cases:
         with pytest.raises(Refused) as told:
             library.open(nodes, ends, some, past)
@@ -167,7 +232,12 @@ def test_a_text(library: Library) -> None:
     text = Path("examples/a.max").read_bytes()
     with library.read(text) as session:
         session.step("solve")
-        assert (session.number("value"), session.number("nodes"), session.number("source"), session.number("sink")) == (5, 4, 1, 4)
+        assert (
+            session.number("value"),
+            session.number("nodes"),
+            session.number("source"),
+            session.number("sink"),
+        ) == (5, 4, 1, 4)
         assert session.array("flows") == (3, 2, 1, 2, 3)
     with pytest.raises(Refused) as told:
         library.read(text.replace(b"a 2 3 5", b"a 2 9 5"))
@@ -179,10 +249,16 @@ def test_a_text(library: Library) -> None:
 
 
 def test_flows_that_are_checked(library: Library) -> None:
-    with library.open(4, (1, 4), [(1, 2, 3), (1, 3, 2), (2, 3, 5), (2, 4, 2), (3, 4, 3)]) as session:
+    with library.open(
+        4, (1, 4), [(1, 2, 3), (1, 3, 2), (2, 3, 5), (2, 4, 2), (3, 4, 3)]
+    ) as session:
         for flows, status, place in [
-            ((3, 2, 1, 2, 3), 0, 0), ((4, 2, 2, 2, 3), 13, 1), ((3, 2, 1, 1, 3), 14, 2), ((0, 0, 0, 0, 0), 9, 0), ((0,) * 4, 10, 0),
-        ]:  # fmt: skip
+            ((3, 2, 1, 2, 3), 0, 0),
+            ((4, 2, 2, 2, 3), 13, 1),
+            ((3, 2, 1, 1, 3), 14, 2),
+            ((0, 0, 0, 0, 0), 9, 0),
+            ((0,) * 4, 10, 0),
+        ]:
             if status == 0:
                 session.check(flows)
                 continue

@@ -1,4 +1,5 @@
-"""What each call writes, for each of its answers: odd numbers stand there before the call, and the library's caller (c_library.py) looks at them."""
+"""What each call writes, for each of its answers: odd numbers stand there before the call, and the
+library's caller (c_library.py) looks at them."""
 
 from __future__ import annotations
 
@@ -6,7 +7,18 @@ from ctypes import byref, c_size_t, c_uint8, c_uint64
 from pathlib import Path
 
 import pytest
-from c_library import BAD_LENGTH, NO_SUCH_NODE, ODD, ODD_NUMBER, SUM_TOO_LARGE, CSession, Library, Refused, library_folder, odd_array
+from c_library import (
+    BAD_LENGTH,
+    NO_SUCH_NODE,
+    ODD,
+    ODD_NUMBER,
+    SUM_TOO_LARGE,
+    CSession,
+    Library,
+    Refused,
+    library_folder,
+    odd_array,
+)
 
 # Of the five arcs of examples/a.max.
 TAILS, HEADS, CAPACITIES = [1, 1, 2, 2, 3], [2, 3, 3, 4, 4], [3, 2, 5, 2, 3]
@@ -25,8 +37,17 @@ def opened(library: Library) -> CSession:
 
 
 def state(session: CSession) -> tuple[object, ...]:
-    numbers = tuple(session.number(name) for name in ("value", "past", "future", "nodes", "source", "sink", "arcs"))
-    return numbers, session.array("flows"), session.array("capacities"), session.text("problem"), session.text("solution")
+    numbers = tuple(
+        session.number(name)
+        for name in ("value", "past", "future", "nodes", "source", "sink", "arcs")
+    )
+    return (
+        numbers,
+        session.array("flows"),
+        session.array("capacities"),
+        session.text("problem"),
+        session.text("solution"),
+    )
 
 
 @pytest.mark.parametrize("short", range(3))
@@ -41,9 +62,19 @@ def test_a_column_of_another_length(library: Library, short: int, nodes: int) ->
 
 
 @pytest.mark.parametrize(
-    ("nodes", "ends", "past"), [(1, (1, 1), 9), (4, (4, 4), 9), (4, (0, 4), 9), (4, (1, 5), 9), (2**24 + 1, (1, 4), 9), (4, (1, 4), 1_000_001)]
+    ("nodes", "ends", "past"),
+    [
+        (1, (1, 1), 9),
+        (4, (4, 4), 9),
+        (4, (0, 4), 9),
+        (4, (1, 5), 9),
+        (2**24 + 1, (1, 4), 9),
+        (4, (1, 4), 1_000_001),
+    ],
 )
-def test_a_number_out_of_range(library: Library, nodes: int, ends: tuple[int, int], past: int) -> None:
+def test_a_number_out_of_range(
+    library: Library, nodes: int, ends: tuple[int, int], past: int
+) -> None:
     with pytest.raises(Refused) as refused:
         library.open_arrays(nodes, ends, (TAILS, HEADS, CAPACITIES), past)
     assert refused.value.status == BAD_NUMBER
@@ -51,9 +82,17 @@ def test_a_number_out_of_range(library: Library, nodes: int, ends: tuple[int, in
 
 @pytest.mark.parametrize(
     ("at", "column", "number", "status"),
-    [(4, 0, 0, NO_SUCH_NODE), (0, 1, 5, NO_SUCH_NODE), (2, 0, 5, NO_SUCH_NODE), (3, 2, 2**64 - 1, SUM_TOO_LARGE), (1, 2, 2**64 - 3, SUM_TOO_LARGE)],
+    [
+        (4, 0, 0, NO_SUCH_NODE),
+        (0, 1, 5, NO_SUCH_NODE),
+        (2, 0, 5, NO_SUCH_NODE),
+        (3, 2, 2**64 - 1, SUM_TOO_LARGE),
+        (1, 2, 2**64 - 3, SUM_TOO_LARGE),
+    ],
 )
-def test_the_first_arc_that_is_refused(library: Library, at: int, column: int, number: int, status: int) -> None:
+def test_the_first_arc_that_is_refused(
+    library: Library, at: int, column: int, number: int, status: int
+) -> None:
     columns = (TAILS[:], HEADS[:], CAPACITIES[:])
     columns[column][at] = number
     with pytest.raises(Refused) as refused:
@@ -104,10 +143,15 @@ def test_a_side(library: Library) -> None:
 @pytest.mark.parametrize(
     ("flows", "status", "place"),
     [
-        ((3, 2, 1, 2, 3), OK, 0), ((0,) * ARCS, NOT_GREATEST, 0), ((3, 2, 1, 2, 4), OVER_CAPACITY, 5), ((3, 2, 2, 2, 3), NOT_CONSERVED, 2),
-        ((), BAD_LENGTH, 0), ((3, 2, 1, 2), BAD_LENGTH, 0), ((3, 2, 1, 2, 3, 0), BAD_LENGTH, 0),
+        ((3, 2, 1, 2, 3), OK, 0),
+        ((0,) * ARCS, NOT_GREATEST, 0),
+        ((3, 2, 1, 2, 4), OVER_CAPACITY, 5),
+        ((3, 2, 2, 2, 3), NOT_CONSERVED, 2),
+        ((), BAD_LENGTH, 0),
+        ((3, 2, 1, 2), BAD_LENGTH, 0),
+        ((3, 2, 1, 2, 3, 0), BAD_LENGTH, 0),
     ],
-)  # fmt: skip
+)
 def test_a_check(library: Library, flows: tuple[int, ...], status: int, place: int) -> None:
     with opened(library) as session:
         before = state(session)
@@ -122,13 +166,16 @@ def test_a_check(library: Library, flows: tuple[int, ...], status: int, place: i
 
 @pytest.mark.parametrize("name", ["problem", "solution"])
 def test_a_text_with_room_left(library: Library, name: str) -> None:
-    """What stands behind the text stays, and no 0 is added; a byte too little is refused, and the whole length told."""
+    """What stands behind the text stays, and no 0 is added; a byte too little is refused, and the
+    whole length told."""
     with opened(library) as session:
         session.step("solve")
         text = session.text(name)
         for room in len(text) - 1, len(text), len(text) + 9:
             given, length = odd_array(c_uint8, room), c_size_t(ODD_NUMBER)
-            status = getattr(session.calls, f"dmf_session_{name}")(session.session, given, c_size_t(room), byref(length))
+            status = getattr(session.calls, f"dmf_session_{name}")(
+                session.session, given, c_size_t(room), byref(length)
+            )
             written = text if room >= len(text) else b""
             assert status == (OK if written else BAD_LENGTH) and length.value == len(text)
             assert bytes(given) == written + bytes([ODD]) * (room + 1 - len(written))
@@ -137,14 +184,27 @@ def test_a_text_with_room_left(library: Library, name: str) -> None:
 @pytest.mark.parametrize(
     ("word", "numbers", "status"),
     [
-        ("cap", (0, 1), NO_SUCH_ARC), ("cap", (6, 1), NO_SUCH_ARC), ("cap", (1, 2**64 - 1), SUM_TOO_LARGE), ("cap", (5, 1), CLOSED),
-        ("add", (0, 1, 1), NO_SUCH_NODE), ("add", (1, 5, 1), NO_SUCH_NODE), ("add", (1, 4, 2**64 - 1), SUM_TOO_LARGE),
-        ("close", (0,), NO_SUCH_ARC), ("close", (6,), NO_SUCH_ARC), ("close", (5,), CLOSED),
-        ("shut", (0,), NO_SUCH_NODE), ("shut", (5,), NO_SUCH_NODE), ("undo", (4,), TO_UNDO), ("undo", (2**64 - 1,), TO_UNDO),
-        ("redo", (2,), TO_REDO), ("redo", (2**64 - 1,), TO_REDO),
+        ("cap", (0, 1), NO_SUCH_ARC),
+        ("cap", (6, 1), NO_SUCH_ARC),
+        ("cap", (1, 2**64 - 1), SUM_TOO_LARGE),
+        ("cap", (5, 1), CLOSED),
+        ("add", (0, 1, 1), NO_SUCH_NODE),
+        ("add", (1, 5, 1), NO_SUCH_NODE),
+        ("add", (1, 4, 2**64 - 1), SUM_TOO_LARGE),
+        ("close", (0,), NO_SUCH_ARC),
+        ("close", (6,), NO_SUCH_ARC),
+        ("close", (5,), CLOSED),
+        ("shut", (0,), NO_SUCH_NODE),
+        ("shut", (5,), NO_SUCH_NODE),
+        ("undo", (4,), TO_UNDO),
+        ("undo", (2**64 - 1,), TO_UNDO),
+        ("redo", (2,), TO_REDO),
+        ("redo", (2**64 - 1,), TO_REDO),
     ],
-)  # fmt: skip
-def test_a_refused_command(library: Library, word: str, numbers: tuple[int, ...], status: int) -> None:
+)
+def test_a_refused_command(
+    library: Library, word: str, numbers: tuple[int, ...], status: int
+) -> None:
     """Three states stand before the present one, and one after it."""
     with opened(library) as session:
         for step in "solve", "close 5", "solve", "cap 1 1", "undo 1":
@@ -171,7 +231,12 @@ def test_the_number_of_an_added_arc(library: Library) -> None:
 def test_a_network_without_arcs(library: Library) -> None:
     with library.open_arrays(2, (2, 1), ([], [], []), 0) as session:
         session.step("solve")
-        assert (session.array("flows"), session.array("capacities"), session.side(), session.number("past")) == ((), (), [2], 0)
+        assert (
+            session.array("flows"),
+            session.array("capacities"),
+            session.side(),
+            session.number("past"),
+        ) == ((), (), [2], 0)
         session.check(())
         assert session.number("source") == 2 and session.number("sink") == 1
         session.step("add", 2, 1, 9)

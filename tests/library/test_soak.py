@@ -1,4 +1,5 @@
-"""Many steps in one process: the memory in use stays what it was, and what was freed leaves nothing. --long takes 1,000,000 steps."""
+"""Many steps in one process: the memory in use stays what it was, and what was freed leaves
+nothing. --long takes 1,000,000 steps."""
 
 from __future__ import annotations
 
@@ -14,9 +15,11 @@ from c_library import ROOT, compiled, library_file, library_folder
 STEPS, MANY = 30_000, 1_000_000
 # glibc counts what it keeps for the next request of a size as in use, unless it keeps none.
 EXACT = {"GLIBC_TUNABLES": "glibc.malloc.tcache_count=0"}
-# How much more a tenth of the steps may have in use than the first two, since the random states differ in size.
+# How much more a tenth of the steps may have in use than the first two, since the random states
+# differ in size.
 SPREAD = 1.1
-# Each turn leaves the network as it was: steps that are taken back, some in a block, and now and then a case of a sweep, and flows.
+# Each turn leaves the network as it was: steps that are taken back, some in a block, and now and
+# then a case of a sweep, and flows.
 TURNS = """
 import random, sys
 import dmf
@@ -54,7 +57,9 @@ def steps(request: pytest.FixtureRequest) -> int:
 
 def tenths(words: list[str | Path], **environment: str) -> list[int]:
     """The numbers that a process writes."""
-    ran = subprocess.run(words, env={**os.environ, **environment}, capture_output=True, text=True, timeout=900)
+    ran = subprocess.run(
+        words, env={**os.environ, **environment}, capture_output=True, text=True, timeout=900
+    )
     assert (ran.returncode, ran.stderr) == (0, "")
     return list(map(int, ran.stdout.split()))
 
@@ -70,7 +75,8 @@ def test_a_program_in_c(steps: int, tmp_path: Path) -> None:
 
 @pytest.mark.seconds(3)
 def test_python(steps: int) -> None:
-    """Pages of the whole process, which holds at most a twentieth more than after the first two tenths."""
+    """Pages of the whole process, which holds at most a twentieth more than after the first two
+    tenths."""
     environment = {"PYTHONPATH": str(ROOT / "clients/python"), "DMF_LIBRARY": library_file()}
     pages = tenths([sys.executable, "-c", TURNS, str(steps)], **environment)
     assert len(pages) == 10 and max(pages) <= 1.05 * max(pages[:2]), pages

@@ -1,10 +1,12 @@
-"""Calls that are broken off at one of their bytecodes, each in turn: the state is that before the call or that after it, and the next call is
-right. In the gate a few bytecodes of each call are tried, and all by --long."""
+"""Calls that are broken off at one of their bytecodes, each in turn: the state is that before the
+call or that after it, and the next call is right. In the gate a few bytecodes of each call are
+tried, and all by --long."""
 
 from __future__ import annotations
 
+import os
 import sys
-from collections.abc import Callable, Iterator
+from collections.abc import Callable, Iterator, Sequence
 from pathlib import Path
 from random import Random
 from shutil import copy
@@ -15,25 +17,22 @@ import broken_off
 import dmf
 import pytest
 from desk_shared import PIPES, ROOT
+from dmf.desk.project.scenarios import project_of
 
 pytestmark = pytest.mark.usefixtures("by_library")
 # How many bytecodes of a call are tried in the gate.
 IN_GATE = 12
 PACKAGE = str(Path(dmf.__file__).parent)
 Call = Callable[[Any], object]
-# Calls of a project after which the desk may be in neither state, at some bytecodes. What is known to be wrong: the session makes a step,
-# the journal takes it and the desk notes it one after the other, so that an interruption comes between them; in `go` and `new` the journal
-# names another scenario before the desk shows it; `rename` gives the scenario its name before the project works on that name. In the gate only
-# what the file has then is judged, and the desk by --long alone, which fails, until an act is taken by one assignment.
-BETWEEN_STATES = {"close", "open", "cap", "finer", "add", "shut", "undo", "redo", "compare", "go", "new", "copy", "rename"}
 
 
 class Breaking:
     """Breaks a call off at one of the bytecodes of the package, which are counted from 1."""
 
-    def __init__(self, at: int) -> None:
+    def __init__(self, at: int, error: type[BaseException] = KeyboardInterrupt) -> None:
         self.at = at
         self.count = 0
+        self._error = error
 
     def _trace(self, frame: FrameType, event: str, _: object) -> Any:
         if not frame.f_code.co_filename.startswith(PACKAGE):
@@ -43,7 +42,7 @@ class Breaking:
             self.count += 1
             if self.count == self.at:
                 sys.settrace(None)
-                raise KeyboardInterrupt
+                raise self._error
         return self._trace
 
     def call(self, call: Call, about: Any) -> bool:
@@ -52,7 +51,7 @@ class Breaking:
         sys.settrace(self._trace)
         try:
             call(about)
-        except KeyboardInterrupt:
+        except self._error:
             return True
         finally:
             sys.settrace(before)
@@ -135,9 +134,21 @@ class Kept:
 def told(project: Any) -> tuple[object, ...]:
     """Return all that a project tells of its present state."""
     desk = project._desk
-    arcs = [(it.is_closed, it.is_replaced, it.capacity, desk.flow(number)) for number, it in enumerate(desk.lines, 1)]
+    arcs = [
+        (it.is_closed, it.is_replaced, it.capacity, desk.flow(number))
+        for number, it in enumerate(desk.network.lines, 1)
+    ]
     steps = [(step.text, step.value) for step in desk.steps]
-    return project.scenarios, project.scenario, project.value, arcs, steps, desk.at, project.limit, desk.scenario.note
+    return (
+        project.scenarios,
+        project.scenario,
+        project.value,
+        arcs,
+        steps,
+        desk.at,
+        project.limit,
+        project_of(desk).scenario.note,
+    )
 
 
 def reopened(project: Any) -> tuple[object, ...]:
@@ -161,20 +172,75 @@ def test_projects_on_disk(call: str, tmp_path: Path, request: pytest.FixtureRequ
         assert reopened(project) in ([before, after] if was_broken_off else [after]), at
 
 
-@pytest.mark.parametrize(
-    "call", [pytest.param(call, marks=pytest.mark.long) if call in BETWEEN_STATES else call for call in PROJECT_CALLS]
-)
+class BreakingFiles:
+    """Breaks a call off before one of the calls of the system that write files, or after it. These
+    places are counted from 1."""
+
+    def __init__(self, at: int) -> None:
+        self.at = at
+        self.count = 0
+
+    def _count(self) -> None:
+        self.count += 1
+        if self.count == self.at:
+            raise KeyboardInterrupt
+
+    def _breaking(self, real: Callable[..., object]) -> Callable[..., object]:
+        def called(*words: object) -> object:
+            self._count()
+            found = real(*words)
+            self._count()
+            return found
+
+        return called
+
+    def call(self, call: Call, about: Any) -> bool:
+        """Return whether the call was broken off. Its end may come first."""
+        with pytest.MonkeyPatch.context() as patched:
+            for name in "write", "ftruncate", "fdatasync":
+                patched.setattr(os, name, self._breaking(getattr(os, name)))
+            try:
+                call(about)
+            except KeyboardInterrupt:
+                return True
+        return False
+
+
+@pytest.mark.parametrize("call", PROJECT_CALLS)
 def test_open_projects(call: str, tmp_path: Path, request: pytest.FixtureRequest) -> None:
     make, projects = PROJECT_CALLS[call], iter(Kept(tmp_path))
     project = next(projects)
     before = told(project)
     tried = places(request, make, project, call)
+    judge(make, before, project, projects, [Breaking(at) for at in tried])
+
+
+@pytest.mark.parametrize("call", PROJECT_CALLS)
+def test_calls_of_the_system(call: str, tmp_path: Path) -> None:
+    """An act that the journal tells already, or in part, and that the desk did not take."""
+    make, projects = PROJECT_CALLS[call], iter(Kept(tmp_path))
+    project = next(projects)
+    before, counted = told(project), BreakingFiles(0)
+    counted.call(make, project)
+    assert counted.count == (0 if call == "compare" else 6)
+    breaking = [BreakingFiles(at) for at in range(1, counted.count + 1)]
+    judge(make, before, project, projects, breaking)
+
+
+def judge(
+    make: Call,
+    before: tuple[object, ...],
+    project: Any,
+    projects: Iterator[Any],
+    breaking: Sequence[Breaking | BreakingFiles],
+) -> None:
+    """Break a call of projects off in each of these ways. `project` has made it already."""
     after = told(project)
     project.close("South main")
     later = told(project)
-    for at in tried:
-        project = next(projects)
-        was_broken_off = Breaking(at).call(make, project)
+    for it in breaking:
+        at, project = it.at, next(projects)
+        was_broken_off = it.call(make, project)
         found = told(project)
         assert found in ([before, after] if was_broken_off else [after]), at
         if found != after:

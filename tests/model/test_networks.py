@@ -1,5 +1,6 @@
-"""Networks by the library and by the program, driven by the same random acts as the model: changes, undo and redo with a bounded history,
-trials in trials, copies, and sessions that end and begin again."""
+"""Networks by the library and by the program, driven by the same random acts as the model: changes,
+undo and redo with a bounded history, trials in trials, copies, and sessions that end and begin
+again."""
 
 from __future__ import annotations
 
@@ -11,17 +12,34 @@ import dmf
 import pytest
 from c_library import library_file
 from client_shared import BUILT
+from model.whole_states import UNBOUNDED, NetworkModel, Whole
 from oracle.network import State
 from oracle.texts import LARGEST, Fault
 from random_cases import fitting
 from random_cases import network as random_network
 
-from model.whole_states import UNBOUNDED, NetworkModel, Whole
-
 # How many acts a session has, and how many all of them have in the gate and by --long.
 ACTS, GATE, LONG, BATCHES = 50, 3_000, 100_000, 10
 HISTORIES = None, None, 0, 1, 2, 3, 5
-WORDS = "solve", "solve", "cap", "cap", "close", "close", "shut", "add", "open", "undo", "undo", "redo", "begin", "begin", "end", "copy", "again"
+WORDS = (
+    "solve",
+    "solve",
+    "cap",
+    "cap",
+    "close",
+    "close",
+    "shut",
+    "add",
+    "open",
+    "undo",
+    "undo",
+    "redo",
+    "begin",
+    "begin",
+    "end",
+    "copy",
+    "again",
+)
 
 
 class Player:
@@ -31,7 +49,12 @@ class Player:
         rows = [(f"n{arc.tail}", f"n{arc.head}", arc.cap) for arc in state.arcs]
         nodes = [f"n{node}" for node in range(1, state.nodes + 1)]
         self.network: dmf.Network[str] = dmf.Network(
-            rows, f"n{state.source}", f"n{state.sink}", nodes=nodes, program=program, history=history
+            rows,
+            f"n{state.source}",
+            f"n{state.sink}",
+            nodes=nodes,
+            program=program,
+            history=history,
         )
         self._blocks: list[AbstractContextManager[Any]] = []
 
@@ -68,7 +91,10 @@ class Player:
         """Return all that the network tells of its present state, by numbers."""
         network, kept = self.network, self.network._kept
         flow = network.flow()
-        arcs = [(arc.number, arc.tail, arc.head, network.capacity(arc), flow[arc]) for arc in network.arcs]
+        arcs = [
+            (arc.number, arc.tail, arc.head, network.capacity(arc), flow[arc])
+            for arc in network.arcs
+        ]
         try:
             found = network.cut()
             cut: object = sorted(found.side), found.capacity, [arc.number for arc in found.arcs]
@@ -81,7 +107,11 @@ def expected(whole: Whole) -> tuple[object, ...]:
     """Return the same of a state of the model."""
     network = whole.network
     numbered = list(enumerate(zip(network.arcs, network.flows), 1))
-    arcs = [(number, f"n{arc.tail}", f"n{arc.head}", arc.cap, flow) for number, (arc, flow) in numbered if not arc.is_closed]
+    arcs = [
+        (number, f"n{arc.tail}", f"n{arc.head}", arc.cap, flow)
+        for number, (arc, flow) in numbered
+        if not arc.is_closed
+    ]
     found = whole.cut()
     cut = found and (sorted(f"n{node}" for node in found[0]), *found[1:])
     closed = [number for number, (arc, _) in numbered if arc.is_closed]
@@ -91,20 +121,35 @@ def expected(whole: Whole) -> tuple[object, ...]:
 def numbers_for(random: Random, model: NetworkModel, word: str) -> list[int]:
     """Return what a command speaks of, mostly what is there."""
     state = model.now.network
-    arc, amount = random.randint(1, max(1, len(state.arcs))), random.choice([0, 1, 2, 5, 9, 30, 2**62])
+    arc, amount = random.randint(1, max(1, len(state.arcs))), random.choice(
+        [0, 1, 2, 5, 9, 30, 2**62]
+    )
     closed = [number for number, it in enumerate(state.arcs, 1) if it.is_closed]
     if word == "open" and closed and random.random() < 0.8:
         arc = random.choice(closed)
     nodes = [random.randint(1, state.nodes) for _ in range(2)]
     count = random.choice([0, 1, 1, 1, 2, 3, 7])
-    found = {"cap": [arc, amount], "close": [arc], "open": [arc], "shut": nodes[:1], "add": [*nodes, amount], "undo": [count], "redo": [count]}
+    found = {
+        "cap": [arc, amount],
+        "close": [arc],
+        "open": [arc],
+        "shut": nodes[:1],
+        "add": [*nodes, amount],
+        "undo": [count],
+        "redo": [count],
+    }
     return found.get(word, [])
 
 
 def act(random: Random, model: NetworkModel, players: list[Player]) -> None:
     """Do a random act with all of them. They agree, also where it is refused."""
     word = random.choice(WORDS)
-    if word in ("cap", "close", "open") and not model.now.network.arcs or word == "copy" and model.floors:
+    if (
+        word in ("cap", "close", "open")
+        and not model.now.network.arcs
+        or word == "copy"
+        and model.floors
+    ):
         return
     if word == "begin":
         model.begin_trial()
@@ -134,7 +179,9 @@ def act(random: Random, model: NetworkModel, players: list[Player]) -> None:
 
 @pytest.mark.seconds(10)
 @pytest.mark.parametrize("batch", range(BATCHES))
-def test_lockstep(batch: int, request: pytest.FixtureRequest, monkeypatch: pytest.MonkeyPatch) -> None:
+def test_lockstep(
+    batch: int, request: pytest.FixtureRequest, monkeypatch: pytest.MonkeyPatch
+) -> None:
     monkeypatch.setenv("DMF_LIBRARY", library_file())
     count = (LONG if request.config.getoption("--long") else GATE) // ACTS // BATCHES
     for session in range(count):
@@ -142,7 +189,10 @@ def test_lockstep(batch: int, request: pytest.FixtureRequest, monkeypatch: pytes
         state = random_network(random, 12)
         state = state if state.capacity_sum() <= LARGEST else fitting(state)
         history = random.choice(HISTORIES)
-        model = NetworkModel(Whole(state, tuple(arc.cap for arc in state.arcs)), UNBOUNDED if history is None else history)
+        model = NetworkModel(
+            Whole(state, tuple(arc.cap for arc in state.arcs)),
+            UNBOUNDED if history is None else history,
+        )
         players = [Player(state, None, history), Player(state, BUILT, history)]
         try:
             for _ in range(ACTS):

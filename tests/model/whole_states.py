@@ -1,4 +1,5 @@
-"""The model: whole states of a network, kept in lists. Nothing is computed from one state to another but by the second implementation."""
+"""The model: whole states of a network, kept in lists. Nothing is computed from one state to
+another but by the second implementation."""
 
 from __future__ import annotations
 
@@ -14,15 +15,16 @@ UNBOUNDED = 1_000_000
 
 
 class Whole(NamedTuple):
-    """A state of a network: the arcs with their flow; the capacity of each, or that which it had when it was closed; and the closed arcs
-    that were opened again, each as another one."""
+    """A state of a network: the arcs with their flow; the capacity of each, or that which it had
+    when it was closed; and the closed arcs that were opened again, each as another one."""
 
     network: State
     rooms: tuple[int, ...]
     replaced: frozenset[int] = frozenset()
 
     def changed(self, word: str, *numbers: int) -> Whole:
-        """Return the state after a command of a session, or after `open`. Raises the `Fault` for which it is refused."""
+        """Return the state after a command of a session, or after `open`. Raises the `Fault` for
+        which it is refused."""
         before = self.network
         if word == "open":
             (number,) = numbers
@@ -40,19 +42,24 @@ class Whole(NamedTuple):
             raise Fault("arc is open")
 
     def cut(self) -> tuple[list[int], int, list[int]] | None:
-        """Return the smallest side, its capacity and the open arcs out of it; None if the flow is not greatest."""
+        """Return the smallest side, its capacity and the open arcs out of it; None if the flow is
+        not greatest."""
         if not is_greatest(self.network):
             return None
         side, capacity = smallest_side(self.network)
         inside = set(side)
         arcs = enumerate(self.network.arcs, 1)
-        crossing = [number for number, arc in arcs if not arc.is_closed and arc.tail in inside and arc.head not in inside]
+        crossing = [
+            number
+            for number, arc in arcs
+            if not arc.is_closed and arc.tail in inside and arc.head not in inside
+        ]
         return side, capacity, crossing
 
 
 class NetworkModel:
-    """The states of a network, of which those up to `place` are made; at most `bound` of the last changes can be undone. Trials stand in
-    each other, each with the place where it began."""
+    """The states of a network, of which those up to `place` are made; at most `bound` of the last
+    changes can be undone. Trials stand in each other, each with the place where it began."""
 
     def __init__(self, first: Whole, bound: int = UNBOUNDED) -> None:
         self.states, self.place, self.bound = [first], 0, bound
@@ -92,8 +99,9 @@ class NetworkModel:
 
 @dataclass(frozen=True)
 class Scenario:
-    """The acts of a scenario, each a word with its numbers, and the state after each, behind the first one. The first `at` acts are made,
-    and of these the first `inherited` are another one's."""
+    """The acts of a scenario, each a word with its numbers, and the state after each, behind the
+    first one. The first `at` acts are made, and of these the first `inherited` are another one's.
+    """
 
     states: tuple[Whole, ...]
     acts: tuple[tuple[object, ...], ...] = ()
@@ -107,7 +115,8 @@ class Scenario:
 
 @dataclass
 class DeskModel:
-    """The scenarios of a desk, each of whose steps is followed by a solve, the present one, and where its open trials began."""
+    """The scenarios of a desk, each of whose steps is followed by a solve, the present one, and
+    where its open trials began."""
 
     first: Whole
     scenarios: dict[str, Scenario] = field(default_factory=dict)
@@ -131,10 +140,16 @@ class DeskModel:
             # To a desk the arc is the new one from then on.
             if numbers[0] in now.now.replaced:
                 raise Fault("arc is open")
-        if word == "shut" and not any(numbers[0] in arc[:2] for arc, _ in now.now.network.open_arcs()):
+        if word == "shut" and not any(
+            numbers[0] in arc[:2] for arc, _ in now.now.network.open_arcs()
+        ):
             raise Fault("no arc is open there")
         after = now.now.changed(word, *numbers).changed("solve")
-        self._take(states=(*now.states[: now.at + 1], after), acts=(*now.acts[: now.at], (word, *numbers)), at=now.at + 1)
+        self._take(
+            states=(*now.states[: now.at + 1], after),
+            acts=(*now.acts[: now.at], (word, *numbers)),
+            at=now.at + 1,
+        )
 
     def undo(self, count: int) -> None:
         if self.scenario.at - count < (self.floors[-1] if self.floors else self.scenario.inherited):
@@ -168,7 +183,9 @@ class DeskModel:
         made = Scenario((self.first,))
         if begun_from != "base":
             other = self.scenarios[begun_from]
-            made = Scenario(other.states[: other.at + 1], other.acts[: other.at], other.at, other.at)
+            made = Scenario(
+                other.states[: other.at + 1], other.acts[: other.at], other.at, other.at
+            )
         self.scenarios[name], self.present = made, name
 
     def copy(self, name: str) -> None:
@@ -182,7 +199,9 @@ class DeskModel:
     def rename(self, name: str) -> None:
         if name in self.scenarios:
             raise Fault("a scenario is called so")
-        self.scenarios = {name if it == self.present else it: scenario for it, scenario in self.scenarios.items()}
+        self.scenarios = {
+            name if it == self.present else it: scenario for it, scenario in self.scenarios.items()
+        }
         self.present = name
 
     def delete(self, name: str) -> None:

@@ -1,4 +1,5 @@
-"""Networks with a flow on them: their paths, solving, draining and the smallest side of a minimum cut."""
+"""Networks with a flow on them: their paths, solving, draining and the smallest side of a minimum
+cut."""
 
 from __future__ import annotations
 
@@ -14,7 +15,8 @@ class Arc(NamedTuple):
 
 
 class Step(NamedTuple):
-    """A step from one node to another. It has the rank first, so that paths of one length are ordered by their ranks."""
+    """A step from one node to another. It has the rank first, so that paths of one length are
+    ordered by their ranks."""
 
     rank: int
     start: int
@@ -52,9 +54,12 @@ class State:
 
 
 def least_path(steps: list[Step], start: int, goal: int) -> list[Step] | None:
-    """The shortest path from start to goal whose list of ranks comes first of those of its length, or None where no path is.
+    """The shortest path from start to goal whose list of ranks comes first of those of its length,
+    or None where no path is.
 
-    Goes from distance to distance: each shortest path to a node is one to the node before it, and a step more."""
+    Goes from distance to distance: each shortest path to a node is one to the node before it, and a
+    step more.
+    """
     leaving: dict[int, list[Step]] = {}
     for step in steps:
         leaving.setdefault(step.start, []).append(step)
@@ -95,7 +100,8 @@ def solved(state: State) -> State:
 
 
 def carrying_steps(state: State) -> list[Step]:
-    """Along each arc what flows, and from the sink to the source the value, by a link that ranks after all arcs."""
+    """Along each arc what flows, and from the sink to the source the value, by a link that ranks
+    after all arcs."""
     flowing = enumerate(zip(state.arcs, state.flows), 1)
     steps = [Step(2 * j, arc.tail, arc.head, flow) for j, (arc, flow) in flowing if flow > 0]
     if state.value() > 0:
@@ -138,7 +144,8 @@ def is_greatest(state: State) -> bool:
 
 
 def smallest_side(state: State) -> tuple[list[int], int]:
-    """The nodes that every minimum cut has, ascending, and its capacity. The flow is greatest: then they are those reached."""
+    """The nodes that every minimum cut has, ascending, and its capacity. The flow is greatest: then
+    they are those reached."""
     side = reached(state)
     capacity = sum(arc.cap for arc in state.arcs if arc.tail in side and arc.head not in side)
     return sorted(side), capacity

@@ -14,7 +14,8 @@ FIELDS = {b"p": 3, b"n": 2, b"a": 3}
 
 
 class Reading:
-    """What the lines of a problem text have said so far. Without a problem line there are no nodes."""
+    """What the lines of a problem text have said so far. Without a problem line there are no
+    nodes."""
 
     def __init__(self) -> None:
         self.nodes = 0
@@ -33,7 +34,11 @@ class Reading:
             (kind == b"a" and len(self.arcs) == self.arc_count, "too many arcs"),
             (len(rest) != FIELDS.get(kind), "wrong number of fields"),
         )
-        takes: dict[bytes, Callable[..., None]] = {b"p": self.take_counts, b"n": self.take_terminal, b"a": self.take_arc}
+        takes: dict[bytes, Callable[..., None]] = {
+            b"p": self.take_counts,
+            b"n": self.take_terminal,
+            b"a": self.take_arc,
+        }
         takes[kind](*rest)
 
     def take_counts(self, name: bytes, nodes_field: bytes, arcs_field: bytes) -> None:
@@ -67,7 +72,13 @@ class Reading:
             (len(self.terminals) < 2, "source or sink missing"),
             (len(self.arcs) < self.arc_count, "too few arcs"),
         )
-        return State(self.nodes, self.terminals[b"s"], self.terminals[b"t"], tuple(self.arcs), (0,) * len(self.arcs))
+        return State(
+            self.nodes,
+            self.terminals[b"s"],
+            self.terminals[b"t"],
+            tuple(self.arcs),
+            (0,) * len(self.arcs),
+        )
 
 
 def read_problem(text: bytes) -> State:
@@ -77,5 +88,9 @@ def read_problem(text: bytes) -> State:
 
 def problem_text(state: State) -> bytes:
     arcs = [written("a", arc.tail, arc.head, arc.cap) for arc, _ in state.open_arcs()]
-    head = [written("p", "max", state.nodes, len(arcs)), written("n", state.source, "s"), written("n", state.sink, "t")]
+    head = [
+        written("p", "max", state.nodes, len(arcs)),
+        written("n", state.source, "s"),
+        written("n", state.sink, "t"),
+    ]
     return b"".join(head + arcs)

@@ -33,11 +33,18 @@ class AnySolution(NamedTuple):
     cut: bytes
 
     def state_of(self, string: bytes) -> State | None:
-        """The state whose solution a text writes, line for line in the order of the arcs, whatever its value. None of them is closed."""
+        """The state whose solution a text writes, line for line in the order of the arcs, whatever
+        its value. None of them is closed."""
         text = string.removesuffix(self.cut)
-        flows = [int(line.rpartition(b" ")[2]) for line in text.splitlines()[1:] if line.rpartition(b" ")[2].isdigit()]
+        flows = [
+            int(line.rpartition(b" ")[2])
+            for line in text.splitlines()[1:]
+            if line.rpartition(b" ")[2].isdigit()
+        ]
         state = replace(self.state, flows=tuple(flows))
-        is_within = len(flows) == len(state.arcs) and all(flow <= arc.cap for arc, flow in zip(state.arcs, flows))
+        is_within = len(flows) == len(state.arcs) and all(
+            flow <= arc.cap for arc, flow in zip(state.arcs, flows)
+        )
         try:
             read_solution(text, self.state)
         except LineFault:
@@ -50,8 +57,10 @@ class AnySolution(NamedTuple):
 
 
 class Outcome(NamedTuple):
-    """How a run ends: its status, what it writes to standard output, and what it tells on standard error. A pattern stands for
-    the texts that it matches, where the documents do not have the text itself, and a judge for those that it takes."""
+    """How a run ends: its status, what it writes to standard output, and what it tells on standard
+    error. A pattern stands for the texts that it matches, where the documents do not have the text
+    itself, and a judge for those that it takes.
+    """
 
     status: int
     written: bytes | Texts
@@ -61,13 +70,14 @@ class Outcome(NamedTuple):
         """Whether a run that ended so ended as this says."""
         pairs = (self.written, out), (self.told, err)
         return self.status == status and all(
-            wanted == got if isinstance(wanted, bytes) else wanted.fullmatch(got) is not None for wanted, got in pairs
+            wanted == got if isinstance(wanted, bytes) else wanted.fullmatch(got) is not None
+            for wanted, got in pairs
         )
 
 
 class Asked(NamedTuple):
-    """What words ask for: a command, what is wanted of a solve's reply, the bound of the history, the path where one is, and whether any
-    greatest flow will do."""
+    """What words ask for: a command, what is wanted of a solve's reply, the bound of the history,
+    the path where one is, and whether any greatest flow will do."""
 
     command: str
     wanted: SolveReply
@@ -101,11 +111,13 @@ FLAGS: dict[str, tuple[str, ...]] = {
     "solve": ("--any", "--brief", "--cut", "--progress"),
     "session": ("--brief", "--cut", "--progress"),
     "check": (),
+    "vital": ("--progress",),
 }
 
 
 def help_on(words: list[str]) -> Outcome:
-    """The help of a command, or of the program. Its text is the program's own, but that it says how it is used."""
+    """The help of a command, or of the program. Its text is the program's own, but that it says how
+    it is used."""
     usage = b"".join(rb" " + word.encode() for word in words)
     return Outcome(WELL, re.compile(rb".*\nUsage: dmf" + usage + rb"\b.*\n", re.DOTALL))
 
@@ -131,6 +143,21 @@ def solve(problem: bytes, wanted: SolveReply, is_any: bool) -> Outcome:
     return Outcome(WELL, AnySolution(state, cut) if is_any else solution_text(state) + cut)
 
 
+def value_without(state: State, j: int) -> int:
+    """The value of a greatest flow of the network in which this arc can carry nothing, by a solve
+    of its own."""
+    arcs = tuple(
+        arc._replace(cap=0) if number == j else arc for number, arc in enumerate(state.arcs, 1)
+    )
+    return solved(replace(state, arcs=arcs)).value()
+
+
+def vital(problem: bytes) -> Outcome:
+    state = judged(read_problem, bounded(problem))
+    lines = [written("v", j, value_without(state, j)) for j in range(1, len(state.arcs) + 1)]
+    return Outcome(WELL, written("c", "value", solved(state).value()) + b"".join(lines))
+
+
 def check(problem: bytes, solution: bytes) -> Outcome:
     state = judged(read_problem, bounded(problem))
     state = judged(read_solution, bounded(solution), state)
@@ -139,7 +166,13 @@ def check(problem: bytes, solution: bytes) -> Outcome:
     return Outcome(NOT_GREATEST, written("c", "flow", state.value()))
 
 
-def session(problem: bytes, commands: bytes, wanted: SolveReply, bound: int, refusals: Refusals | None = None) -> Outcome:
+def session(
+    problem: bytes,
+    commands: bytes,
+    wanted: SolveReply,
+    bound: int,
+    refusals: Refusals | None = None,
+) -> Outcome:
     state = judged(read_problem, bounded(problem))
     line_count = commands.count(b"\n") + (not commands.endswith(b"\n") and commands != b"")
     is_too_much = len(commands) > MOST_BYTES or line_count > MOST_LINES
@@ -167,8 +200,9 @@ def read_file(path: str) -> bytes:
 
 
 def asked(words: list[str]) -> Asked | Outcome:
-    """What words ask for: the command's word, what is wanted of a solve's reply, the bound of the history, and the path where one is;
-    or how the run ends at once. Words are taken from left to right."""
+    """What words ask for: the command's word, what is wanted of a solve's reply, the bound of the
+    history, and the path where one is; or how the run ends at once. Words are taken from left to
+    right."""
     if words in ([], ["--"]):
         return Asked("solve", SolveReply(), MOST_KEPT)
     if words[0] in ("-h", "--help"):
@@ -192,13 +226,17 @@ def bound_of(text: str) -> int | None:
 
 def asked_of(command: str, words: list[str]) -> Asked | Outcome:
     """What the words after a command ask for."""
-    path_count = 0 if command == "solve" else 1
+    path_count = 0 if command in ("solve", "vital") else 1
     paths: list[str] = []
     flags: set[str] = set()
     bound, are_flags = None, True
     rest = iter(words)
     for word in rest:
-        if are_flags and command == "session" and (word == "--history" or word.startswith("--history=")):
+        if (
+            are_flags
+            and command == "session"
+            and (word == "--history" or word.startswith("--history="))
+        ):
             value = word.removeprefix("--history=") if "=" in word else next(rest, "--")
             # That a value is missing is told before that the option is there twice.
             is_missing = "=" not in word and value.startswith("-") and value != "-"
@@ -222,7 +260,9 @@ def asked_of(command: str, words: list[str]) -> Asked | Outcome:
     if len(paths) < path_count:
         return REFUSED_WORDS
     wanted = SolveReply(cut="--cut" in flags, brief="--brief" in flags)
-    return Asked(command, wanted, MOST_KEPT if bound is None else bound, "".join(paths), "--any" in flags)
+    return Asked(
+        command, wanted, MOST_KEPT if bound is None else bound, "".join(paths), "--any" in flags
+    )
 
 
 def run(words: Sequence[bytes], standard_input: bytes, refusals: Refusals | None = None) -> Outcome:
@@ -238,6 +278,8 @@ def run(words: Sequence[bytes], standard_input: bytes, refusals: Refusals | None
     try:
         if command == "solve":
             return solve(standard_input, wanted, is_any)
+        if command == "vital":
+            return vital(standard_input)
         if command == "check":
             return check(read_file(path), standard_input)
         return session(read_file(path), standard_input, wanted, bound, refusals)

@@ -15,15 +15,22 @@ MOST_LINES = 1_000_000
 # How many states before the present one are kept, where nobody says another number.
 MOST_KEPT = 1_000_000
 LONGEST_LINE = 4_096
-# The forms of commands, as docs/FORMATS.md has them. A capital letter stands for a number.
+# The forms of commands, as docs/SESSION.md has them. A capital letter stands for a number.
 NUMBERED = "cap I U", "add V W U", "close I", "shut V", "solve", "undo", "undo K", "redo", "redo K"
 PRINTS = "print problem", "print flow", "print cut"
 FORMS = [tuple(form.encode().split()) for form in (*NUMBERED, *PRINTS)]
-CHANGES: dict[str, Callable[..., State]] = {"cap": changes.cap, "add": changes.add, "close": changes.close, "shut": changes.shut, "solve": changes.solve}
+CHANGES: dict[str, Callable[..., State]] = {
+    "cap": changes.cap,
+    "add": changes.add,
+    "close": changes.close,
+    "shut": changes.shut,
+    "solve": changes.solve,
+}
 
 
 def command_of(line: bytes, is_ended: bool) -> tuple[Any, ...] | None:
-    """The word of the command that a line means, with what it speaks of; None for a blank line and a comment."""
+    """The word of the command that a line means, with what it speaks of; None for a blank line and
+    a comment."""
     if len(line) > LONGEST_LINE:
         raise Fault("line too long")
     fields = fields_of(line.removesuffix(b"\r") if is_ended else line)
@@ -49,7 +56,8 @@ def cut_of(state: State) -> bytes:
 
 
 class SolveReply(NamedTuple):
-    """What is wanted of the reply to a solve: the cut after it, and briefly the value in place of the solution."""
+    """What is wanted of the reply to a solve: the cut after it, and briefly the value in place of
+    the solution."""
 
     cut: bool = False
     brief: bool = False
@@ -68,7 +76,8 @@ class Session:
         return self.states[self.place]
 
     def reply(self, word: str, *rest: Any) -> bytes:
-        """Carries a command out, and gives its reply. Raises the fault for which it is refused, and then changes nothing."""
+        """Carries a command out, and gives its reply. Raises the fault for which it is refused, and
+        then changes nothing."""
         if word == "print":
             return self.printed(*rest)
         if word in CHANGES:
@@ -84,7 +93,11 @@ class Session:
             del self.states[0]
             self.place -= 1
         if word == "solve":
-            solved = written("c", word, "value", state.value()) if self.wanted.brief else solution_text(state)
+            solved = (
+                written("c", word, "value", state.value())
+                if self.wanted.brief
+                else solution_text(state)
+            )
             return solved + (cut_of(state) if self.wanted.cut else b"")
         number = [len(state.arcs)] if word == "add" else []
         return written("c", word, *number, "value", state.value())
@@ -107,7 +120,8 @@ class Session:
         return cut_of(state)
 
     def answer(self, place: int, line: bytes) -> bytes:
-        """The reply to a line: none to a blank one and to a comment, and that of a refusal where the line is refused."""
+        """The reply to a line: none to a blank one and to a comment, and that of a refusal where
+        the line is refused."""
         try:
             command = command_of(line.removesuffix(b"\n"), line.endswith(b"\n"))
             return self.reply(*command) if command else b""
@@ -115,8 +129,8 @@ class Session:
             return written("c", "refused", place, fault)
 
     def may_want_memory(self, word: str, *rest: Any) -> bool:
-        """Whether this command may be refused memory, as it stands here: a change that nothing else refuses, a print of the
-        cut, and steps forward of which one adds an arc."""
+        """Whether this command may be refused memory, as it stands here: a change that nothing else
+        refuses, a print of the cut, and steps forward of which one adds an arc."""
         if word in CHANGES:
             try:
                 CHANGES[word](self.present(), *rest)
@@ -130,7 +144,8 @@ class Session:
 
 
 class Refusals:
-    """The lines of a session that are refused memory, counted from 1, where they may be; the lines that may be are noted."""
+    """The lines of a session that are refused memory, counted from 1, where they may be; the lines
+    that may be are noted."""
 
     def __init__(self, lines: Iterable[int] = ()) -> None:
         self.lines = frozenset(lines)
@@ -146,8 +161,8 @@ class Refusals:
 def run_lines(
     state: State, text: bytes, wanted: SolveReply, refusals: Refusals, bound: int = MOST_KEPT
 ) -> tuple[bytes, bool]:
-    """What the lines of a command text write, one reply a line, and whether one of them is refused. An empty rest after the
-    last line feed is no line. Lines past the limit are left out."""
+    """What the lines of a command text write, one reply a line, and whether one of them is refused.
+    An empty rest after the last line feed is no line. Lines past the limit are left out."""
     session = Session(state, wanted, bound)
     replies = []
     some_refused = False

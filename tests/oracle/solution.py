@@ -17,7 +17,8 @@ class Reading:
     def __init__(self, state: State) -> None:
         self.state = state
         self.value: int | None = None
-        # The capacities of the arcs of each pair of tail and head, and the flow that lines have told of it.
+        # The capacities of the arcs of each pair of tail and head, and the flow that lines have
+        # told of it.
         self.capacities: dict[tuple[int, int], int] = {}
         for arc in state.arcs:
             pair = arc.tail, arc.head
@@ -57,7 +58,8 @@ class Reading:
         return state
 
     def put_on(self) -> tuple[int, ...]:
-        """The flow of each arc: what its capacity allows of what the arcs of its pair before it leave."""
+        """The flow of each arc: what its capacity allows of what the arcs of its pair before it
+        leave."""
         left = dict(self.flows)
         flows = []
         for arc in self.state.arcs:

@@ -1,6 +1,7 @@
-"""Compares the second implementation with the definitions, on small random networks, where it does not follow them to the letter:
-a least path is the least of all paths, a greatest flow has the least capacity of all cuts as its value, and the smallest side has
-the nodes that all minimum cuts have."""
+"""Compares the second implementation with the definitions, on small random networks, where it does
+not follow them to the letter: a least path is the least of all paths, a greatest flow has the least
+capacity of all cuts as its value, and the smallest side has the nodes that all minimum cuts have.
+"""
 
 from __future__ import annotations
 
@@ -9,12 +10,21 @@ from itertools import combinations
 from random import Random
 
 import pytest
+from oracle.network import (
+    State,
+    Step,
+    is_greatest,
+    least_path,
+    residual_steps,
+    smallest_side,
+    solved,
+)
 from random_cases import changed, network, with_cycles
 
-from oracle.network import State, Step, is_greatest, least_path, residual_steps, smallest_side, solved
 
-
-def paths(steps: list[Step], start: int, goal: int, passed: tuple[int, ...] = ()) -> Iterator[list[Step]]:
+def paths(
+    steps: list[Step], start: int, goal: int, passed: tuple[int, ...] = ()
+) -> Iterator[list[Step]]:
     """Each path from start to goal that comes to no node twice, as a list of steps."""
     if start == goal:
         yield []
@@ -57,7 +67,11 @@ def judge(random: Random) -> None:
     state = with_cycles(changed(network(random, 6), random), random)
     assert is_flow(state), "the flow to begin with"
     steps = residual_steps(state)
-    least = min(paths(steps, state.source, state.sink), key=lambda path: (len(path), [step.rank for step in path]), default=None)
+    least = min(
+        paths(steps, state.source, state.sink),
+        key=lambda path: (len(path), [step.rank for step in path]),
+        default=None,
+    )
     assert least_path(steps, state.source, state.sink) == least
     best = solved(state)
     smallest = min(capacity(state, side) for side in cuts(state))

@@ -11,11 +11,14 @@ T_co = TypeVar("T_co", covariant=True)
 
 
 class Reading(Protocol[T_co]):
-    """What takes the fields of the lines of a text one after the other, and then says what they stand for together."""
+    """What takes the fields of the lines of a text one after the other, and then says what they
+    stand for together."""
 
-    def take(self, fields: list[bytes]) -> None: ...
+    def take(self, fields: list[bytes]) -> None:
+        ...
 
-    def end(self) -> T_co: ...
+    def end(self) -> T_co:
+        ...
 
 
 class Fault(Exception):
@@ -37,7 +40,8 @@ def judge(*judgements: tuple[bool, str]) -> None:
 
 
 def lines_of(text: bytes) -> list[bytes]:
-    """Each line of a text: the pieces between line feeds, without one carriage return directly before a line feed."""
+    """Each line of a text: the pieces between line feeds, without one carriage return directly
+    before a line feed."""
     *ended, rest = text.split(b"\n")
     return [line.removesuffix(b"\r") for line in ended] + ([rest] if rest else [])
 
@@ -57,8 +61,8 @@ def number_of(field: bytes) -> int:
 
 
 def read_text(text: bytes, reading: Reading[T]) -> T:
-    """What a text stands for: `reading` takes the fields of its lines one after the other, but for blank lines and comments,
-    and then says what they stand for together."""
+    """What a text stands for: `reading` takes the fields of its lines one after the other, but for
+    blank lines and comments, and then says what they stand for together."""
     lines = lines_of(text)
     for place, line in enumerate(lines, 1):
         fields = fields_of(line)

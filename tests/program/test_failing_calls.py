@@ -1,9 +1,11 @@
-"""Lets each read and each write of a run fail in turn, by the preloaded library of tests/faults.c: with an error, as
-a call that was interrupted, and as a write that takes no byte. Reads and writes are cut short too.
+"""Lets each read and each write of a run fail in turn, by the preloaded library of tests/faults.c:
+with an error, as a call that was interrupted, and as a write that takes no byte. Reads and writes
+are cut short too.
 
-From the calls of a run it is seen in which order it reads and writes. A session has written the replies to all lines that it
-was given whole before it reads on; other runs write nothing before all is read; and after a call that failed none reads. Where
-no call fails and none is cut short, each reply is one write, and so is all that another run writes."""
+From the calls of a run it is seen in which order it reads and writes. A session has written the
+replies to all lines that it was given whole before it reads on; other runs write nothing before all
+is read; and after a call that failed none reads. Where no call fails and none is cut short, each
+reply is one write, and so is all that another run writes."""
 
 from __future__ import annotations
 
@@ -16,17 +18,18 @@ import built
 import pytest
 from built import PROBLEM, Call, Case, Run
 from oracle.program import Outcome, ended_lines, told
-from worked import CHECKS, SOLVES, WORKED
+from worked import CHECKS, SOLVES, VITAL, WORKED
 from worked_forms import text
 from worked_sessions import SESSIONS
 
 INPUT, OUTPUT = 0, 1
 LINE_FEED = 10
-# A solution that is longer than the program's buffer of 1,024 bytes, so that a write fails before the flush, and a session with
-# such replies.
+# A solution that is longer than the program's buffer of 1,024 bytes, so that a write fails before
+# the flush, and a session with such replies.
 WIDE = text("p max 2 100 / n 1 s / n 2 t" + " / a 1 2 10000000000000000" * 100)
 LONG = [
     Case("a long solution", (b"solve", b"--cut"), WIDE, WIDE),
+    Case("many values", (b"vital",), WIDE, WIDE),
     Case("long replies", (b"session", PROBLEM), WIDE, text("solve / print problem / print cut")),
 ]
 WORDS = [
@@ -46,8 +49,8 @@ class Fault(NamedTuple):
     error: int
 
     def is_passed_over(self) -> bool:
-        """Whether the program is to go on as if nothing had failed. An interrupted write is tried again, and a file whose size
-        is not told is read."""
+        """Whether the program is to go on as if nothing had failed. An interrupted write is tried
+        again, and a file whose size is not told is read."""
         return self in (Fault("write", errno.EINTR), Fault("statx", errno.EIO))
 
 
@@ -70,12 +73,15 @@ class Texts:
         self.case = case
         self.ample = built.wanted(case)
         # The help's text is the program's own.
-        self.written = self.ample.written if isinstance(self.ample.written, bytes) else built.run(case).out
+        self.written = (
+            self.ample.written if isinstance(self.ample.written, bytes) else built.run(case).out
+        )
         self.ample = self.ample._replace(written=self.written)
         self.replies: dict[bytes, bytes] = {}
 
     def due(self, given: int, is_read: bool) -> bytes:
-        """What is to be written before more is read: where so many bytes were given of standard input, and where all was read."""
+        """What is to be written before more is read: where so many bytes were given of standard
+        input, and where all was read."""
         command = self.case.words[:1]
         if is_read or self.case in WORDS:
             return self.written
@@ -119,7 +125,11 @@ def wrong_in(texts: Texts, fault: Fault, run: Run, calls: list[Call]) -> str | N
 def wrong_writes(texts: Texts, calls: list[Call]) -> str | None:
     """Says what is wrong with the writes of a run in which no call fails and none is cut short."""
     case = texts.case
-    ends = [place for place, byte in enumerate(case.input, 1) if byte == LINE_FEED] if case.words[:1] == (b"session",) else []
+    ends = (
+        [place for place, byte in enumerate(case.input, 1) if byte == LINE_FEED]
+        if case.words[:1] == (b"session",)
+        else []
+    )
     lengths = [0, *(len(texts.due(end, False)) for end in ends), len(texts.written)]
     wanted = [end - begin for begin, end in zip(lengths, lengths[1:]) if end > begin]
     writes = [result for name, file, result in calls if (name, file) == ("write", OUTPUT)]
@@ -127,8 +137,8 @@ def wrong_writes(texts: Texts, calls: list[Call]) -> str | None:
 
 
 def wanted_end(ample: Outcome, failed: tuple[str, int] | None, due: bytes, run: Run) -> Outcome:
-    """How a run is to end in which this call failed. A writer that failed once may be given the rest of its text again, but
-    none that follows."""
+    """How a run is to end in which this call failed. A writer that failed once may be given the
+    rest of its text again, but none that follows."""
     if failed is None:
         return ample
     call, file = failed
@@ -151,7 +161,7 @@ def items() -> Iterator[tuple[Case, list[int]]]:
     """Each case with the most bytes of a read and of a write."""
     for case in [case for case, _ in WORKED] + WORDS:
         yield case, pieces_of(case)
-    for kind in (SOLVES, SESSIONS, CHECKS):
+    for kind in (SOLVES, SESSIONS, CHECKS, VITAL):
         yield kind[-1].case, [ONE]
     for case in LONG:
         yield case, [WHOLE, MANY]
@@ -159,7 +169,9 @@ def items() -> Iterator[tuple[Case, list[int]]]:
 
 @pytest.mark.seconds(1)
 @pytest.mark.usefixtures("case_folder")
-@pytest.mark.parametrize(("case", "pieces"), [pytest.param(*it, id=f"{it[0].name}, {it[1]}") for it in items()])
+@pytest.mark.parametrize(
+    ("case", "pieces"), [pytest.param(*it, id=f"{it[0].name}, {it[1]}") for it in items()]
+)
 def test_failing_calls(case: Case, pieces: list[int], faults: str) -> None:
     """Each call of each kind fails in turn."""
     built.put_problem(case)
@@ -167,9 +179,13 @@ def test_failing_calls(case: Case, pieces: list[int], faults: str) -> None:
     for piece in pieces:
         for fault in FAULTS_OF_CALLS:
             for number in count(1):
-                run, calls = built.watch(case, faults, CALL=fault.call, AT=number, AS=fault.error, PIECE=piece)
+                run, calls = built.watch(
+                    case, faults, CALL=fault.call, AT=number, AS=fault.error, PIECE=piece
+                )
                 wrong = wrong_in(texts, fault, run, calls)
-                assert not wrong, f"pieces of {piece}, {fault.call} {number} fails with {fault.error}: {wrong}"
+                assert (
+                    not wrong
+                ), f"pieces of {piece}, {fault.call} {number} fails with {fault.error}: {wrong}"
                 if sum(name == fault.call for name, *_ in calls) < number:
                     break
             if piece == WHOLE and case not in LONG + WORDS:

@@ -1,9 +1,11 @@
-"""The fuzz target: the built program against the second implementation, on the cases of tests/corpus and on others that small changes make of
-them. A case that fails is reduced, and put into tests/cases/found.py. By hand,
+"""The fuzz target: the built program against the second implementation, on the cases of
+tests/corpus and on others that small changes make of them. A case that fails is reduced, and put
+into tests/cases/found.py. By hand,
 
     /usr/bin/python3 -m pytest --write --cases 20000 --seed 2 tests/program/test_fuzz.py
 
-tries more cases, and puts into the corpus those that show new behaviour, reduced as far as they show it."""
+tries more cases, and puts into the corpus those that show new behaviour, reduced as far as they
+show it."""
 
 from __future__ import annotations
 
@@ -31,12 +33,15 @@ def behaviour(case: Case) -> frozenset[object]:
 
 
 def shown_anew(seed: str, count: int, kept: list[Case]) -> dict[Case, frozenset[object]]:
-    """Tries so many cases that are made of these, and of those that show new behaviour. Gives these last, with what was new."""
+    """Tries so many cases that are made of these, and of those that show new behaviour. Gives these
+    last, with what was new."""
     kept = [*kept]
     seen = frozenset[object]().union(*map(behaviour, kept))
     anew: dict[Case, frozenset[object]] = {}
     for number in range(count):
-        case = corpus.mutated(kept, f"case {number} of fuzz seed {seed}", Random(f"fuzz/{seed}/{number}"))
+        case = corpus.mutated(
+            kept, f"case {number} of fuzz seed {seed}", Random(f"fuzz/{seed}/{number}")
+        )
         if corpus.size(case) > LONGEST:
             continue
         built.put_problem(case)
@@ -66,7 +71,9 @@ def test_replay() -> None:
 @pytest.mark.seconds(5)
 @pytest.mark.usefixtures("case_folder")
 def test_fuzz(request: pytest.FixtureRequest, writes: bool) -> None:
-    count = request.config.getoption("--cases") or (LONG_CASES if request.config.getoption("--long") else GATE_CASES)
+    count = request.config.getoption("--cases") or (
+        LONG_CASES if request.config.getoption("--long") else GATE_CASES
+    )
     kept = corpus.cases()
     anew = shown_anew(str(request.config.getoption("--seed")), int(count), kept)
     if writes:
@@ -105,4 +112,6 @@ def test_fault(monkeypatch: pytest.MonkeyPatch, put: Callable[[pytest.MonkeyPatc
     """A fault in the second implementation differs from the program on some case of the corpus."""
     put(monkeypatch)
     # Names of their own, since the outcomes of the second implementation are kept.
-    assert any(compared(case._replace(name=f"{put.__name__} {case.name}"))[1] for case in corpus.cases())
+    assert any(
+        compared(case._replace(name=f"{put.__name__} {case.name}"))[1] for case in corpus.cases()
+    )

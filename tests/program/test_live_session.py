@@ -1,5 +1,5 @@
-"""Holds sessions over two pipes, and reads each reply before the next line is sent: one that was worked out by hand, and random
-ones, whose replies are those of the second implementation."""
+"""Holds sessions over two pipes, and reads each reply before the next line is sent: one that was
+worked out by hand, and random ones, whose replies are those of the second implementation."""
 
 from __future__ import annotations
 
@@ -46,7 +46,9 @@ class Live:
     """A session that runs, and waits for lines."""
 
     def __init__(self, *words: str) -> None:
-        self.program = subprocess.Popen([BUILT, "session", *words], stdin=subprocess.PIPE, stdout=subprocess.PIPE, bufsize=0)
+        self.program = subprocess.Popen(
+            [BUILT, "session", *words], stdin=subprocess.PIPE, stdout=subprocess.PIPE, bufsize=0
+        )
         assert self.program.stdin and self.program.stdout
         self.input, self.output = self.program.stdin, self.program.stdout
 
@@ -91,7 +93,8 @@ def test_turns() -> None:
 
 
 class LiveSession(RuleBasedStateMachine):
-    """A session that is held with any lines, each sent once the reply to the one before has come."""
+    """A session that is held with any lines, each sent once the reply to the one before has
+    come."""
 
     def __init__(self) -> None:
         super().__init__()
@@ -99,7 +102,11 @@ class LiveSession(RuleBasedStateMachine):
         self.lines: list[bytes] = []
         self.some_refused = False
 
-    @initialize(state=strategies.networks().filter(strategies.fits), wanted=st.builds(SolveReply, st.booleans(), st.booleans()), bound=st.sampled_from([MOST_KEPT, 0, 1, 2]))
+    @initialize(
+        state=strategies.networks().filter(strategies.fits),
+        wanted=st.builds(SolveReply, st.booleans(), st.booleans()),
+        bound=st.sampled_from([MOST_KEPT, 0, 1, 2]),
+    )
     def begin(self, state: State, wanted: SolveReply, bound: int) -> None:
         self.model = Session(state, wanted, bound)
         self.problem = problem_text(state)
@@ -120,7 +127,9 @@ class LiveSession(RuleBasedStateMachine):
             wanted = written("c", "refused", len(self.lines), fault)
             self.some_refused = True
         reply = self.live.send(self.lines[-1], len(wanted))
-        assert reply == wanted, f"the last reply is {reply!r}, and wanted is {wanted!r}\n\n    {self.held()}"
+        assert (
+            reply == wanted
+        ), f"the last reply is {reply!r}, and wanted is {wanted!r}\n\n    {self.held()}"
 
     def held(self) -> Found:
         """The session as a case, whose lines are all there before it begins."""
@@ -138,4 +147,6 @@ class LiveSession(RuleBasedStateMachine):
 
 TestLive = LiveSession.TestCase
 assert settings.default
-TestLive.settings = settings(max_examples=settings.default.max_examples // 4, stateful_step_count=25)
+TestLive.settings = settings(
+    max_examples=settings.default.max_examples // 4, stateful_step_count=25
+)

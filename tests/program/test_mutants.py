@@ -1,5 +1,6 @@
-"""Puts faults into a copy of the program where no proof sees them, builds each, and runs the test that must fail for it. A build takes
-minutes, so only `--long` does this; tests/toolchain does it for WIRINGS. That each fault can still be put in is tried each time."""
+"""Puts faults into a copy of the program where no proof sees them, builds each, and runs the test
+that must fail for it. A build takes minutes, so only `--long` does this; tests/toolchain does it
+for WIRINGS. That each fault can still be put in is tried each time."""
 
 from __future__ import annotations
 
@@ -34,7 +35,12 @@ def test_killed(tmp_path_factory: pytest.TempPathFactory, mutant: Mutant) -> Non
     """In one copy of the repository with what was built, one fault after the other."""
     with shared(tmp_path_factory, "copy") as copy:
         if not copy.exists():
-            shutil.copytree(ROOT, copy, symlinks=True, ignore=shutil.ignore_patterns(".git", ".hypothesis", ".mypy_cache", "__pycache__"))
+            shutil.copytree(
+                ROOT,
+                copy,
+                symlinks=True,
+                ignore=shutil.ignore_patterns(".git", ".hypothesis", ".mypy_cache", "__pycache__"),
+            )
         file = copy / mutant.file
         whole = file.read_text()
         file.write_text(whole.replace(mutant.old, mutant.new))
@@ -46,7 +52,9 @@ def test_killed(tmp_path_factory: pytest.TempPathFactory, mutant: Mutant) -> Non
 
 def judge(copy: Path, test: str) -> None:
     """Builds the program of a copy. The test has to fail there."""
-    built = subprocess.run([copy / "dmf", "--version"], stdin=subprocess.DEVNULL, capture_output=True, text=True)
+    built = subprocess.run(
+        [copy / "dmf", "--version"], stdin=subprocess.DEVNULL, capture_output=True, text=True
+    )
     assert built.returncode == 0, built.stderr[-3000:]
     ran = run_pytest(test, folder=copy)
     assert ran.returncode == FAILED, f"{test} passes:\n{ran.stdout[-3000:]}{ran.stderr[-3000:]}"

@@ -1,6 +1,7 @@
-"""Networks with a published greatest value: of textbooks, and of other projects' tests. On each the ordinary solve, `--brief --cut` and
-`--any --cut` agree, and find that value. networkx's own tests run with `dmf solve --any` in place of networkx's algorithms, and so judge
-its flows; scipy's run as they are, and dmf beside them. Both are read from Debian's packages; smaller networks stand here."""
+"""Networks with a published greatest value: of textbooks, and of other projects' tests. On each the
+ordinary solve, `--brief --cut` and `--any --cut` agree, and find that value. networkx's own tests
+run with `dmf solve --any` in place of networkx's algorithms, and so judge its flows; scipy's run as
+they are, and dmf beside them. Both are read from Debian's packages; smaller networks stand here."""
 
 from __future__ import annotations
 
@@ -17,28 +18,43 @@ Arc = tuple[int, int, int]
 # By where they stand, with their greatest values.
 PUBLISHED = {
     "Cormen and others, Introduction to Algorithms, third edition, figure 26.1": (
-        "p max 6 9 / n 1 s / n 6 t / a 1 2 16 / a 1 3 13 / a 3 2 4 / a 2 4 12 / a 4 3 9 / a 3 5 14 / a 5 4 7 / a 4 6 20 / a 5 6 4",
+        "p max 6 9 / n 1 s / n 6 t / a 1 2 16 / a 1 3 13 / a 3 2 4 / a 2 4 12 / a 4 3 9 / a 3 5 14 "
+        "/ a 5 4 7 / a 4 6 20 / a 5 6 4",
         23,
     ),
     "Wikipedia, Edmonds-Karp algorithm": (
-        "p max 7 11 / n 1 s / n 7 t / a 1 4 3 / a 1 2 3 / a 2 3 4 / a 3 1 3 / a 3 4 1 / a 3 5 2 / a 4 5 2 / a 4 6 6 / a 5 2 1"
+        "p max 7 11 / n 1 s / n 7 t / a 1 4 3 / a 1 2 3 / a 2 3 4 / a 3 1 3 / a 3 4 1 / a 3 5 2 / "
+        "a "
+        "4 5 2 / a 4 6 6 / a 5 2 1"
         " / a 5 7 1 / a 6 7 9",
         5,
     ),
     "Boost 1.74, libs/graph/example/max_flow.dat, with max_flow.expected": (
-        "p max 8 20 / n 1 s / n 8 t / a 1 7 3 / a 1 2 20 / a 1 3 20 / a 2 6 1 / a 2 1 20 / a 2 4 20 / a 3 5 4 / a 3 4 20 / a 3 1 20"
-        " / a 4 8 5 / a 4 3 20 / a 4 2 20 / a 5 6 20 / a 5 7 20 / a 6 5 20 / a 6 8 20 / a 7 8 20 / a 7 5 20 / a 8 7 20 / a 8 6 20",
+        "p max 8 20 / n 1 s / n 8 t / a 1 7 3 / a 1 2 20 / a 1 3 20 / a 2 6 1 / a 2 1 20 / a 2 4 "
+        "20 "
+        "/ a 3 5 4 / a 3 4 20 / a 3 1 20"
+        " / a 4 8 5 / a 4 3 20 / a 4 2 20 / a 5 6 20 / a 5 7 20 / a 6 5 20 / a 6 8 20 / a 7 8 20 / "
+        "a 7 5 20 / a 8 7 20 / a 8 6 20",
         13,
     ),
-    # Its nodes count from 0. It compares the value with its own cut's; here it is that of the cut {1, 4}: 3 + 8 from 1, and 3 from 4.
+    # Its nodes count from 0. It compares the value with its own cut's; here it is that of the cut
+    # {1, 4}: 3 + 8 from 1, and 3 from 4.
     "LEMON 1.3.1, test/max_flow_test.cc, test_lgf": (
-        "p max 10 17 / n 2 s / n 9 t / a 1 2 20 / a 1 3 0 / a 2 3 3 / a 2 4 8 / a 2 5 8 / a 3 6 5 / a 4 3 5 / a 4 6 5 / a 4 7 5"
+        "p max 10 17 / n 2 s / n 9 t / a 1 2 20 / a 1 3 0 / a 2 3 3 / a 2 4 8 / a 2 5 8 / a 3 6 5 "
+        "/ "
+        "a 4 3 5 / a 4 6 5 / a 4 7 5"
         " / a 5 4 3 / a 6 8 3 / a 6 7 10 / a 6 9 10 / a 7 9 8 / a 9 10 20 / a 9 2 5 / a 10 6 5",
         14,
     ),
-    "LEMON 1.3.1, test/max_flow_test.cc, initFlowTest": ("p max 4 3 / n 1 s / n 4 t / a 1 2 20 / a 2 3 10 / a 3 4 20", 10),
+    "LEMON 1.3.1, test/max_flow_test.cc, initFlowTest": (
+        "p max 4 3 / n 1 s / n 4 t / a 1 2 20 / a 2 3 10 / a 3 4 20",
+        10,
+    ),
 }
-SMALL, LARGE, NETGEN = (f"networkx.algorithms.flow.tests.test_{name}" for name in ("maxflow", "maxflow_large_graph", "mincost"))
+SMALL, LARGE, NETGEN = (
+    f"networkx.algorithms.flow.tests.test_{name}"
+    for name in ("maxflow", "maxflow_large_graph", "mincost")
+)
 # Tests of networkx, each with the values that stand in it, network by network.
 NETWORKX: dict[str, dict[str, list[int]]] = {
     f"{SMALL}:TestMaxflowMinCutCommon": {
@@ -55,7 +71,10 @@ NETWORKX: dict[str, dict[str, list[int]]] = {
         "test_graph_infcap_edges": [97],
         "test_disconnected": [0],
     },
-    f"{SMALL}:": {"test_preflow_push_makes_enough_space": [1], "test_shortest_augmenting_path_two_phase": [5]},
+    f"{SMALL}:": {
+        "test_preflow_push_makes_enough_space": [1],
+        "test_shortest_augmenting_path_two_phase": [5],
+    },
     # Its pyramid has fractions as capacities, which dmf does not take.
     f"{LARGE}:TestMaxflowLargeGraph": {
         "test_complete_graph": [5 * 49],
@@ -97,18 +116,30 @@ def test_published(name: str) -> None:
 
 
 class Stand:
-    """dmf as one of networkx's algorithms. Their residual networks have an edge each way between two nodes, with as much capacity as there is
-    that way, and a flow that is negative where it goes the other way."""
+    """dmf as one of networkx's algorithms. Their residual networks have an edge each way between
+    two nodes, with as much capacity as there is that way, and a flow that is negative where it goes
+    the other way."""
 
     def __init__(self, networkx: Any) -> None:
         self.networkx = networkx
         self.values: list[int] = []
 
-    def flow(self, graph: Any, source: object, sink: object, capacity: str = "capacity", **options: object) -> Any:
+    def flow(
+        self,
+        graph: Any,
+        source: object,
+        sink: object,
+        capacity: str = "capacity",
+        **options: object,
+    ) -> Any:
         residual = self.networkx.algorithms.flow.build_residual_network(graph, capacity)
         number = {node: at for at, node in enumerate(residual, 1)}
-        edges = [(tail, head, int(room)) for tail, head, room in residual.edges(data="capacity") if room]
-        assert all(residual[tail][head]["capacity"] == room for tail, head, room in edges), "a capacity with a fraction"
+        edges = [
+            (tail, head, int(room)) for tail, head, room in residual.edges(data="capacity") if room
+        ]
+        assert all(
+            residual[tail][head]["capacity"] == room for tail, head, room in edges
+        ), "a capacity with a fraction"
         arcs = ((number[tail], number[head], room) for tail, head, room in edges)
         value, flows = any_flow(problem_of(len(residual), number[source], number[sink], arcs))
         self.networkx.set_edge_attributes(residual, 0, "flow")
@@ -122,7 +153,12 @@ class Stand:
 
 @pytest.mark.seconds(20)
 @pytest.mark.parametrize(
-    "place, name", [pytest.param(place, name, id=name.removeprefix("test_")) for place, tests in NETWORKX.items() for name in tests]
+    "place, name",
+    [
+        pytest.param(place, name, id=name.removeprefix("test_"))
+        for place, tests in NETWORKX.items()
+        for name in tests
+    ],
 )
 def test_networkx(place: str, name: str, monkeypatch: pytest.MonkeyPatch) -> None:
     file, _, group = place.partition(":")
@@ -139,7 +175,10 @@ def test_networkx(place: str, name: str, monkeypatch: pytest.MonkeyPatch) -> Non
     getattr(tests, name)()
     # Each network is solved more than once where a test asks for the cut, or in two ways.
     wanted = NETWORKX[place][name]
-    assert list(dict.fromkeys(stand.values)) == list(dict.fromkeys(wanted)) and len(stand.values) % len(wanted) == 0
+    assert (
+        list(dict.fromkeys(stand.values)) == list(dict.fromkeys(wanted))
+        and len(stand.values) % len(wanted) == 0
+    )
 
 
 @pytest.mark.seconds(2)
@@ -164,13 +203,21 @@ def test_scipy(name: str, monkeypatch: pytest.MonkeyPatch) -> None:
 
 @pytest.mark.seconds(3)
 def test_netgen() -> None:
-    """The network of networkx's test of least costs: a flow meets every demand, so the greatest flow from what sends to what wants is the
-    whole demand."""
+    """The network of networkx's test of least costs: a flow meets every demand, so the greatest
+    flow from what sends to what wants is the whole demand."""
     theirs = load(NETGEN)
     graph = theirs.nx.read_gpickle(Path(theirs.__file__).with_name("netgen-2.gpickle.bz2"))
     number = {node: at for at, node in enumerate(graph, 1)}
     source, sink = len(graph) + 1, len(graph) + 2
     arcs = [(number[tail], number[head], room) for tail, head, room in graph.edges(data="capacity")]
     demands = [(number[node], demand) for node, demand in graph.nodes(data="demand", default=0)]
-    arcs += [(source, node, -demand) if demand < 0 else (node, sink, demand) for node, demand in demands if demand]
-    assert any_flow(problem_of(sink, source, sink, arcs))[0] == sum(demand for _, demand in demands if demand > 0) > 0
+    arcs += [
+        (source, node, -demand) if demand < 0 else (node, sink, demand)
+        for node, demand in demands
+        if demand
+    ]
+    assert (
+        any_flow(problem_of(sink, source, sink, arcs))[0]
+        == sum(demand for _, demand in demands if demand > 0)
+        > 0
+    )

@@ -1,5 +1,5 @@
-"""Tests the built program by what its caller sees: statuses, standard output and standard error; and that each solution of an example
-is judged to be greatest."""
+"""Tests the built program by what its caller sees: statuses, standard output and standard error;
+and that each solution of an example is judged to be greatest."""
 
 from __future__ import annotations
 
@@ -28,11 +28,17 @@ class Ran(NamedTuple):
 
 
 def run(*words: str | bytes, given: bytes = b"", file: str | None = None) -> Ran:
-    """Runs the program at the root, with a text on standard input, or with a file or a folder there."""
+    """Runs the program at the root, with a text on standard input, or with a file or a folder
+    there."""
     stdin = os.open(ROOT / file, os.O_RDONLY) if file else None
     try:
         ran = subprocess.run(
-            [BUILT, *words], stdin=stdin, input=None if file else given, capture_output=True, timeout=SECONDS, cwd=ROOT
+            [BUILT, *words],
+            stdin=stdin,
+            input=None if file else given,
+            capture_output=True,
+            timeout=SECONDS,
+            cwd=ROOT,
         )
     finally:
         if stdin is not None:
@@ -48,6 +54,10 @@ REFUSED_WORDS = {
     "a cut and no problem": ["session", "--cut"],
     "a cut and two problems": ["session", "--cut", A, "examples/b.max"],
     "a word after solve": ["solve", A],
+    "a word after vital": ["vital", A],
+    "a cut of vital": ["vital", "--cut"],
+    "an option of vital that does not exist": ["vital", "--nodes"],
+    "progress of vital twice": ["vital", "--progress", "--progress"],
     "an empty word": [""],
     "no problem is named": ["session"],
     "two problems are named": ["session", A, "examples/b.max"],
@@ -62,12 +72,22 @@ REFUSED_WORDS = {
     "a history below 0": ["session", "--history", "-1", A],
     "two histories": ["session", "--history", "1", "--history", "1", A],
 }
-HELPS = ["--help", "solve --help", "session --help", "check --help", "help", "help session"]
+HELPS = [
+    "--help",
+    "solve --help",
+    "session --help",
+    "check --help",
+    "vital --help",
+    "help",
+    "help session",
+    "help vital",
+]
 
 
 @pytest.mark.parametrize("name", REFUSED_WORDS)
 def test_refused_words(name: str) -> None:
-    """Words that it does not take: status 2, and on standard error what is wrong and how it is used."""
+    """Words that it does not take: status 2, and on standard error what is wrong and how it is
+    used."""
     status, out, err = run(*REFUSED_WORDS[name], file=A)
     assert (status, out) == (2, b"")
     assert err.startswith(b"error: ") and b"\nUsage: dmf" in err
@@ -84,29 +104,95 @@ def test_help(words: str) -> None:
     ("words", "given", "file", "ended"),
     [
         pytest.param(["--version"], b"", None, (0, VERSION_LINE, b""), id="the version"),
-        pytest.param(["session", A, "--cut"], b"solve\n", None, (0, SOLUTION + CUT, b""), id="a cut after the problem"),
-        pytest.param(["session", b"\xff"], b"", None, (2, b"", b"dmf: a word is not UTF-8\n"), id="words that are not UTF-8"),
+        pytest.param(
+            ["session", A, "--cut"],
+            b"solve\n",
+            None,
+            (0, SOLUTION + CUT, b""),
+            id="a cut after the problem",
+        ),
+        pytest.param(
+            ["session", b"\xff"],
+            b"",
+            None,
+            (2, b"", b"dmf: a word is not UTF-8\n"),
+            id="words that are not UTF-8",
+        ),
         pytest.param([], b"", A, (0, SOLUTION, b""), id="no words"),
         pytest.param(["solve"], b"", A, (0, SOLUTION, b""), id="the word solve"),
-        pytest.param(["solve", "--cut"], b"", None, (3, b"", EXPECTED), id="nothing is to be solved with its cut"),
-        pytest.param(["solve"], b"", "examples", (4, b"", b"dmf: read failed\n"), id="the problem to be solved is a folder"),
-        pytest.param(["session", "missing"], b"", None, (4, b"", b"dmf: cannot open the problem\n"), id="there is no such problem"),
-        pytest.param(["session", "examples"], b"", None, (4, b"", b"dmf: read failed\n"), id="the problem is a folder"),
-        pytest.param(["session", "/dev/null"], b"", None, (3, b"", EXPECTED), id="an empty problem"),
-        pytest.param(["session", A], b"", "examples", (4, b"", b"dmf: read failed\n"), id="standard input is a folder"),
-        pytest.param(["check", "missing"], b"s 0\n", None, (4, b"", b"dmf: cannot open the problem\n"), id="no such problem of a check"),
-        pytest.param(["check", "/dev/null"], b"s 0\n", None, (3, b"", EXPECTED), id="the problem of a check has a fault"),
-        pytest.param(["check", A], b"", "examples", (4, b"", b"dmf: read failed\n"), id="the solution is a folder"),
+        pytest.param(
+            ["solve", "--cut"],
+            b"",
+            None,
+            (3, b"", EXPECTED),
+            id="nothing is to be solved with its cut",
+        ),
+        pytest.param(
+            ["solve"],
+            b"",
+            "examples",
+            (4, b"", b"dmf: read failed\n"),
+            id="the problem to be solved is a folder",
+        ),
+        pytest.param(
+            ["session", "missing"],
+            b"",
+            None,
+            (4, b"", b"dmf: cannot open the problem\n"),
+            id="there is no such problem",
+        ),
+        pytest.param(
+            ["session", "examples"],
+            b"",
+            None,
+            (4, b"", b"dmf: read failed\n"),
+            id="the problem is a folder",
+        ),
+        pytest.param(
+            ["session", "/dev/null"], b"", None, (3, b"", EXPECTED), id="an empty problem"
+        ),
+        pytest.param(
+            ["session", A],
+            b"",
+            "examples",
+            (4, b"", b"dmf: read failed\n"),
+            id="standard input is a folder",
+        ),
+        pytest.param(
+            ["check", "missing"],
+            b"s 0\n",
+            None,
+            (4, b"", b"dmf: cannot open the problem\n"),
+            id="no such problem of a check",
+        ),
+        pytest.param(
+            ["check", "/dev/null"],
+            b"s 0\n",
+            None,
+            (3, b"", EXPECTED),
+            id="the problem of a check has a fault",
+        ),
+        pytest.param(
+            ["check", A],
+            b"",
+            "examples",
+            (4, b"", b"dmf: read failed\n"),
+            id="the solution is a folder",
+        ),
     ],
 )
-def test_ends(words: list[str | bytes], given: bytes, file: str | None, ended: tuple[int, bytes, bytes]) -> None:
+def test_ends(
+    words: list[str | bytes], given: bytes, file: str | None, ended: tuple[int, bytes, bytes]
+) -> None:
     assert run(*words, given=given, file=file) == ended
 
 
 def test_two_pieces() -> None:
     """The problem comes in two pieces."""
     text = (ROOT / A).read_bytes()
-    program = subprocess.Popen([BUILT, "solve"], stdin=subprocess.PIPE, stdout=subprocess.PIPE, stderr=subprocess.PIPE)
+    program = subprocess.Popen(
+        [BUILT, "solve"], stdin=subprocess.PIPE, stdout=subprocess.PIPE, stderr=subprocess.PIPE
+    )
     assert program.stdin
     program.stdin.write(text[:20])
     program.stdin.flush()
@@ -116,11 +202,14 @@ def test_two_pieces() -> None:
 
 
 def test_link(tmp_path: Path) -> None:
-    """The script at the root finds the program from any folder and through a link, and the program finds the caller's files."""
+    """The script at the root finds the program from any folder and through a link, and the program
+    finds the caller's files."""
     (tmp_path / "linked").symlink_to(ROOT / "dmf")
     (tmp_path / "here.max").write_bytes(NETWORK)
     words = ["./linked", "session", "here.max"]
-    ran = subprocess.run(words, cwd=tmp_path, input=b"print problem\n", capture_output=True, timeout=SECONDS)
+    ran = subprocess.run(
+        words, cwd=tmp_path, input=b"print problem\n", capture_output=True, timeout=SECONDS
+    )
     assert (ran.returncode, ran.stdout, ran.stderr) == (0, NETWORK, b"")
 
 
@@ -129,4 +218,8 @@ def test_greatest(problem: str) -> None:
     """The solution of an example is greatest."""
     solution = run("solve", file=f"examples/{problem}").out
     value = solution.partition(b"\n")[0].removeprefix(b"s ")
-    assert run("check", f"examples/{problem}", given=solution) == (0, b"c greatest %s\n" % value, b"")
+    assert run("check", f"examples/{problem}", given=solution) == (
+        0,
+        b"c greatest %s\n" % value,
+        b"",
+    )

@@ -1,6 +1,7 @@
-"""How the built program shows its progress, on one line that is erased before anything is answered or asked for: on a pseudo
-terminal, and where it is asked for. Texts are given in pieces with pauses between them, and an answer is not taken at once, so that the
-program reads and writes after a pause; a network that takes some seconds is solved in sessions."""
+"""How the built program shows its progress, on one line that is erased before anything is answered
+or asked for: on a pseudo terminal, and where it is asked for. Texts are given in pieces with pauses
+between them, and an answer is not taken at once, so that the program reads and writes after a
+pause; a network that takes some seconds is solved in sessions."""
 
 from __future__ import annotations
 
@@ -20,17 +21,24 @@ from make_network import problem_of
 from terminals import PAUSE, SECONDS, Terminal, typed, with_terminal
 
 ERASED = "\r\x1b[K"
-WORD = re.compile(r"dmf: (?:(reading|writing), \d+ MB(?: of \d+ MB)?|(solving), value (\d+)(?: of at most \d+)?, phase (\d+), (\d+) paths)")
+WORD = re.compile(
+    r"dmf: (?:(reading|writing), \d+ MB(?: of \d+ MB)?"
+    r"|(solving), value (\d+)(?: of at most \d+)?, phase (\d+), (\d+) paths)"
+)
 INVITATION = "dmf: reads a problem from the terminal; Ctrl-D ends it (dmf --help says more)\n"
 SMALL = b"p max 2 1\nn 1 s\nn 2 t\na 1 2 3\n"
 SMALL_SOLUTION = b"s 3\nf 1 2 3\n"
 TWO_PIPES = b"p max 3 2\nn 1 s\nn 3 t\na 1 2 7\na 2 3 4\n"
-# How much flows through the hub of a problem whose drains take their time, and what is drained: the change, how many arcs lead to the
-# hub, and how many arcs are drained in turn.
+# How much flows through the hub of a problem whose drains take their time, and what is drained: the
+# change, how many arcs lead to the hub, and how many arcs are drained in turn.
 HUB_FLOW = 8000
-LONG_DRAINS = {"a shut": (b"shut 3", HUB_FLOW, 2 * HUB_FLOW), "the closing of an arc": (b"close 1", 1, 1)}
+LONG_DRAINS = {
+    "a shut": (b"shut 3", HUB_FLOW, 2 * HUB_FLOW),
+    "the closing of an arc": (b"close 1", 1, 1),
+}
 COMMANDS = b"solve\nundo\nsolve\n"
-# What is changed before each solve after the first, and what the value of each solve that finds a path cannot pass.
+# What is changed before each solve after the first, and what the value of each solve that finds a
+# path cannot pass.
 BOUNDED_SESSIONS = {
     "a wider pipe to the sink": ([b"cap 2 9"], [4, 7]),
     "one narrower than what leaves the source": ([b"cap 2 2", b"cap 2 3"], [4, 3]),
@@ -71,11 +79,14 @@ def feed(pipe: IO[bytes], text: bytes) -> None:
 
 
 def slowly(words: list[str], text: bytes, both: bool) -> tuple[int, bytes, str]:
-    """Runs the program where standard error is a terminal, and standard output too or a pipe that is read after a while. Gives its
-    status, what it wrote to the pipe, and what the terminal got."""
+    """Runs the program where standard error is a terminal, and standard output too or a pipe that
+    is read after a while. Gives its status, what it wrote to the pipe, and what the terminal got.
+    """
     with Terminal() as terminal:
         out = terminal.end if both else subprocess.PIPE
-        running = subprocess.Popen([BUILT, *words], stdin=subprocess.PIPE, stdout=out, stderr=terminal.end)
+        running = subprocess.Popen(
+            [BUILT, *words], stdin=subprocess.PIPE, stdout=out, stderr=terminal.end
+        )
         assert running.stdin
         threading.Thread(target=feed, args=(running.stdin, text)).start()
         answer = b""
@@ -86,7 +97,8 @@ def slowly(words: list[str], text: bytes, both: bool) -> tuple[int, bytes, str]:
 
 
 def words_of(told: str) -> list[re.Match[str]]:
-    """The words of a text of which nothing else is left: each stands on an erased line, and the last is erased."""
+    """The words of a text of which nothing else is left: each stands on an erased line, and the
+    last is erased."""
     pieces = told.split(ERASED)
     words = [WORD.fullmatch(piece) for piece in pieces if piece]
     assert not pieces[0] and not pieces[-1] and all(words), told
@@ -110,7 +122,8 @@ def lines_of(told: bytes) -> list[str]:
 
 
 def solves_of(told: str) -> list[list[tuple[int, int, int]]]:
-    """The words of each solve: value, phase and paths. A solve begins with fewer paths than the one before had."""
+    """The words of each solve: value, phase and paths. A solve begins with fewer paths than the one
+    before had."""
     solves: list[list[tuple[int, int, int]]] = []
     for word in words_of(told):
         value, phase, paths = map(int, word.groups()[2:])
@@ -121,7 +134,8 @@ def solves_of(told: str) -> list[list[tuple[int, int, int]]]:
 
 
 def is_on_its_way(solve: list[tuple[int, int, int]]) -> bool:
-    """Whether values, phases and paths never fall, and there is a path or more for each phase, and a unit for each path."""
+    """Whether values, phases and paths never fall, and there is a path or more for each phase, and
+    a unit for each path."""
     never_fall = all(a <= b for one, other in pairwise(solve) for a, b in zip(one, other))
     return never_fall and all(1 <= phase <= paths <= value for value, phase, paths in solve)
 
@@ -129,7 +143,10 @@ def is_on_its_way(solve: list[tuple[int, int, int]]) -> bool:
 @pytest.mark.seconds(5)
 def test_slow_solve(problem: bytes) -> None:
     silent = piped(["solve"], problem)
-    assert (silent.returncode, silent.stderr) == (0, b""), "nothing is told where standard error is no terminal"
+    assert (silent.returncode, silent.stderr) == (
+        0,
+        b"",
+    ), "nothing is told where standard error is no terminal"
     status, solution, told = slowly(["solve"], problem, both=False)
     assert (status, solution) == (0, silent.stdout)
     assert tasks_of(told) == ["reading", "solving", "writing"]
@@ -149,10 +166,13 @@ def test_quick_solve() -> None:
 
 
 @pytest.mark.seconds(4)
-def test_typed_problem() -> None:
+@pytest.mark.parametrize(
+    ("command", "answer"), [("solve", SMALL_SOLUTION), ("vital", b"c value 3\nv 1 0\n")]
+)
+def test_typed_problem(command: str, answer: bytes) -> None:
     """Nothing is shown between lines that are typed."""
-    status, told = typed(["solve"], SMALL.splitlines(keepends=True))
-    assert (status, told.encode()) == (0, INVITATION.encode() + SMALL_SOLUTION)
+    status, told = typed([command], SMALL.splitlines(keepends=True))
+    assert (status, told.encode()) == (0, INVITATION.encode() + answer)
 
 
 @pytest.mark.seconds(5)
@@ -164,12 +184,16 @@ def test_fault(problem: bytes) -> None:
 
 @pytest.mark.seconds(25)
 def test_session(tmp_path: Path) -> None:
-    """A session of a problem that takes some seconds. On a terminal it writes the same replies, and tells of each solve, from its first
-    path on. On one terminal the line is erased before each reply, and the replies are the same."""
+    """A session of a problem that takes some seconds. On a terminal it writes the same replies, and
+    tells of each solve, from its first path on. On one terminal the line is erased before each
+    reply, and the replies are the same."""
     long = str(tmp_path / "long.max")
     Path(long).write_text(problem_of(100, 600, 3, 1000, 1990))
     silent = piped(["session", long], COMMANDS)
-    assert (silent.returncode, silent.stderr) == (0, b""), "nothing is told where standard error is no terminal"
+    assert (silent.returncode, silent.stderr) == (
+        0,
+        b"",
+    ), "nothing is told where standard error is no terminal"
     status, replies, told = with_terminal(["session", long], COMMANDS)
     assert (status, replies) == (0, silent.stdout)
     solves = solves_of(told)
@@ -194,17 +218,27 @@ def test_slow_problem(tmp_path: Path) -> None:
     os.mkfifo(pipe)
     with Terminal() as terminal:
         words = [str(BUILT), "session", str(pipe)]
-        running = subprocess.Popen(words, stdin=subprocess.PIPE, stdout=subprocess.PIPE, stderr=terminal.end)
+        running = subprocess.Popen(
+            words, stdin=subprocess.PIPE, stdout=subprocess.PIPE, stderr=terminal.end
+        )
         feed(open(pipe, "wb"), SMALL)
-        assert terminal.wait_for(lambda told: told.endswith(ERASED) and tasks_of(told) == ["reading"])
+        assert terminal.wait_for(
+            lambda told: told.endswith(ERASED) and tasks_of(told) == ["reading"]
+        )
         out, _ = running.communicate(b"solve\n", timeout=SECONDS)
-        assert (running.returncode, out, tasks_of(terminal.close())) == (0, SMALL_SOLUTION, ["reading"])
+        assert (running.returncode, out, tasks_of(terminal.close())) == (
+            0,
+            SMALL_SOLUTION,
+            ["reading"],
+        )
 
 
 def test_asked_while_waiting(small: Path) -> None:
     """Asked for on a terminal, what was shown of the problem is erased while the session waits."""
     words = [str(BUILT), "session", "--progress", str(small)]
-    with Terminal() as terminal, subprocess.Popen(words, stdin=subprocess.PIPE, stdout=subprocess.DEVNULL, stderr=terminal.end) as running:
+    with Terminal() as terminal, subprocess.Popen(
+        words, stdin=subprocess.PIPE, stdout=subprocess.DEVNULL, stderr=terminal.end
+    ) as running:
         is_told = terminal.wait_for(lambda told: "reading" in told)
         time.sleep(PAUSE)
         shown = terminal.told()
@@ -218,11 +252,15 @@ def test_slow_fault(tmp_path: Path) -> None:
     pipe = tmp_path / "slow.max"
     os.mkfifo(pipe)
     with Terminal() as terminal:
-        running = subprocess.Popen([str(BUILT), "session", str(pipe)], stdin=subprocess.DEVNULL, stderr=terminal.end)
+        running = subprocess.Popen(
+            [str(BUILT), "session", str(pipe)], stdin=subprocess.DEVNULL, stderr=terminal.end
+        )
         feed(open(pipe, "wb"), SMALL + b"x\n")
         assert running.wait(timeout=SECONDS) == 3
         shown, _, told = terminal.close().rpartition(ERASED)
-        assert tasks_of(shown + ERASED) == ["reading"] and told.startswith("dmf: line 5: unknown line\n")
+        assert tasks_of(shown + ERASED) == ["reading"] and told.startswith(
+            "dmf: line 5: unknown line\n"
+        )
 
 
 @pytest.mark.seconds(5)
@@ -232,10 +270,20 @@ def test_check(small: Path) -> None:
 
 
 def test_asked_solve(problem: bytes) -> None:
-    """Asked for, a solve tells without a terminal that it reads, on lines, and writes the same solution."""
+    """Asked for, a solve tells without a terminal that it reads, on lines, and writes the same
+    solution."""
     asked = piped(["solve", "--cut", "--progress"], problem)
     assert lines_of(asked.stderr)[:1] == ["reading"]
     assert (asked.returncode, asked.stdout) == (0, piped(["solve", "--cut"], problem).stdout)
+
+
+def test_asked_vital(small: Path) -> None:
+    """So does a run that values each arc. Its solve begins with a flow that is greatest already,
+    and then has no path to tell of."""
+    asked = piped(["vital", "--progress"], small.read_bytes())
+    assert (asked.returncode, asked.stdout) == (0, b"c value 3\nv 1 0\n")
+    assert lines_of(asked.stderr) == ["reading"]
+    assert piped(["vital"], small.read_bytes()).stderr == b""
 
 
 def test_asked_session(small: Path) -> None:
@@ -245,16 +293,21 @@ def test_asked_session(small: Path) -> None:
 
 
 def test_asked_drains(tmp_path: Path) -> None:
-    """A shut shows which of the arcs at the node is drained, and how much is taken off; so does the closing of one arc."""
+    """A shut shows which of the arcs at the node is drained, and how much is taken off; so does the
+    closing of one arc."""
     (tmp_path / "pipes.max").write_bytes(TWO_PIPES)
-    asked = piped(["session", "--progress", "--brief", str(tmp_path / "pipes.max")], b"solve\nshut 2\nundo\nclose 2\n")
+    asked = piped(
+        ["session", "--progress", "--brief", str(tmp_path / "pipes.max")],
+        b"solve\nshut 2\nundo\nclose 2\n",
+    )
     told = re.findall(rb"dmf: draining, arc (\d+) of (\d+), (\d+) taken off\n", asked.stderr)
     assert (asked.returncode, told) == (0, [(b"1", b"2", b"4"), (b"1", b"1", b"4")])
 
 
 def hub_problem(arcs_in: int) -> bytes:
-    """A problem in which units flow from node 1 by node 3, the hub, to node 2. From the hub each enters one chain of nodes elsewhere, so
-    that no two have paths of one length, and each path is searched anew."""
+    """A problem in which units flow from node 1 by node 3, the hub, to node 2. From the hub each
+    enters one chain of nodes elsewhere, so that no two have paths of one length, and each path is
+    searched anew."""
     chain = range(4, HUB_FLOW + 4)
     arcs = [(1, 3, HUB_FLOW // arcs_in)] * arcs_in + [(3, node, 1) for node in chain]
     arcs += [(node, node + 1, HUB_FLOW) for node in chain[:-1]] + [(chain[-1], 2, HUB_FLOW)]
@@ -265,35 +318,57 @@ def hub_problem(arcs_in: int) -> bytes:
 @pytest.mark.seconds(3)
 @pytest.mark.parametrize("name", LONG_DRAINS)
 def test_long_drain(tmp_path: Path, name: str) -> None:
-    """On a terminal a long drain shows how far it is. Here each arc into the hub carries as much as the others."""
+    """On a terminal a long drain shows how far it is. Here each arc into the hub carries as much as
+    the others."""
     change, arcs_in, count = LONG_DRAINS[name]
     (tmp_path / "hub.max").write_bytes(hub_problem(arcs_in))
     words = ["session", "--progress", "--brief", str(tmp_path / "hub.max")]
     status, replies, told = with_terminal(words, b"solve\n%b\n" % change)
-    assert (status, replies) == (0, b"c solve value %d\nc %b value 0\n" % (HUB_FLOW, change.split()[0]))
-    drained = re.findall(r"\r\x1b\[Kdmf: draining, arc (\d+) of (\d+), (\d+) taken off(?=\r\x1b\[K)", told)
+    assert (status, replies) == (
+        0,
+        b"c solve value %d\nc %b value 0\n" % (HUB_FLOW, change.split()[0]),
+    )
+    drained = re.findall(
+        r"\r\x1b\[Kdmf: draining, arc (\d+) of (\d+), (\d+) taken off(?=\r\x1b\[K)", told
+    )
     places, counts, taken = zip(*(map(int, word) for word in drained))
-    assert len(taken) == told.count("draining") > 1 and [*taken] == sorted({*taken}) and {*counts} == {count}
+    assert (
+        len(taken) == told.count("draining") > 1
+        and [*taken] == sorted({*taken})
+        and {*counts} == {count}
+    )
     assert (places[0], taken[0]) == (1, 1) and taken[-1] <= HUB_FLOW
     assert {*places} == {1} if arcs_in == 1 else places == taken
     assert told.endswith(ERASED)
 
 
 def test_asked_on_terminal(tmp_path: Path) -> None:
-    """Asked for on a terminal, progress is shown from the start, and its line is erased before each reply."""
+    """Asked for on a terminal, progress is shown from the start, and its line is erased before each
+    reply."""
     (tmp_path / "pipes.max").write_bytes(TWO_PIPES)
-    status, told = typed(["session", "--progress", "--brief", str(tmp_path / "pipes.max")], [b"solve\nclose 2\n"])
+    status, told = typed(
+        ["session", "--progress", "--brief", str(tmp_path / "pipes.max")], [b"solve\nclose 2\n"]
+    )
     assert status == 0 and "solving" in told and "draining" in told
-    assert re.sub(r"\r\x1b\[K(dmf: [^\r\n]*(?=\r\x1b\[K))?", "", told) == "c solve value 4\nc close value 0\n"
+    assert (
+        re.sub(r"\r\x1b\[K(dmf: [^\r\n]*(?=\r\x1b\[K))?", "", told)
+        == "c solve value 4\nc close value 0\n"
+    )
 
 
 @pytest.mark.seconds(3)
 def test_interrupted_shut(tmp_path: Path) -> None:
-    """Ctrl-C in a long shut ends the session by that signal. The replies before are whole, and the shut has none."""
+    """Ctrl-C in a long shut ends the session by that signal. The replies before are whole, and the
+    shut has none."""
     (tmp_path / "hub.max").write_bytes(hub_problem(HUB_FLOW))
     words = [str(BUILT), "session", "--progress", "--brief", str(tmp_path / "hub.max")]
     with Terminal() as terminal, subprocess.Popen(
-        words, stdin=subprocess.PIPE, stdout=subprocess.PIPE, stderr=terminal.end, start_new_session=True, preexec_fn=terminal.control
+        words,
+        stdin=subprocess.PIPE,
+        stdout=subprocess.PIPE,
+        stderr=terminal.end,
+        start_new_session=True,
+        preexec_fn=terminal.control,
     ) as running:
         assert running.stdin
         running.stdin.write(b"solve\nshut 3\nsolve\n")
@@ -307,13 +382,20 @@ def test_interrupted_shut(tmp_path: Path) -> None:
 
 
 def test_size(tmp_path: Path) -> None:
-    """Where the size is known, it is told beside what is read: 9 bytes for each line of a comment make three megabytes."""
+    """Where the size is known, it is told beside what is read: 9 bytes for each line of a comment
+    make three megabytes."""
     large = tmp_path / "large.max"
     large.write_bytes(SMALL + b"c filler\n" * 333_334)
     with open(large, "rb") as file:
-        assert piped(["solve", "--progress"], file).stderr.startswith(b"dmf: reading, 0 MB of 3 MB\n")
-    assert piped(["session", "--progress", str(large)], b"").stderr.startswith(b"dmf: reading, 0 MB of 3 MB\n")
-    assert piped(["solve", "--progress"], large.read_bytes()).stderr.startswith(b"dmf: reading, 0 MB\n")
+        assert piped(["solve", "--progress"], file).stderr.startswith(
+            b"dmf: reading, 0 MB of 3 MB\n"
+        )
+    assert piped(["session", "--progress", str(large)], b"").stderr.startswith(
+        b"dmf: reading, 0 MB of 3 MB\n"
+    )
+    assert piped(["solve", "--progress"], large.read_bytes()).stderr.startswith(
+        b"dmf: reading, 0 MB\n"
+    )
 
 
 def most_of(problem: bytes) -> int:
@@ -328,7 +410,8 @@ def most_of(problem: bytes) -> int:
 @pytest.mark.seconds(2)
 @pytest.mark.parametrize("kind", ["a file", "a pipe", "a file from its middle"])
 def test_bound(tmp_path: Path, kind: str) -> None:
-    """What the value cannot pass is told wherever the problem comes from, here of one that takes half a second."""
+    """What the value cannot pass is told wherever the problem comes from, here of one that takes
+    half a second."""
     problem = problem_of(100, 400, 3, 1000, 1990).encode()
     front = b"c a line before\n" if kind == "a file from its middle" else b""
     (tmp_path / "bounded.max").write_bytes(front + problem)

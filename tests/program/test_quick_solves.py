@@ -1,6 +1,7 @@
-"""Compares solves by any greatest flow (`dmf solve --brief` and `--any`) with ordinary ones: on networks of each family of the benchmark, on
-the examples, and on random ones. On the families the ordinary search is seen to find no path after the engine. `--long` tries 100,000
-random networks. An interrupt in the engine's work ends a run with nothing written."""
+"""Compares solves by any greatest flow (`dmf solve --brief` and `--any`) with ordinary ones: on
+networks of each family of the benchmark, on the examples, and on random ones. On the families the
+ordinary search is seen to find no path after the engine. `--long` tries 100,000 random networks. An
+interrupt in the engine's work ends a run with nothing written."""
 
 from __future__ import annotations
 
@@ -23,7 +24,20 @@ from program.test_named_networks import NETWORKS
 from random_cases import fitting, network, plain_text, problem_lines
 from worked_forms import text
 
-FAMILIES = "grid", "random", "road", "street", "bip", "ac", "rmf-wide", "rmf-long", "wash-wide", "wash-long", "ak", "combs"
+FAMILIES = (
+    "grid",
+    "random",
+    "road",
+    "street",
+    "bip",
+    "ac",
+    "rmf-wide",
+    "rmf-long",
+    "wash-wide",
+    "wash-long",
+    "ak",
+    "combs",
+)
 ARCS = 3000
 FEW, MANY = 200, 100_000
 Generate = Callable[[str, int], bytes]
@@ -63,19 +77,28 @@ def difference(problem: bytes) -> str | None:
 def generate(tmp_path_factory: pytest.TempPathFactory) -> Generate:
     """What makes a network of a family with so many arcs."""
     maker = tmp_path_factory.mktemp("families") / "generate"
-    subprocess.run(["g++", "-O1", "-std=c++17", "-o", maker, ROOT / "bench" / "generate.cpp"], check=True)
-    return lambda family, arcs: subprocess.run([maker, family, str(arcs), "1990"], capture_output=True, check=True).stdout
+    subprocess.run(
+        ["g++", "-O1", "-std=c++17", "-o", maker, ROOT / "bench" / "generate.cpp"], check=True
+    )
+    return lambda family, arcs: subprocess.run(
+        [maker, family, str(arcs), "1990"], capture_output=True, check=True
+    ).stdout
 
 
 @pytest.fixture(scope="module")
 def generated(generate: Generate) -> dict[str, bytes]:
     """A network of each family by its name."""
-    return {**{family: generate(family, ARCS) for family in FAMILIES}, "levels": problem_of(32, 30, 3, 100, 7).encode()}
+    return {
+        **{family: generate(family, ARCS) for family in FAMILIES},
+        "levels": problem_of(32, 30, 3, 100, 7).encode(),
+    }
 
 
 @pytest.mark.seconds(5)
 def test_families(generated: dict[str, bytes]) -> None:
-    assert {family: difference(problem) for family, problem in generated.items()} == dict.fromkeys(generated)
+    assert {family: difference(problem) for family, problem in generated.items()} == dict.fromkeys(
+        generated
+    )
 
 
 @pytest.mark.parametrize("length", [1, 2, 7, 100])
@@ -86,7 +109,9 @@ def test_value_of_ak(generate: Generate, length: int) -> None:
     assert solved(problem, b"--brief") == b"c solve value %d\n" % (2 * length + 3)
 
 
-@pytest.mark.parametrize("file", [pytest.param(it, id=it.name) for it in sorted((ROOT / "examples").glob("*.max"))])
+@pytest.mark.parametrize(
+    "file", [pytest.param(it, id=it.name) for it in sorted((ROOT / "examples").glob("*.max"))]
+)
 def test_examples(file: Path) -> None:
     assert difference(file.read_bytes()) is None
 
@@ -105,7 +130,13 @@ def test_interrupt(generate: Generate, word: str, tmp_path: Path) -> None:
     file.write_bytes(generate("combs", COMBED))
     with file.open("rb") as problem:
         words = [str(BUILT), "solve", word, "--cut"]
-        run = subprocess.Popen(words, stdin=problem, stdout=subprocess.PIPE, stderr=subprocess.PIPE, preexec_fn=built.heed_interrupts)
+        run = subprocess.Popen(
+            words,
+            stdin=problem,
+            stdout=subprocess.PIPE,
+            stderr=subprocess.PIPE,
+            preexec_fn=built.heed_interrupts,
+        )
     time.sleep(HALF_A_SECOND)
     run.send_signal(signal.SIGINT)
     out, err = run.communicate(timeout=SECONDS)
@@ -113,11 +144,15 @@ def test_interrupt(generate: Generate, word: str, tmp_path: Path) -> None:
 
 
 def told(problems: dict[str, bytes], *words: str) -> dict[str, bytes]:
-    """What runs tell by `--progress`, all at once. Each has a pause between the text and its end, so that the first path is told."""
+    """What runs tell by `--progress`, all at once. Each has a pause between the text and its end,
+    so that the first path is told."""
     runs = {}
     for name, problem in problems.items():
         run = subprocess.Popen(
-            [BUILT, "solve", "--progress", *words], stdin=subprocess.PIPE, stdout=subprocess.DEVNULL, stderr=subprocess.PIPE
+            [BUILT, "solve", "--progress", *words],
+            stdin=subprocess.PIPE,
+            stdout=subprocess.DEVNULL,
+            stderr=subprocess.PIPE,
         )
         assert run.stdin
         run.stdin.write(problem)
@@ -129,11 +164,16 @@ def told(problems: dict[str, bytes], *words: str) -> dict[str, bytes]:
 
 @pytest.mark.seconds(4)
 def test_no_path_is_left(generated: dict[str, bytes]) -> None:
-    """An ordinary solve tells of a path, and one by the engine's flow of none: the ordinary plan answers never."""
+    """An ordinary solve tells of a path, and one by the engine's flow of none: the ordinary plan
+    answers never."""
     problems = {**generated, "a chain": CHAIN}
-    assert {name: b"solving" in text for name, text in told(problems).items()} == dict.fromkeys(problems, True)
+    assert {name: b"solving" in text for name, text in told(problems).items()} == dict.fromkeys(
+        problems, True
+    )
     for word in "--brief", "--any":
-        assert {name: b"solving" in text for name, text in told(problems, word).items()} == dict.fromkeys(problems, False)
+        assert {
+            name: b"solving" in text for name, text in told(problems, word).items()
+        } == dict.fromkeys(problems, False)
 
 
 def random_problems(count: int, seed: str) -> Iterator[bytes]:
@@ -153,4 +193,7 @@ def test_random(request: pytest.FixtureRequest) -> None:
     count = MANY if request.config.getoption("--long") else FEW
     for problem in random_problems(count, f"quick {request.config.getoption('--seed')}"):
         wrong = difference(problem)
-        assert wrong is None, (wrong, Case("a quick solve", (b"solve", b"--any", b"--cut"), PROBLEM, problem))
+        assert wrong is None, (
+            wrong,
+            Case("a quick solve", (b"solve", b"--any", b"--cut"), PROBLEM, problem),
+        )

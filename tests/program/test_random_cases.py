@@ -1,6 +1,7 @@
-"""Compares the built program with the second implementation on random cases: what it writes, what standard error shows, and its status. Each
-case is run once more with one of its requests for memory refused. A case that fails is shown as small as it was made, and is put into
-tests/cases/found.py, from where it runs from then on. tests/README.md tells how to try more cases, and others.
+"""Compares the built program with the second implementation on random cases: what it writes, what
+standard error shows, and its status. Each case is run once more with one of its requests for memory
+refused. A case that fails is shown as small as it was made, and is put into tests/cases/found.py,
+from where it runs from then on. tests/README.md tells how to try more cases, and others.
 """
 
 from __future__ import annotations
@@ -29,14 +30,16 @@ from reduced import reduced
 from refused import REFUSED, ways_of
 from traits import TRAITS, traits
 
-# Texts of the documents, each of which some of these cases is to meet: all but want of memory and the limits of size.
-TEXTS = """problem line expected, second problem line, unknown line, not a max problem, wrong number of fields, not a number,
-    number too large, count out of range, no such node, neither source nor sink, terminal named twice,
-    source and sink are the same, arc before source and sink, too many arcs, too few arcs, source or sink missing,
+# Texts of the documents, each of which some of these cases is to meet: all but want of memory and
+# the limits of size.
+TEXTS = """problem line expected, second problem line, unknown line, not a max problem,
+    wrong number of fields, not a number, number too large, count out of range, no such node,
+    neither source nor sink, terminal named twice, source and sink are the same,
+    arc before source and sink, too many arcs, too few arcs, source or sink missing,
     capacities past 64 bits, no such arc, over capacity, second value line, value line missing,
-    flow not conserved at node, value differs, line too long, unknown command, arc is closed, nothing to undo,
-    nothing to redo, flow is not greatest, cannot open the problem, read failed, a word is not UTF-8, Usage: dmf,
-    c greatest, c flow, c cut, c side, c solve value, p max"""
+    flow not conserved at node, value differs, line too long, unknown command, arc is closed,
+    nothing to undo, nothing to redo, flow is not greatest, cannot open the problem, read failed,
+    a word is not UTF-8, Usage: dmf, c greatest, c flow, c cut, c side, c solve value, p max"""
 NO_MEMORY = "no memory"
 REPLIES = {re.split(" [A-Z]", it.reply)[0] for it in COMMANDS.values() if it.reply.startswith("c ")}
 ALL_TEXTS = {*re.split(r",\s+", TEXTS), f"dmf {RELEASE}", *REPLIES}
@@ -50,7 +53,12 @@ def pytest_generate_tests(metafunc: pytest.Metafunc) -> None:
 
 @pytest.mark.seconds(1)
 @pytest.mark.usefixtures("case_folder")
-def test_seeded(request: pytest.FixtureRequest, batch: int, faults: str, record_property: Callable[[str, object], None]) -> None:
+def test_seeded(
+    request: pytest.FixtureRequest,
+    batch: int,
+    faults: str,
+    record_property: Callable[[str, object], None],
+) -> None:
     seed = request.config.getoption("--seed")
     met: set[str] = set()
     for number in range(batch * BATCH, (batch + 1) * BATCH):
@@ -68,6 +76,7 @@ def test_seeded(request: pytest.FixtureRequest, batch: int, faults: str, record_
 
 KINDS = {
     "a solve": strategies.solves(),
+    "values": strategies.values(),
     "a session": strategies.sessions(),
     "a check": strategies.checks(),
     "any words": strategies.any_words(),
@@ -97,12 +106,27 @@ def test_found(request: pytest.FixtureRequest, found: Found) -> None:
 
 
 def test_kept() -> None:
-    """What a test showed as it failed is put into the file of cases once, as small as it was shown last."""
-    found = [Found(Case("case 7", (b"check", b"problem.max"), b"p max 2 0\n", b"s \\'1\"\n"), refused) for refused in (0, 17)]
-    told = [f"E   AssertionError: it differs\nE   {it}\nE   \nE       {last}\n" for it, last in ((found[1], found[0]), (found[0], found[1]))]
-    text = "from __future__ import annotations\n\nfrom built import Case\nfrom kept import Found\n\nFOUND: list[Found] = [\n]\n"
+    """What a test showed as it failed is put into the file of cases once, as small as it was shown
+    last."""
+    found = [
+        Found(Case("case 7", (b"check", b"problem.max"), b"p max 2 0\n", b"s \\'1\"\n"), refused)
+        for refused in (0, 17)
+    ]
+    told = [
+        f"E   AssertionError: it differs\nE   {it}\nE   \nE       {last}\n"
+        for it, last in ((found[1], found[0]), (found[0], found[1]))
+    ]
+    text = (
+        "from __future__ import annotations\n\nfrom built import Case\nfrom kept import Found\n\n"
+        "FOUND: list[Found] = [\n]\n"
+    )
     kept: dict[str, object] = {}
-    exec(with_cases(with_cases(text, shown_cases(told)), shown_cases([*told, "E   nothing is shown"])), kept)
+    exec(
+        with_cases(
+            with_cases(text, shown_cases(told)), shown_cases([*told, "E   nothing is shown"])
+        ),
+        kept,
+    )
     assert kept["FOUND"] == found
 
 
@@ -128,16 +152,25 @@ def size(case: Case) -> int:
 @pytest.mark.seconds(2)
 @pytest.mark.usefixtures("case_folder")
 @pytest.mark.parametrize("put", [with_later_path, with_arcs_left])
-def test_fault_in_oracle(monkeypatch: pytest.MonkeyPatch, put: Callable[[pytest.MonkeyPatch], None]) -> None:
-    """A fault in the second implementation is found, and shown as a case of fewer than ten lines."""
+def test_fault_in_oracle(
+    monkeypatch: pytest.MonkeyPatch, put: Callable[[pytest.MonkeyPatch], None]
+) -> None:
+    """A fault in the second implementation is found, and shown as a case of fewer than ten
+    lines."""
     put(monkeypatch)
     assert size(shown_case(put.__name__)) < 10
 
 
 # What stands in place of the program: it is given other commands, or what it writes is changed.
 FAULTY_COPIES = {
-    "two steps back are one": """[ "$1" = session ] || exec ./dmf "$@"\nsed 's/^undo 2$/undo 1/' | ./dmf "$@"\n""",
-    "a cut lacks its last node": """./dmf "$@" >written\nstatus=$?\nsed '${/^c side/d;}' written\nexit $status\n""",
+    "two steps back are one": """[ "$1" = session ] || exec ./dmf "$@"
+sed 's/^undo 2$/undo 1/' | ./dmf "$@"
+""",
+    "a cut lacks its last node": """./dmf "$@" >written
+status=$?
+sed '${/^c side/d;}' written
+exit $status
+""",
 }
 
 
@@ -156,15 +189,25 @@ def test_fault_in_program(monkeypatch: pytest.MonkeyPatch, fault: str) -> None:
 def closes_wide_arc(case: Case) -> bool:
     """Whether a case closes an arc of capacity 77."""
     capacities = [line.split()[3] for line in case.problem.splitlines() if line.startswith(b"a ")]
-    closed = [int(line.split()[1]) for line in case.input.splitlines() if line.startswith(b"close ")]
+    closed = [
+        int(line.split()[1]) for line in case.input.splitlines() if line.startswith(b"close ")
+    ]
     return any(b"77" in capacities[number - 1 : number] for number in closed)
 
 
 def test_reduced() -> None:
-    """A case is reduced in few tries, none of which is made twice, or in as many as are allowed; its commands go on to name their arcs."""
-    arcs = b"".join(b"a %d %d %d\n" % (node, node + 1, 77 if node == 40 else 5) for node in range(1, 101))
+    """A case is reduced in few tries, none of which is made twice, or in as many as are allowed;
+    its commands go on to name their arcs."""
+    arcs = b"".join(
+        b"a %d %d %d\n" % (node, node + 1, 77 if node == 40 else 5) for node in range(1, 101)
+    )
     commands = b"".join(b"cap %d 3\nclose  %03d\n" % (101 - arc, arc) for arc in range(1, 101))
-    case = Case("a long case", (b"session", b"--cut", PROBLEM), b"p max 101 100\nn 1 s\nn 101 t\n" + arcs, commands)
+    case = Case(
+        "a long case",
+        (b"session", b"--cut", PROBLEM),
+        b"p max 101 100\nn 1 s\nn 101 t\n" + arcs,
+        commands,
+    )
     tried: list[Case] = []
 
     def fails(tried_case: Case) -> bool:

@@ -1,5 +1,5 @@
-"""Tests the built program where its standard streams are closed or take nothing, where its stack is small, and where a problem is past
-its limit."""
+"""Tests the built program where its standard streams are closed or take nothing, where its stack is
+small, and where a problem is past its limit."""
 
 from __future__ import annotations
 
@@ -23,7 +23,8 @@ NO_FLOW = b"s 0\nf 1 2 0\nf 1 3 0\nf 2 3 0\nf 2 4 0\nf 3 4 0\n"
 FAULTY = b"p max 2 2\nn 1 s\nn 2 t\na 1 2 18446744073709551615\na 1 2 1\n"
 READ_FAILED, WRITE_FAILED = b"dmf: read failed\n", b"dmf: write failed\n"
 INPUT, OUTPUT, ERROR = 0, 1, 2
-# The least stack that docs/FORMATS.md promises to be enough, in bytes. The arguments and the environment, here of this size at least, lie there too.
+# The least stack that docs/FORMATS.md promises to be enough, in bytes. The arguments and the
+# environment, here of this size at least, lie there too.
 SMALL_STACK = 64 * 1024
 ENVIRONMENT = 8 * 1024
 
@@ -37,14 +38,24 @@ def folder(tmp_path: Path) -> Iterator[Path]:
     assert (tmp_path / "problem.max").read_bytes() == A, "the problem's file was written to"
 
 
-def run_without(folder: Path, closed: set[int], words: str, given: bytes = b"") -> tuple[int, bytes, bytes]:
-    """Runs the program with some of its standard streams closed. Gives its status, and what it wrote and told on the others."""
+def run_without(
+    folder: Path, closed: set[int], words: str, given: bytes = b""
+) -> tuple[int, bytes, bytes]:
+    """Runs the program with some of its standard streams closed. Gives its status, and what it
+    wrote and told on the others."""
 
     def close() -> None:
         for number in closed:
             os.close(number)
 
-    ran = subprocess.run([BUILT, *words.split()], cwd=folder, input=given, capture_output=True, timeout=SECONDS, preexec_fn=close)
+    ran = subprocess.run(
+        [BUILT, *words.split()],
+        cwd=folder,
+        input=given,
+        capture_output=True,
+        timeout=SECONDS,
+        preexec_fn=close,
+    )
     return ran.returncode, ran.stdout, ran.stderr
 
 
@@ -53,10 +64,21 @@ CLOSED: dict[str, tuple[set[int], str, bytes, tuple[int, bytes, bytes]]] = {
     # Nothing is read in place of standard input.
     "no input to solve": ({INPUT}, "solve", b"", (4, b"", READ_FAILED)),
     "no input to solve, without words": ({INPUT}, "", b"", (4, b"", READ_FAILED)),
+    "no input to value": ({INPUT}, "vital", b"", (4, b"", READ_FAILED)),
     "no commands": ({INPUT}, "session problem.max", b"", (4, b"", READ_FAILED)),
-    "no commands of a session with cuts": ({INPUT}, "session --cut problem.max", b"", (4, b"", READ_FAILED)),
+    "no commands of a session with cuts": (
+        {INPUT},
+        "session --cut problem.max",
+        b"",
+        (4, b"", READ_FAILED),
+    ),
     "no solution": ({INPUT}, "check problem.max", b"", (4, b"", READ_FAILED)),
-    "no commands and a faulty problem": ({INPUT}, "session fault.max", b"", (3, b"", b"dmf: line 5: capacities past 64 bits\n")),
+    "no commands and a faulty problem": (
+        {INPUT},
+        "session fault.max",
+        b"",
+        (3, b"", b"dmf: line 5: capacities past 64 bits\n"),
+    ),
     "no commands, and standard input as the problem": (
         {INPUT},
         "session /dev/stdin",
@@ -66,8 +88,19 @@ CLOSED: dict[str, tuple[set[int], str, bytes, tuple[int, bytes, bytes]]] = {
     "no input to the version": ({INPUT}, "--version", b"", (0, VERSION_LINE, b"")),
     # What was to be written is told as lost.
     "no output of a solution": ({OUTPUT}, "solve", A, (4, b"", WRITE_FAILED)),
-    "no output of a session": ({OUTPUT}, "session problem.max", b"print problem\n", (4, b"", WRITE_FAILED)),
-    "no output of a session that replies nothing": ({OUTPUT}, "session problem.max", b"c\n", (0, b"", b"")),
+    "no output of values": ({OUTPUT}, "vital", A, (4, b"", WRITE_FAILED)),
+    "no output of a session": (
+        {OUTPUT},
+        "session problem.max",
+        b"print problem\n",
+        (4, b"", WRITE_FAILED),
+    ),
+    "no output of a session that replies nothing": (
+        {OUTPUT},
+        "session problem.max",
+        b"c\n",
+        (0, b"", b""),
+    ),
     "no output of a check": ({OUTPUT}, "check problem.max", NO_FLOW, (4, b"", WRITE_FAILED)),
     "no output of the help": ({OUTPUT}, "--help", b"", (4, b"", WRITE_FAILED)),
     "no output of the help on session": ({OUTPUT}, "session --help", b"", (4, b"", WRITE_FAILED)),
@@ -81,16 +114,31 @@ CLOSED: dict[str, tuple[set[int], str, bytes, tuple[int, bytes, bytes]]] = {
         b"undo\nprint flow\n",
         (1, b"c refused 1 nothing to undo\n" + NO_FLOW, b""),
     ),
-    "no error stream of a session on a faulty problem": ({ERROR}, "session fault.max", b"", (3, b"", b"")),
+    "no error stream of a session on a faulty problem": (
+        {ERROR},
+        "session fault.max",
+        b"",
+        (3, b"", b""),
+    ),
     "no error stream of a check": ({ERROR}, "check problem.max", NO_FLOW, (1, b"c flow 0\n", b"")),
     "no error stream of the version": ({ERROR}, "--version", b"", (0, VERSION_LINE, b"")),
     "no error stream of an unknown word": ({ERROR}, "wash", b"", (2, b"", b"")),
     # More of them are closed.
-    "neither input nor output of a session": ({INPUT, OUTPUT}, "session problem.max", b"", (4, b"", READ_FAILED)),
-    "neither input nor error stream of a session": ({INPUT, ERROR}, "session problem.max", b"", (4, b"", b"")),
+    "neither input nor output of a session": (
+        {INPUT, OUTPUT},
+        "session problem.max",
+        b"",
+        (4, b"", READ_FAILED),
+    ),
+    "neither input nor error stream of a session": (
+        {INPUT, ERROR},
+        "session problem.max",
+        b"",
+        (4, b"", b""),
+    ),
     **{
         f"no stream at all: {words}": ({INPUT, OUTPUT, ERROR}, words, b"", (4, b"", b""))
-        for words in ("solve", "session problem.max", "check problem.max", "--help")
+        for words in ("solve", "vital", "session problem.max", "check problem.max", "--help")
     },
 }
 
@@ -103,12 +151,24 @@ def test_closed(folder: Path, name: str) -> None:
 
 @pytest.mark.parametrize(
     ("words", "given"),
-    [("session problem.max", b"print problem\n"), ("", A), ("check problem.max", NO_FLOW), ("--help", b""), ("--version", b"")],
+    [
+        ("session problem.max", b"print problem\n"),
+        ("", A),
+        ("vital", A),
+        ("check problem.max", NO_FLOW),
+        ("--help", b""),
+        ("--version", b""),
+    ],
 )
 def test_full_device(folder: Path, words: str, given: bytes) -> None:
     with open("/dev/full", "wb") as full:
         ran = subprocess.run(
-            [BUILT, *words.split()], cwd=folder, input=given, stdout=full, stderr=subprocess.PIPE, timeout=SECONDS
+            [BUILT, *words.split()],
+            cwd=folder,
+            input=given,
+            stdout=full,
+            stderr=subprocess.PIPE,
+            timeout=SECONDS,
         )
     assert (ran.returncode, ran.stderr) == (4, WRITE_FAILED)
 
@@ -116,22 +176,35 @@ def test_full_device(folder: Path, words: str, given: bytes) -> None:
 def test_full_error_stream(folder: Path) -> None:
     with open("/dev/full", "wb") as full:
         ran = subprocess.run(
-            [BUILT, "session", "fault.max"], cwd=folder, input=b"", stdout=subprocess.PIPE, stderr=full, timeout=SECONDS
+            [BUILT, "session", "fault.max"],
+            cwd=folder,
+            input=b"",
+            stdout=subprocess.PIPE,
+            stderr=full,
+            timeout=SECONDS,
         )
     assert (ran.returncode, ran.stdout) == (3, b"")
 
 
-def test_closed_pipe(folder: Path) -> None:
-    """Standard output is a pipe that nobody reads. The signal of a broken pipe is at its default."""
+@pytest.mark.parametrize(
+    ("command", "given"), [("session problem.max", b"print problem\n"), ("vital", A)]
+)
+def test_closed_pipe(folder: Path, command: str, given: bytes) -> None:
+    """Standard output is a pipe that nobody reads. The signal of a broken pipe is at its
+    default."""
     reader, writer = os.pipe()
     os.close(reader)
-    words = [str(BUILT), "session", "problem.max"]
-    ran = subprocess.run(words, cwd=folder, input=b"print problem\n", stdout=writer, stderr=subprocess.PIPE, timeout=SECONDS)
+    words = [str(BUILT), *command.split()]
+    ran = subprocess.run(
+        words, cwd=folder, input=given, stdout=writer, stderr=subprocess.PIPE, timeout=SECONDS
+    )
     os.close(writer)
     assert (ran.returncode, ran.stderr) == (4, WRITE_FAILED)
 
 
-@pytest.mark.parametrize(("words", "given"), [("session huge.max", b"print flow\n"), ("check huge.max", b"s 0\n")])
+@pytest.mark.parametrize(
+    ("words", "given"), [("session huge.max", b"print flow\n"), ("check huge.max", b"s 0\n")]
+)
 def test_too_large(folder: Path, words: str, given: bytes) -> None:
     """A problem past its limit, of 1 GiB and one byte, which takes no space on the disk."""
     with open(folder / "huge.max", "wb") as huge:
@@ -140,15 +213,27 @@ def test_too_large(folder: Path, words: str, given: bytes) -> None:
 
 
 def limit() -> None:
-    resource.setrlimit(resource.RLIMIT_STACK, (SMALL_STACK, resource.getrlimit(resource.RLIMIT_STACK)[1]))
+    resource.setrlimit(
+        resource.RLIMIT_STACK, (SMALL_STACK, resource.getrlimit(resource.RLIMIT_STACK)[1])
+    )
 
 
-def run_small(words: str | tuple[bytes, ...], given: bytes = b"", folder: Path = ROOT) -> tuple[int, bytes, bytes]:
+def run_small(
+    words: str | tuple[bytes, ...], given: bytes = b"", folder: Path = ROOT
+) -> tuple[int, bytes, bytes]:
     """Runs the program on a small stack, at the root or in a folder."""
     split = tuple(map(os.fsencode, words.split())) if isinstance(words, str) else words
     whole: list[Path | bytes] = [BUILT, *split]
     environment = {**os.environ, "FILLER": "x" * ENVIRONMENT}
-    ran = subprocess.run(whole, cwd=folder, input=given, capture_output=True, timeout=SECONDS, preexec_fn=limit, env=environment)
+    ran = subprocess.run(
+        whole,
+        cwd=folder,
+        input=given,
+        capture_output=True,
+        timeout=SECONDS,
+        preexec_fn=limit,
+        env=environment,
+    )
     return ran.returncode, ran.stdout, ran.stderr
 
 
@@ -160,8 +245,13 @@ SMALL = {
         b"solve\nredo\nprint cut\n",
         (1, SOLUTION + b"c refused 2 nothing to redo\n" + CUT),
     ),
-    "a session has a line of the greatest length": ("session --cut examples/a.max", b"%4096s\n" % b"solve", (0, SOLUTION + CUT)),
+    "a session has a line of the greatest length": (
+        "session --cut examples/a.max",
+        b"%4096s\n" % b"solve",
+        (0, SOLUTION + CUT),
+    ),
     "a solution is checked": ("check examples/a.max", SOLUTION, (0, b"c greatest 5\n")),
+    "each arc is valued": ("vital", A, (0, b"c value 5\nv 1 2\nv 2 3\nv 3 4\nv 4 3\nv 5 2\n")),
 }
 
 

@@ -1,6 +1,7 @@
-"""What the built program says on a terminal beyond its fixed texts: a line that explains a fault, a refusal or wrong words, and that a
-problem is read from the keyboard. The terminal is a pseudo terminal. Each run is made without one too, where standard error has the
-fixed text and nothing more."""
+"""What the built program says on a terminal beyond its fixed texts: a line that explains a fault, a
+refusal or wrong words, and that a problem is read from the keyboard. The terminal is a pseudo
+terminal. Each run is made without one too, where standard error has the fixed text and nothing
+more."""
 
 from __future__ import annotations
 
@@ -39,20 +40,33 @@ def fixed(row: Text) -> str:
 
 @pytest.mark.parametrize("row", [pytest.param(it, id=it.name) for it in PROBLEMS])
 def test_problem(row: Text) -> None:
-    """A problem: on standard input as a file and as a pipe, and as the file of a session and of a check."""
+    """A problem: on standard input as a file and as a pipe, and as the file of a session and of a
+    check."""
     Path("net.max").write_bytes(row.text)
     status = 3 if row.fault else 0
     with open("net.max", "rb") as file:
         silent = without_terminal(["solve"], file)
     written = silent[1]
-    assert (silent[0], written.decode().partition("\n")[0], silent[2]) == (status, row.first, fixed(row))
+    assert (silent[0], written.decode().partition("\n")[0], silent[2]) == (
+        status,
+        row.first,
+        fixed(row),
+    )
     assert without_terminal(["solve"], row.text) == silent
     with open("net.max", "rb") as file:
         assert with_terminal(["solve"], file) == (status, written, fixed(row) + row.said("net.max"))
     assert with_terminal(["solve"], row.text) == (status, written, fixed(row) + row.said(None))
     if row.fault:
-        assert with_terminal(["session", "net.max"], b"") == (status, b"", fixed(row) + row.said("net.max"))
-        assert with_terminal(["check", "net.max"], b"") == (status, b"", fixed(row) + row.said("in the problem net.max"))
+        assert with_terminal(["session", "net.max"], b"") == (
+            status,
+            b"",
+            fixed(row) + row.said("net.max"),
+        )
+        assert with_terminal(["check", "net.max"], b"") == (
+            status,
+            b"",
+            fixed(row) + row.said("in the problem net.max"),
+        )
 
 
 @pytest.mark.parametrize("row", [pytest.param(it, id=it.name) for it in SOLUTIONS])
@@ -64,7 +78,11 @@ def test_solution(row: Text) -> None:
     with open("net.sol", "rb") as file:
         told = with_terminal(["check", "named.max"], file)
     assert told == (3, b"", fixed(row) + row.said("in the solution net.sol"))
-    assert with_terminal(["check", "named.max"], row.text) == (3, b"", fixed(row) + row.said("in the solution, line"))
+    assert with_terminal(["check", "named.max"], row.text) == (
+        3,
+        b"",
+        fixed(row) + row.said("in the solution, line"),
+    )
 
 
 @pytest.mark.parametrize("row", [pytest.param(it, id=it.words) for it in [*WORDS, *OPENING]])
@@ -85,14 +103,17 @@ def test_folder() -> None:
 
 
 def test_file_from_its_middle() -> None:
-    """A text of which a part was read before: what stands in the file at that line is not what has the fault."""
+    """A text of which a part was read before: what stands in the file at that line is not what has
+    the fault."""
     front = b"c one line more\n"
     Path("front.max").write_bytes(front + NETWORK + b"a x y z\n")
     with open("front.max", "rb") as file:
         os.lseek(file.fileno(), len(front), os.SEEK_SET)
         _, _, told = with_terminal([], file)
     line = len(NETWORK.splitlines()) + 1
-    assert told.splitlines()[1:] == [f"line {line}: there are more a lines than ARCS of the problem line says"]
+    assert told.splitlines()[1:] == [
+        f"line {line}: there are more a lines than ARCS of the problem line says"
+    ]
 
 
 def test_session() -> None:
@@ -100,14 +121,21 @@ def test_session() -> None:
     replies = "".join(reply for _, reply, _ in SESSION).encode()
     commands = b"".join(line + b"\n" for line, _, _ in SESSION)
     assert without_terminal(["session", "named.max"], commands) == (1, replies, "")
-    assert with_terminal(["session", "named.max"], commands) == (1, replies, "".join(said for _, _, said in SESSION))
+    assert with_terminal(["session", "named.max"], commands) == (
+        1,
+        replies,
+        "".join(said for _, _, said in SESSION),
+    )
 
 
 @pytest.mark.seconds(3)
 def test_typed_session() -> None:
     short = SESSION[:7]
     shown = "".join(reply + said for _, reply, said in short)
-    assert typed(["session", "named.max"], [line + b"\n" for line, _, _ in short], 0.2) == (1, shown)
+    assert typed(["session", "named.max"], [line + b"\n" for line, _, _ in short], 0.2) == (
+        1,
+        shown,
+    )
 
 
 def test_changed_problem() -> None:
@@ -116,7 +144,10 @@ def test_changed_problem() -> None:
     changing.write_bytes(NETWORK)
     with Terminal() as terminal:
         running = subprocess.Popen(
-            [BUILT, "session", changing], stdin=subprocess.PIPE, stdout=subprocess.PIPE, stderr=terminal.end
+            [BUILT, "session", changing],
+            stdin=subprocess.PIPE,
+            stdout=subprocess.PIPE,
+            stderr=terminal.end,
         )
         assert running.stdin and running.stdout
         running.stdin.write(b"undo\n")
@@ -125,7 +156,9 @@ def test_changed_problem() -> None:
         changing.write_bytes(NETWORK.replace(b"c arc 2 Tunnel\n", b"c arc 2 A tunnel\n"))
         running.communicate(b"close Tunnel\n", timeout=SECONDS)
         told = terminal.close().splitlines()
-    assert told[1:] == ["dmf: 'Tunnel' is no number: arcs go by number here, from 1 in the order of the problem"]
+    assert told[1:] == [
+        "dmf: 'Tunnel' is no number: arcs go by number here, from 1 in the order of the problem"
+    ]
 
 
 @pytest.mark.parametrize("words", [[], ["solve"]])
@@ -136,7 +169,9 @@ def test_typed_problem(words: list[str]) -> None:
 def test_input_alone() -> None:
     """Only standard input is a terminal."""
     with Terminal() as terminal:
-        running = subprocess.Popen([BUILT], stdin=terminal.end, stdout=subprocess.PIPE, stderr=subprocess.PIPE)
+        running = subprocess.Popen(
+            [BUILT], stdin=terminal.end, stdout=subprocess.PIPE, stderr=subprocess.PIPE
+        )
         terminal.type(NETWORK + b"\x04")
         out, told = running.communicate(timeout=SECONDS)
     assert (out.decode(), told) == (SOLVED, b"")

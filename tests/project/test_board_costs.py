@@ -1,5 +1,5 @@
-"""What more costs, on the page: the prices of the limit and a cheap way, as docs/PLAN.md works them out for the water story with a column of
-costs; and where there is none, why."""
+"""What more costs, on the page: the prices of the limit and a cheap way, as docs/PLAN.md works them
+out for the water story with a column of costs; and where there is none, why."""
 
 from __future__ import annotations
 
@@ -30,12 +30,28 @@ def test_told(tmp_path: Path) -> None:
     with board(priced(tmp_path)) as it:
         turn = it.turn()
         told = it.told("costs?column=&to=175&second=0")
-        assert {arc["name"]: arc["price"] for arc in told["limit"]} == {name: str(price) for name, price in COSTS.items()}
-        way = [([(arc["name"], arc["by"]) for arc in bought["wider"]], bought["cost"], bought["total"], bought["value"]) for bought in told["way"]]
-        assert way == [([("North rise", "5")], "20", "20", "170"), ([("South main", "5")], "30", "50", "175")]
+        assert {arc["name"]: arc["price"] for arc in told["limit"]} == {
+            name: str(price) for name, price in COSTS.items()
+        }
+        way = [
+            (
+                [(arc["name"], arc["by"]) for arc in bought["wider"]],
+                bought["cost"],
+                bought["total"],
+                bought["value"],
+            )
+            for bought in told["way"]
+        ]
+        assert way == [
+            ([("North rise", "5")], "20", "20", "170"),
+            ([("South main", "5")], "30", "50", "175"),
+        ]
         # Nothing has changed.
         assert (it.turn(), it.state()["value"]) == (turn, "165")
-        for words, why in (("column=colour&to=&second=0", "no column is called"), ("column=&to=12&second=1", "less than the present value")):
+        for words, why in (
+            ("column=colour&to=&second=0", "no column is called"),
+            ("column=&to=12&second=1", "less than the present value"),
+        ):
             status, _, body = it.ask(f"{it.root}costs?{words}")
             assert status == 409 and why in body.decode()
         assert it.ask(f"{it.root}costs?column=&to=1&second=x")[0] == 400
@@ -53,7 +69,10 @@ def test_shown(driver: Any, tmp_path: Path, width: int, scheme: str) -> None:
         driver.find_element("id", "costs-to").send_keys("175\n")
         page.wait(lambda: "greedily" in page.text("#costs-told"))
         rows = [row.text for row in driver.find_elements("css selector", "#costs-limit tbody tr")]
-        assert len(rows) == 3 and all(any(name in row and row.endswith(f" {price}") for row in rows) for name, price in COSTS.items())
+        assert len(rows) == 3 and all(
+            any(name in row and row.endswith(f" {price}") for row in rows)
+            for name, price in COSTS.items()
+        )
         way = [row.text for row in driver.find_elements("css selector", "#costs-way tbody tr")]
         assert way == ["North rise 5 wider 20 20 170", "South main 5 wider 30 50 175"]
         page.choose("arc-9", "Mill Lane")

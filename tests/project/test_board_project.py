@@ -1,4 +1,5 @@
-"""dmf-board on a project: its steps are kept, also where it is killed, and dmf-plan goes on from them."""
+"""dmf-board on a project: its steps are kept, also where it is killed, and dmf-plan goes on from
+them."""
 
 from __future__ import annotations
 
@@ -23,23 +24,31 @@ def test_kept(tmp_path: Path) -> None:
     path = f"{tmp_path}/pipes.dmf.json"
     ran = run("dmf-plan", path, typed="redo\nscenario new Later from first\nundo\n")
     assert ran.stdout.splitlines() == [
-        f"value {without('Bridge pipe', 'Mill Lane')} litres per second, 45 less, the greatest", "scenario 'Later', 2 steps: value 110 litres per second",
-    ]  # fmt: skip
+        f"value {without('Bridge pipe', 'Mill Lane')} litres per second, 45 less, the greatest",
+        "scenario 'Later', 2 steps: value 110 litres per second",
+    ]
     assert ran.stderr == "dmf-plan: line 3: this scenario has 0 steps of its own to undo\n"
     with board(path) as it:
         state = it.state()
-        assert (state["value"], state["at"], [step["text"] for step in state["steps"]]) == ("110", 2, ["solve", "close Bridge pipe", "close Mill Lane"])
+        assert (state["value"], state["at"], [step["text"] for step in state["steps"]]) == (
+            "110",
+            2,
+            ["solve", "close Bridge pipe", "close Mill Lane"],
+        )
         status, told = it.post("do", what="go", step=0)
         assert status == 409 and b"of its own to undo" in told
         assert it.do(what="open", arc=9)["value"] == str(without("Bridge pipe"))
         assert "read alone" in run("dmf-plan", path, typed="close Mill Lane\n").stderr
         assert it.end() == 130
-    assert run("dmf-plan", path, typed="scenario\n").stdout.splitlines()[-1] == "  * Later, from 'first': 3 of 3 steps, value 155"
+    assert (
+        run("dmf-plan", path, typed="scenario\n").stdout.splitlines()[-1]
+        == "  * Later, from 'first': 3 of 3 steps, value 155"
+    )
 
 
 def test_keep_beside(driver: Any, tmp_path: Path) -> None:
-    """The page of a table, here a narrow one in the dark, offers to keep a project beside it; it has the steps so far then, and those after
-    them."""
+    """The page of a table, here a narrow one in the dark, offers to keep a project beside it; it
+    has the steps so far then, and those after them."""
     shutil.copy(ROOT / PIPES, tmp_path)
     with board(f"{tmp_path}/pipes.csv") as it:
         show(driver, 400, "dark")
@@ -67,7 +76,11 @@ def test_keep_beside(driver: Any, tmp_path: Path) -> None:
     assert "close Bridge pipe" in ran.stdout and "close Mill Lane" in ran.stdout
     with board(f"{tmp_path}/pipes.csv") as it:
         status, told = it.post("do", what="keep")
-        assert status == 409 and b"cannot be made: it already exists; open it, or choose another name" in told and it.state()["offer"] == "pipes.dmf.json"
+        assert (
+            status == 409
+            and b"cannot be made: it already exists; open it, or choose another name" in told
+            and it.state()["offer"] == "pipes.dmf.json"
+        )
         assert it.do(what="close", arc=10)["value"] == str(without("Bridge pipe"))
 
 
@@ -76,7 +89,10 @@ def test_page_says_so(driver: Any, tmp_path: Path) -> None:
     shutil.copy(ROOT / PIPES, tmp_path)
     table = f"{tmp_path}/pipes.csv"
     told = "Nothing is saved of itself: the steps end with this page."
-    for words, wanted in ((table,), told), ((table, "--keep"), "Each step is kept in pipes.dmf.json."):
+    for words, wanted in ((table,), told), (
+        (table, "--keep"),
+        "Each step is kept in pipes.dmf.json.",
+    ):
         with board(*words) as it:
             assert Page(driver, it.address).text("#kept") == wanted
         driver.get("about:blank")

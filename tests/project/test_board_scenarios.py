@@ -1,5 +1,5 @@
-"""Scenarios on the page of a board: one goes between them by a click, two are shown beside each other, and the address names what is
-shown."""
+"""Scenarios on the page of a board: one goes between them by a click, two are shown beside each
+other, and the address names what is shown."""
 
 from __future__ import annotations
 
@@ -17,14 +17,16 @@ from board_pages import Page
 from board_running import Board, board
 from desk_shared import ROOT, run, without
 from dmf.desk.project.comparison import ArcState
-from dmf.desk.project.scenarios import Scenarios
 from dmf.desk.project.opener import project_desk
+from dmf.desk.project.scenarios import project_of
+from dmf.desk.workspace import Desk
 from project_played import played, state
 from project_shared import named, supply_project, water_project
 
 pytestmark = pytest.mark.seconds(20)
 SVG = "{http://www.w3.org/2000/svg}"
-# What flows more or less is seen by its colour: those of the lines of an arc of each kind, as the browser shows them.
+# What flows more or less is seen by its colour: those of the lines of an arc of each kind, as the
+# browser shows them.
 COLOURS = """
 return Object.fromEntries(["more", "less", "come", "gone", "else", "same"].map((kind) => {
   const line = document.querySelector(`#compare-picture .arc.${kind} path`);
@@ -32,7 +34,8 @@ return Object.fromEntries(["more", "less", "come", "gone", "else", "same"].map((
 }));
 """
 ROWS = """
-return [...document.querySelectorAll("#compare-table tbody tr")].map((row) => [...row.cells].slice(0, 3).map((cell) => cell.textContent));
+const rows = [...document.querySelectorAll("#compare-table tbody tr")];
+return rows.map((row) => [...row.cells].slice(0, 3).map((cell) => cell.textContent));
 """
 
 
@@ -40,7 +43,10 @@ class ScenarioPage(Page):
     """A page of a project."""
 
     def scenarios(self) -> list[str]:
-        script = "return [...document.querySelectorAll('#scenario-list > li > button')].map((it) => it.textContent)"
+        script = (
+            "return [...document.querySelectorAll('#scenario-list > li > button')].map((it) => "
+            "it.textContent)"
+        )
         return [str(text) for text in self.driver.execute_script(script)]
 
     def present(self) -> str:
@@ -62,7 +68,10 @@ class ScenarioPage(Page):
         self.choose_from("#compare-one", one)
         self.choose_from("#compare-two", two)
         self.click("#comparing button")
-        self.wait(lambda: self.text("#compare-values").startswith(f"{one}: ") and self.driver.find_elements("css selector", "#compare-picture svg"))
+        self.wait(
+            lambda: self.text("#compare-values").startswith(f"{one}: ")
+            and self.driver.find_elements("css selector", "#compare-picture svg")
+        )
 
     def unfold(self) -> None:
         self.driver.execute_script("document.querySelector('#scenarios details').open = true")
@@ -73,19 +82,27 @@ def water(tmp_path: Path) -> Iterator[Board]:
     """A board of a project with two scenarios: without the bridge's pipe, and with a new one."""
     desk = water_project(tmp_path)
     desk.close(named(desk, "Bridge pipe"))
-    desk.new("Pipe")
-    desk.add(desk.names.place("Mill"), desk.names.place("Station"), 25, "New pipe")
+    project_of(desk).new("Pipe")
+    desk.add(desk.network.names.place("Mill"), desk.network.names.place("Station"), 25, "New pipe")
     desk.end()
-    with board(desk.file.path) as it:
+    with board(project_of(desk).file.path) as it:
         yield it
 
 
 def test_go_between(driver: Any, water: Board) -> None:
     """A click goes to a scenario; its steps are undone in it alone; and another tab follows."""
     page = ScenarioPage(driver, water.address)
-    assert (page.present(), page.value(), page.scenarios()) == ("Pipe", 180, ["first: 155 (10 less)", "Pipe: 180 (15 more)"])
+    assert (page.present(), page.value(), page.scenarios()) == (
+        "Pipe",
+        180,
+        ["first: 155 (10 less)", "Pipe: 180 (15 more)"],
+    )
     assert page.go("first") == without("Bridge pipe") and page.undo() == 165
-    assert page.go("Pipe") == 180 and page.go("first") == 165 and page.scenarios() == ["first: 165 (as base)", "Pipe: 180 (15 more)"]
+    assert (
+        page.go("Pipe") == 180
+        and page.go("first") == 165
+        and page.scenarios() == ["first: 165 (as base)", "Pipe: 180 (15 more)"]
+    )
     assert page.after(lambda: page.click("#redo")) == without("Bridge pipe")
     first = driver.current_window_handle
     driver.switch_to.new_window("tab")
@@ -98,7 +115,8 @@ def test_go_between(driver: Any, water: Board) -> None:
 
 
 def test_make_and_name(driver: Any, water: Board, tmp_path: Path) -> None:
-    """Scenarios are begun from the table and from another one, copied, renamed, noted and deleted; what they began with is not undone."""
+    """Scenarios are begun from the table and from another one, copied, renamed, noted and deleted;
+    what they began with is not undone."""
     page = ScenarioPage(driver, water.address)
     page.unfold()
 
@@ -129,44 +147,60 @@ def test_make_and_name(driver: Any, water: Board, tmp_path: Path) -> None:
     driver.get("about:blank")
     water.end()
     told = run("dmf-plan", f"{tmp_path}/kept.dmf.json", typed="scenario\n").stdout.splitlines()
-    assert [line.split(":")[0].strip(" *") for line in told] == ["first", "<b>Two</b> pipes, from 'Pipe'", "Later, from 'Pipe'"]
+    assert [line.split(":")[0].strip(" *") for line in told] == [
+        "first",
+        "<b>Two</b> pipes, from 'Pipe'",
+        "Later, from 'Pipe'",
+    ]
     assert told[2].endswith("1 of 2 steps, value 180; for May")
 
 
-def flooded(folder: Path) -> Scenarios:
+def flooded(folder: Path) -> Desk:
     """The supply story: a flooded depot in one scenario, and another one without a step."""
     desk = supply_project(folder)
-    desk.shut(desk.names.place("East Depot"))
-    desk.new("dry")
+    desk.shut(desk.network.names.place("East Depot"))
+    project_of(desk).new("dry")
     return desk
 
 
-def judged(desk: Scenarios, folder: Path) -> list[list[str]]:
-    """What differs between the network of the table and the flooded depot, by the second implementation: the arcs, what each was and
-    is."""
-    depot = desk.names.place("East Depot").entry
-    one, two = played(folder, desk.project.network, ""), played(folder, desk.project.network, f"shut {depot}\n")
+def judged(desk: Desk, folder: Path) -> list[list[str]]:
+    """What differs between the network of the table and the flooded depot, by the second
+    implementation: the arcs, what each was and is."""
+    depot = desk.network.names.place("East Depot").entry
+    one, two = played(folder, project_of(desk).project.network, ""), played(
+        folder, project_of(desk).project.network, f"shut {depot}\n"
+    )
 
     def told(it: ArcState | None) -> str:
         return it.told() if it else "closed"
 
-    numbers = [it for it in range(1, desk.first_count + 1) if state(one, it) != state(two, it)]
-    return [[desk.names.arc(it), told(state(one, it)), told(state(two, it))] for it in numbers]
+    numbers = [
+        it for it in range(1, desk.network.first_count + 1) if state(one, it) != state(two, it)
+    ]
+    return [
+        [desk.network.names.arc(it), told(state(one, it)), told(state(two, it))] for it in numbers
+    ]
 
 
 def test_same_differences(driver: Any, tmp_path: Path) -> None:
-    """The page, the terminal and Python tell the same differences of two scenarios, and the second implementation tells them too."""
+    """The page, the terminal and Python tell the same differences of two scenarios, and the second
+    implementation tells them too."""
     desk = flooded(tmp_path)
     wanted = judged(desk, tmp_path)
     desk.end()
-    ran = run("dmf-plan", desk.file.path, typed="compare base first\n").stdout.splitlines()
-    with dmf.open_project(desk.file.path) as project:
+    ran = run(
+        "dmf-plan", project_of(desk).file.path, typed="compare base first\n"
+    ).stdout.splitlines()
+    with dmf.open_project(project_of(desk).file.path) as project:
         in_python = project.compare("base", "first")
-    with board(desk.file.path) as it:
+    with board(project_of(desk).file.path) as it:
         page = ScenarioPage(driver, it.address)
         page.compare("base", "first")
         rows = driver.execute_script(ROWS)
-        classes = {group.get_attribute("data-arc"): group.get_attribute("class") for group in driver.find_elements("css selector", "#compare-picture g.arc")}
+        classes = {
+            group.get_attribute("data-arc"): group.get_attribute("class")
+            for group in driver.find_elements("css selector", "#compare-picture g.arc")
+        }
         colours = driver.execute_script(COLOURS)
         values = page.text("#compare-values")
         # What pages of other boards came to may be told as late.
@@ -174,29 +208,52 @@ def test_same_differences(driver: Any, tmp_path: Path) -> None:
         driver.get("about:blank")
     assert rows == wanted and len(wanted) > 5
     assert [[it.arc, it.first.told(), it.second.told()] for it in in_python.arcs] == wanted
-    assert [line for line in ran if " | " in line][1:] == [f"  {arc}: {was} | {now}" for arc, was, now in wanted]
+    assert [line for line in ran if " | " in line][1:] == [
+        f"  {arc}: {was} | {now}" for arc, was, now in wanted
+    ]
     # The second set of orders that the depots fill, as the story's page reckons it.
-    assert values == "base: 150 pallets. first: 126 pallets: 24 less." and ran[:2] == ["base: value 150 pallets", "first: value 126 pallets"]
+    assert values == "base: 150 pallets. first: 126 pallets: 24 less." and ran[:2] == [
+        "base: value 150 pallets",
+        "first: value 126 pallets",
+    ]
     assert_coloured(desk, wanted, classes)
     shown = {kind: colour for kind, colour in colours.items() if colour}
     assert set(shown) == {"more", "less", "gone", "else", "same"} and shown["less"] == shown["gone"]
     assert len({shown[kind] for kind in ("more", "less", "else", "same")}) == 4
 
 
-def assert_coloured(desk: Scenarios, wanted: list[list[str]], classes: dict[str, str]) -> None:
+def assert_coloured(desk: Desk, wanted: list[list[str]], classes: dict[str, str]) -> None:
     """Each arc of the picture is of the kind that its row tells; the others are the same."""
     kinds = {}
     for arc, was, now in wanted:
         flows = [0 if told == "closed" else int(told.split()[0]) for told in (was, now)]
-        kinds[arc] = "gone" if now == "closed" else "more" if flows[1] > flows[0] else "less" if flows[1] < flows[0] else "else"
-    drawn = {desk.names.arc(int(number)): looks.split()[1] for number, looks in classes.items()}
-    roles = {desk.names.arc(number) for number in range(1, desk.first_count + 1) if desk.role(number)}
-    assert drawn == {desk.names.arc(number): kinds.get(desk.names.arc(number), "same") for number in desk.pictured()}
+        kinds[arc] = (
+            "gone"
+            if now == "closed"
+            else "more"
+            if flows[1] > flows[0]
+            else "less"
+            if flows[1] < flows[0]
+            else "else"
+        )
+    drawn = {
+        desk.network.names.arc(int(number)): looks.split()[1] for number, looks in classes.items()
+    }
+    roles = {
+        desk.network.names.arc(number)
+        for number in range(1, desk.network.first_count + 1)
+        if desk.network.role(number)
+    }
+    assert drawn == {
+        desk.network.names.arc(number): kinds.get(desk.network.names.arc(number), "same")
+        for number in desk.network.pictured()
+    }
     assert not roles & set(drawn) and roles & set(kinds)
 
 
 def test_addresses(driver: Any, water: Board) -> None:
-    """The address names scenario, choice and comparison: a reload, the way back and a bookmark show them again."""
+    """The address names scenario, choice and comparison: a reload, the way back and a bookmark show
+    them again."""
     page = ScenarioPage(driver, water.address)
     page.wait(lambda: driver.current_url.endswith("#scenario=Pipe"))
     page.choose("arc-9", "Mill Lane")
@@ -241,9 +298,15 @@ def test_end_of_the_board(driver: Any, water: Board) -> None:
     assert water.end() == 130
     page.wait(lambda: "has ended" in page.text("#trouble"))
     said = page.text("#trouble")
-    assert "kept.dmf.json”, and open the address" in said and "Each step is in kept.dmf.json." in said
+    assert (
+        "kept.dmf.json”, and open the address" in said and "Each step is in kept.dmf.json." in said
+    )
     capacity = driver.find_element("id", "capacity")
-    assert (capacity.get_attribute("value"), capacity.is_enabled(), capacity.get_attribute("readonly")) == ("47.3", True, "true")
+    assert (
+        capacity.get_attribute("value"),
+        capacity.is_enabled(),
+        capacity.get_attribute("readonly"),
+    ) == ("47.3", True, "true")
     driver.get("about:blank")
 
 
@@ -253,17 +316,30 @@ def test_refused(water: Board) -> None:
     asked: list[tuple[int, str, dict[str, Any]]] = [
         (409, "no scenario is called 'none'", {"what": "scenario-go", "name": "none"}),
         (409, "a scenario needs a name", {"what": "scenario-new", "name": " ", "from": "base"}),
-        (409, "base is the network of the table", {"what": "scenario-new", "name": "base", "from": "base"}),
-        (409, "no scenario is called 'none'", {"what": "scenario-new", "name": "A", "from": "none"}),
+        (
+            409,
+            "base is the network of the table",
+            {"what": "scenario-new", "name": "base", "from": "base"},
+        ),
+        (
+            409,
+            "no scenario is called 'none'",
+            {"what": "scenario-new", "name": "A", "from": "none"},
+        ),
         (409, "is the present scenario", {"what": "scenario-delete", "name": "Pipe"}),
         (409, "look again", {"what": "scenario-go", "name": "first", "turn": 0}),
-        (400, "wanted are the fields", {"what": "scenario-go"}),
+        (400, "expected the fields", {"what": "scenario-go"}),
         (400, "is a text", {"what": "scenario-go", "name": 5}),
     ]
     for status, told, content in asked:
         answer = water.post("do", **content)
         assert answer[0] == status and told in answer[1].decode(), answer
-    for words in "one=base&two=none&first=0&count=9", "one=base&two=first&first=x&count=9", "one=base&two=first&first=0&count=501", "one=base":
+    for words in (
+        "one=base&two=none&first=0&count=9",
+        "one=base&two=first&first=x&count=9",
+        "one=base&two=first&first=0&count=501",
+        "one=base",
+    ):
         assert water.ask(f"{water.root}comparison?{words}")[0] in (400, 409), words
     assert (water.state(), water.told("scenarios")) == (before, scenarios)
 
@@ -272,18 +348,26 @@ def test_names_are_text(tmp_path: Path) -> None:
     """A scenario of any name is gone to, compared, and drawn."""
     odd = 'say "no"\n<svg onload=alert(1)> & \\'
     desk = water_project(tmp_path)
-    desk.new(odd)
+    project_of(desk).new(odd)
     desk.close(named(desk, "Bridge pipe"))
     desk.end()
-    with board(desk.file.path) as it:
+    with board(project_of(desk).file.path) as it:
         from urllib.parse import quote
 
         words = f"one=base&two={quote(odd)}"
-        assert [row["arc"].partition(",")[0] for row in it.told(f"comparison?{words}&first=0&count=9")["rows"]][-1] == "South main"
+        assert [
+            row["arc"].partition(",")[0]
+            for row in it.told(f"comparison?{words}&first=0&count=9")["rows"]
+        ][-1] == "South main"
         status, sent, svg = it.ask(f"{it.root}difference.svg?{words}&turn={it.turn()}")
         texts = [text.text for text in ElementTree.fromstring(svg.decode()).iter(f"{SVG}text")]
-        assert status == 200 and any("165 and 155 litres per second, 10 less" in str(text) for text in texts), texts
-        assert it.do(what="scenario-go", name="first")["value"] == "165" and it.do(what="scenario-go", name=odd)["value"] == "155"
+        assert status == 200 and any(
+            "165 and 155 litres per second, 10 less" in str(text) for text in texts
+        ), texts
+        assert (
+            it.do(what="scenario-go", name="first")["value"] == "165"
+            and it.do(what="scenario-go", name=odd)["value"] == "155"
+        )
 
 
 def test_no_project(tmp_path: Path) -> None:
@@ -298,24 +382,28 @@ def test_no_project(tmp_path: Path) -> None:
 
 
 def test_read_alone(driver: Any, tmp_path: Path) -> None:
-    """A second board on a project goes between scenarios and compares them, and the page says that nothing is kept."""
+    """A second board on a project goes between scenarios and compares them, and the page says that
+    nothing is kept."""
     desk = flooded(tmp_path)
-    with board(desk.file.path) as it:
+    with board(project_of(desk).file.path) as it:
         page = ScenarioPage(driver, it.address)
         assert "Nothing is kept, since another desk has it open" in page.text("#kept")
         assert page.go("first") == 126
         page.compare("first", "base")
-        assert json.loads(it.post("do", what="scenario-copy", name="A")[1])["error"].startswith("the project is open to be read alone")
+        assert json.loads(it.post("do", what="scenario-copy", name="A")[1])["error"].startswith(
+            "the project is open to be read alone"
+        )
         driver.get("about:blank")
-    assert [scenario.name for scenario in desk.project.scenarios] == ["first", "dry"]
+    assert [scenario.name for scenario in project_of(desk).project.scenarios] == ["first", "dry"]
     desk.end()
-    again = project_desk(desk.file.path)
-    assert again.scenario.name == "dry"
+    again = project_desk(project_of(desk).file.path)
+    assert project_of(again).scenario.name == "dry"
     again.end()
 
 
 def test_report(water: Board, tmp_path: Path) -> None:
-    """The report of the page is that of the terminal; it needs the present turn, and leaves the desk where it was."""
+    """The report of the page is that of the terminal; it needs the present turn, and leaves the
+    desk where it was."""
     before = water.state()
     status, sent, page = water.ask(f"{water.root}report.html?turn={before['turn']}")
     assert status == 200 and "attachment" in sent["Content-Disposition"] and water.state() == before
@@ -326,24 +414,39 @@ def test_report(water: Board, tmp_path: Path) -> None:
 
 
 def test_it_fits(driver: Any, water: Board, writes: bool) -> None:
-    """On a wide screen, a narrower one and a phone, in light and dark, a comparison is no wider than the page, and its letters can be read. The
-    picture for the documents is made at least, and with --write put."""
-    heights = "return [...document.querySelectorAll('#compare-picture text')].filter((it) => it.checkVisibility()).map((it) => "
+    """On a wide screen, a narrower one and a phone, in light and dark, a comparison is no wider
+    than the page, and its letters can be read. The picture for the documents is made at least, and
+    with --write put."""
+    heights = (
+        "return [...document.querySelectorAll('#compare-picture text')].filter((it) => "
+        "it.checkVisibility()).map((it) => "
+    )
     heights += "Number(getComputedStyle(it).fontSize.slice(0, -2)) * it.getScreenCTM().a)"
     page = ScenarioPage(driver, water.address)
     for width, scheme in product((400, 768, 1280, 1600), ("dark", "light")):
-        driver.execute_cdp_cmd("Emulation.setEmulatedMedia", {"features": [{"name": "prefers-color-scheme", "value": scheme}]})
-        driver.execute_cdp_cmd("Emulation.setDeviceMetricsOverride", {"width": width, "height": 1000, "deviceScaleFactor": 1, "mobile": False})
+        driver.execute_cdp_cmd(
+            "Emulation.setEmulatedMedia",
+            {"features": [{"name": "prefers-color-scheme", "value": scheme}]},
+        )
+        driver.execute_cdp_cmd(
+            "Emulation.setDeviceMetricsOverride",
+            {"width": width, "height": 1000, "deviceScaleFactor": 1, "mobile": False},
+        )
         page.compare("first", "Pipe")
         page.settle()
-        seen, wide = driver.execute_script("return [document.documentElement.clientWidth, document.documentElement.scrollWidth]")
+        seen, wide = driver.execute_script(
+            "return [document.documentElement.clientWidth, document.documentElement.scrollWidth]"
+        )
         assert seen == wide
         assert min(driver.execute_script(heights)) >= 11
     left, top, wide, high = driver.execute_script(
-        "const it = document.getElementById('compared-shown').getBoundingClientRect(); return [it.left, it.top + scrollY, it.width, it.height]"
+        "const it = document.getElementById('compared-shown').getBoundingClientRect(); return "
+        "[it.left, it.top + scrollY, it.width, it.height]"
     )
     clip = {"x": left - 8, "y": top - 8, "width": wide + 16, "height": high + 16, "scale": 0.8}
-    picture = driver.execute_cdp_cmd("Page.captureScreenshot", {"clip": clip, "captureBeyondViewport": True})["data"]
+    picture = driver.execute_cdp_cmd(
+        "Page.captureScreenshot", {"clip": clip, "captureBeyondViewport": True}
+    )["data"]
     assert base64.b64decode(picture)[:4] == b"\x89PNG"
     if writes:
         (ROOT / "docs/pictures/compared.png").write_bytes(base64.b64decode(picture))

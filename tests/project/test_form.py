@@ -12,8 +12,8 @@ from typing import Any
 import pytest
 from desk_shared import ROOT
 from dmf.desk.project import acts
-from dmf.desk.project.storage import opened
 from dmf.desk.project.schema import REQUESTS, parse_project, text_of
+from dmf.desk.project.storage import opened
 from project_files import a_project, made_project, refused
 
 
@@ -34,7 +34,7 @@ def changed(path: str, change: Callable[[dict[str, Any]], object]) -> str:
 def test_read_back(path: str) -> None:
     assert parse_project(text_of(a_project())) == a_project()
     read = opened(path)
-    assert read.project == a_project() and not read.why_not
+    assert read.record.project == a_project() and not read.why_not
     read.end()
     assert os.listdir(os.path.dirname(path)) == ["water.dmf.json"]
 
@@ -47,7 +47,9 @@ def test_half_a_file(path: str) -> None:
         half.write_bytes(text[:end])
         told = refused(str(half))
         line = text[:end].count(b"\n") + 1
-        assert re.match(rf"{re.escape(str(half))}: (line {line}, column \d+: |byte \d+ is no UTF-8)", told), (end, told)
+        assert re.match(
+            rf"{re.escape(str(half))}: (line {line}, column \d+: |byte \d+ is not UTF-8)", told
+        ), (end, told)
         assert half.read_bytes() == text[:end]
     assert not [it for it in os.listdir(os.path.dirname(path)) if "journal" in it]
 
@@ -55,31 +57,56 @@ def test_half_a_file(path: str) -> None:
 @pytest.mark.parametrize(
     "change, told",
     [
-        (lambda it: it.update({"dmf project": 2}), "it is a project of version 2, and this dmf reads version 1; a newer dmf wrote it"),
+        (
+            lambda it: it.update({"dmf project": 2}),
+            "it is a project of version 2, and this dmf reads version 1; a newer dmf wrote it",
+        ),
         (lambda it: it.update({"more": 1}), "more is nothing that a project of version 1 has"),
         (lambda it: it.pop("network"), "network is missing"),
         (lambda it: it.update(serial=-1), "serial is -1, and not from 0 to any number"),
         (lambda it: it.update(serial=1.0), "serial is a number, and not a whole number"),
         (lambda it: it["table"].update(sheet=None), "table.sheet is nothing, and not a text"),
-        (lambda it: it["table"]["options"].update(tails="x"), "table.options.tails is nothing that a project of version 1 has"),
-        (lambda it: it["table"]["places"].update(x={}), "table.places.x is none of sources, sinks, node_limits, place_table"),
-        (lambda it: it["table"].update(assumed=[1]), "table.assumed[0] is a whole number, and not a text"),
+        (
+            lambda it: it["table"]["options"].update(tails="x"),
+            "table.options.tails is nothing that a project of version 1 has",
+        ),
+        (
+            lambda it: it["table"]["places"].update(x={}),
+            "table.places.x is none of sources, sinks, node_limits, place_table",
+        ),
+        (
+            lambda it: it["table"].update(assumed=[1]),
+            "table.assumed[0] is a whole number, and not a text",
+        ),
         (lambda it: it["positions"].update(Mill=[1]), "positions['Mill'] is not two numbers"),
-        (lambda it: it.update(present="nobody"), "present is 'nobody', and no scenario has that name"),
-        (lambda it: it["scenarios"][1].update(name="first"), "scenarios[1].name is 'first', as that of another scenario"),
+        (
+            lambda it: it.update(present="nobody"),
+            "present is 'nobody', and no scenario has that name",
+        ),
+        (
+            lambda it: it["scenarios"][1].update(name="first"),
+            "scenarios[1].name is 'first', as that of another scenario",
+        ),
         (lambda it: it["scenarios"][0].update(at=3), "scenarios[0].at is 3, and not from 0 to 2"),
-        (lambda it: it["scenarios"][0].update(inherited=2), "scenarios[0].inherited is 2, and not from 0 to 1"),
-        (lambda it: it["scenarios"][0]["steps"][1].update(value="-1"), "scenarios[0].steps[1].value is '-1', and no number from 0 on"),
+        (
+            lambda it: it["scenarios"][0].update(inherited=2),
+            "scenarios[0].inherited is 2, and not from 0 to 1",
+        ),
+        (
+            lambda it: it["scenarios"][0]["steps"][1].update(value="-1"),
+            "scenarios[0].steps[1].value is '-1', and no number from 0 on",
+        ),
         (
             lambda it: it["scenarios"][0]["steps"][1]["requests"].append(["burn", "Mill"]),
-            "scenarios[0].steps[1].requests[4] is none of close, open, cap, add, shut with what follows it",
+            "scenarios[0].steps[1].requests[4] is none of close, open, cap, add, shut with what "
+            "follows it",
         ),
         (
             lambda it: it["scenarios"][0]["steps"][0]["requests"].append(["close", ["Mill"]]),
-            'scenarios[0].steps[0].requests[4] has ["Mill"], which is no arc',
+            'scenarios[0].steps[0].requests[4] has ["Mill"], which is not a valid arc',
         ),
     ],
-)  # fmt: skip
+)
 def test_strictly(path: str, change: Callable[[dict[str, Any]], object], told: str) -> None:
     other = changed(path, change)
     assert refused(other) == f"{other}: {told}"
@@ -92,10 +119,16 @@ def test_twice(path: str) -> None:
 
 
 def test_documented() -> None:
-    """docs/FORMATS.md names each key of a project, each request and each act."""
-    page = (ROOT / "docs/FORMATS.md").read_text()
-    section = page[page.index("## Projects") : page.index("## Session commands")]
+    """docs/PROJECTS.md names each key of a project, each request and each act."""
+    page = (ROOT / "docs/PROJECTS.md").read_text()
+    section = page[page.index("## Projects") : page.index("## Answers in JSON")]
     content = json.loads(text_of(a_project()))
-    keys = {*content, *content["table"], *content["scenarios"][0], *content["scenarios"][0]["steps"][0], *acts._ACTS}
+    keys = {
+        *content,
+        *content["table"],
+        *content["scenarios"][0],
+        *content["scenarios"][0]["steps"][0],
+        *acts._ACTS,
+    }
     assert not [key for key in keys if f"`{key}`" not in section]
     assert not [word for word in REQUESTS if f'["{word}"' not in section]

@@ -1,4 +1,5 @@
-"""A scripted session on a project that is killed at 200 random moments: of what it was told to do, nothing is missing but the step in hand."""
+"""A scripted session on a project that is killed at 200 random moments: of what it was told to do,
+nothing is missing but the step in hand."""
 
 from __future__ import annotations
 
@@ -12,19 +13,22 @@ from pathlib import Path
 import pytest
 from desk_shared import greatest, water
 from dmf.desk.plan.shell import Shell
-from dmf.desk.project.storage import opened
-from dmf.desk.project.schema import Project
 from dmf.desk.project.opener import project_desk
+from dmf.desk.project.scenarios import project_of
+from dmf.desk.project.schema import Project
+from dmf.desk.project.storage import opened
 from project_shared import water_project
 
 KILLS = 200
-# How many commands a session is told; how long after a line that it told it is killed at most, and after its begin, in seconds.
+# How many commands a session is told; how long after a line that it told it is killed at most, and
+# after its begin, in seconds.
 COMMANDS, AFTER_LINE, AFTER_BEGIN = 12, 0.01, 0.3
 PIPES = [pipe.name for pipe in water()]
 
 
 class Model:
-    """What a project has, by the commands alone: by scenario, the capacities that were given and how many of these stand."""
+    """What a project has, by the commands alone: by scenario, the capacities that were given and
+    how many of these stand."""
 
     def __init__(self) -> None:
         self.scenarios: dict[str, tuple[list[tuple[str, int]], int]] = {"first": ([], 0)}
@@ -38,7 +42,10 @@ class Model:
         word, *rest = command.split(" ")
         given, at = self.scenarios[self.present]
         if word == "cap":
-            self.scenarios[self.present] = [*given[:at], (command[5 : command.rindex('"')], int(rest[-1]))], at + 1
+            self.scenarios[self.present] = [
+                *given[:at],
+                (command[5 : command.rindex('"')], int(rest[-1])),
+            ], at + 1
         elif word in ("undo", "redo"):
             self.scenarios[self.present] = given, at + (1 if word == "redo" else -1)
         else:
@@ -48,8 +55,12 @@ class Model:
     def is_of(self, project: Project) -> bool:
         """Whether a project has just this."""
         found = {
-            it.name: ([(step.requests[0][1][2], int(step.requests[0][2])) for step in it.steps], it.at) for it in project.scenarios
-        }  # fmt: skip
+            it.name: (
+                [(step.requests[0][1][2], int(step.requests[0][2])) for step in it.steps],
+                it.at,
+            )
+            for it in project.scenarios
+        }
         return (found, project.present) == (self.scenarios, self.present)
 
 
@@ -57,12 +68,15 @@ def command(chance: random.Random, model: Model) -> str:
     """A command that is not refused."""
     others = [name for name in model.scenarios if name != model.present]
     found = [f'cap "{chance.choice(PIPES)}" {chance.randrange(100)}'] * 4 + ["undo", "redo"]
-    found += [f"scenario go {name}" for name in others[:1]] + [f"scenario new s{len(model.scenarios)}"] * (len(model.scenarios) < 9)
+    found += [f"scenario go {name}" for name in others[:1]] + [
+        f"scenario new s{len(model.scenarios)}"
+    ] * (len(model.scenarios) < 9)
     return chance.choice([it for it in found if model.can(it)])
 
 
 def session(path: str, commands: list[str]) -> tuple[int, int]:
-    """A process that opens a project and carries out commands, and where it tells a line after each."""
+    """A process that opens a project and carries out commands, and where it tells a line after
+    each."""
     reading, writing = os.pipe()
     pid = os.fork()
     if pid:
@@ -98,7 +112,7 @@ def killed(path: str, commands: list[str], lines: int, after: float) -> int:
 @pytest.mark.seconds(40)
 def test_killed_at_random(tmp_path: Path) -> None:
     desk = water_project(tmp_path)
-    path = desk.file.path
+    path = project_of(desk).file.path
     desk.end()
     chance, model, done, cut_short = random.Random(7), Model(), 0, 0
     for kill in range(KILLS):
@@ -108,15 +122,30 @@ def test_killed_at_random(tmp_path: Path) -> None:
             states.append(copy.deepcopy(states[-1]))
             states[-1].do(commands[-1])
         lines = chance.randrange(COMMANDS)
-        told = killed(path, commands, lines, chance.uniform(0, AFTER_LINE if lines else AFTER_BEGIN))
+        told = killed(
+            path, commands, lines, chance.uniform(0, AFTER_LINE if lines else AFTER_BEGIN)
+        )
         assert told >= lines
         file = opened(path)
         assert not file.why_not
-        kept = [at for at in (told, told + 1) if at < len(states) and states[at].is_of(file.project)]
-        assert kept, f"kill {kill}: {told} of {commands} were told, and the project has {file.project.scenarios}"
+        kept = [
+            at
+            for at in (told, told + 1)
+            if at < len(states) and states[at].is_of(file.record.project)
+        ]
+        assert kept, (
+            f"kill {kill}: {told} of {commands} were told, and the project has "
+            f"{file.record.project.scenarios}"
+        )
         file.end()
-        model, done, cut_short = states[kept[-1]], done + kept[-1], cut_short + (0 < kept[-1] < COMMANDS)
-    assert cut_short > KILLS // 10 and done > KILLS, f"{cut_short} sessions were killed between two commands, {done} commands done"
+        model, done, cut_short = (
+            states[kept[-1]],
+            done + kept[-1],
+            cut_short + (0 < kept[-1] < COMMANDS),
+        )
+    assert (
+        cut_short > KILLS // 10 and done > KILLS
+    ), f"{cut_short} sessions were killed between two commands, {done} commands done"
     values(path, model)
 
 
@@ -124,8 +153,10 @@ def values(path: str, model: Model) -> None:
     """Opened again, each scenario has the value that all sets of places give."""
     desk = project_desk(path)
     for name, (given, at) in model.scenarios.items():
-        desk.go(name)
+        project_of(desk).go(name)
         capacities = dict(given[:at])
-        assert desk.value == greatest([pipe._replace(capacity=capacities.get(pipe.name, pipe.capacity)) for pipe in water()]), name
+        assert desk.value == greatest(
+            [pipe._replace(capacity=capacities.get(pipe.name, pipe.capacity)) for pipe in water()]
+        ), name
     assert not desk.news
     desk.end()

@@ -1,5 +1,5 @@
-"""Projects as they come from disk, with anything in place of what they should have: opened, or refused with the place. What is refused
-stays as it is, each byte of it."""
+"""Projects as they come from disk, with anything in place of what they should have: opened, or
+refused with the place. What is refused stays as it is, each byte of it."""
 
 from __future__ import annotations
 
@@ -14,18 +14,57 @@ from typing import Any
 import dmf
 import pytest
 from desk_shared import run
+from dmf.desk.project.scenarios import project_of
 from dmf.desk.project.storage import journal_of, opened
 from project_files import begun, left, made_project
 from project_shared import named, water_project
 
 pytestmark = pytest.mark.usefixtures("by_library")
-# What stands in place of something, as JSON: of other types, past bounds, of letters that no file has, and of names that exist.
+# What stands in place of something, as JSON: of other types, past bounds, of letters that no file
+# has, and of names that exist.
 ODD: list[str] = [
-    "null", "true", "-1", "0", "7", "1.5", "1e400", "-1e999", "9" * 5_000, "1" + "0" * 400, "NaN", '""', '"x"', '"1e50"', f'"0.{"0" * 51}1"', '"-1"',
-    '"1_0"', '" 1"', '"\u0661"', '"Infinity"', f'"{"9" * 5_000}"', '"1e-400000000"', '"\\ud800"', '"\\udfff"', '"\\u0000"', '"."', '"/"', '"/dev/zero"',
-    '"fifo"', '"base"', '"first"', "[]", "{}", '["x"]', '{"x": 1}', "[[]]", '["close", ["Mill", "Market", "Mill Lane"]]', '["cap", ["supply", "Mill"], "1"]',
-    '"p max 2 5\\nn 1 s\\nn 2 t\\na 1 2 3\\n"', '"p max 2 1\\nn 1 s\\nn 2 t\\na 1 2 3\\n"', '"p max 2 1\\nn 1 s\\nn 2 t\\na 1 2 18446744073709551615\\n"',
-]  # fmt: skip
+    "null",
+    "true",
+    "-1",
+    "0",
+    "7",
+    "1.5",
+    "1e400",
+    "-1e999",
+    "9" * 5_000,
+    "1" + "0" * 400,
+    "NaN",
+    '""',
+    '"x"',
+    '"1e50"',
+    f'"0.{"0" * 51}1"',
+    '"-1"',
+    '"1_0"',
+    '" 1"',
+    '"\u0661"',
+    '"Infinity"',
+    f'"{"9" * 5_000}"',
+    '"1e-400000000"',
+    '"\\ud800"',
+    '"\\udfff"',
+    '"\\u0000"',
+    '"."',
+    '"/"',
+    '"/dev/zero"',
+    '"fifo"',
+    '"base"',
+    '"first"',
+    "[]",
+    "{}",
+    '["x"]',
+    '{"x": 1}',
+    "[[]]",
+    '["close", ["Mill", "Market", "Mill Lane"]]',
+    '["cap", ["supply", "Mill"], "1"]',
+    '"p max 2 5\\nn 1 s\\nn 2 t\\na 1 2 3\\n"',
+    '"p max 2 1\\nn 1 s\\nn 2 t\\na 1 2 3\\n"',
+    '"p max 2 1\\nn 1 s\\nn 2 t\\na 1 2 18446744073709551615\\n"',
+]
 HOLE = "\0hole\0"
 GATE, LONG = 1_200, 40_000
 
@@ -37,13 +76,13 @@ def made(tmp_path_factory: pytest.TempPathFactory) -> Path:
     desk = water_project(folder)
     desk.close(named(desk, "Bridge pipe"))
     desk.cap(named(desk, "Mill Lane"), 60)
-    desk.shut(desk.names.place("North Tower"))
-    desk.add(desk.names.place("Mill"), desk.names.place("Station"), 25, "New")
+    desk.shut(desk.network.names.place("North Tower"))
+    desk.add(desk.network.names.place("Mill"), desk.network.names.place("Station"), 25, "New")
     desk.open(named(desk, "Bridge pipe"))
     desk.undo()
-    desk.note("why")
-    desk.take_positions({"Mill": (1.5, 2.0)})
-    desk.new("Flood", "first")
+    project_of(desk).note("why")
+    project_of(desk).take_positions({"Mill": (1.5, 2.0)})
+    project_of(desk).new("Flood", "first")
     desk.close(named(desk, "Mill Lane"))
     desk.end()
     os.mkfifo(folder / "fifo")
@@ -52,7 +91,13 @@ def made(tmp_path_factory: pytest.TempPathFactory) -> Path:
 
 def places(content: Any) -> Iterator[tuple[Any, Any]]:
     """Yield each list and each object of a content in JSON, with each key in it."""
-    for key in list(content) if isinstance(content, dict) else range(len(content)) if isinstance(content, list) else ():
+    for key in (
+        list(content)
+        if isinstance(content, dict)
+        else range(len(content))
+        if isinstance(content, list)
+        else ()
+    ):
         yield content, key
         yield from places(content[key])
 
@@ -76,13 +121,18 @@ def files(folder: Path) -> dict[str, bytes]:
 
 
 def judge(path: Path) -> bool:
-    """Open a project. It opens, and again afterwards; or it is refused in a line that begins with its path, and stays as it is."""
+    """Open a project. It opens, and again afterwards; or it is refused in a line that begins with
+    its path, and stays as it is."""
     before = files(path.parent)
     try:
         project = dmf.open_project(path)
     except dmf.ProjectFault as fault:
         told = str(fault)
-        assert told.startswith((f"{path}: ", f"{journal_of(str(path))}: ")) and "\n" not in told and told.isprintable(), told
+        assert (
+            told.startswith((f"{path}: ", f"{journal_of(str(path))}: "))
+            and "\n" not in told
+            and told.isprintable()
+        ), told
         assert files(path.parent) == before
         return False
 
@@ -111,7 +161,9 @@ def test_mutants(made: Path, tmp_path: Path, batch: int, request: pytest.Fixture
         (folder / "kept.dmf.json").write_bytes(given)
         if number % 2:
             # The table is another one now, and so is read again.
-            (folder / "pipes.csv").write_text((made / "pipes.csv").read_text().replace("Mill Lane", "Mill Way"))
+            (folder / "pipes.csv").write_text(
+                (made / "pipes.csv").read_text().replace("Mill Lane", "Mill Way")
+            )
         try:
             refused += not judge(folder / "kept.dmf.json")
         except BaseException:
@@ -131,7 +183,7 @@ def test_mutants_of_journals(made: Path, tmp_path: Path, request: pytest.Fixture
     project.undo()
     project.new("third")
     project.note("why")
-    left(project._desk.file)
+    left(project_of(project._desk).file)
     lines = (tmp_path / "killed/kept.dmf.journal").read_bytes().splitlines()
     for number in range(count):
         folder = tmp_path / str(number)
@@ -140,17 +192,31 @@ def test_mutants_of_journals(made: Path, tmp_path: Path, request: pytest.Fixture
         for name in "pipes.csv", "kept.dmf.json":
             shutil.copy(tmp_path / "killed" / name, folder)
         at = random.randrange(len(lines))
-        (folder / "kept.dmf.journal").write_bytes(b"".join(it + b"\n" for it in [*lines[:at], mutant(lines[at], random), *lines[at + 1 :]]))
+        (folder / "kept.dmf.journal").write_bytes(
+            b"".join(
+                it + b"\n" for it in [*lines[:at], mutant(lines[at], random), *lines[at + 1 :]]
+            )
+        )
         refused += not judge(folder / "kept.dmf.json")
         shutil.rmtree(folder)
     assert count / 2 < refused < count
 
 
 @pytest.mark.parametrize(
-    "text", [b"my own notes", b"my own notes\n", b'{"dmf journal": 1, "id": "other"', b'{"dmf journal": 1, "id": "ab", "after": x', b"{", b"\n", b"{}\n"]
+    "text",
+    [
+        b"my own notes",
+        b"my own notes\n",
+        b'{"dmf journal": 1, "id": "other"',
+        b'{"dmf journal": 1, "id": "ab", "after": x',
+        b"{",
+        b"\n",
+        b"{}\n",
+    ],
 )
 def test_no_journal(tmp_path: Path, text: bytes) -> None:
-    """A file that is not a journal is never written, and where it may be the beginning of one, it is only that."""
+    """A file that is not a journal is never written, and where it may be the beginning of one, it
+    is only that."""
     path = made_project(tmp_path)
     before = Path(path).read_bytes()
     Path(journal_of(path)).write_bytes(text)
@@ -170,7 +236,9 @@ def test_a_journal_that_is_a_link(tmp_path: Path) -> None:
     before = files(tmp_path)
     os.rename(journal_of(path), tmp_path / "elsewhere")
     os.symlink(tmp_path / "elsewhere", journal_of(path))
-    with pytest.raises(dmf.ProjectFault, match="is a link or no file, and so no journal; move it away"):
+    with pytest.raises(
+        dmf.ProjectFault, match="is a link or no file, and so no journal; move it away"
+    ):
         opened(path)
     os.rename(tmp_path / "elsewhere", journal_of(path))
     assert files(tmp_path) == before
@@ -178,15 +246,18 @@ def test_a_journal_that_is_a_link(tmp_path: Path) -> None:
 
 
 def test_pipes(tmp_path: Path) -> None:
-    """A pipe in place of the journal, of the project, and of the table has no end that could be waited for."""
+    """A pipe in place of the journal, of the project, and of the table has no end that could be
+    waited for."""
     path = made_project(tmp_path)
     before = Path(path).read_bytes()
     os.mkfifo(journal_of(path))
-    with pytest.raises(dmf.ProjectFault, match="is a link or no file, and so no journal; move it away"):
+    with pytest.raises(
+        dmf.ProjectFault, match="is a link or no file, and so no journal; move it away"
+    ):
         opened(path)
     os.remove(journal_of(path))
     os.mkfifo(tmp_path / "pipe.dmf.json")
-    with pytest.raises(OSError, match="it is no file"):
+    with pytest.raises(OSError, match="it is not a file"):
         opened(str(tmp_path / "pipe.dmf.json"))
     assert Path(path).read_bytes() == before
     desk = water_project(tmp_path)
@@ -194,20 +265,24 @@ def test_pipes(tmp_path: Path) -> None:
     desk.end()
     os.remove(tmp_path / "pipes.csv")
     os.mkfifo(tmp_path / "pipes.csv")
-    with dmf.open_project(desk.file.path) as project:
+    with dmf.open_project(project_of(desk).file.path) as project:
         assert project.value == 155
-        assert project.news[0].startswith("the table 'pipes.csv' is not read, and the network is as it was kept: ")
+        assert project.news[0].startswith(
+            "the table 'pipes.csv' is not read, and the network is as it was kept: "
+        )
 
 
 def test_nothing_is_written_before_all_is_judged(tmp_path: Path) -> None:
     """A journal with acts, and a network with a fault, which only a session would find."""
     desk = water_project(tmp_path)
     desk.close(named(desk, "Bridge pipe"))
-    left(desk.file)
-    path = Path(desk.file.path)
+    left(project_of(desk).file)
+    path = Path(project_of(desk).file.path)
     path.write_text(path.read_text().replace("p max 9 14", "p max 9 15"))
     before = files(tmp_path)
-    with pytest.raises(dmf.ProjectFault, match=r"^/.*kept.dmf.json: network: line \d+: too few arcs$"):
+    with pytest.raises(
+        dmf.ProjectFault, match=r"^/.*kept.dmf.json: network: line \d+: too few arcs$"
+    ):
         dmf.open_project(path)
     assert files(tmp_path) == before
     os.remove(journal_of(str(path)))
@@ -218,8 +293,12 @@ def test_nothing_is_written_before_all_is_judged(tmp_path: Path) -> None:
 @pytest.mark.parametrize(
     "odd, told",
     [
-        ('"1e50"', 'scenarios[0].steps[1].requests[0] has "1e50", which is no amount'),
-        (f'"0.{"0" * 51}1"', f"scenarios[0].steps[1].requests[0]: with the decimals of 0.{'0' * 51}1 the capacities would be together past"),
+        ('"1e50"', 'scenarios[0].steps[1].requests[0] has "1e50", which is not a valid amount'),
+        (
+            f'"0.{"0" * 51}1"',
+            f"scenarios[0].steps[1].requests[0]: with the decimals of 0.{'0' * 51}1 the capacities "
+            "would be together past",
+        ),
         ('"\\ud800"', "scenarios[0].steps[1].requests[0][2] has half a letter"),
         ("9" * 5_000, "scenarios[0].steps[1].requests[0] has"),
     ],
@@ -230,9 +309,15 @@ def test_statuses(tmp_path: Path, odd: str, told: str) -> None:
     desk.close(named(desk, "Bridge pipe"))
     desk.cap(named(desk, "Mill Lane"), 60)
     desk.end()
-    path = Path(desk.file.path)
-    path.write_text(path.read_text().replace(']], "60"', f']], {odd}').replace('"Mill Lane"], "60"]', f'"Mill Lane"], {odd}]'))
+    path = Path(project_of(desk).file.path)
+    path.write_text(
+        path.read_text()
+        .replace(']], "60"', f"]], {odd}")
+        .replace('"Mill Lane"], "60"]', f'"Mill Lane"], {odd}]')
+    )
     before = files(tmp_path)
     ran = run("dmf-plan", str(path), typed="limit\n")
-    assert ran.stderr.startswith(f"dmf-plan: {path}: {told}") and ran.stderr.count("\n") == 1, ran.stderr
+    assert (
+        ran.stderr.startswith(f"dmf-plan: {path}: {told}") and ran.stderr.count("\n") == 1
+    ), ran.stderr
     assert (ran.returncode, ran.stdout, files(tmp_path)) == (3, "", before)

@@ -1,5 +1,5 @@
-"""Reports: the numbers of the stories, as a second computation gives them; one file that needs no other, in which names are text; and that it
-fits a screen, a phone and a sheet of A4."""
+"""Reports: the numbers of the stories, as a second computation gives them; one file that needs no
+other, in which names are text; and that it fits a screen, a phone and a sheet of A4."""
 
 from __future__ import annotations
 
@@ -16,18 +16,18 @@ from xml.etree import ElementTree
 import dmf
 import pytest
 from desk_shared import ODD, PIPES, ROOT, STORY, desk_of, run, swept, water, water_problem, without
-from dmf.desk.workspace import Desk
-from dmf.desk.steps import DeskFault
 from dmf.desk.project import report as project_findings
-from dmf.desk.project.report import checked, findings
-from dmf.desk.project.report import report
-from project_shared import named, new_project, supply_project, water_project
+from dmf.desk.project.report import checked, findings, report
+from dmf.desk.project.scenarios import project_of
+from dmf.desk.steps import DeskFault
+from dmf.desk.workspace import Desk
 from packages import load
-
+from project_shared import named, new_project, supply_project, water_project
 
 
 class Page(HTMLParser):
-    """What a page has: the cells of each row of its tables, its headings, what it takes from elsewhere, and its pictures."""
+    """What a page has: the cells of each row of its tables, its headings, what it takes from
+    elsewhere, and its pictures."""
 
     def __init__(self, text: str) -> None:
         super().__init__()
@@ -37,11 +37,19 @@ class Page(HTMLParser):
         self.text, self.tags = "", set[str]()
         self._into: list[str] | None = None
         self.feed(text)
-        self.pictures = [base64.b64decode(it.partition(",")[2]).decode() for it in self.taken if it.startswith("data:image/svg+xml;base64,")]
+        self.pictures = [
+            base64.b64decode(it.partition(",")[2]).decode()
+            for it in self.taken
+            if it.startswith("data:image/svg+xml;base64,")
+        ]
 
     def handle_starttag(self, tag: str, attrs: list[tuple[str, str | None]]) -> None:
         self.tags.add(tag)
-        self.taken += [value or "" for name, value in attrs if name in ("src", "href", "srcset", "action", "data")]
+        self.taken += [
+            value or ""
+            for name, value in attrs
+            if name in ("src", "href", "srcset", "action", "data")
+        ]
         if tag == "tr":
             self.rows.append([])
         if tag in ("td", "th", "h2"):
@@ -59,32 +67,58 @@ class Page(HTMLParser):
 
 
 def test_water(tmp_path: Path) -> None:
-    """The values of the story, the limits that its page names, and the losses and gains of trying all sets of places."""
+    """The values of the story, the limits that its page names, and the losses and gains of trying
+    all sets of places."""
     desk = water_project(tmp_path)
-    desk.rename("no bridge")
+    project_of(desk).rename("no bridge")
     desk.close(named(desk, "Bridge pipe"))
-    desk.new("new pipe")
-    desk.add(desk.names.place("Mill"), desk.names.place("Station"), 25, "New")
-    desk.new("today")
+    project_of(desk).new("new pipe")
+    desk.add(desk.network.names.place("Mill"), desk.network.names.place("Station"), 25, "New")
+    project_of(desk).new("today")
     page = Page(report(desk))
     assert [row for row in page.rows if row[0] in ("base", "no bridge", "new pipe", "today")] == [
-        ["base", "165", "", "0"], ["no bridge", "155", "10 less", "1"], ["new pipe", "180", "15 more", "1"], ["today", "165", "no change", "0"],
-    ]  # fmt: skip
+        ["base", "165", "", "0"],
+        ["no bridge", "155", "10 less", "1"],
+        ["new pipe", "180", "15 more", "1"],
+        ["today", "165", "no change", "0"],
+    ]
     assert {165, 155, 180} <= set(STORY)
     for arcs in (
-        {"North rise": "60", "Mill Lane": "45", "South main": "60"}, {"North rise": "60", "South rise": "50", "Mill Lane": "45"},
+        {"North rise": "60", "Mill Lane": "45", "South main": "60"},
+        {"North rise": "60", "South rise": "50", "Mill Lane": "45"},
         {"North rise": "60", "Mill pipe": "40", "Canal pipe": "30", "South rise": "50"},
-    ):  # fmt: skip
-        assert any({row[0].partition(",")[0]: row[1] for row in rows if len(row) == 2} == arcs for rows in limits(page)), arcs
+    ):
+        assert any(
+            {row[0].partition(",")[0]: row[1] for row in rows if len(row) == 2} == arcs
+            for rows in limits(page)
+        ), arcs
     wanted = swept()
-    tried = {(row[0].partition(",")[0], row[1], row[2]) for row in page.rows if len(row) == 3 and row[0] not in ("closed", "", "with a second one beside it")}
-    losses = {(name, str(165 - closed), str(closed)) for name, (closed, _) in wanted.items() if closed < 165}
-    gains = {(name, str(doubled - 165), str(doubled)) for name, (_, doubled) in wanted.items() if doubled > 165}
+    tried = {
+        (row[0].partition(",")[0], row[1], row[2])
+        for row in page.rows
+        if len(row) == 3 and row[0] not in ("closed", "", "with a second one beside it")
+    }
+    losses = {
+        (name, str(165 - closed), str(closed))
+        for name, (closed, _) in wanted.items()
+        if closed < 165
+    }
+    gains = {
+        (name, str(doubled - 165), str(doubled))
+        for name, (_, doubled) in wanted.items()
+        if doubled > 165
+    }
     assert losses | gains == {it for it in tried if it[1].isdigit()}
     assert [*map(str, re.findall("c greatest ([0-9]+)", page.text))] == ["165", "155", "180", "165"]
-    assert len(page.pictures) == 4 and all(ElementTree.fromstring(it).tag.endswith("svg") for it in page.pictures)
-    assert "Bridge pipe" in page.pictures[1] and "closed" in page.pictures[1] and "New" in page.pictures[2]
-    assert (desk.scenario.name, desk.value) == ("today", 165)
+    assert len(page.pictures) == 4 and all(
+        ElementTree.fromstring(it).tag.endswith("svg") for it in page.pictures
+    )
+    assert (
+        "Bridge pipe" in page.pictures[1]
+        and "closed" in page.pictures[1]
+        and "New" in page.pictures[2]
+    )
+    assert (project_of(desk).scenario.name, desk.value) == ("today", 165)
     desk.end()
 
 
@@ -100,18 +134,26 @@ def limits(page: Page) -> list[list[list[str]]]:
 
 
 def test_alone(tmp_path: Path) -> None:
-    """It takes nothing from elsewhere, and has no script; names and notes are text, whatever they have."""
+    """It takes nothing from elsewhere, and has no script; names and notes are text, whatever they
+    have."""
     quoted = ODD.replace('"', '""')
-    (tmp_path / "odd.csv").write_text(f'from,to,capacity,name\n"{quoted}",b,5,"{quoted}"\nb,c,4,x\n')
+    (tmp_path / "odd.csv").write_text(
+        f'from,to,capacity,name\n"{quoted}",b,5,"{quoted}"\nb,c,4,x\n'
+    )
     desk = new_project(tmp_path, "odd.csv")
-    desk.rename("</h2><script>" + ODD)
-    desk.note(ODD + "\nline two")
+    project_of(desk).rename("</h2><script>" + ODD)
+    project_of(desk).note(ODD + "\nline two")
     desk.close(1)
     desk.undo()
     desk.cap(2, 3)
     page = Page(report(desk))
     assert str(tmp_path) not in page.text
-    assert all(it.startswith("data:") for it in page.taken) and not page.tags & {"script", "link", "iframe", "b"}
+    assert all(it.startswith("data:") for it in page.taken) and not page.tags & {
+        "script",
+        "link",
+        "iframe",
+        "b",
+    }
     assert "</h2><script>" + ODD in page.headings and ODD + "\nline two" in page.text
     desk.end()
 
@@ -120,13 +162,16 @@ def test_without_graphviz(tmp_path: Path, monkeypatch: pytest.MonkeyPatch) -> No
     desk = water_project(tmp_path)
     monkeypatch.setenv("PATH", str(tmp_path))
     page = Page(report(desk))
-    assert not page.pictures and page.text.count("There is no picture: Graphviz is not there") == 2
+    assert (
+        not page.pictures
+        and page.text.count("There is no picture: Graphviz, which draws it, is not installed") == 2
+    )
     desk.end()
 
 
 def test_nothing_can_be_sent(tmp_path: Path) -> None:
     desk = water_project(tmp_path)
-    desk.shut(desk.names.place("Harbour"))
+    desk.shut(desk.network.names.place("Harbour"))
     assert "so nothing can be sent" in Page(report(desk)).text and desk.value == 0
     desk.end()
 
@@ -135,13 +180,21 @@ def test_what_is_not_tried_is_said(tmp_path: Path, monkeypatch: pytest.MonkeyPat
     monkeypatch.setattr(project_findings, "MOST_TRIED", 5)
     desk = water_project(tmp_path)
     found = findings(desk).tried
-    assert found.said == "of 14 arcs only the 3 of the limit were tried, each alone; others may be worse to lose"
-    assert [name.partition(",")[0] for name, _ in found.losses] == ["North rise", "South main", "Mill Lane"]
+    assert (
+        found.said
+        == "of 14 arcs only the 3 of the limit were tried, each alone; others may be worse to lose"
+    )
+    assert [name.partition(",")[0] for name, _ in found.losses] == [
+        "North rise",
+        "South main",
+        "Mill Lane",
+    ]
     desk.end()
 
 
 def test_the_table_has_its_arcs(tmp_path: Path) -> None:
-    """All arcs of the table are counted, also one that was opened again, twice too, and none that was added."""
+    """All arcs of the table are counted, also one that was opened again, twice too, and none that
+    was added."""
     desk = water_project(tmp_path)
     counted = len(water())
     assert findings(desk).arcs == counted
@@ -150,7 +203,7 @@ def test_the_table_has_its_arcs(tmp_path: Path) -> None:
         assert findings(desk).arcs == counted
         desk.open(named(desk, name))
         assert findings(desk).arcs == counted
-    desk.add(desk.names.place("Mill"), desk.names.place("Station"), 25, "New")
+    desk.add(desk.network.names.place("Mill"), desk.network.names.place("Station"), 25, "New")
     desk.close(named(desk, "New"))
     desk.open(named(desk, "New"))
     assert findings(desk).arcs == counted
@@ -171,21 +224,41 @@ def test_the_check_is_one(monkeypatch: pytest.MonkeyPatch) -> None:
 
 
 def test_from_the_terminal_and_from_python(tmp_path: Path) -> None:
-    """The same page but for its date; of a table without a project too, once it is solved; a file that is there is left."""
+    """The same page but for its date; of a table without a project too, once it is solved; a file
+    that is there is left."""
     desk = supply_project(tmp_path)
-    desk.shut(desk.names.place("East Depot"))
+    desk.shut(desk.network.names.place("East Depot"))
     desk.end()
-    ran = run("dmf-plan", desk.file.path, typed=f"notes\nnotes What if the East Depot is flooded?\nreport {tmp_path}/one.html\n")
-    told = ["there are no notes", "notes: What if the East Depot is flooded?", f"written: {tmp_path}/one.html"]
+    ran = run(
+        "dmf-plan",
+        project_of(desk).file.path,
+        typed=f"notes\nnotes What if the East Depot is flooded?\nreport {tmp_path}/one.html\n",
+    )
+    told = [
+        "no notes",
+        "notes: What if the East Depot is flooded?",
+        f"written: {tmp_path}/one.html",
+    ]
     assert (ran.stdout.splitlines(), ran.returncode) == (told, 0)
-    with dmf.open_project(desk.file.path) as project:
+    with dmf.open_project(project_of(desk).file.path) as project:
         project.report(tmp_path / "two.html")
     one, two = ((tmp_path / name).read_text() for name in ("one.html", "two.html"))
     assert one == two and "What if the East Depot is flooded?" in one
-    ran = run("dmf-plan", PIPES, typed=f"report {tmp_path}/three.html\nsolve\nclose Bridge pipe\nsolve\nreport {tmp_path}/three.html\nreport x.txt\n")
-    assert "line 1: the flow is not greatest" in ran.stderr and "line 6: the name of the file ends with one of .html" in ran.stderr
+    ran = run(
+        "dmf-plan",
+        PIPES,
+        typed=f"report {tmp_path}/three.html\nsolve\nclose Bridge pipe\nsolve\nreport "
+        f"{tmp_path}/three.html\nreport x.txt\n",
+    )
+    assert (
+        "line 1: the flow is not greatest" in ran.stderr
+        and "line 6: the name of the file ends with one of .html" in ran.stderr
+    )
     assert f"c greatest {without('Bridge pipe')}" in (tmp_path / "three.html").read_text()
-    assert "is there already" in run("dmf-plan", desk.file.path, typed=f"report {tmp_path}/one.html\n").stderr
+    assert (
+        "already exists"
+        in run("dmf-plan", project_of(desk).file.path, typed=f"report {tmp_path}/one.html\n").stderr
+    )
 
 
 @pytest.fixture(scope="module")
@@ -193,7 +266,13 @@ def driver() -> Iterator[Any]:
     webdriver = load("selenium.webdriver")
     service = load("selenium.webdriver.chrome.service")
     options: Any = webdriver.ChromeOptions()
-    for word in ("--headless=new", "--no-sandbox", "--disable-gpu", "--disable-dev-shm-usage", "--hide-scrollbars"):
+    for word in (
+        "--headless=new",
+        "--no-sandbox",
+        "--disable-gpu",
+        "--disable-dev-shm-usage",
+        "--hide-scrollbars",
+    ):
         options.add_argument(word)
     made = webdriver.Chrome(service=service.Service("/usr/bin/chromedriver"), options=options)
     yield made
@@ -202,34 +281,46 @@ def driver() -> Iterator[Any]:
 
 def shown(driver: Any, path: Path, width: int, scheme: str = "light", height: int = 900) -> None:
     """Shows a page in a window of this size."""
-    driver.execute_cdp_cmd("Emulation.setEmulatedMedia", {"features": [{"name": "prefers-color-scheme", "value": scheme}]})
+    driver.execute_cdp_cmd(
+        "Emulation.setEmulatedMedia",
+        {"features": [{"name": "prefers-color-scheme", "value": scheme}]},
+    )
     size = {"width": width, "height": height, "deviceScaleFactor": 1, "mobile": width < 500}
     driver.execute_cdp_cmd("Emulation.setDeviceMetricsOverride", size)
     driver.get(path.as_uri())
 
 
 def test_it_fits(tmp_path: Path, driver: Any) -> None:
-    """On a wide screen, on a phone, in light and dark, with long names: nothing is wider than the page; and printed, it has pages of A4."""
+    """On a wide screen, on a phone, in light and dark, with long names: nothing is wider than the
+    page; and printed, it has pages of A4."""
     desk = water_project(tmp_path)
-    desk.rename("W" * 200)
-    desk.add(desk.names.place("Mill"), desk.names.place("Station"), 25, "N" * 300)
+    project_of(desk).rename("W" * 200)
+    desk.add(desk.network.names.place("Mill"), desk.network.names.place("Station"), 25, "N" * 300)
     (tmp_path / "report.html").write_text(report(desk))
     desk.end()
     page = tmp_path / "report.html"
     for width in 1280, 768, 400:
         for scheme in "light", "dark":
             shown(driver, page, width, scheme)
-            seen, wide = driver.execute_script("return [document.documentElement.clientWidth, document.documentElement.scrollWidth]")
+            seen, wide = driver.execute_script(
+                "return [document.documentElement.clientWidth, "
+                "document.documentElement.scrollWidth]"
+            )
             assert seen == wide == width
             back = driver.execute_script("return getComputedStyle(document.body).backgroundColor")
             assert (sum(map(int, re.findall("[0-9]+", back))) < 200) == (scheme == "dark")
-    pdf = base64.b64decode(driver.execute_cdp_cmd("Page.printToPDF", {"preferCSSPageSize": True})["data"])
+    pdf = base64.b64decode(
+        driver.execute_cdp_cmd("Page.printToPDF", {"preferCSSPageSize": True})["data"]
+    )
     boxes = re.findall(rb"/MediaBox \[0 0 ([0-9.]+) ([0-9.]+)\]", pdf)
-    assert boxes and all((round(float(width)), round(float(height))) == (595, 842) for width, height in boxes)
+    assert boxes and all(
+        (round(float(width)), round(float(height))) == (595, 842) for width, height in boxes
+    )
 
 
 def test_the_picture_of_the_story(tmp_path: Path, driver: Any, writes: bool) -> None:
-    """The pictures of the water story, on a wide screen and on a phone in the dark, which are made at least, and with --write put."""
+    """The pictures of the water story, on a wide screen and on a phone in the dark, which are made
+    at least, and with --write put."""
     shutil.copy(ROOT / "examples/water/pipes.csv", tmp_path)
     story = (ROOT / "examples/water/today.txt").read_text() + f"report {tmp_path}/report.html\n"
     assert run("dmf-plan", f"{tmp_path}/pipes.csv", "--keep", typed=story).returncode == 0
@@ -240,7 +331,22 @@ def test_the_picture_of_the_story(tmp_path: Path, driver: Any, writes: bool) -> 
         if writes:
             (ROOT / f"docs/pictures/{name}.png").write_bytes(picture)
     printed = tmp_path / "report.pdf"
-    printed.write_bytes(base64.b64decode(driver.execute_cdp_cmd("Page.printToPDF", {"preferCSSPageSize": True})["data"]))
+    printed.write_bytes(
+        base64.b64decode(
+            driver.execute_cdp_cmd("Page.printToPDF", {"preferCSSPageSize": True})["data"]
+        )
+    )
     assert printed.read_bytes().count(b"/Type /Page\n") == 4
     if writes:
-        subprocess.run(["pdftoppm", "-png", "-r", "55", "-singlefile", printed, ROOT / "docs/pictures/report-paper"], check=True)
+        subprocess.run(
+            [
+                "pdftoppm",
+                "-png",
+                "-r",
+                "55",
+                "-singlefile",
+                printed,
+                ROOT / "docs/pictures/report-paper",
+            ],
+            check=True,
+        )

@@ -1,5 +1,6 @@
-"""Networks of tables in Python, also of problems that the desk wrote: they have the table's places and numbers, and no node that is not of
-it, whatever is changed; beside a second computation in exact fractions."""
+"""Networks of tables in Python, also of problems that the desk wrote: they have the table's places
+and numbers, and no node that is not of it, whatever is changed; beside a second computation in
+exact fractions."""
 
 from __future__ import annotations
 
@@ -34,7 +35,9 @@ def opened(path: Path, **more: Any) -> Any:
 
 
 def is_inner(text: str) -> bool:
-    return any(word in text for word in ("all sources", "all sinks", "supply of", "demand of", "limit of"))
+    return any(
+        word in text for word in ("all sources", "all sinks", "supply of", "demand of", "limit of")
+    )
 
 
 def test_a_problem_of_the_desk(saved: Path) -> None:
@@ -44,12 +47,30 @@ def test_a_problem_of_the_desk(saved: Path) -> None:
         assert Fraction(network.solve().value) == town.wanted().value
         cut = network.cut()
         assert (Fraction(cut.capacity), set(cut.side)) == town.wanted()
-        assert sum(Fraction(arc.capacity) for arc in cut.arcs) + sum(Fraction(term.quantity) for term in cut.terms) == town.wanted().value
-        assert sorted(network.nodes) == sorted({place for pipe in town.pipes() for place in pipe[1:3]})
-        assert [(arc.given_key, arc.tail, arc.head, arc.capacity) for arc in network.arcs] == [pipe[:4] for pipe in town.pipes()]
-        assert (network.sources, network.sinks, network.limits) == (town.SOURCES, {town.SINK: town.DEMAND}, {town.LIMITED: town.LIMIT})
+        assert (
+            sum(Fraction(arc.capacity) for arc in cut.arcs)
+            + sum(Fraction(term.quantity) for term in cut.terms)
+            == town.wanted().value
+        )
+        assert sorted(network.nodes) == sorted(
+            {place for pipe in town.pipes() for place in pipe[1:3]}
+        )
+        assert [(arc.given_key, arc.tail, arc.head, arc.capacity) for arc in network.arcs] == [
+            pipe[:4] for pipe in town.pipes()
+        ]
+        assert (network.sources, network.sinks, network.limits) == (
+            town.SOURCES,
+            {town.SINK: town.DEMAND},
+            {town.LIMITED: town.LIMIT},
+        )
         assert (network.unit, network.scale, network.problem()) == ("l/s", "100", saved.read_text())
-        told = [repr(network), network._repr_html_(), str(network.flow().flow_dict()), str(network.frame()) if hasattr(network, "frame") else "", str(cut)]
+        told = [
+            repr(network),
+            network._repr_html_(),
+            str(network.flow().flow_dict()),
+            str(network.frame()) if hasattr(network, "frame") else "",
+            str(cut),
+        ]
         assert not any(map(is_inner, told))
         with pytest.raises(dmf.NoSuchArc):
             network.arc("limit of Uster")
@@ -60,11 +81,21 @@ def test_a_problem_of_the_desk(saved: Path) -> None:
 
 def test_the_command(saved: Path, tmp_path: Path) -> None:
     """`python -m dmf FILE`."""
-    ran = subprocess.run([sys.executable, "-m", "dmf", str(saved)], capture_output=True, text=True, env={"PYTHONPATH": str(Path(dmf.__file__).parents[1])})
+    ran = subprocess.run(
+        [sys.executable, "-m", "dmf", str(saved)],
+        capture_output=True,
+        text=True,
+        env={"PYTHONPATH": str(Path(dmf.__file__).parents[1])},
+    )
     first, *limits = ran.stdout.splitlines()
     value = Fraction(first.split()[0])
-    assert (value, first.partition(" ")[2]) == (town.wanted().value, f"l/s can be sent from Quelle Nord and Quelle S\u00fcd to {town.SINK}")
-    assert sum(Fraction(line.split("  ")[1]) for line in limits) == value and not is_inner(ran.stdout)
+    assert (value, first.partition(" ")[2]) == (
+        town.wanted().value,
+        f"l/s can be sent from Quelle Nord and Quelle S\u00fcd to {town.SINK}",
+    )
+    assert sum(Fraction(line.split("  ")[1]) for line in limits) == value and not is_inner(
+        ran.stdout
+    )
 
 
 def changed(network: Any, table: Made, chance: random.Random) -> Made:
@@ -95,10 +126,13 @@ def table_of(seed: int) -> Made:
 
 @pytest.mark.parametrize("seed", range(24))
 def test_changes(tmp_path: Path, seed: int) -> None:
-    """Each value is right, also where a source without a limit gets wider pipes; and what is written then is read with the same value."""
+    """Each value is right, also where a source without a limit gets wider pipes; and what is
+    written then is read with the same value."""
     chance, table = random.Random(seed), table_of(seed)
     (tmp_path / "t.csv").write_text(table.text("."))
-    (tmp_path / "t.max").write_text(run("dmf-problem", "--decimal", ".", "--table", f"{tmp_path}/t.csv").stdout)
+    (tmp_path / "t.max").write_text(
+        run("dmf-problem", "--decimal", ".", "--table", f"{tmp_path}/t.csv").stdout
+    )
     with opened(tmp_path / "t.max") as read, opened(tmp_path / "t.csv", decimal=".") as network:
         assert read.problem() == (tmp_path / "t.max").read_text() == network.problem()
         for _ in range(8):
@@ -108,42 +142,85 @@ def test_changes(tmp_path: Path, seed: int) -> None:
             assert Fraction(cut.capacity) == table.value()
             assert all(table.said[term.kind, term.place] is not None for term in cut.terms)
         (tmp_path / "again.max").write_text(network.problem())
-        assert not any(type(node).__name__ == "Inner" for arc in network.arcs for node in (arc.tail, arc.head))
+        assert not any(
+            type(node).__name__ == "Inner" for arc in network.arcs for node in (arc.tail, arc.head)
+        )
     with opened(tmp_path / "again.max") as again:
         assert Fraction(again.solve().value) == table.value()
-        assert (again.sources, again.sinks, again.limits) == (network.sources, network.sinks, network.limits)
+        assert (again.sources, again.sinks, again.limits) == (
+            network.sources,
+            network.sinks,
+            network.limits,
+        )
     # In the text a source without a limit carries as much as its pipes, and no more.
     problem = read_problem((tmp_path / "again.max").read_bytes())
     for number, role in problem.described.roles.items():
         if role.is_unlimited:
-            ends = {role.node, *(second for second, first in problem.described.halves.items() if first == role.node)}
+            ends = {
+                role.node,
+                *(
+                    second
+                    for second, first in problem.described.halves.items()
+                    if first == role.node
+                ),
+            }
             side = 0 if role.kind == "supply" else 1
-            beside = [arc[2] for at, arc in enumerate(problem.arcs, 1) if at not in problem.described.roles and arc[side] in ends]
+            beside = [
+                arc[2]
+                for at, arc in enumerate(problem.arcs, 1)
+                if at not in problem.described.roles and arc[side] in ends
+            ]
             assert problem.arcs[number - 1][2] == sum(beside)
 
 
 @pytest.mark.parametrize("seed", [2, 5])
 def test_sweeps(tmp_path: Path, seed: int) -> None:
-    """Commands, also an arc out of a place with a limit, and functions, which get a network of the table; here and in another process."""
+    """Commands, also an arc out of a place with a limit, and functions, which get a network of the
+    table; here and in another process."""
     table = table_of(seed)
     limited = next(iter(place for kind, place in table.said if kind == "limit"))
     sink = next(place for kind, place in table.said if kind == "demand")
     (tmp_path / "t.csv").write_text(table.text("."))
     with opened(tmp_path / "t.csv", decimal=".") as network:
         before = Fraction(network.solve().value)
-        cases: list[Any] = [[("close", "R1")], [("add", limited, sink, "500.5")], [("cap", "R2", 7)], widen, [("cap", "R2", "x")]]
+        cases: list[Any] = [
+            [("close", "R1")],
+            [("add", limited, sink, "500.5")],
+            [("cap", "R2", 7)],
+            widen,
+            [("cap", "R2", "x")],
+        ]
         wanted = [
             table._replace(rows=[row for row in table.rows if row.name != "R1"]),
             table._replace(rows=[*table.rows, Row(limited, sink, Decimal("500.5"), "", "", "")]),
-            table._replace(rows=[row._replace(capacity=Decimal(7)) if row.name == "R2" else row for row in table.rows]),
-            table._replace(rows=[row._replace(capacity=row.capacity + Decimal("250.5")) if row.name == "R0" else row for row in table.rows]),
+            table._replace(
+                rows=[
+                    row._replace(capacity=Decimal(7)) if row.name == "R2" else row
+                    for row in table.rows
+                ]
+            ),
+            table._replace(
+                rows=[
+                    row._replace(capacity=row.capacity + Decimal("250.5"))
+                    if row.name == "R0"
+                    else row
+                    for row in table.rows
+                ]
+            ),
         ]
         for want_cut in False, True:
             found: list[Any] = list(dmf.sweep(network, cases, want_cut=want_cut))
             *results, bad = found
             for result, after in zip(results, wanted):
-                assert (Fraction(result.value), Fraction(result.difference)) == (after.value(), after.value() - before)
-                assert not any(type(node).__name__ == "Inner" for arc in result.cut or () for node in (arc.tail, arc.head))
+                assert (Fraction(result.value), Fraction(result.difference)) == (
+                    after.value(),
+                    after.value() - before,
+                )
+                assert not any(
+                    type(node).__name__ == "Inner"
+                    for arc in result.cut or ()
+                    for node in (arc.tail, arc.head)
+                )
             assert isinstance(bad.refusal, dmf.NotANumber)
         places = {place for kind, place in table.said if kind != "limit"}
         shut = [case.case for case in dmf.sweep(network, dmf.each_node_shut())]
@@ -151,11 +228,17 @@ def test_sweeps(tmp_path: Path, seed: int) -> None:
 
 
 def test_out_of_a_limited_place(tmp_path: Path) -> None:
-    """An arc that a case adds leaves the place behind its limit, also where many cases are sent at once."""
+    """An arc that a case adds leaves the place behind its limit, also where many cases are sent at
+    once."""
     (tmp_path / "t.csv").write_text("from,to,capacity,limit\nA,B,100,\nB,C,1,\nB,,,5\n")
     with opened(tmp_path / "t.csv", source="A", sink="C") as network:
         network.solve()
-        values = [result.value for result in dmf.sweep(network, [[("add", "B", "C", most)] for most in range(200)], jobs=1)]
+        values = [
+            result.value
+            for result in dmf.sweep(
+                network, [[("add", "B", "C", most)] for most in range(200)], jobs=1
+            )
+        ]
     assert values == [min(1 + most, 5) for most in range(200)]
 
 
@@ -178,7 +261,11 @@ def test_more_places(saved: Path) -> None:
         assert (copy.solve().value, copy.nodes, copy.unit) == (value, network.nodes, "l/s")
         copy.end()
         problem = network.problem()
-        assert "Neuer Teich\n" in problem and read_problem(problem.encode()).node_names[read_problem(problem.encode()).node_count] == "Neuer Teich"
+        assert (
+            "Neuer Teich\n" in problem
+            and read_problem(problem.encode()).node_names[read_problem(problem.encode()).node_count]
+            == "Neuer Teich"
+        )
 
 
 def test_a_matrix(saved: Path) -> None:
@@ -189,14 +276,19 @@ def test_a_matrix(saved: Path) -> None:
         assert matrix.shape == (town.PLACES, town.PLACES)
         for tail in range(town.PLACES):
             for head in range(town.PLACES):
-                flows = [flow for arc, flow in solution.items() if (arc.tail, arc.head) == (network.nodes[tail], network.nodes[head])]
+                flows = [
+                    flow
+                    for arc, flow in solution.items()
+                    if (arc.tail, arc.head) == (network.nodes[tail], network.nodes[head])
+                ]
                 assert matrix[tail, head] == float(sum(flows))
         again = pickle.loads(pickle.dumps(solution))
         assert (again.value, list(again.values())) == (solution.value, list(solution.values()))
 
 
 def test_arrays_of_64_bits(tmp_path: Path) -> None:
-    """Whole numbers are exact, one of 64 bits beside a small one too; and pipes side by side are added up before they are floats."""
+    """Whole numbers are exact, one of 64 bits beside a small one too; and pipes side by side are
+    added up before they are floats."""
     for most, kind in (2**63, "u"), (2**62, "i"):
         (tmp_path / "t.csv").write_text(f"from,to,capacity\nA,B,{most}\nA,B,1\nB,A,0\n")
         with opened(tmp_path / "t.csv", source="A", sink="B") as network:
@@ -211,7 +303,9 @@ def test_arrays_of_64_bits(tmp_path: Path) -> None:
 
 def test_past_64_bits(tmp_path: Path) -> None:
     """What a source without a limit cannot carry any more is refused, and changes nothing."""
-    (tmp_path / "t.csv").write_text("from,to,capacity,supply\nA,C,3,\nB,C,4,\nC,D,9,\nA,,,x\nB,,,x\n")
+    (tmp_path / "t.csv").write_text(
+        "from,to,capacity,supply\nA,C,3,\nB,C,4,\nC,D,9,\nA,,,x\nB,,,x\n"
+    )
     with opened(tmp_path / "t.csv") as network:
         assert network.solve().value == 7
         with pytest.raises(dmf.CapacitiesPast64Bits):
@@ -222,11 +316,15 @@ def test_past_64_bits(tmp_path: Path) -> None:
 
 
 def test_comments_that_do_not_fit(tmp_path: Path) -> None:
-    """Arcs that were taken out of a text by hand: what is not of the table is told by its ends, as in all tools."""
-    (tmp_path / "t.csv").write_text("from,to,capacity,supply,limit\nA,C,3,,\nB,C,4,,\nC,D,9,,\nA,,,2,\nB,,,x,\nC,,,,5\n")
+    """Arcs that were taken out of a text by hand: what is not of the table is told by its ends, as
+    in all tools."""
+    (tmp_path / "t.csv").write_text(
+        "from,to,capacity,supply,limit\nA,C,3,,\nB,C,4,,\nC,D,9,,\nA,,,2,\nB,,,x,\nC,,,,5\n"
+    )
     text = run("dmf-problem", "--table", f"{tmp_path}/t.csv", "--sink", "D").stdout
     head, _, arcs = text.partition("p max 6 6\n")
-    cut = f"{head}p max 6 5\n{''.join(line for line in arcs.splitlines(keepends=True) if not line.startswith('a 1 2 '))}"
+    others = (line for line in arcs.splitlines(keepends=True) if not line.startswith("a 1 2 "))
+    cut = f"{head}p max 6 5\n{''.join(others)}"
     (tmp_path / "cut.max").write_text(cut)
     with opened(tmp_path / "cut.max") as network:
         assert [(arc.tail, arc.head) for arc in network.arcs] == [("B", "C"), ("C", "D")]

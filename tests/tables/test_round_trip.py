@@ -1,5 +1,5 @@
-"""What the desk and dmf-names write as a table is read again as what it was: cell by cell, and with the same value, which a second computation
-finds too."""
+"""What the desk and dmf-names write as a table is read again as what it was: cell by cell, and with
+the same value, which a second computation finds too."""
 
 from __future__ import annotations
 
@@ -17,12 +17,13 @@ import town_table as town
 from built import BUILT
 from client_shared import dmf
 from desk_shared import run
-from dmf.desk.workspace import Desk
 from dmf.desk.export import table
+from dmf.desk.workspace import Desk
 from dmf.tables.loader import LoadedProblem, read_subject
 from dmf.tools.options import add_words, words_of
 from made_tables import Row, made
 from oracle import program
+
 
 def subject_of(path: Path, *words: str) -> LoadedProblem:
     parser = argparse.ArgumentParser()
@@ -38,7 +39,13 @@ def told(subject: LoadedProblem) -> tuple[list[Row], dict[tuple[str, str], Decim
     labels = arcs.labels or [""] * len(arcs.tails)
     assert [*extra.titles] == ["=Kosten", "full"]
     rows = [
-        Row(names[tail - 1], names[head - 1], arcs.amounts.quantity(at), labels[at], *extra.of(at + 1))
+        Row(
+            names[tail - 1],
+            names[head - 1],
+            arcs.amounts.quantity(at),
+            labels[at],
+            *extra.of(at + 1),
+        )
         for at, (tail, head) in enumerate(zip(arcs.tails, arcs.heads))
     ]
     return rows, {(term.kind, term.place): term.quantity for term in subject.plan.counted}
@@ -53,7 +60,8 @@ def value_of(subject: LoadedProblem) -> Fraction:
 
 @pytest.mark.parametrize("seed", range(40))
 def test_there_and_back(tmp_path: Path, seed: int) -> None:
-    """What was read, saved and read again is the table cell by cell; the saved tables are the same from the first on; and so is the value."""
+    """What was read, saved and read again is the table cell by cell; the saved tables are the same
+    from the first on; and so is the value."""
     table_made, sign = made(seed), ",."[seed % 2]
     (tmp_path / "first.csv").write_text(table_made.text(sign))
     # Only the first table has to be told its sign, where all its numbers could be read both ways.
@@ -75,8 +83,8 @@ def test_there_and_back(tmp_path: Path, seed: int) -> None:
 
 @pytest.mark.parametrize("seed", range(12))
 def test_after_changes(tmp_path: Path, seed: int) -> None:
-    """A table that was saved after changes has the value of the desk, and other columns stand where their arcs are, also after these were
-    opened again."""
+    """A table that was saved after changes has the value of the desk, and other columns stand where
+    their arcs are, also after these were opened again."""
     chance = random.Random(seed)
     (tmp_path / "first.csv").write_text(made(seed).text(","))
     subject = subject_of(tmp_path / "first.csv", "--decimal", ",")
@@ -85,24 +93,35 @@ def test_after_changes(tmp_path: Path, seed: int) -> None:
     for turn in range(6):
         number = chance.randrange(len(rows)) + 1
         if turn % 3 == 2:
-            for shut in [it for it, line in enumerate(desk.lines, 1) if line.is_closed and not line.is_replaced][:1]:
+            for shut in [
+                it
+                for it, line in enumerate(desk.network.lines, 1)
+                if line.is_closed and not line.is_replaced
+            ][:1]:
                 desk.open(shut)
-        elif not desk.line(number).is_closed:
-            desk.close(number) if turn % 3 else desk.cap(number, Decimal(chance.randrange(9000)).scaleb(-3))
+        elif not desk.network.line(number).is_closed:
+            desk.close(number) if turn % 3 else desk.cap(
+                number, Decimal(chance.randrange(9000)).scaleb(-3)
+            )
     (tmp_path / "plan.csv").write_text(table(desk))
     again = subject_of(tmp_path / "plan.csv")
-    first = [line.first or number for number, line in enumerate(desk.lines, 1) if not line.is_closed and not desk.role(number)]
+    first = [
+        line.first or number
+        for number, line in enumerate(desk.network.lines, 1)
+        if not line.is_closed and not desk.network.role(number)
+    ]
     assert [row[3:] for row in told(again)[0]] == [rows[number - 1][3:] for number in first]
     assert value_of(again) == Fraction(desk.value)
     desk.end()
 
 
 def test_a_source_that_gives_nothing_more(tmp_path: Path) -> None:
-    """What a place gives is closed: also of the only source, the saved table has the value 0, and not that of a source without a limit."""
+    """What a place gives is closed: also of the only source, the saved table has the value 0, and
+    not that of a source without a limit."""
     (tmp_path / "t.csv").write_text("from,to,capacity,supply\nA,B,3,\nB,C,4,\nA,,,2.5\n")
     desk = Desk(subject_of(tmp_path / "t.csv"), with_solve=True)
     assert desk.value == Decimal("2.5")
-    desk.close(desk.the_arc("what A gives at most"))
+    desk.close(desk.network.the_arc("what A gives at most"))
     (tmp_path / "plan.csv").write_text(table(desk))
     desk.end()
     assert "A,,,,,,0," in (tmp_path / "plan.csv").read_text()
@@ -110,15 +129,24 @@ def test_a_source_that_gives_nothing_more(tmp_path: Path) -> None:
 
 
 def test_ends_that_arcs_do_not_tell(tmp_path: Path) -> None:
-    """An arc leads into the source: the saved table names it. Where the arcs alone tell it, there is no such row."""
+    """An arc leads into the source: the saved table names it. Where the arcs alone tell it, there
+    is no such row."""
     (tmp_path / "t.csv").write_text("from,to,capacity\nA,B,3\nB,C,4\nB,A,1\n")
-    ran = run("dmf-plan", f"{tmp_path}/t.csv", "A", "C", typed=f"solve\nsave {tmp_path}/plan.csv\nclose B-A\nsolve\nsave {tmp_path}/bare.csv\n")
+    ran = run(
+        "dmf-plan",
+        f"{tmp_path}/t.csv",
+        "A",
+        "C",
+        typed=f"solve\nsave {tmp_path}/plan.csv\nclose B-A\nsolve\nsave {tmp_path}/bare.csv\n",
+    )
     assert ran.returncode == 0, ran.stderr
     places = [row[2:] for row in csv.reader((tmp_path / "plan.csv").open()) if not row[3]]
     assert places == [["A", "", "", "", "", "", "x", ""], ["C", "", "", "", "", "", "", "x"]]
     assert "supply" not in (tmp_path / "bare.csv").read_text()
     for saved in "plan", "bare":
-        assert run("dmf-plan", f"{tmp_path}/{saved}.csv", typed="solve\n").stdout.startswith("value 3, ")
+        assert run("dmf-plan", f"{tmp_path}/{saved}.csv", typed="solve\n").stdout.startswith(
+            "value 3, "
+        )
 
 
 @pytest.fixture(scope="module")
@@ -127,23 +155,35 @@ def exports(tmp_path_factory: pytest.TempPathFactory) -> dict[str, str]:
     path = tmp_path_factory.mktemp("exports")
     words = town.put(path)
     made = run("dmf-problem", "--table", *words).stdout
-    answer = subprocess.run([BUILT, "solve", "--cut"], input=made, capture_output=True, check=True, text=True).stdout
+    answer = subprocess.run(
+        [BUILT, "solve", "--cut"], input=made, capture_output=True, check=True, text=True
+    ).stdout
     ran = run("dmf-plan", *words, typed=f"solve\nsave {path}/plan.csv\n")
     assert ran.returncode == 0, ran.stderr
-    return {"plan": (path / "plan.csv").read_text(), "names": run("dmf-names", *words, "--csv", typed=answer).stdout}
+    return {
+        "plan": (path / "plan.csv").read_text(),
+        "names": run("dmf-names", *words, "--csv", typed=answer).stdout,
+    }
 
 
 @pytest.mark.parametrize("writer", ["plan", "names"])
 def test_the_town(exports: dict[str, str], tmp_path: Path, writer: str) -> None:
-    """A planner's sheet, in each tool: rows, remarks, lengths, sources and limits come back, and the value is that of exact fractions."""
+    """A planner's sheet, in each tool: rows, remarks, lengths, sources and limits come back, and
+    the value is that of exact fractions."""
     (tmp_path / "t.csv").write_text(exports[writer])
     opened: Any = dmf.read_table(tmp_path / "t.csv")
     with opened as network:
         assert Fraction(network.solve().value) == town.wanted().value
-        assert [(arc.given_key, arc.tail, arc.head, arc.capacity) for arc in network.arcs] == [pipe[:4] for pipe in town.pipes()]
+        assert [(arc.given_key, arc.tail, arc.head, arc.capacity) for arc in network.arcs] == [
+            pipe[:4] for pipe in town.pipes()
+        ]
         assert network.extra["L\u00e4nge (m)"] == [str(pipe.length) for pipe in town.pipes()]
         assert network.extra["Bemerkung"] == [pipe.remark for pipe in town.pipes()]
-        assert (network.sources, network.sinks, network.limits) == (town.SOURCES, {town.SINK: town.DEMAND}, {town.LIMITED: town.LIMIT})
+        assert (network.sources, network.sinks, network.limits) == (
+            town.SOURCES,
+            {town.SINK: town.DEMAND},
+            {town.LIMITED: town.LIMIT},
+        )
         assert network.unit == "l/s"
     assert exports["plan"] == exports["names"]
 
@@ -153,9 +193,16 @@ def test_two_units(tmp_path: Path) -> None:
     (tmp_path / "t.csv").write_text("from;to;capacity (l/s)\nA;B;3\n")
     (tmp_path / "p.csv").write_text("place;limit (m\u00b3/h)\nA;4\n")
     ran = run("dmf-plan", f"{tmp_path}/t.csv", "--node-limits", f"{tmp_path}/p.csv")
-    assert ran.stderr == f"dmf-plan: {tmp_path}/p.csv: line 2, column 2: the limit has the unit 'm\u00b3/h', and the capacity has 'l/s'\n"
+    assert (
+        ran.stderr
+        == f"dmf-plan: {tmp_path}/p.csv, line 2, column 'limit (m\u00b3/h)': the limit has the"
+        " unit "
+        "'m\u00b3/h', and the capacity has 'l/s'\n"
+    )
     (tmp_path / "p.csv").write_text("place;limit\nA;4 l / s\n")
-    assert run("dmf-plan", f"{tmp_path}/t.csv", "--node-limits", f"{tmp_path}/p.csv", typed="solve\n").stdout.startswith("value 3 l/s")
+    assert run(
+        "dmf-plan", f"{tmp_path}/t.csv", "--node-limits", f"{tmp_path}/p.csv", typed="solve\n"
+    ).stdout.startswith("value 3 l/s")
 
 
 def test_more_columns_of_one_title(tmp_path: Path) -> None:
@@ -167,7 +214,11 @@ def test_more_columns_of_one_title(tmp_path: Path) -> None:
     ran = run("dmf-plan", f"{tmp_path}/t.csv", typed=f"save {tmp_path}/plan.csv\n")
     assert ran.returncode == 0
     rows = list(csv.reader((tmp_path / "plan.csv").open()))
-    assert [row[8:] for row in rows] == [["note", "note", "limit"], ["one", "two", "9"], ["", "", ""]]
+    assert [row[8:] for row in rows] == [
+        ["note", "note", "limit"],
+        ["one", "two", "9"],
+        ["", "", ""],
+    ]
     (tmp_path / "u.csv").write_text("from,to,capacity,name,,,\nA,B,3,p,,seen,\nB,C,4,q,,,\n")
     with dmf.read_table(tmp_path / "u.csv") as network:
         assert network.extra == {"without title": ["seen", ""]}

@@ -1,4 +1,5 @@
-"""A planner's table, in each form in which it comes, beside a second computation in exact fractions."""
+"""A planner's table, in each form in which it comes, beside a second computation in exact
+fractions."""
 
 from __future__ import annotations
 
@@ -33,7 +34,15 @@ def folder(tmp_path_factory: pytest.TempPathFactory) -> Path:
 
 
 FORMS: list[Callable[[Path], list[str]]] = [
-    *(lambda folder, it=it: [f"{folder}/{it}.csv", "--node-limits", f"{folder}/grenzen.csv", *WORDS] for it in ENCODINGS),
+    *(
+        lambda folder, it=it: [
+            f"{folder}/{it}.csv",
+            "--node-limits",
+            f"{folder}/grenzen.csv",
+            *WORDS,
+        ]
+        for it in ENCODINGS
+    ),
     lambda folder: [f"{folder}/utf-8.csv", "--places", f"{folder}/orte.csv"],
     lambda folder: [f"{folder}/net.xlsx"],
     lambda folder: [f"{folder}/net.ods#Rohre"],
@@ -43,17 +52,25 @@ FORMS: list[Callable[[Path], list[str]]] = [
 
 @pytest.mark.parametrize("form", range(len(FORMS)))
 def test_dmf_problem(folder: Path, form: int) -> None:
-    """The problem has each row, in whole numbers that say what they stand for, and the greatest value."""
+    """The problem has each row, in whole numbers that say what they stand for, and the greatest
+    value."""
     path, *words = FORMS[form](folder)
     ran = run("dmf-problem", "--table", path, *words)
     assert ran.returncode == 0, ran.stderr
     assert "rows are the same, and each counts: line 72 as 13" in ran.stderr
     # What was taken for what is told in one line.
-    assert ran.stderr.count("'Kapazität (l/s)' as capacity, 'Rohr' as name; kept 'Länge (m)', 'Bemerkung'; the decimal sign is ,\n") == (".csv" in path)
+    assert ran.stderr.count(
+        "to 'nach', capacity 'Kapazität (l/s)' (l/s), name 'Rohr'; kept: 'Länge (m)', 'Bemerkung'; "
+        "the decimal sign is a comma\n"
+    ) == (".csv" in path)
     assert ("read as Windows-1252" in ran.stderr) == ("cp1252" in path or "latin-1" in path)
     problem = read_problem(ran.stdout.encode())
     measure = problem.described.measure
-    assert (measure.unit, str(measure.scale), measure.table) == ("l/s", "100", path.rpartition("/")[2] + "#Rohre" * path.endswith("xlsx"))
+    assert (measure.unit, str(measure.scale), measure.table) == (
+        "l/s",
+        "100",
+        path.rpartition("/")[2] + "#Rohre" * path.endswith("xlsx"),
+    )
     names = problem.node_names
     rows = [
         (problem.arc_names[number], names[tail], names[head], measure.quantity(capacity))
@@ -76,7 +93,9 @@ def test_the_desk_opens_it(folder: Path, form: int) -> None:
 def opened(folder: Path, form: str) -> Any:
     if form == "options":
         limits, sources = {town.LIMITED: town.LIMIT}, {"Quelle Nord": None, "Quelle Süd": "61,7"}
-        return dmf.read_table(folder / "cp1252.csv", source=sources, sink={town.SINK: town.DEMAND}, limits=limits)
+        return dmf.read_table(
+            folder / "cp1252.csv", source=sources, sink={town.SINK: town.DEMAND}, limits=limits
+        )
     if form == "frame":
         columns = list(zip(*town.arc_rows()[1:]))
         frame = {title: list(column) for title, column in zip(town.TITLES, columns)}
@@ -92,11 +111,19 @@ def test_in_python(folder: Path, form: str) -> None:
         solution = network.solve()
         assert (type(solution.value), Fraction(solution.value)) == (Decimal, wanted.value)
         assert network.unit == "l/s"
-        assert network.nodes == list(dict.fromkeys(place for pipe in town.pipes() for place in pipe[1:3]))
-        assert [(arc.given_key, arc.tail, arc.head, arc.capacity) for arc in network.arcs] == [pipe[:4] for pipe in town.pipes()]
+        assert network.nodes == list(
+            dict.fromkeys(place for pipe in town.pipes() for place in pipe[1:3])
+        )
+        assert [(arc.given_key, arc.tail, arc.head, arc.capacity) for arc in network.arcs] == [
+            pipe[:4] for pipe in town.pipes()
+        ]
         cut = network.cut()
         assert (Fraction(cut.capacity), set(cut.side)) == wanted
-        assert sum(Fraction(arc.capacity) for arc in cut.arcs) + sum(Fraction(term.quantity or 0) for term in cut.terms) == wanted.value
+        assert (
+            sum(Fraction(arc.capacity) for arc in cut.arcs)
+            + sum(Fraction(term.quantity or 0) for term in cut.terms)
+            == wanted.value
+        )
         # Each place but the ends sends on what it gets, and the limit holds.
         balance = dict.fromkeys(network.nodes, Decimal(0))
         for arc, flow in solution.items():
@@ -112,7 +139,10 @@ def test_in_python(folder: Path, form: str) -> None:
                 assert Fraction(network.solve().value) == town.wanted(name).value
             with network.try_out():
                 network.cap(name, "0,55")
-                assert Fraction(network.solve().value) == town.wanted(changed={name: Decimal("0.55")}).value
+                assert (
+                    Fraction(network.solve().value)
+                    == town.wanted(changed={name: Decimal("0.55")}).value
+                )
         assert network.extra["Länge (m)"] == [str(pipe.length) for pipe in town.pipes()]
         assert "Knoten" not in str([arc for arc in network.arcs if "all" in str(arc.tail)])
 
@@ -124,20 +154,39 @@ def test_a_sweep(folder: Path) -> None:
         results: Any = list(dmf.sweep(network, dmf.each_arc_closed(pipes)))
         for arc, result in zip(pipes, results):
             value = town.wanted(str(arc.given_key)).value
-            assert (Fraction(result.value), Fraction(result.difference)) == (value, value - town.wanted().value)
+            assert (Fraction(result.value), Fraction(result.difference)) == (
+                value,
+                value - town.wanted().value,
+            )
 
 
 def test_there_and_back(folder: Path) -> None:
-    """A problem that a network writes has the table's rows, its unit and its inner arcs, also after changes."""
+    """A problem that a network writes has the table's rows, its unit and its inner arcs, also after
+    changes."""
     with dmf.read_table(folder / "net.xlsx") as network:
         network.close("R3")
         network.add(town.LIMITED, town.SINK, 1.25, "neu")
         problem = read_problem(network.problem().encode())
     described = problem.described
-    assert (described.measure.unit, described.measure.table, described.measure.sign) == ("l/s", "net.xlsx#Rohre", "")
-    assert sorted(role.kind for role in described.roles.values()) == ["demand", "limit", "supply", "supply"]
+    assert (described.measure.unit, described.measure.table, described.measure.sign) == (
+        "l/s",
+        "net.xlsx#Rohre",
+        "",
+    )
+    assert sorted(role.kind for role in described.roles.values()) == [
+        "demand",
+        "limit",
+        "supply",
+        "supply",
+    ]
     # The new arc leaves the second half of the place.
     *_, (tail, head, capacity) = problem.arcs
-    assert (described.halves[tail], problem.node_names[head], described.measure.quantity(capacity)) == (
-        next(number for number, name in problem.node_names.items() if name == town.LIMITED), town.SINK, Decimal("1.25"),
-    )  # fmt: skip
+    assert (
+        described.halves[tail],
+        problem.node_names[head],
+        described.measure.quantity(capacity),
+    ) == (
+        next(number for number, name in problem.node_names.items() if name == town.LIMITED),
+        town.SINK,
+        Decimal("1.25"),
+    )

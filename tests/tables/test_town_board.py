@@ -1,5 +1,6 @@
-"""A planner's sheet on the page, over HTTP: value, limit, closures, changes and what is taken along, beside a second computation in exact
-fractions. The sources and the sink are in the workbook, or are named."""
+"""A planner's sheet on the page, over HTTP: value, limit, closures, changes and what is taken
+along, beside a second computation in exact fractions. The sources and the sink are in the workbook,
+or are named."""
 
 from __future__ import annotations
 
@@ -40,7 +41,12 @@ def told(value: Fraction) -> str:
 
 def test_value_and_limit(page: Board) -> None:
     state, wanted = page.state(), town.wanted()
-    assert (state["value"], state["unit"], state["arcs"], state["places"]) == (told(wanted.value), "l/s", 71, town.PLACES)
+    assert (state["value"], state["unit"], state["arcs"], state["places"]) == (
+        told(wanted.value),
+        "l/s",
+        71,
+        town.PLACES,
+    )
     assert (state["source"], state["sink"]) == ("Quelle Nord and Quelle S\u00fcd", town.SINK)
     assert set(state["side"]) == wanted.side
     assert sum(Fraction(arc["capacity"]) for arc in state["limit"]) == wanted.value
@@ -49,7 +55,8 @@ def test_value_and_limit(page: Board) -> None:
 
 
 def test_closures(page: Board) -> None:
-    """What each pipe of the limit, and some others, mean: by closing each in the second computation."""
+    """What each pipe of the limit, and some others, mean: by closing each in the second
+    computation."""
     names = {arc["name"] for arc in page.state()["limit"]} | {"R5", "R20", "R33"}
     # Arcs are numbered by the rows.
     left = [number for number, pipe in enumerate(town.pipes(), 1) if pipe.name in names]
@@ -58,7 +65,9 @@ def test_closures(page: Board) -> None:
         answer = json.loads(page.post("sweep", arcs=left)[1])
         trials, left = trials + answer["trials"], answer["left"]
     assert {trial["name"] for trial in trials} == names
-    assert {trial["name"]: trial["without"] for trial in trials} == {name: told(town.wanted(name).value) for name in names}
+    assert {trial["name"]: trial["without"] for trial in trials} == {
+        name: told(town.wanted(name).value) for name in names
+    }
 
 
 def test_a_change(page: Board) -> None:
@@ -66,7 +75,9 @@ def test_a_change(page: Board) -> None:
     name = next(arc["name"] for arc in page.state()["limit"] if arc["name"])
     number = next(arc["number"] for arc in page.state()["limit"] if arc["name"] == name)
     for typed, most in ("0,55", Decimal("0.55")), ("0.125", Decimal("0.125")):
-        assert page.do(what="cap", arc=number, capacity=typed)["value"] == told(town.wanted(changed={name: most}).value)
+        assert page.do(what="cap", arc=number, capacity=typed)["value"] == told(
+            town.wanted(changed={name: most}).value
+        )
     assert page.do(what="go", step=0)["value"] == told(town.wanted().value)
 
 
@@ -83,22 +94,43 @@ def test_the_exported_table(page: Board, tmp_path: Path) -> None:
     """Cell by cell; its flows are balanced; and it is read again with the same value."""
     rows = rows_of(page)
     pipes = [row for row in rows if row["to"]]
-    assert [(row["name"], row["from"], row["to"], number(row, "capacity"), row["L\u00e4nge (m)"], row["Bemerkung"]) for row in pipes] == [
-        (pipe.name, pipe.tail, pipe.head, Fraction(pipe.capacity), str(pipe.length), pipe.remark) for pipe in town.pipes()
+    assert [
+        (
+            row["name"],
+            row["from"],
+            row["to"],
+            number(row, "capacity"),
+            row["L\u00e4nge (m)"],
+            row["Bemerkung"],
+        )
+        for row in pipes
+    ] == [
+        (pipe.name, pipe.tail, pipe.head, Fraction(pipe.capacity), str(pipe.length), pipe.remark)
+        for pipe in town.pipes()
     ]
     balance: dict[str, Fraction] = {}
     for row in pipes:
         flow = number(row, "flow")
-        assert 0 <= flow <= number(row, "capacity") and (row["full"] == "yes") == (flow == number(row, "capacity"))
+        assert 0 <= flow <= number(row, "capacity") and (row["full"] == "yes") == (
+            flow == number(row, "capacity")
+        )
         balance[row["from"]] = balance.get(row["from"], Fraction(0)) - flow
         balance[row["to"]] = balance.get(row["to"], Fraction(0)) + flow
     assert {place for place, left in balance.items() if left} <= {*town.SOURCES, town.SINK}
-    assert balance[town.SINK] == town.wanted().value == sum(number(row, "capacity") for row in pipes if row["in cut"] == "yes")
+    assert (
+        balance[town.SINK]
+        == town.wanted().value
+        == sum(number(row, "capacity") for row in pipes if row["in cut"] == "yes")
+    )
     (tmp_path / "plan.csv").write_bytes(page.ask(page.root + f"plan.csv?turn={page.turn()}")[2])
     again: Any = dmf.read_table(tmp_path / "plan.csv")
     with again as network:
         assert Fraction(network.solve().value) == town.wanted().value
-        assert (network.sources, network.sinks, network.limits) == (town.SOURCES, {town.SINK: town.DEMAND}, {town.LIMITED: town.LIMIT})
+        assert (network.sources, network.sinks, network.limits) == (
+            town.SOURCES,
+            {town.SINK: town.DEMAND},
+            {town.LIMITED: town.LIMIT},
+        )
 
 
 def test_the_exported_problem(page: Board, tmp_path: Path) -> None:
@@ -112,4 +144,6 @@ def test_the_exported_problem(page: Board, tmp_path: Path) -> None:
 def test_the_exported_picture(page: Board) -> None:
     """Its title tells the unit and the table."""
     status, _, text = page.ask(page.root + f"picture.svg?near=&turn={page.turn()}")
-    assert "numbers in l/s, from netz." in text.decode() and not any(word in text.decode() for word in INNER)
+    assert "numbers in l/s, from netz." in text.decode() and not any(
+        word in text.decode() for word in INNER
+    )

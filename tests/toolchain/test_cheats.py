@@ -1,6 +1,8 @@
-"""Cheats the gate, on the toolchain itself and on a crate of one function: a forged store of proofs, edits that show nothing, and work of
-another checkout. The toolchain's own count passes each of them; the gate's says that something failed. A stale library is tried in
-tests/test_gate.py, which needs no toolchain."""
+"""Cheats the gate, on the toolchain itself and on a crate of one function: a forged store of
+proofs, edits that show nothing, and work of another checkout. The toolchain's own count passes each
+of them; the gate's says that something failed. A stale library is tried in tests/test_gate.py,
+which needs no toolchain. Five wrong bodies of the C library are must-fail edits of dmf_c, which the
+gate tries in each run (tests/documents/test_wrong_bodies.py names them)."""
 
 from __future__ import annotations
 
@@ -43,9 +45,11 @@ mod tests {
     }
 }
 """
-# What edits put in place of the body: one that the contract forbids, one that calls what is not there, one of another type.
+# What edits put in place of the body: one that the contract forbids, one that calls what is not
+# there, one of another type.
 EDITS = {"wrong": "a", "hollow": "a.no_such_method()", "typed": "true"}
-# Gives a crate's changed text the proof of the text before it, as whoever can write into the store could.
+# Gives a crate's changed text the proof of the text before it, as whoever can write into the store
+# could.
 FORGE = """
 import glob, importlib.machinery, importlib.util, json, os, shutil, sys
 
@@ -66,7 +70,8 @@ json.dump(made, open(f"{new}/made.json", "w"))
 
 
 class Machine(NamedTuple):
-    """A view of the toolchain with a store, and a checkout of the crate `low` and of the gate's scripts."""
+    """A view of the toolchain with a store, and a checkout of the crate `low` and of the gate's
+    scripts."""
 
     kit: Path
     root: Path
@@ -74,7 +79,15 @@ class Machine(NamedTuple):
     def call(self, *words: str) -> tuple[int, list[str]]:
         """The status of a command in the checkout, and the lines that it writes."""
         environment = {**os.environ, "PATH": f"{self.kit / 'bin'}:{os.environ['PATH']}"}
-        ran = subprocess.run([*words], cwd=self.root, env=environment, stdout=subprocess.PIPE, stderr=subprocess.STDOUT, text=True, timeout=SECONDS)
+        ran = subprocess.run(
+            [*words],
+            cwd=self.root,
+            env=environment,
+            stdout=subprocess.PIPE,
+            stderr=subprocess.STDOUT,
+            text=True,
+            timeout=SECONDS,
+        )
         return ran.returncode, ran.stdout.splitlines()
 
     def write_body(self, body: str) -> None:
@@ -89,20 +102,37 @@ def write_script(place: Path, text: str) -> None:
 
 @pytest.fixture
 def machine(tmp_path: Path) -> Machine:
-    """A machine on which the library is made and compared without fail, so that only proofs and edits count."""
+    """A machine on which the library is made and compared without fail, so that only proofs and
+    edits count."""
     ran = subprocess.run([ROOT / "tools/own_kit", tmp_path], capture_output=True, text=True)
     assert ran.returncode == 0, ran.stderr
     # The view has a plain file in the place of a store. This machine has a store.
     (tmp_path / "rattle-kept").unlink()
     it = Machine(tmp_path / "kit", tmp_path / "checkout")
-    for name in "prove", "HANDLES", *(f"tools/{name}" for name in ("count.sh", "packages.sh", "own_kit", "must_fail.py", "prove_crates.py", "loaded.py")):
+    for name in (
+        "prove",
+        "HANDLES",
+        *(
+            f"tools/{name}"
+            for name in (
+                "count.sh",
+                "packages.sh",
+                "own_kit",
+                "must_fail.py",
+                "prove_crates.py",
+                "loaded.py",
+            )
+        ),
+    ):
         (it.root / name).parent.mkdir(parents=True, exist_ok=True)
         shutil.copy(ROOT / name, it.root / name)
     write_script(it.root / "tools/library", "exit 0")
     write_script(it.root / "tools/prebuilt", "exit 0")
     (it.root / "tests/toolchain").mkdir(parents=True)
     (it.root / "tests/toolchain/test_one.py").write_text("def test_one() -> None:\n    pass\n")
-    (it.root / "tests/conftest.py").write_text("def pytest_unconfigure() -> None:\n    print('1 passed, 0 failed')\n")
+    (it.root / "tests/conftest.py").write_text(
+        "def pytest_unconfigure() -> None:\n    print('1 passed, 0 failed')\n"
+    )
     (it.root / "crates.txt").write_text("low:\n")
     (it.root / "crates/low/src").mkdir(parents=True)
     it.write_body(BODY)
@@ -111,7 +141,8 @@ def machine(tmp_path: Path) -> Machine:
 
 @pytest.mark.seconds(60)
 def test_a_forged_store(machine: Machine) -> None:
-    """The store says of a wrong body what was proved of the right one: `rt ci` believes it, and ./prove does not look."""
+    """The store says of a wrong body what was proved of the right one: `rt ci` believes it, and
+    ./prove does not look."""
     status, lines = machine.call("rt", "ci")
     assert (status, lines[-1]) == (0, "1 passed, 0 failed"), lines
     machine.write_body(WRONG)
@@ -121,14 +152,16 @@ def test_a_forged_store(machine: Machine) -> None:
     assert (status, lines[-1]) == (0, "1 passed, 0 failed"), lines
     assert any(line.startswith("rt: low is kept: ") for line in lines)
     status, lines = machine.call("./prove")
-    # The library, its comparison and the test pass; the crate fails, and so does a log in which nothing is proved.
+    # The library, its comparison and the test pass; the crate fails, and so does a log in which
+    # nothing is proved.
     assert (status, lines[-1]) == (1, "3 passed, 2 failed"), lines
     assert "rt: low NOT PROVED" in lines
 
 
 @pytest.mark.seconds(60)
 def test_hollow_edits(machine: Machine) -> None:
-    """Of three edits two do not reach the prover: the toolchain's count passes over them, and the gate's counts them as failed."""
+    """Of three edits two do not reach the prover: the toolchain's count passes over them, and
+    the gate's counts them as failed."""
     for name, body in EDITS.items():
         edit = machine.root / f"crates/low/must-fail/{name}.edit"
         edit.parent.mkdir(exist_ok=True)
@@ -138,10 +171,18 @@ def test_hollow_edits(machine: Machine) -> None:
     # What another checkout kept of the same crate lies in the store, and in out/.
     assert machine.call("sh", "-c", "cd crates/low && rt check && rt lib")[0] == 0
     status, lines = machine.call("./prove")
-    assert [line for line in lines if line.endswith((" passed, 0 failed", " failed"))] == ["2 passed, 0 failed", "2 passed, 2 failed", "1 passed, 0 failed", "6 passed, 2 failed"]
+    assert [line for line in lines if line.endswith((" passed, 0 failed", " failed"))] == [
+        "2 passed, 0 failed",
+        "2 passed, 2 failed",
+        "1 passed, 0 failed",
+        "6 passed, 2 failed",
+    ]
     assert "rt: low: its tests passed" in lines
     (goal,) = [line for line in lines if line.startswith("edit low/wrong.edit: ")]
     assert goal == "edit low/wrong.edit: refused at goal returns-clause-second of src/lib.rt:7"
     for name in "hollow", "typed":
-        assert f"edit low/{name}.edit: not refused at a goal: it cannot be made, compiled or read" in lines
+        assert (
+            f"edit low/{name}.edit: not refused at a goal: it cannot be made, compiled or read"
+            in lines
+        )
     assert any(line.endswith("modules loaded from before: 0") for line in lines)

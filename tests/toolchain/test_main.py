@@ -1,6 +1,7 @@
-"""Builds the mutants of `main` and of what it calls, and runs for each the test that must fail. All stand in one program, built as `rt try`
-builds it, without a proof: each function of these files once as it is, and once for each of its mutants. The length of the name by which the program is called chooses
-one. So this takes one build, of a minute, and no library has to be proved.
+"""Builds the mutants of `main` and of what it calls, and runs for each the test that must fail. All
+stand in one program, built as `rt try` builds it, without a proof: each function of these files
+once as it is, and once for each of its mutants. The length of the name by which the program is
+called chooses one. So this takes one build, of a minute, and no library has to be proved.
 
     /usr/bin/python3 -m pytest tests/toolchain
 """
@@ -23,8 +24,12 @@ from nested import run_pytest
 PASSED, FAILED, SECONDS = 0, 1, 600
 # The length of the first name of the program, in bytes: by that it has no fault.
 SHORTEST = 200
-# A function: what stands before its name, its name, its lifetimes, its parameters, and what stands before its body.
-FUNCTION = re.compile(r"^((?:(?:///|#\[)[^\n]*\n)*(?:pub )?)fn (\w+)((?:<[^>]*>)?)\((.*?)\)( ->.*?)\{\n.*?^\}\n", re.MULTILINE | re.DOTALL)
+# A function: what stands before its name, its name, its lifetimes, its parameters, and what stands
+# before its body.
+FUNCTION = re.compile(
+    r"^((?:(?:///|#\[)[^\n]*\n)*(?:pub )?)fn (\w+)((?:<[^>]*>)?)\((.*?)\)( ->.*?)\{\n.*?^\}\n",
+    re.MULTILINE | re.DOTALL,
+)
 NAME_LENGTH = """
 fn name_length(rt: &HostRuntime) -> usize {
     match words(rt) {
@@ -39,46 +44,69 @@ fn name_length(rt: &HostRuntime) -> usize {
 
 
 def with_copies(file: str, whole: re.Match[str]) -> str:
-    """A function that calls a copy of itself for each of its mutants, or one without a fault. One without mutants stays."""
+    """A function that calls a copy of itself for each of its mutants, or one without a fault. One
+    without mutants stays."""
     front, name, lifetimes, parameters, result = whole.groups()
     names = re.findall(r"(\w+): ", parameters)
     call = f"({', '.join(names)})"
-    mine = [(place, it) for place, it in enumerate(WIRINGS, 1) if it.file == file and it.old in whole[0]]
+    mine = [
+        (place, it) for place, it in enumerate(WIRINGS, 1) if it.file == file and it.old in whole[0]
+    ]
     texts = [(0, whole[0]), *((place, whole[0].replace(it.old, it.new)) for place, it in mine)]
     if not mine:
         return whole[0]
-    copies = "".join(text.replace(f"fn {name}{lifetimes}(", f"fn {name}_{place}{lifetimes}(") for place, text in texts)
-    choices = "".join(f"        {SHORTEST + place} => {name}_{place}{call},\n" for place, _ in texts[1:])
+    copies = "".join(
+        text.replace(f"fn {name}{lifetimes}(", f"fn {name}_{place}{lifetimes}(")
+        for place, text in texts
+    )
+    choices = "".join(
+        f"        {SHORTEST + place} => {name}_{place}{call},\n" for place, _ in texts[1:]
+    )
     handle = "rt" if "rt: &" in parameters else "&rt"
-    return f"{front}fn {name}{lifetimes}({parameters}){result}{{\n    match name_length({handle}) {{\n{choices}        _ => {name}_0{call},\n    }}\n}}\n\n{copies}"
+    return (
+        f"{front}fn {name}{lifetimes}({parameters}){result}{{\n    match name_length({handle}) {{\n"
+        f"{choices}        _ => {name}_0{call},\n    }}\n}}\n\n{copies}"
+    )
 
 
 def mutated(file: str, whole: str) -> str:
     """The text of a file with all its mutants. Each changes one function."""
     mine = [mutant for mutant in WIRINGS if mutant.file == file]
     assert all(sum(mutant.old in it[0] for it in FUNCTION.finditer(whole)) == 1 for mutant in mine)
-    words = "" if re.search(r"^use .*[ {]words[,}]|^    (?:.* )?words,$", whole, re.MULTILINE) else "\nuse crate::arguments::words;\n"
+    words = (
+        ""
+        if re.search(r"^use .*[ {]words[,}]|^    (?:.* )?words,$", whole, re.MULTILINE)
+        else "\nuse crate::arguments::words;\n"
+    )
     return FUNCTION.sub(lambda it: with_copies(file, it), whole) + words + NAME_LENGTH
 
 
 @pytest.fixture(scope="module")
 def program(tmp_path_factory: pytest.TempPathFactory) -> Path:
-    """The program of all copies, as `rt try` builds it, without a proof, to run it once. It keeps no file, so another name holds this one."""
+    """The program of all copies, as `rt try` builds it, without a proof, to run it once. It keeps
+    no file, so another name holds this one."""
     root = tmp_path_factory.mktemp("mutants")
     for name in "crates.txt", "HANDLES":
         shutil.copy(ROOT / name, root)
-    shutil.copytree(ROOT / "crates", root / "crates", ignore=shutil.ignore_patterns("out", "must-fail"))
+    shutil.copytree(
+        ROOT / "crates", root / "crates", ignore=shutil.ignore_patterns("out", "must-fail")
+    )
     crate, own, rooms = root / "crates" / "dmf", root / "program", root / "rooms"
     for file in {mutant.file for mutant in WIRINGS}:
         (root / file).write_text(mutated(file, (ROOT / file).read_text()))
     rooms.mkdir()
     words = ["rt", "try", "--", "--version"]
-    with open(root / "said", "w+") as said, subprocess.Popen(words, cwd=crate, env={**os.environ, "TMPDIR": str(rooms)}, stdout=said, stderr=said) as running:
+    with open(root / "said", "w+") as said, subprocess.Popen(
+        words, cwd=crate, env={**os.environ, "TMPDIR": str(rooms)}, stdout=said, stderr=said
+    ) as running:
         while running.poll() is None:
             hold(rooms, own)
             time.sleep(0.01)
         assert running.returncode == 0 and own.exists(), (root / "said").read_text()[-5000:]
-    assert subprocess.run([own, "--version"], capture_output=True, text=True).stdout == (root / "said").read_text().partition("call=")[0].splitlines(True)[0]
+    assert (
+        subprocess.run([own, "--version"], capture_output=True, text=True).stdout
+        == (root / "said").read_text().partition("call=")[0].splitlines(True)[0]
+    )
     return own
 
 
@@ -104,7 +132,9 @@ def test_unchanged(program: Path) -> None:
     assert ran.returncode == PASSED, ran.stdout + ran.stderr
 
 
-@pytest.mark.parametrize(("place", "mutant"), [pytest.param(*it, id=it[1].name) for it in enumerate(WIRINGS, 1)])
+@pytest.mark.parametrize(
+    ("place", "mutant"), [pytest.param(*it, id=it[1].name) for it in enumerate(WIRINGS, 1)]
+)
 def test_killed(program: Path, place: int, mutant: Mutant) -> None:
     ran = tried(program, place, mutant.test)
     assert ran.returncode == FAILED, f"{mutant.test} passes:\n{ran.stdout}{ran.stderr}"

@@ -1,9 +1,11 @@
-"""Refuses the program of crates/test_calls each request for memory in turn, and each two in a row, by the preloaded library of
-tests/faults.c: a vector that is refused room to grow asks again, for just the room that it needs.
+"""Refuses the program of crates/test_calls each request for memory in turn, and each two in a row,
+by the preloaded library of tests/faults.c: a vector that is refused room to grow asks again, for
+just the room that it needs.
 
-After each call the program tells all that then stands. A call that is refused memory has changed nothing, and each other call
-does what the second implementation does. Changes that alter nothing take so little memory that 200 of them make fewer than 100
-requests. What the program writes with ample memory stands in its file `stdout`; `--write` makes it anew."""
+After each call the program tells all that then stands. A call that is refused memory has changed
+nothing, and each other call does what the second implementation does. Changes that alter nothing
+take so little memory that 200 of them make fewer than 100 requests. What the program writes with
+ample memory stands in its file `stdout`; `--write` makes it anew."""
 
 from __future__ import annotations
 
@@ -34,8 +36,14 @@ REFUSED = "refused no memory"
 # Whether each solve tells a cut, by the bound of the history.
 WANTS_CUT = {MOST_KEPT: True, 1: False, 0: True}
 SESSIONS = [(name, bound) for bound in WANTS_CUT for name in ("whole", "delta")]
-# The calls of which some run has to be refused memory, by the part of the program's text and the word.
-GROWING: set[tuple[str | int, ...]] = {(*session, word) for session in SESSIONS for word, it in COMMANDS.items() if it.may_want_memory and word != "redo"} | {
+# The calls of which some run has to be refused memory, by the part of the program's text and the
+# word.
+GROWING: set[tuple[str | int, ...]] = {
+    (*session, word)
+    for session in SESSIONS
+    for word, it in COMMANDS.items()
+    if it.may_want_memory and word != "redo"
+} | {
     ("state", "add"),
     ("state", "copy"),
 }
@@ -55,7 +63,10 @@ def told_state(state: State) -> list[str]:
 
 
 def told_place(session: Session) -> list[str]:
-    return [f"past {session.place} future {len(session.states) - 1 - session.place}", *told_state(session.present())]
+    return [
+        f"past {session.place} future {len(session.states) - 1 - session.place}",
+        *told_state(session.present()),
+    ]
 
 
 def answer(session: Session, command: tuple[Any, ...], is_refused: bool) -> str:
@@ -70,23 +81,33 @@ def answer(session: Session, command: tuple[Any, ...], is_refused: bool) -> str:
 
 
 def told_session(name: str, bound: int, refused: Collection[int]) -> list[str]:
-    """What is told of a session over the history of this name and bound, of which these commands are refused memory."""
+    """What is told of a session over the history of this name and bound, of which these commands
+    are refused memory."""
     session = Session(START, SolveReply(cut=WANTS_CUT[bound]), bound)
     lines = [f"history {name} {bound}", *told_place(session)]
     for number, text in enumerate(CALLS):
-        lines += [f"command {variant_of(text)}", answer(session, command_of(text), number in refused), *told_place(session)]
+        lines += [
+            f"command {variant_of(text)}",
+            answer(session, command_of(text), number in refused),
+            *told_place(session),
+        ]
     return lines
 
 
 def told_edits(refused: Collection[int], not_copied: Collection[int]) -> list[str]:
-    """What is told of a state to which arcs are added, where these additions and these copies are refused memory."""
+    """What is told of a state to which arcs are added, where these additions and these copies are
+    refused memory."""
     state = START
     lines = ["state", *told_state(state)]
     for number, text in enumerate(ADDITIONS):
         if number not in refused:
             _, *arc = command_of(text)
             state = changes.add(state, *arc)
-        lines += [f"command {variant_of(text)}", REFUSED if number in refused else "accepted", *told_state(state)]
+        lines += [
+            f"command {variant_of(text)}",
+            REFUSED if number in refused else "accepted",
+            *told_state(state),
+        ]
         lines += ["no copy no memory"] if number in not_copied else ["copy", *told_state(state)]
     return lines
 
@@ -103,7 +124,11 @@ def refused_in(part: list[str]) -> tuple[set[int], set[int]]:
 
 def parts_of(lines: list[str]) -> list[list[str]]:
     """The parts of the program's text, each with its first line."""
-    starts = [number for number, line in enumerate(lines) if line.startswith(("history ", "state", "no history", "no state"))]
+    starts = [
+        number
+        for number, line in enumerate(lines)
+        if line.startswith(("history ", "state", "no history", "no state"))
+    ]
     return [lines[start:end] for start, end in zip(starts, starts[1:] + [len(lines)])]
 
 
@@ -125,17 +150,28 @@ def wanted(lines: list[str]) -> tuple[list[str], set[tuple[str | int, ...]]]:
 
 
 def run(library: str, at: int, row: int, *words: str) -> tuple[int, list[str], bool]:
-    """What the program writes where so many requests from this one on are refused, and whether one was."""
+    """What the program writes where so many requests from this one on are refused, and whether one
+    was."""
     with tempfile.NamedTemporaryFile() as calls:
-        faults = {"FAULT": "memory", "FAULT_AT": str(at), "FAULT_ROW": str(row), "FAULT_CALLS": calls.name}
+        faults = {
+            "FAULT": "memory",
+            "FAULT_AT": str(at),
+            "FAULT_ROW": str(row),
+            "FAULT_CALLS": calls.name,
+        }
         ran = subprocess.run(
-            [BUILT, *words], capture_output=True, timeout=60, env={**os.environ, "LD_PRELOAD": library, **faults}
+            [BUILT, *words],
+            capture_output=True,
+            timeout=60,
+            env={**os.environ, "LD_PRELOAD": library, **faults},
         )
         return ran.returncode, ran.stdout.decode().splitlines(), b"memory" in calls.read()
 
 
 def ample() -> str:
-    lines = [line for session in SESSIONS for line in told_session(*session, ())] + told_edits((), ())
+    lines = [line for session in SESSIONS for line in told_session(*session, ())] + told_edits(
+        (), ()
+    )
     return "".join(f"{line}\n" for line in lines)
 
 
@@ -143,13 +179,16 @@ def is_old() -> bool:
     """Whether the program is missing, or a source has changed since it was built."""
     if not BUILT.exists():
         return True
-    sources = (path for part in ("src", "specs", "proofs") for path in ROOT.glob(f"crates/*/{part}/**/*"))
+    sources = (
+        path for part in ("src", "specs", "proofs") for path in ROOT.glob(f"crates/*/{part}/**/*")
+    )
     return any(path.stat().st_mtime > BUILT.stat().st_mtime for path in sources)
 
 
 @pytest.fixture
 def calls_program(tmp_path_factory: pytest.TempPathFactory) -> None:
-    """The program of crates/test_calls, which is built where it is missing or older than a source: by one worker alone."""
+    """The program of crates/test_calls, which is built where it is missing or older than a source:
+    by one worker alone."""
     with shared(tmp_path_factory, "test_calls"):
         if is_old():
             ran = subprocess.run(["rt", "run"], cwd=CRATE, capture_output=True, text=True)

@@ -1,5 +1,6 @@
-"""Tests tools/dmf-dot: its texts for Graphviz against texts that were worked out by hand, what it says of faults, how it ends, and, where
-Graphviz is there, what that shows of names, and the pictures in docs/pictures against freshly made ones, which `--write` makes anew."""
+"""Tests tools/dmf-dot: its texts for Graphviz against texts that were worked out by hand, what it
+says of faults, how it ends, and, where Graphviz is there, what that shows of names, and the
+pictures in docs/pictures against freshly made ones, which `--write` makes anew."""
 
 from __future__ import annotations
 
@@ -33,12 +34,23 @@ PICTURES = {
 
 
 def draw(
-    tools: Tools, folder: Path, problem: str, answers: Sequence[str], words: Sequence[str] = (), commands: str | None = None
+    tools: Tools,
+    folder: Path,
+    problem: str,
+    answers: Sequence[str],
+    words: Sequence[str] = (),
+    commands: str | None = None,
 ) -> tuple[int, str, str]:
-    """Draws texts, which are put into files. Gives the status, what is written, and what is told."""
-    texts = {"problem": problem, **{f"answer{place or ''}": text for place, text in enumerate(answers)}}
+    """Draws texts, which are put into files. Gives the status, what is written, and what is
+    told."""
+    texts = {
+        "problem": problem,
+        **{f"answer{place or ''}": text for place, text in enumerate(answers)},
+    }
     given = ["--commands", "commands"] if commands is not None else []
-    ran = tools.run("dmf-dot", folder, [*words, *given, *texts], b"", {**texts, "commands": commands or ""})
+    ran = tools.run(
+        "dmf-dot", folder, [*words, *given, *texts], b"", {**texts, "commands": commands or ""}
+    )
     return ran.status, ran.out.decode(), ran.err.decode()
 
 
@@ -50,11 +62,18 @@ def test_drawn(tools: Tools, tmp_path: Path, name: str) -> None:
 
 @pytest.mark.parametrize(("problem", "answer", "told"), FAULTS)
 def test_faults(tools: Tools, tmp_path: Path, problem: str, answer: str, told: str) -> None:
-    assert draw(tools, tmp_path, problem, [answer] if answer else []) == (3, "", f"dmf-dot: {told}\n")
+    assert draw(tools, tmp_path, problem, [answer] if answer else []) == (
+        3,
+        "",
+        f"dmf-dot: {told}\n",
+    )
 
 
 def test_too_many_arcs(tools: Tools, tmp_path: Path) -> None:
-    told = "dmf-dot: 4 arcs are too many to draw. With a cut, as of `dmf solve --cut`, those nearest it are drawn\n"
+    told = (
+        "dmf-dot: 4 arcs are too many to draw. With a cut, as of `dmf solve --cut`, those nearest "
+        "it are drawn\n"
+    )
     assert draw(tools, tmp_path, CHAIN, [], ["--most", "3"]) == (3, "", told)
 
 
@@ -71,7 +90,9 @@ def test_sessions(tools: Tools, tmp_path: Path, name: str) -> None:
 
 
 @pytest.mark.parametrize(("commands", "answer", "told"), SESSION_FAULTS)
-def test_session_faults(tools: Tools, tmp_path: Path, commands: str | None, answer: str, told: str) -> None:
+def test_session_faults(
+    tools: Tools, tmp_path: Path, commands: str | None, answer: str, told: str
+) -> None:
     assert draw(tools, tmp_path, LINE, [answer], (), commands) == (3, "", f"dmf-dot: {told}\n")
 
 
@@ -79,13 +100,16 @@ def test_place_of_commands(tools: Tools, tmp_path: Path) -> None:
     """The commands may stand between the problem and the answer."""
     commands, answer, told = SESSION_FAULTS[-1]
     files = {"problem": LINE, "commands": commands or "", "answer": answer}
-    ran = tools.run("dmf-dot", tmp_path, ["problem", "--commands", "commands", "answer"], b"", files)
+    ran = tools.run(
+        "dmf-dot", tmp_path, ["problem", "--commands", "commands", "answer"], b"", files
+    )
     assert ran.err.decode() == f"dmf-dot: {told}\n"
 
 
 @pytest.mark.parametrize(("is_closed", "status"), [(False, 130), (True, -signal.SIGPIPE)])
 def test_ends(tmp_path: Path, is_closed: bool, status: int) -> None:
-    """At Ctrl-C it ends with 130, and where nobody reads on by the signal of that, each time without a word."""
+    """At Ctrl-C it ends with 130, and where nobody reads on by the signal of that, each time
+    without a word."""
     put(tmp_path / "problem", LINE)
     reader, writer = os.pipe()
     os.close(reader)
@@ -109,15 +133,25 @@ def test_ends(tmp_path: Path, is_closed: bool, status: int) -> None:
 
 def solved(command: str, folder: Path) -> tuple[str, bytes]:
     """What `dmf` answers to the problem that a command writes, and the text of its picture."""
-    made = subprocess.run(command, shell=True, capture_output=True, check=True, timeout=SECONDS).stdout
+    made = subprocess.run(
+        command, shell=True, capture_output=True, check=True, timeout=SECONDS
+    ).stdout
     put(folder / "problem", made)
-    answer = subprocess.run([BUILT, "solve", "--cut"], input=made, capture_output=True, check=True, timeout=SECONDS).stdout
+    answer = subprocess.run(
+        [BUILT, "solve", "--cut"], input=made, capture_output=True, check=True, timeout=SECONDS
+    ).stdout
     words = [TOOL, str(folder / "problem"), "-"]
-    return answer.decode(), subprocess.run(words, input=answer, capture_output=True, check=True, timeout=SECONDS).stdout
+    return (
+        answer.decode(),
+        subprocess.run(
+            words, input=answer, capture_output=True, check=True, timeout=SECONDS
+        ).stdout,
+    )
 
 
 def test_large(tmp_path: Path) -> None:
-    """A problem of some thousand arcs: the arcs of its cut are drawn, and what can be told of their flows is."""
+    """A problem of some thousand arcs: the arcs of its cut are drawn, and what can be told of their
+    flows is."""
     answer, text = solved("cat examples/levels.max", tmp_path)
     lines = [line for line in text.decode().splitlines() if "->" in line]
     flows = [line.split(" [")[1].split('"')[1].split("/") for line in lines if "c62828" in line]
@@ -127,7 +161,9 @@ def test_large(tmp_path: Path) -> None:
 
 
 def svg(text: bytes) -> str:
-    return subprocess.run(["dot", "-Tsvg"], input=text, capture_output=True, check=True, timeout=SECONDS).stdout.decode()
+    return subprocess.run(
+        ["dot", "-Tsvg"], input=text, capture_output=True, check=True, timeout=SECONDS
+    ).stdout.decode()
 
 
 def texts(picture: str) -> list[str]:

@@ -1,5 +1,6 @@
-"""Tests the reader of texts and the follower of sessions that the tools in Python stand on: against rows that were worked out by hand,
-and on random texts and sessions against the second implementation, which keeps whole states."""
+"""Tests the reader of texts and the follower of sessions that the tools in Python stand on: against
+rows that were worked out by hand, and on random texts and sessions against the second
+implementation, which keeps whole states."""
 
 from __future__ import annotations
 
@@ -10,11 +11,10 @@ from typing import Any
 
 import pytest
 import random_cases
-from dmf.text.session_replies import CutReply, Event, PrintedReply, SolutionReply
 from dmf.text.lexical import Fault, display, fields, lines, read_number
 from dmf.text.problem_text import read_problem
+from dmf.text.session_replies import CutReply, Event, PrintedReply, SolutionReply, TranscriptFault
 from dmf.text.spelling import read_names
-from dmf.text.session_replies import TranscriptFault
 from dmf.text.transcript import TranscriptReader
 from oracle import problem as oracle_problem
 from oracle import session, texts
@@ -23,8 +23,19 @@ from worked_forms import Worked
 from worked_once import ONCE
 from worked_sessions import HISTORIES, SESSIONS
 
-# Bytes that end no line and part no fields, whatever Unicode or a terminal takes them for: CR, VT, FF, FS, NEL and LS.
-ODD_ENDS = [b"\r", b"\x0b", b"\x0c", b"\x1c", b"\x1d", b"\x1e", b"\x85", b"\0", *map(str.encode, "\x85\u2028\u2029")]
+# Bytes that end no line and part no fields, whatever Unicode or a terminal takes them for: CR, VT,
+# FF, FS, NEL and LS.
+ODD_ENDS = [
+    b"\r",
+    b"\x0b",
+    b"\x0c",
+    b"\x1c",
+    b"\x1d",
+    b"\x1e",
+    b"\x85",
+    b"\0",
+    *map(str.encode, "\x85\u2028\u2029"),
+]
 LINES = {
     b"": [],
     b"\n": [b""],
@@ -69,12 +80,23 @@ NAMES = {
     b"c node 1 a\r": ({1: "a\r"}, {}),
     b"c node 1 \xc3\xa4\xff\n": ({1: "ä\ufffd"}, {}),
     # Comments of another form.
-    b"cnode 1 a\nc nodes 1 a\nc node x a\nc node 1x a\nc node 1\nc node 1 \t\nc node\nc Node 1 a\n": ({}, {}),
+    b"cnode 1 a\nc nodes 1 a\nc node x a\nc node 1x a\nc node 1\nc node 1 \t\nc node\nc Node 1 "
+    b"a\n": (
+        {},
+        {},
+    ),
     b"x c node 1 a\nc c node 1 a\n": ({}, {}),
-    b"c node -1 a\nc node 1\r\nc node 1\r a\nc node \xc2\xb2 a\nc node " + b"9" * 5000 + b" a\nc node 1": ({}, {}),
+    b"c node -1 a\nc node 1\r\nc node 1\r a\nc node \xc2\xb2 a\nc node "
+    + b"9" * 5000
+    + b" a\nc node 1": ({}, {}),
     # A name ends at the line feed alone, and no other byte begins a line.
     **{b"c old" + odd + b"c node 1 a\n": ({}, {}) for odd in ODD_ENDS},
-    **{b"c node 1 a" + odd + b"c node 2 b\n": ({1: (b"a" + odd + b"c node 2 b").decode(errors="replace")}, {}) for odd in ODD_ENDS},
+    **{
+        b"c node 1 a"
+        + odd
+        + b"c node 2 b\n": ({1: (b"a" + odd + b"c node 2 b").decode(errors="replace")}, {})
+        for odd in ODD_ENDS
+    },
 }
 SHOWN = {
     "Café 水 \U0001f469\u200d\U0001f692": "Café 水 \U0001f469\u200d\U0001f692",
@@ -124,11 +146,17 @@ def read_by_oracle(text: bytes) -> tuple[Any, ...]:
     return state.nodes, state.source, state.sink, [arc[:3] for arc in state.arcs]
 
 
-@pytest.mark.parametrize("worked", [pytest.param(it, id=it.case.name) for it in ONCE if b"solve" in it.case.words])
+@pytest.mark.parametrize(
+    "worked", [pytest.param(it, id=it.case.name) for it in ONCE if b"solve" in it.case.words]
+)
 def test_worked_problems(worked: Worked) -> None:
     told = outcome(read, worked.case.problem)
     assert worked.wanted.status in (0, 3)
-    assert worked.wanted.told == f"dmf: {told}\n".encode() if worked.wanted.status else not isinstance(told, str)
+    assert (
+        worked.wanted.told == f"dmf: {told}\n".encode()
+        if worked.wanted.status
+        else not isinstance(told, str)
+    )
 
 
 @batches
@@ -159,20 +187,33 @@ class Told:
     def judge_event(self, event: Event) -> None:
         numbers = [at for at, arc in enumerate(self.state.arcs, 1) if not arc.is_closed]
         if isinstance(event, SolutionReply):
-            assert (event.is_told, event.value, list(event.numbers)) == (True, self.state.value(), numbers)
+            assert (event.is_told, event.value, list(event.numbers)) == (
+                True,
+                self.state.value(),
+                numbers,
+            )
             assert list(event.flows) == [flow for _, flow in self.state.open_arcs()]
         elif isinstance(event, PrintedReply):
             assert event.numbers == numbers
         elif isinstance(event, CutReply):
             side, capacity = smallest_side(self.state)
-            crossing = [at for at in numbers if self.state.arcs[at - 1].tail in side and self.state.arcs[at - 1].head not in side]
+            crossing = [
+                at
+                for at in numbers
+                if self.state.arcs[at - 1].tail in side and self.state.arcs[at - 1].head not in side
+            ]
             assert (event.side, event.capacity, event.arcs) == (side, capacity, crossing)
 
 
-def follow(state: State, commands: list[bytes], wanted: session.SolveReply, bound: int, is_given: bool) -> None:
-    """Follows a session, and judges what is known after each command. Every reply is told whole before the next one begins."""
+def follow(
+    state: State, commands: list[bytes], wanted: session.SolveReply, bound: int, is_given: bool
+) -> None:
+    """Follows a session, and judges what is known after each command. Every reply is told whole
+    before the next one begins."""
     held = session.Session(state, wanted, bound)
-    follower = TranscriptReader(read_problem(oracle_problem.problem_text(state)), iter(commands) if is_given else None)
+    follower = TranscriptReader(
+        read_problem(oracle_problem.problem_text(state)), iter(commands) if is_given else None
+    )
     for place, line in enumerate(commands, 1):
         reply = held.answer(place, line)
         events = [] if is_given else follower.take(line)
@@ -180,7 +221,9 @@ def follow(state: State, commands: list[bytes], wanted: session.SolveReply, boun
         for reply_line in told:
             events += follower.take(reply_line)
         whole = sum(isinstance(event, (SolutionReply, CutReply, PrintedReply)) for event in events)
-        assert whole == sum(reply_line.startswith((b"s ", b"c cut ", b"p max ")) for reply_line in told), line
+        assert whole == sum(
+            reply_line.startswith((b"s ", b"c cut ", b"p max ")) for reply_line in told
+        ), line
         Told(follower, events, held.present()).judge()
     assert not follower.end()
 
@@ -195,12 +238,15 @@ def scripted(random: Random, most_nodes: int) -> tuple[State, list[list[bytes]]]
 
 @batches
 def test_sessions(batch: int) -> None:
-    """Random sessions, whose commands are given, or stand among the replies as a terminal shows them."""
+    """Random sessions, whose commands are given, or stand among the replies as a terminal shows
+    them."""
     random = Random(f"followed sessions/{batch}")
     for _ in range(SCRIPTS):
         state, script = scripted(random, 12)
         commands = [b" ".join(line) + b"\n" for line in script]
-        wanted, bound = session.SolveReply(cut=random.random() < 0.5), random.choice([0, 1, 3, session.MOST_KEPT])
+        wanted, bound = session.SolveReply(cut=random.random() < 0.5), random.choice(
+            [0, 1, 3, session.MOST_KEPT]
+        )
         for is_given in True, False:
             follow(state, commands, wanted, bound, is_given)
 
@@ -222,17 +268,21 @@ def test_worked_sessions(worked: Worked) -> None:
 
 @batches
 def test_odd_replies(batch: int) -> None:
-    """Replies of random sessions with a fault put into them, and any commands for them: what does not fit is a fault of the
-    transcript, and nothing else is raised. Most do not fit."""
+    """Replies of random sessions with a fault put into them, and any commands for them: what does
+    not fit is a fault of the transcript, and nothing else is raised. Most do not fit."""
     random = Random(f"odd replies/{batch}")
     faults = 0
     for _ in range(ODD_REPLIES):
         state, lines_of_script = scripted(random, 6)
         script = random_cases.plain_text(lines_of_script[:30])
-        replies, _ = session.run_lines(state, script, session.SolveReply(cut=random.random() < 0.5), session.Refusals())
+        replies, _ = session.run_lines(
+            state, script, session.SolveReply(cut=random.random() < 0.5), session.Refusals()
+        )
         odd = random_cases.text_of([fields(line) for line in lines(replies)], random, b"cx", 1)
         commands = random.choice([None, lines_with_ends(script)])
-        faults += fault_of(oracle_problem.problem_text(state), commands, lines_with_ends(odd)) is not None
+        faults += (
+            fault_of(oracle_problem.problem_text(state), commands, lines_with_ends(odd)) is not None
+        )
     assert faults > ODD_REPLIES / 2
 
 

@@ -1,5 +1,6 @@
-"""The tools with --json: each line is an object as docs/events.schema.json has it, the events are all that it has, and their numbers are those
-of the stories, in the table's terms and the program's."""
+"""The tools with --json: each line is an object as docs/events.schema.json has it, the events are
+all that it has, and their numbers are those of the stories, in the table's terms and the program's.
+"""
 
 from __future__ import annotations
 
@@ -62,7 +63,13 @@ def judge_numbers(content: Any, scale: int) -> None:
     if isinstance(content, dict) and content.keys() == {"told", "raw"}:
         whole, _, rest = content["told"].partition(".")
         assert int(whole + rest) * scale == content["raw"] * 10 ** len(rest), content
-    for part in content.values() if isinstance(content, dict) else content if isinstance(content, list) else ():
+    for part in (
+        content.values()
+        if isinstance(content, dict)
+        else content
+        if isinstance(content, list)
+        else ()
+    ):
         judge_numbers(part, scale)
 
 
@@ -81,12 +88,32 @@ def all_events(folder: Path) -> list[dict[str, Any]]:
     words = ["Reservoir", "Harbour", "--keep", "--json"]
     found = events(run("dmf-plan", f"{folder}/pipes.csv", *words, typed=COMMANDS).stdout)
     problem = folder / "supply.max"
-    table = ["--table", f"{folder}/routes.csv", "--sources", f"{folder}/stock.csv", "--sinks", f"{folder}/orders.csv"]
+    table = [
+        "--table",
+        f"{folder}/routes.csv",
+        "--sources",
+        f"{folder}/stock.csv",
+        "--sinks",
+        f"{folder}/orders.csv",
+    ]
     problem.write_text(run("dmf-problem", *table).stdout)
-    commands = (folder / "flood.txt").read_text() + "print problem\nprint cut\nnothing\nprint flow\n"
+    commands = (
+        folder / "flood.txt"
+    ).read_text() + "print problem\nprint cut\nnothing\nprint flow\n"
     (folder / "commands.txt").write_text(commands)
-    answer = subprocess.run([BUILT, "session", problem], input=commands, capture_output=True, text=True, timeout=SECONDS).stdout
-    found += events(run("dmf-names", str(problem), "--commands", f"{folder}/commands.txt", "--json", typed=answer).stdout)
+    answer = subprocess.run(
+        [BUILT, "session", problem], input=commands, capture_output=True, text=True, timeout=SECONDS
+    ).stdout
+    found += events(
+        run(
+            "dmf-names",
+            str(problem),
+            "--commands",
+            f"{folder}/commands.txt",
+            "--json",
+            typed=answer,
+        ).stdout
+    )
     # Without the commands.
     found += events(run("dmf-names", str(problem), "--json", typed=answer).stdout)
     return found + events(run("dmf-sweep", str(problem), "--close-each", "--json").stdout)
@@ -95,59 +122,117 @@ def all_events(folder: Path) -> list[dict[str, Any]]:
 def test_schema() -> None:
     jsonschema.Draft202012Validator.check_schema(SCHEMA)
     judge = jsonschema.Draft202012Validator(SCHEMA)
-    for wrong in {}, {"event": "other"}, {"event": "text", "line": 1, "lines": [], "more": 1}, {"event": "text", "line": 1}, {"event": "steps", "line": -1}:
+    for wrong in (
+        {},
+        {"event": "other"},
+        {"event": "text", "line": 1, "lines": [], "more": 1},
+        {"event": "text", "line": 1},
+        {"event": "steps", "line": -1},
+    ):
         assert [*judge.iter_errors(wrong)], wrong
 
 
 def test_each_line(folder: Path) -> None:
-    """Of all commands and answers; none of the schema's events is missing; the inner nodes are never told."""
+    """Of all commands and answers; none of the schema's events is missing; the inner nodes are
+    never told."""
     found = all_events(folder)
     assert {it["event"] for it in found} == set(SCHEMA["properties"]["event"]["enum"])
     for it in found:
         if "scale" in it:
             judge_numbers(it, int(it["scale"]))
-        assert it["event"] == "problem" or not any(inner in json.dumps(it) for inner in ("all sinks", "all sources")), it
+        assert it["event"] == "problem" or not any(
+            inner in json.dumps(it) for inner in ("all sinks", "all sources")
+        ), it
 
 
 def test_the_water_story(folder: Path) -> None:
     """Values of the story; the limit; what each pipe means."""
-    told = events(run("dmf-plan", f"{folder}/water.max", "--json", typed=SCRIPT + "undo 2\ncut\nwhat-if each arc\n").stdout)
+    told = events(
+        run(
+            "dmf-plan",
+            f"{folder}/water.max",
+            "--json",
+            typed=SCRIPT + "undo 2\ncut\nwhat-if each arc\n",
+        ).stdout
+    )
     solves = [at for at, line in enumerate(SCRIPT.splitlines(), 1) if line == "solve"]
     assert [it["value"]["raw"] for it in told if it["line"] in solves] == STORY
     limit = next(it for it in told if it["event"] == "limit")
-    assert {it["name"]: it["capacity"]["raw"] for it in limit["arcs"]} == {"North rise": 60, "Mill Lane": 45, "South main": 60}
+    assert {it["name"]: it["capacity"]["raw"] for it in limit["arcs"]} == {
+        "North rise": 60,
+        "Mill Lane": 45,
+        "South main": 60,
+    }
     assert all(it["limit"] and it["flow"] == it["capacity"] for it in limit["arcs"])
     trials = next(it for it in told if it["event"] == "sweep")["trials"]
-    assert {it["arc"]["name"]: (it["closed"]["raw"], it["doubled"]["raw"]) for it in trials} == swept()
+    assert {
+        it["arc"]["name"]: (it["closed"]["raw"], it["doubled"]["raw"]) for it in trials
+    } == swept()
 
 
 def test_names(folder: Path) -> None:
-    """Flows and the cut of `dmf-names` are those of the solution; a sweep's values are those of trying all sets of places."""
-    solution = subprocess.run([BUILT, "solve", "--cut"], stdin=open(folder / "water.max"), capture_output=True, text=True, timeout=SECONDS).stdout
+    """Flows and the cut of `dmf-names` are those of the solution; a sweep's values are those of
+    trying all sets of places."""
+    solution = subprocess.run(
+        [BUILT, "solve", "--cut"],
+        stdin=open(folder / "water.max"),
+        capture_output=True,
+        text=True,
+        timeout=SECONDS,
+    ).stdout
     flows, cut = events(run("dmf-names", f"{folder}/water.max", "--json", typed=solution).stdout)
-    assert [it["flow"]["raw"] for it in flows["arcs"]] == [int(line.split()[3]) for line in solution.splitlines() if line.startswith("f ")]
-    assert (cut["capacity"]["raw"], len(cut["side"])) == (165, sum(line.startswith("c side") for line in solution.splitlines()))
+    assert [it["flow"]["raw"] for it in flows["arcs"]] == [
+        int(line.split()[3]) for line in solution.splitlines() if line.startswith("f ")
+    ]
+    assert (cut["capacity"]["raw"], len(cut["side"])) == (
+        165,
+        sum(line.startswith("c side") for line in solution.splitlines()),
+    )
     cases = events(run("dmf-sweep", f"{folder}/water.max", "--close-each", "--json").stdout)
-    assert {it["name"]: it["value"]["raw"] for it in cases} == {name: closed for name, (closed, _) in swept().items()}
+    assert {it["name"]: it["value"]["raw"] for it in cases} == {
+        name: closed for name, (closed, _) in swept().items()
+    }
     assert all(it["difference"]["raw"] == it["value"]["raw"] - 165 for it in cases)
-    top = events(run("dmf-sweep", f"{folder}/water.max", "--close-each", "--json", "--top", "2").stdout)
+    top = events(
+        run("dmf-sweep", f"{folder}/water.max", "--close-each", "--json", "--top", "2").stdout
+    )
     worst = sorted(swept().items(), key=lambda it: it[1][0])[:2]
-    assert [(it["name"], it["value"]["raw"]) for it in top] == [(name, closed) for name, (closed, _) in worst]
+    assert [(it["name"], it["value"]["raw"]) for it in top] == [
+        (name, closed) for name, (closed, _) in worst
+    ]
 
 
 def test_odd_names_and_decimals(tmp_path: Path) -> None:
     """A German table with a comma, and a name of quotes and markup."""
     quoted = ODD.replace('"', '""')
-    (tmp_path / "t.csv").write_text(f'Von;Nach;Kapazität (l/s);Leitung\nA;B;47,35;"{quoted}"\nB;C;30,5;=x\n')
-    told = events(run("dmf-plan", f"{tmp_path}/t.csv", "--json", typed=f'solve\nflow\ncap "{quoted}" 10,125\nsave {tmp_path}/t.max\n').stdout)
-    assert [it["value"] for it in told[:1]] == [{"told": "30.5", "raw": 3050}] and (told[0]["unit"], told[0]["scale"]) == ("l/s", "100")
+    (tmp_path / "t.csv").write_text(
+        f'Von;Nach;Kapazität (l/s);Leitung\nA;B;47,35;"{quoted}"\nB;C;30,5;=x\n'
+    )
+    told = events(
+        run(
+            "dmf-plan",
+            f"{tmp_path}/t.csv",
+            "--json",
+            typed=f'solve\nflow\ncap "{quoted}" 10,125\nsave {tmp_path}/t.max\n',
+        ).stdout
+    )
+    assert [it["value"] for it in told[:1]] == [{"told": "30.5", "raw": 3050}] and (
+        told[0]["unit"],
+        told[0]["scale"],
+    ) == ("l/s", "100")
     assert [it["name"] for it in told[1]["arcs"]] == [display(ODD), "=x"]
     assert told[2]["value"] == {"told": "10.125", "raw": 10125} and told[2]["scale"] == "1000"
     cases = events(run("dmf-sweep", f"{tmp_path}/t.max", "--close-each", "--json").stdout)
-    assert [it["name"] for it in cases] == [ODD, "=x"] and cases[0]["difference"] == {"told": "-10.125", "raw": -10125}
+    assert [it["name"] for it in cases] == [ODD, "=x"] and cases[0]["difference"] == {
+        "told": "-10.125",
+        "raw": -10125,
+    }
 
 
 def test_refused(folder: Path) -> None:
-    for tool, words in {"dmf-names": ["--json", "--csv"], "dmf-sweep": ["--json", "--close-each", "--table", f"{folder}/x.csv"]}.items():
+    for tool, words in {
+        "dmf-names": ["--json", "--csv"],
+        "dmf-sweep": ["--json", "--close-each", "--table", f"{folder}/x.csv"],
+    }.items():
         ran = run(tool, f"{folder}/water.max", *words)
         assert (ran.returncode, ran.stdout) == (2, "") and "--json" in ran.stderr

@@ -1,7 +1,8 @@
 """Maximum flows, minimum cuts and what-if sessions, by the C library of `dmf` or its program.
 
 >>> import dmf
->>> network = dmf.Network([("lake", "mill", 3), ("mill", "sea", 2), ("lake", "sea", 1)], source="lake", sink="sea")
+>>> pipes = [("lake", "mill", 3), ("mill", "sea", 2), ("lake", "sea", 1)]
+>>> network = dmf.Network(pipes, source="lake", sink="sea")
 >>> network.solve().value, network.cap(("mill", "sea"), 1), network.undo()
 (3, 2, 3)
 
@@ -29,82 +30,82 @@ import sys
 # The version of the program that this package comes with.
 __version__ = "0.2.0"
 
-# A type checker reads these imports. Python loads a module when one of its names is first asked for, as the table below says.
+# A type checker reads these imports. Python loads a module when one of its names is first asked
+# for, as the table below says.
 TYPE_CHECKING = False
 if TYPE_CHECKING:
     from importlib.machinery import ModuleSpec
 
     from .arcs import Arc as Arc
     from .desk.project.comparison import Comparison as Comparison
-    from .desk.project.open_project import OpenProject as OpenProject, new_project as new_project, open_project as open_project
+    from .desk.project.open_project import OpenProject as OpenProject
+    from .desk.project.open_project import new_project as new_project
+    from .desk.project.open_project import open_project as open_project
     from .desk.project.schema import ProjectFault as ProjectFault
-    from .errors import (
-        AmbiguousArc as AmbiguousArc,
-        ArcBeforeSourceAndSink as ArcBeforeSourceAndSink,
-        ArcIsClosed as ArcIsClosed,
-        ArcIsOpen as ArcIsOpen,
-        CapacitiesPast64Bits as CapacitiesPast64Bits,
-        CountOutOfRange as CountOutOfRange,
-        Error as Error,
-        FlowIsNotGreatest as FlowIsNotGreatest,
-        HistoryOutOfRange as HistoryOutOfRange,
-        JobsOutOfRange as JobsOutOfRange,
-        LineTooLong as LineTooLong,
-        NameNotWritable as NameNotWritable,
-        NeitherSourceNorSink as NeitherSourceNorSink,
-        NoCapacity as NoCapacity,
-        NoMemory as NoMemory,
-        NoProgram as NoProgram,
-        NoSuchArc as NoSuchArc,
-        NoSuchNode as NoSuchNode,
-        NotAMaxProblem as NotAMaxProblem,
-        NotANumber as NotANumber,
-        NotAnArc as NotAnArc,
-        NothingToRedo as NothingToRedo,
-        NothingToUndo as NothingToUndo,
-        NumberTooLarge as NumberTooLarge,
-        ProblemLineExpected as ProblemLineExpected,
-        Refused as Refused,
-        SecondProblemLine as SecondProblemLine,
-        SessionEnded as SessionEnded,
-        SourceAndSinkAreTheSame as SourceAndSinkAreTheSame,
-        SourceOrSinkMissing as SourceOrSinkMissing,
-        TableFault as TableFault,
-        TerminalNamedTwice as TerminalNamedTwice,
-        TooFewArcs as TooFewArcs,
-        TooManyArcs as TooManyArcs,
-        Unbounded as Unbounded,
-        UnknownCommand as UnknownCommand,
-        UnknownLine as UnknownLine,
-        UsedByTwoProcesses as UsedByTwoProcesses,
-        UsedByTwoThreads as UsedByTwoThreads,
-        WrongNumberOfFields as WrongNumberOfFields,
-    )
-    from .graphs import (
-        MatrixFlow as MatrixFlow,
-        from_networkx as from_networkx,
-        from_scipy as from_scipy,
-        maximum_flow as maximum_flow,
-        minimum_cut as minimum_cut,
-        value as value,
-    )
-    from .network import Network as Network, Row as Row
+    from .errors import AmbiguousArc as AmbiguousArc
+    from .errors import ArcBeforeSourceAndSink as ArcBeforeSourceAndSink
+    from .errors import ArcIsClosed as ArcIsClosed
+    from .errors import ArcIsOpen as ArcIsOpen
+    from .errors import CapacitiesPast64Bits as CapacitiesPast64Bits
+    from .errors import CountOutOfRange as CountOutOfRange
+    from .errors import Error as Error
+    from .errors import FlowIsNotGreatest as FlowIsNotGreatest
+    from .errors import HistoryOutOfRange as HistoryOutOfRange
+    from .errors import JobsOutOfRange as JobsOutOfRange
+    from .errors import LineTooLong as LineTooLong
+    from .errors import NameNotWritable as NameNotWritable
+    from .errors import NeitherSourceNorSink as NeitherSourceNorSink
+    from .errors import NoCapacity as NoCapacity
+    from .errors import NoMemory as NoMemory
+    from .errors import NoProgram as NoProgram
+    from .errors import NoSuchArc as NoSuchArc
+    from .errors import NoSuchNode as NoSuchNode
+    from .errors import NotAMaxProblem as NotAMaxProblem
+    from .errors import NotAnArc as NotAnArc
+    from .errors import NotANumber as NotANumber
+    from .errors import NothingToRedo as NothingToRedo
+    from .errors import NothingToUndo as NothingToUndo
+    from .errors import NumberTooLarge as NumberTooLarge
+    from .errors import ProblemLineExpected as ProblemLineExpected
+    from .errors import Refused as Refused
+    from .errors import SecondProblemLine as SecondProblemLine
+    from .errors import SessionEnded as SessionEnded
+    from .errors import SourceAndSinkAreTheSame as SourceAndSinkAreTheSame
+    from .errors import SourceOrSinkMissing as SourceOrSinkMissing
+    from .errors import TableFault as TableFault
+    from .errors import TerminalNamedTwice as TerminalNamedTwice
+    from .errors import TooFewArcs as TooFewArcs
+    from .errors import TooManyArcs as TooManyArcs
+    from .errors import Unbounded as Unbounded
+    from .errors import UnknownCommand as UnknownCommand
+    from .errors import UnknownLine as UnknownLine
+    from .errors import UsedByTwoProcesses as UsedByTwoProcesses
+    from .errors import UsedByTwoThreads as UsedByTwoThreads
+    from .errors import WrongNumberOfFields as WrongNumberOfFields
+    from .graphs import MatrixFlow as MatrixFlow
+    from .graphs import from_networkx as from_networkx
+    from .graphs import from_scipy as from_scipy
+    from .graphs import maximum_flow as maximum_flow
+    from .graphs import minimum_cut as minimum_cut
+    from .graphs import value as value
+    from .network import Network as Network
+    from .network import Row as Row
     from .session.executable import program as program
     from .session.runners import library as library
-    from .solution import Cut as Cut, Solution as Solution
-    from .sweeps.cases import (
-        SweepResult as SweepResult,
-        each_arc_closed as each_arc_closed,
-        each_capacity_raised as each_capacity_raised,
-        each_node_shut as each_node_shut,
-        each_pair_added as each_pair_added,
-        sweep as sweep,
-    )
+    from .solution import Cut as Cut
+    from .solution import Solution as Solution
+    from .sweeps.cases import SweepResult as SweepResult
+    from .sweeps.cases import each_arc_closed as each_arc_closed
+    from .sweeps.cases import each_capacity_raised as each_capacity_raised
+    from .sweeps.cases import each_node_shut as each_node_shut
+    from .sweeps.cases import each_pair_added as each_pair_added
+    from .sweeps.cases import sweep as sweep
     from .tables.network_loader import read_table as read_table
     from .tables.problem_networks import read as read
     from .tables.table_network import TableNetwork as TableNetwork
 
-# The public names of each module, but for those of the exceptions, which the module `errors` knows itself.
+# The public names of each module, but for those of the exceptions, which the module `errors` knows
+# itself.
 _NAMES = {
     "arcs": ["Arc"],
     "desk.project.comparison": ["Comparison"],
@@ -115,14 +116,22 @@ _NAMES = {
     "session.executable": ["program"],
     "session.runners": ["library"],
     "solution": ["Cut", "Solution"],
-    "sweeps.cases": ["SweepResult", "each_arc_closed", "each_capacity_raised", "each_node_shut", "each_pair_added", "sweep"],
+    "sweeps.cases": [
+        "SweepResult",
+        "each_arc_closed",
+        "each_capacity_raised",
+        "each_node_shut",
+        "each_pair_added",
+        "sweep",
+    ],
     "tables.network_loader": ["read_table"],
     "tables.problem_networks": ["read"],
     "tables.table_network": ["TableNetwork"],
 }
 _HOMES = {name: module for module, names in _NAMES.items() for name in names}
 if not TYPE_CHECKING:
-    # `help(dmf)` prints whatever stands here in full, which would be thousands of lines. `dir(dmf)` has all names.
+    # `help(dmf)` prints whatever stands here in full, which would be thousands of lines. `dir(dmf)`
+    # has all names.
     __all__ = []
 
 

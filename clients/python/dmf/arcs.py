@@ -1,4 +1,5 @@
-"""The arcs of a network: their columns, the handles by which callers name them, and which of them are open."""
+"""The arcs of a network: their columns, the handles by which callers name them, and which of them
+are open."""
 
 from __future__ import annotations
 
@@ -18,24 +19,34 @@ from .text.lexical import NODES
 class Owner(Protocol):
     """The network of an arc, which knows the arc as it is now."""
 
-    def capacity_now(self, arc: Arc[Any]) -> int: ...
+    def capacity_now(self, arc: Arc[Any]) -> int:
+        ...
 
-    def flow_now(self, arc: Arc[Any]) -> int: ...
+    def flow_now(self, arc: Arc[Any]) -> int:
+        ...
 
-    def is_open_now(self, arc: Arc[Any]) -> bool: ...
+    def is_open_now(self, arc: Arc[Any]) -> bool:
+        ...
 
 
 class Arc(Generic[Node]):
-    """An arc of a network: its handle. `number` is the one that the session knows it by, `tail` and `head` are its ends, and
-    `given_key` is the key that the caller gave it, or None. `is_open`, `capacity` and `flow` say how it is now in its network. Each
-    arc is equal to itself alone, so a copy of it is the arc itself. One that was pickled has no network any more."""
+    """An arc of a network: its handle. `number` is the one that the session knows it by, `tail` and
+    `head` are its ends, and `given_key` is the key that the caller gave it, or None. `is_open`,
+    `capacity` and `flow` say how it is now in its network. Each arc is equal to itself alone, so a
+    copy of it is the arc itself. One that was pickled has no network any more.
+    """
 
     __module__ = __package__
 
     __slots__ = "number", "tail", "head", "given_key", "_owner"
 
     def __init__(
-        self, number: int, tail: Node, head: Node, given_key: Hashable, owner: weakref.ref[Owner] | None = None
+        self,
+        number: int,
+        tail: Node,
+        head: Node,
+        given_key: Hashable,
+        owner: weakref.ref[Owner] | None = None,
     ) -> None:
         self.number = number
         self.tail = tail
@@ -55,19 +66,21 @@ class Arc(Generic[Node]):
 
     @property
     def capacity(self) -> int:
-        """Its capacity now. Raises `ArcIsClosed`, and `NoSuchArc` where the change that added it was undone."""
+        """Its capacity now. Raises `ArcIsClosed`, and `NoSuchArc` where the change that added it
+        was undone."""
         return self._network().capacity_now(self)
 
     @property
     def flow(self) -> int:
-        """The flow on it now, which is 0 if it is closed. Raises `NoSuchArc` if the change that added it was undone. The first look
-        at an arc after a change asks the session for all flows."""
+        """The flow on it now, which is 0 if it is closed. Raises `NoSuchArc` if the change that
+        added it was undone. The first look at an arc after a change asks the session for all flows.
+        """
         return self._network().flow_now(self)
 
     def _network(self) -> Owner:
         owner = None if self._owner is None else self._owner()
         if owner is None:
-            raise SessionEnded(f"the network of {self!r} is not there any more")
+            raise SessionEnded(f"the network of {self!r} no longer exists")
         return owner
 
     def again(self) -> Arc[Node]:
@@ -107,7 +120,10 @@ class Handles(Generic[Node]):
         arc = self._made.get(number)
         if arc is None:
             columns = self.columns
-            tail, head = columns.names[columns.tails[number - 1] - 1], columns.names[columns.heads[number - 1] - 1]
+            tail, head = (
+                columns.names[columns.tails[number - 1] - 1],
+                columns.names[columns.heads[number - 1] - 1],
+            )
             # Where two threads make one at once, both take the same.
             made = Arc(number, tail, head, columns.keys.get(number), self.owner)
             arc = self._made.setdefault(number, made)
@@ -150,19 +166,25 @@ def _keys(arc: Arc[Node]) -> list[Hashable]:
 
 
 def one_of(found: list[Arc[Node]], key: Hashable, state: str = "open") -> Arc[Node]:
-    """The only arc among those found. Raises `NoSuchArc` if there is none, and `AmbiguousArc` if there are several."""
+    """The only arc among those found. Raises `NoSuchArc` if there is none, and `AmbiguousArc` if
+    there are several."""
     if not found:
         raise NoSuchArc(shown_value(key))
     if len(found) > 1:
         some = ", ".join(map(repr, found[:9])) + ", .." * (len(found) > 9)
-        raise AmbiguousArc(f"{len(found)} {state} arcs have the key or the ends {shown_value(key)}: {some}")
+        raise AmbiguousArc(
+            f"{len(found)} {state} arcs have the key or the ends {shown_value(key)}: {some}"
+        )
     return found[0]
 
 
 class OpenArcs(Generic[Node]):
-    """The open arcs of a network at one time, in their order: those of the problem that are not closed, and then the added ones."""
+    """The open arcs of a network at one time, in their order: those of the problem that are not
+    closed, and then the added ones."""
 
-    def __init__(self, handles: Handles[Node], added: tuple[Arc[Node], ...], closed: Iterable[int]) -> None:
+    def __init__(
+        self, handles: Handles[Node], added: tuple[Arc[Node], ...], closed: Iterable[int]
+    ) -> None:
         self.handles = handles
         self.columns = handles.columns
         self.added = added
@@ -192,7 +214,11 @@ class OpenArcs(Generic[Node]):
 
     def handle(self, number: int) -> Arc[Node]:
         """The arc of a number."""
-        return self.handles.of(number) if number <= len(self.columns) else self.added[number - len(self.columns) - 1]
+        return (
+            self.handles.of(number)
+            if number <= len(self.columns)
+            else self.added[number - len(self.columns) - 1]
+        )
 
     def is_open(self, number: int) -> bool:
         place = bisect_left(self.closed, number)
@@ -214,7 +240,8 @@ class OpenArcs(Generic[Node]):
         return Added(self.added)
 
     def find(self, key: Hashable) -> Arc[Node]:
-        """The open arc of a handle, a key or a pair of ends. Raises `NoSuchArc` and `AmbiguousArc`."""
+        """The open arc of a handle, a key or a pair of ends. Raises `NoSuchArc` and
+        `AmbiguousArc`."""
         if isinstance(key, Arc):
             if not self.has(key) or not self.is_open(key.number):
                 raise NoSuchArc(repr(key))
@@ -242,7 +269,10 @@ class OpenArcs(Generic[Node]):
 
     def keys(self) -> list[Hashable]:
         """The keys of the open arcs; None for an arc that was given none."""
-        return [self.columns.keys.get(n) if n <= len(self.columns) else self.handle(n).given_key for n in self.numbers()]
+        return [
+            self.columns.keys.get(n) if n <= len(self.columns) else self.handle(n).given_key
+            for n in self.numbers()
+        ]
 
     def ends(self) -> tuple[array[int], array[int]]:
         """The numbers of the tails and of the heads of the open arcs."""

@@ -1,5 +1,5 @@
-"""Columns of numbers: as texts for the program, out of its answers, and as arrays of numpy, frames of pandas and matrices of scipy. None
-of these packages is needed until its function is called."""
+"""Columns of numbers: as texts for the program, out of its answers, and as arrays of numpy, frames
+of pandas and matrices of scipy. None of these packages is needed until its function is called."""
 
 from __future__ import annotations
 
@@ -12,43 +12,58 @@ from .columns import Columns, Node, WholeNodes
 from .errors import NoCapacity, NotAnArc, NumberTooLarge, shown_value
 from .rows import LARGEST_NODE, columns_of, is_missing, is_unordered, refuse_node, whole
 from .session.base import import_package, kind_for
-from .text.lexical import AMOUNTS, MOST_NODES, NODES, NO_NODE, NUMBERS
+from .text.lexical import AMOUNTS, MOST_NODES, NO_NODE, NODES, NUMBERS
 
 
 def columns_of_arrays(
     tail: Any, head: Any, capacity: Any, key: Any, nodes: Iterable[Node], infinite: object
 ) -> tuple[Columns[Node], array[int]]:
-    """The columns of three sequences of one length, and their capacities. Numbers in arrays of numpy are taken as they are, all
-    together, and everything else row by row. Raises `NotAnArc` for sequences of several lengths or with a node that is missing, and
-    what `columns_of` raises."""
+    """The columns of three sequences of one length, and their capacities. Numbers in arrays of
+    numpy are taken as they are, all together, and everything else row by row. Raises `NotAnArc` for
+    sequences of several lengths or with a node that is missing, and what `columns_of` raises."""
     filled = None if infinite is None else whole(infinite, "infinite")
     tail, head, capacity, key = (_plain(column) for column in (tail, head, capacity, key))
     lengths = {len(column) for column in (tail, head, capacity, key) if column is not None}
     if len(lengths) > 1:
-        raise NotAnArc(f"not an arc: the columns have several lengths: {', '.join(map(str, sorted(lengths)))}")
-    if all(_kind(column) in ("i", "u") for column in (tail, head)) and _kind(capacity) in ("i", "u", "f"):
+        raise NotAnArc(
+            f"not an arc: the columns have several lengths: {', '.join(map(str, sorted(lengths)))}"
+        )
+    if all(_kind(column) in ("i", "u") for column in (tail, head)) and _kind(capacity) in (
+        "i",
+        "u",
+        "f",
+    ):
         np = import_package("numpy", "arrays")
         columns, capacities = _of_numbers(np, tail, head, capacity, nodes, filled)
         if key is not None:
-            columns.keys.update((at, value) for at, value in enumerate(_listed(key), 1) if not is_missing(value))
+            columns.keys.update(
+                (at, value) for at, value in enumerate(_listed(key), 1) if not is_missing(value)
+            )
             for at, given in columns.keys.items():
                 try:
                     hash(given)
                 except TypeError:
-                    raise NotAnArc(f"not an arc: number {at}: its key {shown_value(given)} cannot be hashed") from None
+                    raise NotAnArc(
+                        f"not an arc: number {at}: its key {shown_value(given)} cannot be hashed"
+                    ) from None
         return columns, capacities
-    rows = zip(*map(_listed, (tail, head, capacity)), *([] if key is None else [map(_known, _listed(key))]))
+    rows = zip(
+        *map(_listed, (tail, head, capacity)), *([] if key is None else [map(_known, _listed(key))])
+    )
     nodes = list(nodes)
-    columns, capacities = columns_of(rows if filled is None else (with_infinite(row, filled) for row in rows), nodes)
+    columns, capacities = columns_of(
+        rows if filled is None else (with_infinite(row, filled) for row in rows), nodes
+    )
     if None in columns.numbers and None not in nodes:
         refuse_node(columns, capacities, None)
     return columns, capacities
 
 
 def _plain(column: Any) -> Any:
-    """A series of pandas as an array of numpy, and an array that hides some of its values as a list, in which these are None; any other
-    column as it is, or as a list where its length is not known. Raises `NotAnArc` for a table, a set and a dictionary, and for times
-    that Python has not."""
+    """A series of pandas as an array of numpy, and an array that hides some of its values as a
+    list, in which these are None; any other column as it is, or as a list where its length is not
+    known. Raises `NotAnArc` for a table, a set and a dictionary, and for times that Python has not.
+    """
     if is_unordered(column):
         raise NotAnArc(f"not an arc: a column is a {type(column).__name__}, and not a list")
     if getattr(column, "ndim", 1) != 1:
@@ -56,7 +71,10 @@ def _plain(column: Any) -> Any:
     if hasattr(column, "to_numpy"):
         column = column.to_numpy()
     if _kind(column) in ("m", "M") and any(isinstance(value, int) for value in column.tolist()):
-        raise NotAnArc(f"not an arc: a column of {column.dtype}, whose times would become whole numbers: make texts of them")
+        raise NotAnArc(
+            f"not an arc: a column of {column.dtype}, whose times would become whole numbers: make "
+            "texts of them"
+        )
     if hasattr(column, "filled"):
         return column.tolist()
     return column if column is None or hasattr(column, "__len__") else list(column)
@@ -92,8 +110,12 @@ def _of_numbers(
     """The columns of arrays of whole numbers."""
     for column in tail, head:
         if column.dtype.kind == "u" and column.size and int(column.max()) >> 63:
-            raise NumberTooLarge(f"the node {int(column.max())} of an array: a node that is a number lies below 2^63")
-    known, tails, heads = _numbered(np, tail.astype(np.int64, copy=False), head.astype(np.int64, copy=False), nodes)
+            raise NumberTooLarge(
+                f"the node {int(column.max())} of an array: a node that is a number lies below 2^63"
+            )
+    known, tails, heads = _numbered(
+        np, tail.astype(np.int64, copy=False), head.astype(np.int64, copy=False), nodes
+    )
     capacities = _column(np, AMOUNTS, _amounts(np, tail, head, capacity, infinite))
     return Columns(known, _column(np, NODES, tails), _column(np, NODES, heads), {}), capacities
 
@@ -105,11 +127,22 @@ def _column(np: Any, kind: str, numbers: Any) -> array[int]:
     return column
 
 
-def _numbered(np: Any, tail: Any, head: Any, nodes: Iterable[Any]) -> tuple[Mapping[Any, int], Any, Any]:
-    """The numbers of the given nodes, and then of the ends of arcs in the order in which they first come, from 1 on; and the arrays of the
-    numbers of the tails and of the heads."""
-    low, high = (min(int(tail.min()), int(head.min())), max(int(tail.max()), int(head.max()))) if tail.size else (0, -1)
-    if isinstance(nodes, range) and nodes == range(len(nodes)) and 0 <= low and high < len(nodes) <= MOST_NODES:
+def _numbered(
+    np: Any, tail: Any, head: Any, nodes: Iterable[Any]
+) -> tuple[Mapping[Any, int], Any, Any]:
+    """The numbers of the given nodes, and then of the ends of arcs in the order in which they first
+    come, from 1 on; and the arrays of the numbers of the tails and of the heads."""
+    low, high = (
+        (min(int(tail.min()), int(head.min())), max(int(tail.max()), int(head.max())))
+        if tail.size
+        else (0, -1)
+    )
+    if (
+        isinstance(nodes, range)
+        and nodes == range(len(nodes))
+        and 0 <= low
+        and high < len(nodes) <= MOST_NODES
+    ):
         return _whole_nodes(np, np.arange(len(nodes))), tail + 1, head + 1
     names, width = None, high + 1 - low
     if width > 8 * tail.size:
@@ -119,14 +152,20 @@ def _numbered(np: Any, tail: Any, head: Any, nodes: Iterable[Any]) -> tuple[Mapp
     elif low:
         tail, head = tail - low, head - low
     order = _in_order(np, tail, head, width)
-    known, numbers = _known_nodes(np, list(nodes), order + low if names is None else names[order], LARGEST_NODE * 2 * tail.size)
+    known, numbers = _known_nodes(
+        np,
+        list(nodes),
+        order + low if names is None else names[order],
+        LARGEST_NODE * 2 * tail.size,
+    )
     number_of = np.zeros(width, np.uint32)
     number_of[order] = numbers
     return known, number_of[tail], number_of[head]
 
 
 def _in_order(np: Any, tail: Any, head: Any, width: int) -> Any:
-    """The different ends of arcs, numbers from 0 on and below the width, in the order in which they first come."""
+    """The different ends of arcs, numbers from 0 on and below the width, in the order in which they
+    first come."""
     count = tail.size
     backward = np.arange(count - 1, -1, -1, dtype=np.int64 if count >> 30 else np.int32)
     places = []
@@ -141,15 +180,19 @@ def _in_order(np: Any, tail: Any, head: Any, width: int) -> Any:
     return np.where(found & 1, head[found >> 1], tail[found >> 1])
 
 
-def _known_nodes(np: Any, given: list[Any], names: Any, limit: int) -> tuple[Mapping[Any, int], Any]:
-    """The numbers of the given nodes and then of these names; and an array of the numbers of the names. `limit` bounds the whole numbers
-    for which no dictionary is made."""
+def _known_nodes(
+    np: Any, given: list[Any], names: Any, limit: int
+) -> tuple[Mapping[Any, int], Any]:
+    """The numbers of the given nodes and then of these names; and an array of the numbers of the
+    names. `limit` bounds the whole numbers for which no dictionary is made."""
     if not given and 0 <= int(names.min(initial=0)) and int(names.max(initial=0)) < limit:
         return _whole_nodes(np, names), np.arange(1, names.size + 1)
     known: dict[Any, int] = {}
     for node in given:
         known.setdefault(node, len(known) + 1)
-    return known, np.array([known.setdefault(name, len(known) + 1) for name in names.tolist()], np.uint32)
+    return known, np.array(
+        [known.setdefault(name, len(known) + 1) for name in names.tolist()], np.uint32
+    )
 
 
 def _whole_nodes(np: Any, names: Any) -> WholeNodes:
@@ -160,7 +203,8 @@ def _whole_nodes(np: Any, names: Any) -> WholeNodes:
 
 
 def _amounts(np: Any, tail: Any, head: Any, capacity: Any, infinite: int | None) -> Any:
-    """An array of capacities, whole numbers from 0 on. The first that is none is told with its arc."""
+    """An array of capacities, whole numbers from 0 on. The first that is none is told with its
+    arc."""
     if capacity.dtype.kind == "f":
         missing = np.isnan(capacity) | (capacity == np.inf)
         if infinite is not None and missing.any():
@@ -169,7 +213,12 @@ def _amounts(np: Any, tail: Any, head: Any, capacity: Any, infinite: int | None)
                 amounts = _amounts(np, tail, head, capacity, None)
             amounts[missing] = infinite
             return amounts
-        wrong = ~np.isfinite(capacity) | (capacity != np.floor(capacity)) | (capacity < 0) | (capacity >= 2.0**64)
+        wrong = (
+            ~np.isfinite(capacity)
+            | (capacity != np.floor(capacity))
+            | (capacity < 0)
+            | (capacity >= 2.0**64)
+        )
     elif capacity.dtype.kind == "u" or int(capacity.min(initial=0)) >= 0:
         return capacity
     else:
@@ -184,7 +233,13 @@ def _amounts(np: Any, tail: Any, head: Any, capacity: Any, infinite: int | None)
 def frame(arcs: OpenArcs[Any], flow: Any, capacities: array[int]) -> Any:
     """A frame of pandas with a row for each open arc."""
     pd = import_package("pandas", "a frame of flows")
-    columns = {"tail": arcs.tails(), "head": arcs.heads(), "key": arcs.keys(), "flow": flow, "capacity": capacities}
+    columns = {
+        "tail": arcs.tails(),
+        "head": arcs.heads(),
+        "key": arcs.keys(),
+        "flow": flow,
+        "capacity": capacities,
+    }
     return pd.DataFrame(columns, index=pd.Index(list(arcs.numbers()), name="arc"))
 
 
@@ -195,8 +250,9 @@ def flow_matrix(arcs: OpenArcs[Any], flow: Any) -> Any:
 
 
 def matrix_of(flow: Any, tails: array[int], heads: array[int], count: int) -> Any:
-    """The flows between nodes that are counted from 1, as a sparse matrix of scipy of unsigned numbers. What flows on several arcs is added
-    up: all flows of a network are below 2^64 together, since its capacities are."""
+    """The flows between nodes that are counted from 1, as a sparse matrix of scipy of unsigned
+    numbers. What flows on several arcs is added up: all flows of a network are below 2^64 together,
+    since its capacities are."""
     sparse = import_package("scipy.sparse", "a matrix of flows")
     np = import_package("numpy", "a matrix of flows")
     rows, columns = (np.frombuffer(ends, np.uint32).astype(np.int64) - 1 for ends in (tails, heads))
@@ -206,4 +262,6 @@ def matrix_of(flow: Any, tails: array[int], heads: array[int], count: int) -> An
 
 
 def no_capacity(edge: tuple[Any, ...], attribute: Hashable) -> NoCapacity:
-    return NoCapacity(f"no capacity: the edge {shown_value(edge)} has no attribute {shown_value(attribute)}")
+    return NoCapacity(
+        f"no capacity: the edge {shown_value(edge)} has no attribute {shown_value(attribute)}"
+    )

@@ -12,18 +12,19 @@ from operator import gt
 from typing import TYPE_CHECKING, Any, Generic, TypeVar
 
 from .errors import NoSuchArc, shown_value
-from .text.lexical import NODES, NO_NODE, NUMBERS
+from .text.lexical import NO_NODE, NODES, NUMBERS
 
 if TYPE_CHECKING:
     from .text.table_comments import TableComments
 
 
 class WholeNodes(Mapping[Any, int]):
-    """Nodes that are whole numbers from 0 on, each with its number: from 1 on, in the order in which they came. It works as a
-    dictionary does, in a tenth of the memory and time."""
+    """Nodes that are whole numbers from 0 on, each with its number: from 1 on, in the order in
+    which they came. It works as a dictionary does, in a tenth of the memory and time."""
 
     def __init__(self, names: array[int] | None = None, numbers: array[int] | None = None) -> None:
-        """`names` are the nodes in the order of their numbers, and `numbers` has the number of each node at the place that is the node."""
+        """`names` are the nodes in the order of their numbers, and `numbers` has the number of each
+        node at the place that is the node."""
         self.names = array(NODES) if names is None else names
         self._numbers = array(NUMBERS) if numbers is None else numbers
 
@@ -38,8 +39,8 @@ class WholeNodes(Mapping[Any, int]):
         return made
 
     def take(self, nodes: list[Any], most: int) -> array[int] | None:
-        """The numbers of these nodes. Each new node gets the next number. If one is no whole number from 0 to `most`, takes none, and
-        returns None."""
+        """The numbers of these nodes. Each new node gets the next number. If one is no whole number
+        from 0 to `most`, takes none, and returns None."""
         if not nodes or set(map(type, nodes)) != {int} or min(nodes) < 0:
             return None if nodes else array(NODES)
         try:
@@ -56,7 +57,8 @@ class WholeNodes(Mapping[Any, int]):
         return array(NODES, map(self._numbers.__getitem__, nodes))
 
     def _make_room(self, highest: int) -> None:
-        """Makes room for nodes up to this one, and for as many again, so that it is seldom called."""
+        """Makes room for nodes up to this one, and for as many again, so that it is seldom
+        called."""
         room = len(self._numbers)
         if highest >= room:
             self._numbers.extend(array(NUMBERS, [NO_NODE]) * (max(highest + 1, 2 * room) - room))
@@ -90,8 +92,8 @@ MOST_MISSED = 20
 
 
 class Index:
-    """Numbers by the names of what they number. `_last` has the last number of each name, and `_several` all numbers of a name with
-    several."""
+    """Numbers by the names of what they number. `_last` has the last number of each name, and
+    `_several` all numbers of a name with several."""
 
     def __init__(self, names: Callable[[], Iterable[Any]], numbers: Sequence[int]) -> None:
         self._last: dict[Any, int] = dict(zip(names(), numbers))
@@ -109,9 +111,10 @@ class Index:
 
 
 class Columns(Generic[Node]):
-    """The arcs of a problem, column by column: the numbers of their tails and heads, from 1 on, and the keys that were given, by the
-    arcs' numbers. `numbers` has the number of each node, in order. Nothing of it changes. A function may make the keys when one is
-    first asked for. `described` is what the problem tells of its table, where it is of one."""
+    """The arcs of a problem, column by column: the numbers of their tails and heads, from 1 on, and
+    the keys that were given, by the arcs' numbers. `numbers` has the number of each node, in order.
+    Nothing of it changes. A function may make the keys when one is first asked for. `described` is
+    what the problem tells of its table, where it is of one."""
 
     described: TableComments | None = None
 
@@ -156,7 +159,10 @@ class Columns(Generic[Node]):
     @functools.cached_property
     def _by_ends(self) -> Index:
         scale = len(self.numbers) + 1
-        return Index(lambda: (tail * scale + head for tail, head in zip(self.tails, self.heads)), range(1, len(self) + 1))
+        return Index(
+            lambda: (tail * scale + head for tail, head in zip(self.tails, self.heads)),
+            range(1, len(self) + 1),
+        )
 
     @functools.cached_property
     def _by_key(self) -> Index:
@@ -175,7 +181,8 @@ class Columns(Generic[Node]):
         raise no_such_node(node, self.numbers)
 
     def outlet(self, node: Node) -> int:
-        """The number of the node that arcs out of a node leave: another one only if the place of a table has two. Raises `NoSuchNode`."""
+        """The number of the node that arcs out of a node leave: another one only if the place of a
+        table has two. Raises `NoSuchNode`."""
         return self.number(node)
 
     def no_such_arc(self, key: Hashable) -> NoSuchArc:
@@ -185,8 +192,8 @@ class Columns(Generic[Node]):
         return no_such_arc(key, self.numbers, self.keys, self.named)
 
     def named(self, key: Hashable) -> list[int]:
-        """The numbers of the arcs of a key, or of a pair of ends, in their order. Raises `NoSuchArc` for a value that cannot be
-        hashed."""
+        """The numbers of the arcs of a key, or of a pair of ends, in their order. Raises
+        `NoSuchArc` for a value that cannot be hashed."""
         try:
             found = self._by_key.find(key)
         except TypeError:
@@ -199,20 +206,34 @@ class Columns(Generic[Node]):
 
     @functools.cached_property
     def _at_nodes(self) -> tuple[tuple[array[int], array[int]], tuple[array[int], array[int]]]:
-        """The arcs in the order of their tails, and of their heads; and the places at which the arcs of each node begin."""
+        """The arcs in the order of their tails, and of their heads; and the places at which the
+        arcs of each node begin."""
         return _grouped(self.tails, len(self.numbers)), _grouped(self.heads, len(self.numbers))
 
     def _is_indexed(self) -> bool:
-        """Whether the index of the arcs at each node is made. This happens after it was missed some times."""
+        """Whether the index of the arcs at each node is made. This happens after it was missed some
+        times."""
         self._missed += 1
         return self._missed > MOST_MISSED
 
     def at(self, node: int) -> list[int]:
         """The numbers of the arcs at a node, in their order."""
         if self._is_indexed():
-            return sorted({number for order, begins in self._at_nodes for number in order[begins[node] : begins[node + 1]]})
+            return sorted(
+                {
+                    number
+                    for order, begins in self._at_nodes
+                    for number in order[begins[node] : begins[node + 1]]
+                }
+            )
         here = node.__eq__
-        return sorted({number for ends in (self.tails, self.heads) for number in compress(count(1), map(here, ends))})
+        return sorted(
+            {
+                number
+                for ends in (self.tails, self.heads)
+                for number in compress(count(1), map(here, ends))
+            }
+        )
 
     def leaving(self, side: list[int]) -> list[int]:
         """The numbers of the arcs that lead out of a set of nodes, in their order."""
@@ -222,7 +243,9 @@ class Columns(Generic[Node]):
         if self._is_indexed():
             if 2 * len(side) <= len(self.numbers):
                 order, begins = self._at_nodes[0]
-                arcs = (number for node in side for number in order[begins[node] : begins[node + 1]])
+                arcs = (
+                    number for node in side for number in order[begins[node] : begins[node + 1]]
+                )
                 return sorted(number for number in arcs if not inside[self.heads[number - 1]])
             order, begins = self._at_nodes[1]
             others = compress(range(1, len(self.numbers) + 1), (not one for one in inside[1:]))

@@ -1,4 +1,5 @@
-"""Where the modules of version 0.1.0 are now. Pickles of then name them, and programs may import public names from them."""
+"""Where the modules of version 0.1.0 are now. Pickles of then name them, and programs may import
+public names from them."""
 
 from __future__ import annotations
 
@@ -55,7 +56,9 @@ class _Earlier(Loader):
     def _find(self, module: str, name: str) -> object:
         for home in self._homes:
             try:
-                found: object = getattr(import_module(f"{self._package}.{home}"), RENAMED.get(name, name))
+                found: object = getattr(
+                    import_module(f"{self._package}.{home}"), RENAMED.get(name, name)
+                )
             except AttributeError:
                 continue
             return found

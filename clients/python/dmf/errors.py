@@ -1,4 +1,5 @@
-"""The exceptions of the package. Each reason for which `dmf` refuses a command or a problem is a class of its own."""
+"""The exceptions of the package. Each reason for which `dmf` refuses a command or a problem is a
+class of its own."""
 
 from __future__ import annotations
 
@@ -8,7 +9,8 @@ from typing import Any, ClassVar
 
 
 def shown_value(thing: object) -> str:
-    """A value of the caller in a message: its repr, also if Python refuses to write one of its numbers."""
+    """A value of the caller in a message: its repr, also if Python refuses to write one of its
+    numbers."""
     try:
         return repr(thing)
     except ValueError:
@@ -20,16 +22,18 @@ class Error(Exception):
 
 
 class SessionEnded(Error):
-    """The session has ended: its program was killed or failed, or it was ended. The network can answer nothing until `begin_again`."""
+    """The session has ended: its program was killed or failed, or it was ended. The network can
+    answer nothing until `begin_again`."""
 
 
 class NoProgram(Error, FileNotFoundError):
-    """There is no program `dmf`, or the one that was found, or the library that DMF_LIBRARY names, cannot be run here, or is of another
-    version than this package needs."""
+    """There is no program `dmf`, or the one that was found, or the library that DMF_LIBRARY names,
+    cannot be run here, or is of another version than this package needs."""
 
 
 class AmbiguousArc(Error, LookupError):
-    """Several open arcs, or several closed arcs and no open one, have this key or these ends. Each has a handle that names it."""
+    """Several open arcs, or several closed arcs and no open one, have this key or these ends. Each
+    has a handle that names it."""
 
 
 class ArcIsOpen(Error, ValueError):
@@ -37,7 +41,8 @@ class ArcIsOpen(Error, ValueError):
 
 
 class NotAnArc(Error, ValueError):
-    """A row of arcs is neither (tail, head, capacity) nor (tail, head, capacity, key), or something in it cannot be hashed."""
+    """A row of arcs is neither (tail, head, capacity) nor (tail, head, capacity, key), or something
+    in it cannot be hashed."""
 
 
 class NoCapacity(Error, LookupError):
@@ -45,7 +50,8 @@ class NoCapacity(Error, LookupError):
 
 
 class Unbounded(Error, OverflowError):
-    """The flow from the source to the sink has no bound, since a path has only arcs of infinite capacity."""
+    """The flow from the source to the sink has no bound, since a path has only arcs of infinite
+    capacity."""
 
 
 class HistoryOutOfRange(Error, ValueError):
@@ -65,13 +71,15 @@ class UsedByTwoThreads(Error, RuntimeError):
 
 
 class UsedByTwoProcesses(Error, RuntimeError):
-    """A forked process used a network of its parent process. The call did nothing, and the session goes on."""
+    """A forked process used a network of its parent process. The call did nothing, and the session
+    goes on."""
 
 
 class Refused(Error):
-    """The program refuses a command, or a problem. Each of its reasons is a class of its own; a reason that this package does not
-    know is a plain `Refused`. `text` is the reason in the program's words, `what` is what it refused, and `line` is the faulty line
-    of the problem, if that was read from a file."""
+    """The program refuses a command, or a problem. Each of its reasons is a class of its own; a
+    reason that this package does not know is a plain `Refused`. `text` is the reason in the
+    program's words, `what` is what it refused, and `line` is the faulty line of the problem, if
+    that was read from a file."""
 
     text = "refused"
     line: int | None = None
@@ -158,43 +166,61 @@ class SourceAndSinkAreTheSame(Refused, ValueError):
     """One node cannot be both the source and the sink."""
 
 
-# The other reasons for which the program refuses a problem's text, or a line of a session. Each has its own class.
-class LineTooLong(Refused): ...
+# The other reasons for which the program refuses a problem's text, or a line of a session. Each has
+# its own class.
+class LineTooLong(Refused):
+    ...
 
 
-class WrongNumberOfFields(Refused): ...
+class WrongNumberOfFields(Refused):
+    ...
 
 
-class ProblemLineExpected(Refused): ...
+class ProblemLineExpected(Refused):
+    ...
 
 
-class SecondProblemLine(Refused): ...
+class SecondProblemLine(Refused):
+    ...
 
 
-class UnknownLine(Refused): ...
+class UnknownLine(Refused):
+    ...
 
 
-class NotAMaxProblem(Refused): ...
+class NotAMaxProblem(Refused):
+    ...
 
 
-class NeitherSourceNorSink(Refused): ...
+class NeitherSourceNorSink(Refused):
+    ...
 
 
-class TerminalNamedTwice(Refused): ...
+class TerminalNamedTwice(Refused):
+    ...
 
 
-class ArcBeforeSourceAndSink(Refused): ...
+class ArcBeforeSourceAndSink(Refused):
+    ...
 
 
-class SourceOrSinkMissing(Refused): ...
+class SourceOrSinkMissing(Refused):
+    ...
 
 
-class TooFewArcs(Refused): ...
+class TooFewArcs(Refused):
+    ...
+
+
+# How many more lines are told that have one fault.
+MOST_LINES = 9
 
 
 class TableFault(Error, ValueError):
-    """Why a table is refused: the reason, the line and the column, counted from 1, and the path of its file, as far as they are known;
-    and the `others` that were found with it, of which `untold` more are not kept."""
+    """Why a table is refused: the reason, the line and the column, counted from 1, and the path of
+    its file, as far as they are known; and the `others` that were found with it, of which `untold`
+    more are not kept. `more_lines` have the same fault, and `column_name` is what the column is
+    called, as `'Q max'`."""
 
     def __init__(self, reason: str, line: int = 0, path: str = "", column: int = 0) -> None:
         super().__init__(reason, line, path, column)
@@ -204,14 +230,25 @@ class TableFault(Error, ValueError):
         self.column = column
         self.others: list[TableFault] = []
         self.untold = 0
+        self.more_lines: Sequence[int] = ()
+        self.column_name = ""
 
     def __str__(self) -> str:
         return "\n".join(self.lines())
 
     def told(self) -> str:
         """This fault alone, in one line."""
-        place = f"line {self.line}" + (f", column {self.column}" if self.column else "")
-        return ": ".join(part for part in (self.path, place if self.line else "", self.reason) if part)
+        column = f"column {self.column_name or self.column}" if self.column and self.line else ""
+        place = ", ".join(part for part in (self.path, self._told_lines(), column) if part)
+        return f"{place}: {self.reason}" if place else self.reason
+
+    def _told_lines(self) -> str:
+        if not self.more_lines:
+            return f"line {self.line}" if self.line else ""
+        shown = [str(line) for line in (self.line, *self.more_lines[:MOST_LINES])]
+        rest = len(self.more_lines) - MOST_LINES
+        last = f"{rest} more" if rest > 0 else shown.pop()
+        return f"lines {', '.join(shown)} and {last}"
 
     def lines(self) -> list[str]:
         """All of it, a line for each fault."""
@@ -224,16 +261,19 @@ class TableFault(Error, ValueError):
             fault.path = fault.path or path
 
 
-class ToolFault(Exception):
-    """Why a tool ends, in a line for each reason, and with which status."""
+class FileFault(Exception):
+    """Why a file, or a standard stream, cannot be read or written."""
 
-    def __init__(self, reason: str, status: int = 1, more: Sequence[str] = ()) -> None:
-        super().__init__(reason)
-        self.reasons = reason, *more
-        self.status = status
+
+class OptionFault(Exception):
+    """Why an option does not fit the file that it is given for."""
 
 
 # All exceptions by their names. A traceback names each as its caller does: dmf.NoSuchArc.
-PUBLIC = {name: thing for name, thing in list(globals().items()) if isinstance(thing, type) and issubclass(thing, Error)}
+PUBLIC = {
+    name: thing
+    for name, thing in list(globals().items())
+    if isinstance(thing, type) and issubclass(thing, Error)
+}
 for _exception in PUBLIC.values():
     _exception.__module__ = __package__

@@ -9,14 +9,16 @@ import stat
 import sys
 from typing import IO, BinaryIO
 
-from .errors import ToolFault
+from .errors import FileFault
 
-# What a process finds of itself below this is what another one, to which a file was passed on, finds there too.
+# What a process finds of itself below this is what another one, to which a file was passed on,
+# finds there too.
 OPENED = "/proc/self/fd"
 
 
 def scratch() -> IO[bytes]:
-    """An empty file that goes when it is closed, and that no other process sees unless it is passed on. Raises an OSError."""
+    """An empty file that goes when it is closed, and that no other process sees unless it is passed
+    on. Raises an OSError."""
     if hasattr(os, "memfd_create") and os.path.isdir(OPENED):
         return open(_past_streams(os.memfd_create("dmf")), "w+b")
     import tempfile
@@ -25,7 +27,8 @@ def scratch() -> IO[bytes]:
 
 
 def _past_streams(number: int) -> int:
-    """The number of an open file that is no number of a standard stream, since there another process has a stream of its own."""
+    """The number of an open file that is no number of a standard stream, since there another
+    process has a stream of its own."""
     if number > 2:
         return number
     import fcntl
@@ -37,7 +40,8 @@ def _past_streams(number: int) -> int:
 
 
 def path_of(file: IO[bytes]) -> str:
-    """The path by which this process, and one that the file is passed on to, opens what was written to it."""
+    """The path by which this process, and one that the file is passed on to, opens what was written
+    to it."""
     return file.name if isinstance(file.name, str) else f"{OPENED}/{file.fileno()}"
 
 
@@ -47,23 +51,23 @@ def passed_on(path: str) -> tuple[int, ...]:
     return (int(name),) if folder == OPENED else ()
 
 
-def cannot(do: str, what: str, error: OSError, status: int = 1) -> ToolFault:
-    return ToolFault(f"cannot {do} {what}: {error.strerror}", status)
+def cannot(do: str, what: str, error: OSError) -> FileFault:
+    return FileFault(f"cannot {do} {what}: {error.strerror}")
 
 
-def read_file(path: str, status: int = 1) -> bytes:
+def read_file(path: str) -> bytes:
     """The bytes of a file; `-` is standard input."""
     if path == "-":
-        return standard_input(status).read()
+        return standard_input().read()
     try:
         with open(path, "rb") as file:
             return file.read()
     except FileNotFoundError as error:
-        raise ToolFault(f"cannot read {path}: {error.strerror}{_near(path)}", status) from None
+        raise FileFault(f"cannot read {path}: {error.strerror}{_near(path)}") from None
     except OSError as error:
-        raise cannot("read", path, error, status) from None
+        raise cannot("read", path, error) from None
     except ValueError:
-        raise ToolFault(f"cannot read {path}: no path has a NUL", status) from None
+        raise FileFault(f"cannot read {path}: no path has a NUL") from None
 
 
 def _near(path: str) -> str:
@@ -72,14 +76,17 @@ def _near(path: str) -> str:
 
     folder, name = os.path.split(path)
     with contextlib.suppress(OSError, ValueError):
-        return near(name, sorted(it for it in os.listdir(folder or ".") if it[:1] not in (".", "~")))
+        return near(
+            name, sorted(it for it in os.listdir(folder or ".") if it[:1] not in (".", "~"))
+        )
     return ""
 
 
 def write_file(path: str, data: bytes, *, is_new: bool = False) -> None:
-    """Writes a file whole: beside it at first, so that an older one stays as it is if that fails, and keeps its mode if not. What can
-    have no file beside it, such as a pipe or standard output, is written as it is. Raises an OSError, also where there is a file or a link
-    already that has to be new."""
+    """Writes a file whole: beside it at first, so that an older one stays as it is if that fails,
+    and keeps its mode if not. What can have no file beside it, such as a pipe or standard output,
+    is written as it is. Raises an OSError, also where there is a file or a link already that has to
+    be new."""
     if is_new and os.path.lexists(path):
         raise FileExistsError(errno.EEXIST, os.strerror(errno.EEXIST), path)
     try:
@@ -119,7 +126,8 @@ def write_file(path: str, data: bytes, *, is_new: bool = False) -> None:
 
 
 def _put(beside: str, path: str, is_new: bool) -> None:
-    """Gives a file its name. A new one takes no name that somebody else has put there meanwhile, if the file system has links."""
+    """Gives a file its name. A new one takes no name that somebody else has put there meanwhile, if
+    the file system has links."""
     if is_new:
         try:
             os.link(beside, path)
@@ -151,7 +159,7 @@ def _sync(file: int) -> None:
             raise
 
 
-def standard_input(status: int = 1) -> BinaryIO:
+def standard_input() -> BinaryIO:
     if sys.stdin is None:
-        raise ToolFault("cannot read standard input: it is closed", status)
+        raise FileFault("cannot read standard input: it is closed")
     return sys.stdin.buffer

@@ -1,8 +1,10 @@
-"""The changes that led to the present state of a network, and those that were undone: what each did, and the command that makes it again."""
+"""The changes that led to the present state of a network, and those that were undone: what each
+did, and the command that makes it again."""
 
 from __future__ import annotations
 
 from collections.abc import Callable, Sequence
+from operator import is_
 from typing import Any, Tuple
 
 from .errors import HistoryOutOfRange, NothingToRedo, NothingToUndo
@@ -12,14 +14,18 @@ Command = Tuple[Any, ...]
 
 
 class Change:
-    """A change: its command; the number of each arc whose capacity it changed, with its capacity before and after; and the arc that it
-    added, with its capacity and the number of the closed arc that it replaces, if it does. A closed arc has no capacity. `value` is that of
-    the flow after it."""
+    """A change: its command; the number of each arc whose capacity it changed, with its capacity
+    before and after; and the arc that it added, with its capacity and the number of the closed arc
+    that it replaces, if it does. A closed arc has no capacity. `value` is that of the flow after
+    it."""
 
     __slots__ = "command", "capacities", "added", "value"
 
     def __init__(
-        self, command: Command, capacities: Sequence[tuple[int, int | None, int | None]] = (), added: tuple[Any, int, int | None] | None = None
+        self,
+        command: Command,
+        capacities: Sequence[tuple[int, int | None, int | None]] = (),
+        added: tuple[Any, int, int | None] | None = None,
     ) -> None:
         self.command = command
         self.capacities = capacities
@@ -28,8 +34,10 @@ class Change:
 
 
 class _Now:
-    """The present state: how many changes led to it, forgotten ones counted; the value of its flow; and the way back from it to the
-    state before the present call, if that has changed anything. It is never changed, but another one takes its place."""
+    """The present state: how many changes led to it, forgotten ones counted; the value of its flow;
+    and the way back from it to the state before the present call, if that has changed anything. It
+    is never changed, but another one takes its place.
+    """
 
     __slots__ = "place", "value", "back"
 
@@ -40,13 +48,18 @@ class _Now:
 
 
 class _Back:
-    """The state before a call, and what the call may have done since: changes that it made, those that it undid, and undone changes that
-    it dropped. An error that broke the call off may have left each of these half done."""
+    """The state before a call, and what the call may have done since: changes that it made, those
+    that it undid, and undone changes that it dropped. An error that broke the call off may have
+    left each of these half done."""
 
     __slots__ = "now", "made", "unmade", "dropped"
 
     def __init__(
-        self, now: _Now, made: Sequence[Change] = (), unmade: Sequence[Change] = (), dropped: Sequence[Change | Command] | None = None
+        self,
+        now: _Now,
+        made: Sequence[Change] = (),
+        unmade: Sequence[Change] = (),
+        dropped: Sequence[Change | Command] | None = None,
     ) -> None:
         self.now = now
         self.made = made
@@ -55,9 +68,10 @@ class _Back:
 
 
 class History:
-    """A list of changes, of which some are made, and the ones after them undone. At most `most` can be undone; of an older one the command
-    alone is kept. `_make` and `_unmake` carry out what a change does here, and may do so again after an error broke them off: the present
-    state is the old one until all is done."""
+    """A list of changes, of which some are made, and the ones after them undone. At most `most` can
+    be undone; of an older one the command alone is kept. `_make` and `_unmake` carry out what a
+    change does here, and may do so again after an error broke them off: the present state is the
+    old one until all is done."""
 
     def __init__(self, most: int) -> None:
         self.most = most
@@ -86,14 +100,35 @@ class History:
         """The value of the present flow."""
         return self._now.value
 
+    @property
+    def moment(self) -> object:
+        """Something that is another one after each change, and where changes were undone or
+        redone."""
+        return self._now
+
+    def has_after(self, place: int, changes: Sequence[Change]) -> bool:
+        """Return True if these very changes follow the first so many, made or undone."""
+        there = self._changes[place : place + len(changes)]
+        return len(there) == len(changes) and all(map(is_, there, changes))
+
+    def changes_after(self, place: int) -> tuple[Change, ...]:
+        """Return the changes that are made, but for the first so many, of which none is
+        forgotten."""
+        made = self._changes[place : self.place]
+        return tuple(change for change in made if isinstance(change, Change))
+
     def commands(self) -> list[Command]:
-        """The commands that lead from the first state to the present one, by way of all that was undone."""
-        commands = [change.command if isinstance(change, Change) else change for change in self._changes]
+        """The commands that lead from the first state to the present one, by way of all that was
+        undone."""
+        commands = [
+            change.command if isinstance(change, Change) else change for change in self._changes
+        ]
         undone = len(commands) - self.place
         return [*commands, ("undo", undone)] if undone else commands
 
     def begin_call(self) -> None:
-        """Takes the present state as that to which `roll_back` leads, and forgets what the change past the bound did."""
+        """Takes the present state as that to which `roll_back` leads, and forgets what the change
+        past the bound did."""
         place = self._now.place
         if self._now.back is not None:
             self._now = _Now(place, self._now.value)
@@ -102,7 +137,8 @@ class History:
             self._changes[place - self.most - 1] = oldest.command
 
     def note(self, change: Change, value: int) -> None:
-        """Notes a change that the session made, makes it here, and drops what was undone. The flow has this value then."""
+        """Notes a change that the session made, makes it here, and drops what was undone. The flow
+        has this value then."""
         now = self._now
         back = _Back(now, made=[change], dropped=self._changes[now.place :])
         self._now = _Now(now.place, now.value, back)
@@ -114,7 +150,11 @@ class History:
     def redo(self, count: int, value: int) -> None:
         """Redoes so many changes, which exist. The flow has this value then."""
         now = self._now
-        changes = [change for change in self._changes[now.place : now.place + count] if isinstance(change, Change)]
+        changes = [
+            change
+            for change in self._changes[now.place : now.place + count]
+            if isinstance(change, Change)
+        ]
         back = _Back(now, made=changes)
         self._now = _Now(now.place, now.value, back)
         for change in changes:
@@ -124,7 +164,11 @@ class History:
     def undo(self, count: int, value: int) -> None:
         """Undoes so many changes, which exist. The flow has this value then."""
         now = self._now
-        changes = [change for change in self._changes[now.place - count : now.place] if isinstance(change, Change)]
+        changes = [
+            change
+            for change in self._changes[now.place - count : now.place]
+            if isinstance(change, Change)
+        ]
         back = _Back(now, unmade=changes)
         self._now = _Now(now.place, now.value, back)
         for change in reversed(changes):
@@ -150,8 +194,12 @@ class History:
         raise NotImplementedError
 
     def take_changes(self, other: History, again: Callable[[Any], Any]) -> None:
-        """Takes the changes of another one, which it has made already, with handles of its own for the added arcs."""
-        self._changes = [_with_own_arc(change, again) if isinstance(change, Change) else change for change in other._changes]
+        """Takes the changes of another one, which it has made already, with handles of its own for
+        the added arcs."""
+        self._changes = [
+            _with_own_arc(change, again) if isinstance(change, Change) else change
+            for change in other._changes
+        ]
         self._now = _Now(other.place, other.value)
 
     def forget_undone(self) -> None:
@@ -159,13 +207,18 @@ class History:
         del self._changes[self.place :]
 
     def judge_change(self) -> None:
-        """Raise `HistoryOutOfRange` if the outermost trial could not be undone after one more change."""
+        """Raise `HistoryOutOfRange` if the outermost trial could not be undone after one more
+        change."""
         if self.floors and self.place - self.floors[0] >= self.most:
-            why = f"history out of range: of what is tried out, {self.most} changes can be taken back, and not one more"
+            why = (
+                f"history out of range: of what is tried out, {self.most} changes can be taken "
+                "back, and not one more"
+            )
             raise HistoryOutOfRange(why)
 
     def judge_undo(self, count: int) -> None:
-        """Raise `NothingToUndo` if that would undo a forgotten change, or one from before the innermost trial."""
+        """Raise `NothingToUndo` if that would undo a forgotten change, or one from before the
+        innermost trial."""
         if self.floors and self.place - count < self.floors[-1]:
             made = self.place - self.floors[-1]
             raise NothingToUndo(f"undo {count}, of {made} changes that are tried out")

@@ -1,4 +1,5 @@
-"""How networks, flows and cuts show themselves in a notebook: as a picture of Graphviz, or as a table."""
+"""How networks, flows and cuts show themselves in a notebook: as a picture of Graphviz, or as a
+table."""
 
 from __future__ import annotations
 
@@ -27,21 +28,36 @@ class Look:
     """A network at one time, with its flow, and the side of its cut if it has one."""
 
     def __init__(
-        self, arcs: OpenArcs[Any], ends: tuple[int, int], flows: Sequence[int], capacities: Sequence[int], side: set[int], described: TableComments
+        self,
+        arcs: OpenArcs[Any],
+        ends: tuple[int, int],
+        flows: Sequence[int],
+        capacities: Sequence[int],
+        side: set[int],
+        described: TableComments,
     ) -> None:
-        """`ends` are the source and the sink, and `flows` and `capacities` belong to the open arcs."""
+        """`ends` are the source and the sink, and `flows` and `capacities` belong to the open
+        arcs."""
         drawn = list(zip(*arcs.ends(), capacities))
         keys = {place: key for place, key in enumerate(arcs.keys(), 1) if key is not None}
-        problem = Problem(len(arcs.columns.numbers), *ends, drawn, *picture_names(arcs.columns.names, keys), described)
+        problem = Problem(
+            len(arcs.columns.numbers),
+            *ends,
+            drawn,
+            *picture_names(arcs.columns.names, keys),
+            described,
+        )
         self.drawing = Drawing(problem, [ArcRecord(*row) for row in drawn], list(flows), side)
 
     def text(self) -> bytes:
         """The text for Graphviz."""
-        return "".join(f"{line}\n" for line in picture(self.drawing, MOST_DRAWN)).encode(errors="replace")
+        return "".join(f"{line}\n" for line in picture(self.drawing, MOST_DRAWN)).encode(
+            errors="replace"
+        )
 
     def drawn(self, form: str) -> bytes:
-        """The picture in a form of Graphviz, such as `svg` or `png`. Raises a FileNotFoundError where Graphviz is not there, and a
-        RuntimeError for what it says."""
+        """The picture in a form of Graphviz, such as `svg` or `png`. Raises a FileNotFoundError
+        where Graphviz is not there, and a RuntimeError for what it says."""
         return graphviz(self.text(), "dot", f"-T{form}")
 
     def svg(self) -> str | None:
@@ -59,7 +75,8 @@ def draw(look: Look, path: str) -> None:
 
 
 def plot(look: Look) -> Any:
-    """Axes of matplotlib with the picture of Graphviz, or with the nodes on a circle where Graphviz is not there."""
+    """Axes of matplotlib with the picture of Graphviz, or with the nodes on a circle where Graphviz
+    is not there."""
     pyplot = import_package("matplotlib.pyplot", "a plot without a path")
     axes = pyplot.subplots()[1]
     axes.set_axis_off()
@@ -72,15 +89,25 @@ def plot(look: Look) -> Any:
 
 def _circle(drawing: Drawing, axes: Any) -> None:
     places = nearest(drawing, MOST_DRAWN)
-    nodes = sorted({*drawing.terminals(), *(node for place in places for node in drawing.arcs[place][:2])})
-    at = {node: cmath.rect(1, cmath.pi * (1 - 2 * turn / len(nodes))) for turn, node in enumerate(nodes)}
+    nodes = sorted(
+        {*drawing.terminals(), *(node for place in places for node in drawing.arcs[place][:2])}
+    )
+    at = {
+        node: cmath.rect(1, cmath.pi * (1 - 2 * turn / len(nodes)))
+        for turn, node in enumerate(nodes)
+    }
     axes.set_xlim(-1.3, 1.3)
     axes.set_ylim(-1.3, 1.3)
     for place in places:
         arc, flow = drawing.arcs[place], drawing.flows[place]
         begin, end = at[arc.tail], at[arc.head]
         color = CUT if drawing.is_cut(arc) else UNUSED if not flow else "black"
-        axes.annotate("", (end.real, end.imag), (begin.real, begin.imag), arrowprops={"arrowstyle": "->", "color": color})
+        axes.annotate(
+            "",
+            (end.real, end.imag),
+            (begin.real, begin.imag),
+            arrowprops={"arrowstyle": "->", "color": color},
+        )
         middle = begin + 0.4 * (end - begin)
         axes.text(middle.real, middle.imag, f"{flow}/{arc.capacity}", color=color, ha="center")
     for node, spot in at.items():
@@ -99,4 +126,6 @@ def table(title: str, head: Iterable[str], count: int, rows: Iterable[Iterable[o
 
 
 def _row(kind: str, cells: Iterable[object]) -> str:
-    return "<tr>" + "".join(f"<{kind}>{html.escape(str(cell))}</{kind}>" for cell in cells) + "</tr>"
+    return (
+        "<tr>" + "".join(f"<{kind}>{html.escape(str(cell))}</{kind}>" for cell in cells) + "</tr>"
+    )

@@ -40,7 +40,8 @@ class Presentable(SessionHolder[Node]):
 
     @property
     def scale(self) -> str:
-        """What the numbers of a table were multiplied by, as the problem that was read tells it; empty if it tells none."""
+        """What the numbers of a table were multiplied by, as the problem that was read tells it;
+        empty if it tells none."""
         from .text.problem_text import told_scale
 
         return told_scale(self._kept.described)
@@ -59,8 +60,8 @@ class Presentable(SessionHolder[Node]):
 
     @exclusive
     def cut(self) -> Cut[Node]:
-        """The smallest minimum cut. Raises `FlowIsNotGreatest` if some flow has a larger value than the present one, as before
-        `solve`."""
+        """The smallest minimum cut. Raises `FlowIsNotGreatest` if some flow has a larger value than
+        the present one, as before `solve`."""
         return self._cut()
 
     def _cut(self) -> Cut[Node]:
@@ -70,17 +71,26 @@ class Presentable(SessionHolder[Node]):
         """The minimum cut that has these nodes, by their numbers, on the side of the source."""
         names = self._kept.columns.names
         look = self._look(set(side)) if self._kept.open_count <= MOST_DRAWN else None
-        return Cut(capacity, frozenset(names[node - 1] for node in side), tuple(self._kept.leaving(list(side))), names, look)
+        return Cut(
+            capacity,
+            frozenset(names[node - 1] for node in side),
+            tuple(self._kept.leaving(list(side))),
+            names,
+            look,
+        )
 
     @exclusive
     def problem(self, *, names: bool = True, escapes: bool = False) -> str:
-        """The problem of the open arcs as a text in the DIMACS format. With `names`, comments before it name nodes and arcs: each
-        node whose name is not its own number, and each key, as `str` writes it. `dmf.read` reads the same names again, as texts,
-        except blank ones. If the network was read of a problem that tells the scale and the unit of its numbers, so do the first
-        comments.
+        """The problem of the open arcs as a text in the DIMACS format. With `names`, comments
+        before it name nodes and arcs: each node whose name is not its own number, and each key, as
+        `str` writes it. `dmf.read` reads the same names again, as texts, except blank ones. If the
+        network was read of a problem that tells the scale and the unit of its numbers, so do the
+        first comments.
 
-        Raises `NameNotWritable` if `dmf.read` would read a name as another one: if it has a line feed or blanks around it, or if two
-        nodes have the same name. With `escapes` what cannot be written of a name, such as a line feed, is written as `\\x0a`."""
+        Raises `NameNotWritable` if `dmf.read` would read a name as another one: if it has a line
+        feed or blanks around it, or if two nodes have the same name. With `escapes` what cannot be
+        written of a name, such as a line feed, is written as `\\x0a`.
+        """
         from .text.spelling import name_comments
         from .text.table_comments import TableComments, table_comments
 
@@ -88,34 +98,42 @@ class Presentable(SessionHolder[Node]):
         before = table_comments(TableComments(self._kept.described.measure))
         if names:
             keys = {place: key for place, key in enumerate(opened.keys(), 1) if key is not None}
-            before += name_comments(dict(enumerate(self._kept.columns.names, 1)), keys, escapes=escapes)
+            before += name_comments(
+                dict(enumerate(self._kept.columns.names, 1)), keys, escapes=escapes
+            )
         return before + self._session.problem().decode()
 
     def to_networkx(self) -> Any:
-        """A MultiDiGraph of networkx with an edge for each open arc. Its key is the arc's number, and its attributes are `capacity`,
-        `flow`, and `name` if the arc has a key. Raises an ImportError if networkx is not installed."""
+        """A MultiDiGraph of networkx with an edge for each open arc. Its key is the arc's number,
+        and its attributes are `capacity`, `flow`, and `name` if the arc has a key. Raises an
+        ImportError if networkx is not installed.
+        """
         graph = import_package("networkx", "a graph")
         flow = self.flow()
         made = graph.MultiDiGraph()
         made.add_nodes_from(self.nodes)
         for (arc, carried), capacity in zip(flow.items(), flow._flows.capacities()):
             given = {} if arc.given_key is None else {"name": arc.given_key}
-            made.add_edge(arc.tail, arc.head, key=arc.number, capacity=capacity, flow=carried, **given)
+            made.add_edge(
+                arc.tail, arc.head, key=arc.number, capacity=capacity, flow=carried, **given
+            )
         return made
 
     def write(self, path: FilePath, *, names: bool = True, escapes: bool = False) -> None:
-        """Writes the text of `problem` to a file, whole or not at all: `dmf.read` and the program read it. Raises an OSError if it cannot
-        be written, and what `problem` raises."""
+        """Writes the text of `problem` to a file, whole or not at all: `dmf.read` and the program
+        read it. Raises an OSError if it cannot be written, and what `problem` raises."""
         from .files import write_file
 
         write_file(os.fsdecode(path), self.problem(names=names, escapes=escapes).encode())
 
     def plot(self, path: FilePath | None = None) -> Any:
-        """Draws the network with its flow, and with the smallest minimum cut if the flow is greatest; of more than 300 arcs those nearest
-        the cut. With a path, Graphviz writes a picture of the form of its ending, such as `.svg`, `.png` or `.pdf`; an ending `.dot`
-        needs no Graphviz. Without one it returns axes of matplotlib, which show the picture of Graphviz, or the nodes on a circle where
-        that is not there. Raises an ImportError without matplotlib, a FileNotFoundError without Graphviz where a path needs it, a
-        RuntimeError for what Graphviz says, and an OSError."""
+        """Draws the network with its flow, and with the smallest minimum cut if the flow is
+        greatest; of more than 300 arcs those nearest the cut. With a path, Graphviz writes a
+        picture of the form of its ending, such as `.svg`, `.png` or `.pdf`; an ending `.dot` needs
+        no Graphviz. Without one it returns axes of matplotlib, which show the picture of Graphviz,
+        or the nodes on a circle where that is not there. Raises an ImportError without matplotlib,
+        a FileNotFoundError without Graphviz where a path needs it, a RuntimeError for what Graphviz
+        says, and an OSError."""
         from .notebook import draw, plot
 
         look = self._look_with_cut()()
@@ -151,11 +169,24 @@ class Presentable(SessionHolder[Node]):
         flows.settle(self._asked_flow)
         kept = self._kept
         ends = kept.number(kept.source), kept.number(kept.sink)
-        return functools.partial(_look_of, kept._described, flows.arcs, ends, flows.numbers(), flows.capacities()[:], side)
+        return functools.partial(
+            _look_of,
+            kept._described,
+            flows.arcs,
+            ends,
+            flows.numbers(),
+            flows.capacities()[:],
+            side,
+        )
 
 
 def _look_of(
-    described: TableComments | None, arcs: OpenArcs[Any], ends: tuple[int, int], flows: array[int], capacities: array[int], side: set[int]
+    described: TableComments | None,
+    arcs: OpenArcs[Any],
+    ends: tuple[int, int],
+    flows: array[int],
+    capacities: array[int],
+    side: set[int],
 ) -> Look:
     """How a network looks. Whoever looks at it needs more modules."""
     from .notebook import Look

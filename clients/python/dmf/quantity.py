@@ -1,8 +1,8 @@
-"""Quantities: exact decimal numbers with a unit, as a table has them and a planner types them, beside the whole numbers that stand for
-them in the program.
+"""Quantities: exact decimal numbers with a unit, as a table has them and a planner types them,
+beside the whole numbers that stand for them in the program.
 
-A text can be a number in two ways: `1,200` is 1.2 where a comma is the decimal sign, and 1200 where a point is. `readings` gives both,
-and whoever reads a column or a command decides, or asks.
+A text can be a number in two ways: `1,200` is 1.2 where a comma is the decimal sign, and 1200 where
+a point is. `readings` gives both, and whoever reads a column or a command decides, or asks.
 """
 
 from __future__ import annotations
@@ -23,7 +23,8 @@ SIGNS = (POINT, COMMA)
 # Marks between thousands beside the sign that is not the decimal one: spaces and apostrophes.
 _SPACES = " \u00a0\u2007\u2009\u202f"
 _APOSTROPHES = "'\u2019"
-# The most characters of a number, and the largest exponent: what is longer is past 64 bits, or has more decimals than any scale.
+# The most characters of a number, and the largest exponent: what is longer is past 64 bits, or has
+# more decimals than any scale.
 LONGEST_NUMBER = 60
 LARGEST_EXPONENT = 40
 # Numbers are exact in this context.
@@ -36,22 +37,33 @@ class QuantityFault(ValueError):
 
 def _pattern(sign: str) -> re.Pattern[str]:
     other = next(re.escape(it) for it in SIGNS if it != sign)
-    thousands = "|".join(rf"[1-9][0-9]{{0,2}}(?:{mark}[0-9]{{3}})+" for mark in (other, f"[{_SPACES}]", f"[{_APOSTROPHES}]"))
-    return re.compile(rf"([+-]?)((?:{thousands}|[0-9]*))(?:{re.escape(sign)}([0-9]*))?(?:[eE]([+-]?[0-9]{{1,3}}))?")
+    thousands = "|".join(
+        rf"[1-9][0-9]{{0,2}}(?:{mark}[0-9]{{3}})+"
+        for mark in (other, f"[{_SPACES}]", f"[{_APOSTROPHES}]")
+    )
+    return re.compile(
+        rf"([+-]?)((?:{thousands}|[0-9]*))(?:{re.escape(sign)}([0-9]*))?"
+        r"(?:[eE]([+-]?[0-9]{1,3}))?"
+    )
 
 
 _PATTERNS = {sign: _pattern(sign) for sign in SIGNS}
 
 
 def readings(text: str) -> dict[str, Decimal]:
-    """The number that a text is, by the decimal sign that is taken for one: `{".": 1200, ",": 1.2}` for `1,200`, the same number twice
-    for `12`, one for `47,3`, and none for a text that is no number."""
+    """The number that a text is, by the decimal sign that is taken for one: `{".": 1200, ",": 1.2}`
+    for `1,200`, the same number twice for `12`, one for `47,3`, and none for a text that is no
+    number."""
     plain = _plain(text.strip())
     if len(plain) > LONGEST_NUMBER:
         plain = plain.lstrip("0") or "0"
     if not plain or len(plain) > LONGEST_NUMBER:
         return {}
-    return {sign: number for sign, number in ((sign, _number(plain, sign)) for sign in SIGNS) if number is not None}
+    return {
+        sign: number
+        for sign, number in ((sign, _number(plain, sign)) for sign in SIGNS)
+        if number is not None
+    }
 
 
 def _plain(text: str) -> str:
@@ -71,21 +83,22 @@ def _number(plain: str, sign: str) -> Decimal | None:
 
 
 def number_in(text: str, sign: str = "") -> Decimal:
-    """The number that a text is, where `sign` is the decimal sign, or without one if both readings agree. Raises a `QuantityFault`:
-    `is no number`, `may be 1.2 or 1200`."""
+    """The number that a text is, where `sign` is the decimal sign, or without one if both readings
+    agree. Raises a `QuantityFault`: `is not a number`, `may be 1.2 or 1200`."""
     found = readings(text)
     if sign in found:
         return found[sign]
     numbers = set(found.values())
     if not numbers:
-        raise QuantityFault("is no number")
+        raise QuantityFault("is not a number")
     if len(numbers) > 1:
         raise QuantityFault(f"may be {' or '.join(sorted(map(plain_text, numbers), key=Decimal))}")
     return numbers.pop()
 
 
 def plain_text(number: Quantity) -> str:
-    """A number as it is written with a point and without an exponent, marks and zeros at its end: `30.5`."""
+    """A number as it is written with a point and without an exponent, marks and zeros at its end:
+    `30.5`."""
     text = f"{Decimal(number):f}"
     return text.rstrip("0").rstrip(POINT) if POINT in text else text
 
@@ -103,12 +116,13 @@ def decimals(number: Quantity) -> int:
 
 @dataclass(frozen=True)
 class Measure:
-    """How the whole numbers of a problem stand for quantities: a quantity times `scale` is the whole number. `unit` is what the
-    quantities are counted in, as `l/s`, and `table` the name of the file that has them; either may be empty. `sign` is the decimal sign
-    in that file, and empty if nothing says it.
+    """How the whole numbers of a problem stand for quantities: a quantity times `scale` is the
+    whole number. `unit` is what the quantities are counted in, as `l/s`, and `table` the name of
+    the file that has them; either may be empty. `sign` is the decimal sign in that file, and empty
+    if nothing says it.
 
-    Where the quantity of a whole number need not be a finite decimal number, as with a scale of 60, quantities are the whole numbers,
-    and the unit that is told says so: `hours times 60`."""
+    Where the quantity of a whole number need not be a finite decimal number, as with a scale of 60,
+    quantities are the whole numbers, and the unit that is told says so: `hours times 60`."""
 
     scale: Decimal = Decimal(1)
     unit: str = ""
@@ -122,8 +136,11 @@ class Measure:
 
     @property
     def legend(self) -> str:
-        """What is told beside numbers: `numbers in l/s, from pipes.csv`, or as much of it as is known."""
-        parts = [f"numbers in {self.told_unit}"] * bool(self.told_unit) + [f"from {self.table}"] * bool(self.table)
+        """What is told beside numbers: `numbers in l/s, from pipes.csv`, or as much of it as is
+        known."""
+        parts = [f"numbers in {self.told_unit}"] * bool(self.told_unit) + [
+            f"from {self.table}"
+        ] * bool(self.table)
         return ", ".join(parts)
 
     def title(self, words: str) -> str:
@@ -131,15 +148,21 @@ class Measure:
         return f"{words} ({self.told_unit})" if self.told_unit else words
 
     def finer(self, quantity: Quantity) -> Measure:
-        """The measure with the least power of ten beside this scale that makes a quantity whole too. Where quantities are the whole
-        numbers although there is a scale, there is no finer one."""
+        """The measure with the least power of ten beside this scale that makes a quantity whole
+        too. Where quantities are the whole numbers although there is a scale, there is no finer
+        one."""
         scale = self.scale
-        while self.divisor == self.scale and (product := EXACT.multiply(Decimal(quantity), scale)) != product.to_integral_value():
+        while (
+            self.divisor == self.scale
+            and (product := EXACT.multiply(Decimal(quantity), scale)) != product.to_integral_value()
+        ):
             scale = EXACT.multiply(scale, Decimal(10))
         return replace(self, scale=scale)
 
     @classmethod
-    def fitting(cls, quantities: set[Decimal], unit: str = "", table: str = "", sign: str = "") -> Measure:
+    def fitting(
+        cls, quantities: set[Decimal], unit: str = "", table: str = "", sign: str = ""
+    ) -> Measure:
         """The measure with the least power of ten that makes all of these whole."""
         most = max(map(decimals, quantities), default=0)
         return cls(Decimal(10) ** most, unit, table, sign)
@@ -156,7 +179,11 @@ class Measure:
     @property
     def told_unit(self) -> str:
         """The unit of quantities, for people: empty if it is not known."""
-        return self.unit if self.divisor == self.scale else f"{self.unit or 'units'} times {plain_text(self.scale)}"
+        return (
+            self.unit
+            if self.divisor == self.scale
+            else f"{self.unit or 'units'} times {plain_text(self.scale)}"
+        )
 
     def quantity(self, whole: int) -> Quantity:
         """The quantity of a whole number, exactly: a whole number too if the divisor is 1."""
@@ -165,11 +192,11 @@ class Measure:
         return EXACT.divide(Decimal(whole), self.divisor)
 
     def whole(self, quantity: Quantity) -> int:
-        """The whole number of a quantity. Raises a `QuantityFault`: `is below 0`, `has 2 decimals, and 1 is the most here`,
-        `is past 1844674407370955161.5`."""
+        """The whole number of a quantity. Raises a `QuantityFault`: `is below 0`, `has 2 decimals,
+        and 1 is the most here`, `is past 1844674407370955161.5`."""
         number = Decimal(quantity)
         if not number.is_finite():
-            raise QuantityFault("is no number")
+            raise QuantityFault("is not a number")
         if number < 0:
             raise QuantityFault("is below 0")
         if number.adjusted() > LARGEST_EXPONENT:
@@ -178,7 +205,9 @@ class Measure:
         if product != product.to_integral_value():
             most = decimals(1 / self.divisor) if self.divisor >= 1 else 0
             told = f"{decimals(number)} decimal{'s' * (decimals(number) != 1)}"
-            raise QuantityFault(f"has {told}, and {most} {'is' if most == 1 else 'are'} the most here")
+            raise QuantityFault(
+                f"has {told}, and {most} {'is' if most == 1 else 'are'} the most here"
+            )
         if product > LARGEST:
             raise QuantityFault(f"is past {self.text(LARGEST)}")
         return int(product)

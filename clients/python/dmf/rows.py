@@ -1,4 +1,5 @@
-"""The columns of rows of arcs, as callers give them: numbers for the nodes, whole capacities, and what is no arc."""
+"""The columns of rows of arcs, as callers give them: numbers for the nodes, whole capacities, and
+what is no arc."""
 
 from __future__ import annotations
 
@@ -11,21 +12,25 @@ from itertools import count, islice
 from typing import Any, NoReturn, SupportsIndex, Union
 
 from .columns import Columns, Node, WholeNodes
-from .errors import NotANumber, NotAnArc, NumberTooLarge, shown_value
+from .errors import NotAnArc, NotANumber, NumberTooLarge, shown_value
 from .text.lexical import AMOUNTS, LARGEST, NODES
 
 # A whole number, which may also come as a float without a fraction.
 Whole = Union[SupportsIndex, float]
 # How many rows are taken together: the objects that they refer to fit the processor's cache.
 PIECE = 1 << 8
-# How many rows are expected if nobody says so, and how large nodes that are whole numbers may be for each row.
+# How many rows are expected if nobody says so, and how large nodes that are whole numbers may be
+# for each row.
 USUAL, LARGEST_NODE = 1 << 18, 4
-WANTED = "wanted is (tail, head, capacity) or (tail, head, capacity, key), of which all but the capacity can be hashed"
+WANTED = (
+    "expected (tail, head, capacity) or (tail, head, capacity, key), in which all but the capacity "
+    "can be hashed"
+)
 
 
 def whole(number: Any, at: object) -> int:
-    """This value as a whole number from 0 to 2^64 - 1. Raises `NotANumber` and `NumberTooLarge`, whose messages say that it stands in
-    `at`."""
+    """This value as a whole number from 0 to 2^64 - 1. Raises `NotANumber` and `NumberTooLarge`,
+    whose messages say that it stands in `at`."""
     try:
         # A float of Python or of numpy, of any width.
         is_whole = getattr(number, "is_integer", bool)
@@ -40,7 +45,8 @@ def whole(number: Any, at: object) -> int:
 
 
 def columns_of(rows: Iterable[Any], nodes: Iterable[Node]) -> tuple[Columns[Node], array[int]]:
-    """The columns of rows of arcs, and their capacities. Raises `NotAnArc`, `NotANumber` and `NumberTooLarge`."""
+    """The columns of rows of arcs, and their capacities. Raises `NotAnArc`, `NotANumber` and
+    `NumberTooLarge`."""
     nodes = list(nodes)
     taken = _ColumnBuilder(nodes, operator.length_hint(rows, USUAL))
     left = iter(rows)
@@ -57,12 +63,14 @@ def columns_of(rows: Iterable[Any], nodes: Iterable[Node]) -> tuple[Columns[Node
 
 
 def is_unordered(values: object) -> bool:
-    """Whether values come in no order that their caller chose, so that each could be taken for another one."""
+    """Whether values come in no order that their caller chose, so that each could be taken for
+    another one."""
     return isinstance(values, (Set, Mapping, MappingView))
 
 
 def is_missing(value: object) -> bool:
-    """Whether a value of a table is missing: None, or a value that is not equal to itself, such as NaN and the NA of pandas."""
+    """Whether a value of a table is missing: None, or a value that is not equal to itself, such as
+    NaN and the NA of pandas."""
     try:
         return value is None or bool(value != value)
     except TypeError:
@@ -88,16 +96,23 @@ def _judge_nodes(columns: Columns[Any], capacities: array[int]) -> None:
 def refuse_node(columns: Columns[Any], capacities: array[int], node: object) -> NoReturn:
     """Raises `NotAnArc` for a node that is none, with the first arc that has it."""
     number = columns.numbers[node]
-    at = next((at for at, ends in enumerate(zip(columns.tails, columns.heads)) if number in ends), None)
+    at = next(
+        (at for at, ends in enumerate(zip(columns.tails, columns.heads)) if number in ends), None
+    )
     if at is None:
-        raise NotAnArc(f"not an arc: the node {shown_value(node)} is no name")
+        raise NotAnArc(f"not an arc: {shown_value(node)} cannot be the name of a node")
     tail, head = columns.names[columns.tails[at] - 1], columns.names[columns.heads[at] - 1]
-    raise NotAnArc(f"not an arc: number {at + 1}, {shown_value((tail, head, capacities[at]))}: {shown_value(node)} is no node")
+    raise NotAnArc(
+        f"not an arc: number {at + 1}, {shown_value((tail, head, capacities[at]))}: "
+        f"{shown_value(node)} is not a node"
+    )
 
 
 class _ColumnBuilder:
-    """The columns of the rows so far, of so many that are expected. `numbers` gives each new node the next number. It becomes a
-    dictionary at the first node that is no whole number, or so large that a dictionary takes less memory."""
+    """The columns of the rows so far, of so many that are expected. `numbers` gives each new node
+    the next number. It becomes a dictionary at the first node that is no whole number, or so large
+    that a dictionary takes less memory.
+    """
 
     def __init__(self, nodes: Iterable[Hashable], expected: int) -> None:
         self.numbers: WholeNodes | defaultdict[Any, int] = WholeNodes()
@@ -116,8 +131,8 @@ class _ColumnBuilder:
         return array(NODES, map(self.numbers.__getitem__, nodes))
 
     def take_together(self, rows: list[Any]) -> bool:
-        """Takes rows of the same form column by column, which is several times as fast. Returns whether it did: if one has another
-        form, or a value in it is odd, it takes none."""
+        """Takes rows of the same form column by column, which is several times as fast. Returns
+        whether it did: if one has another form, or a value in it is odd, it takes none."""
         if not set(map(type, rows)) <= {tuple, list} or not set(map(len, rows)) in ({3}, {4}):
             return False
         tails, heads, amounts, *others = zip(*rows)

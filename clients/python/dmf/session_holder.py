@@ -1,4 +1,5 @@
-"""A network and its running session: calls that ask it, one at a time, and how it begins anew where one was broken off."""
+"""A network and its running session: calls that ask it, one at a time, and how it begins anew where
+one was broken off."""
 
 from __future__ import annotations
 
@@ -33,14 +34,18 @@ Method = TypeVar("Method", bound=Callable[..., Any])
 
 
 def exclusive(method: Method) -> Method:
-    """A method that has the session, and what is kept beside it, for itself. Raises `UsedByTwoThreads` if another call has it, and
-    `UsedByTwoProcesses` in a forked process. If an error such as Ctrl-C breaks the call off, the network is as it was before, and the next
-    call begins a new session."""
+    """A method that has the session, and what is kept beside it, for itself. Raises
+    `UsedByTwoThreads` if another call has it, and `UsedByTwoProcesses` in a forked process. If an
+    error such as Ctrl-C breaks the call off, the network is as it was before, and the next call
+    begins a new session."""
 
     @functools.wraps(method)
     def called(self: SessionHolder[Any], *words: Any, **named: Any) -> Any:
         if self._session.owner != os.getpid():
-            raise UsedByTwoProcesses("used by two processes at once: a process that was forked off needs a network of its own")
+            raise UsedByTwoProcesses(
+                "used by two processes at once: a process that was forked off needs a network of "
+                "its own"
+            )
         user = [get_ident()]
         if self._taken.setdefault(0, user) is not user:
             self._judge_use(called.__code__)
@@ -61,8 +66,10 @@ def exclusive(method: Method) -> Method:
 
 
 class SessionHolder(Generic[Node]):
-    """What a network is below its calls: a session, and what is kept of the network outside of it. Whatever breaks a call off ends the
-    session, and leaves what is kept as it was before the call. From that the next call begins a new session in the same state."""
+    """What a network is below its calls: a session, and what is kept of the network outside of it.
+    Whatever breaks a call off ends the session, and leaves what is kept as it was before the call.
+    From that the next call begins a new session in the same state.
+    """
 
     # How whole numbers stand for those of callers, if they do.
     _measure: Measure | None = None
@@ -72,7 +79,8 @@ class SessionHolder(Generic[Node]):
         self._kept = kept
         # The thread that makes a call, while it makes it.
         self._taken: dict[int, list[int]] = {}
-        # Whether a call was broken off, so that the next one begins anew; and why none can be asked any more.
+        # Whether a call was broken off, so that the next one begins anew; and why none can be asked
+        # any more.
         self._is_broken = False
         self._why_over = ""
         # The same, from another thread.
@@ -91,7 +99,8 @@ class SessionHolder(Generic[Node]):
         return self._kept.value
 
     def _whole(self, amount: Any, at: object) -> int:
-        """The whole number that stands for what a caller gives. Raises `NotANumber` and `NumberTooLarge`."""
+        """The whole number that stands for what a caller gives. Raises `NotANumber` and
+        `NumberTooLarge`."""
         return whole(amount, at)
 
     def _quantity(self, number: Any) -> Any:
@@ -99,15 +108,20 @@ class SessionHolder(Generic[Node]):
         return number
 
     def _judge_use(self, call: CodeType) -> None:
-        """Raises `UsedByTwoThreads`, unless this thread has the session and is in no call: before Python 3.11 an error may come just when a
-        call begins or ends, and it does not give the session back."""
+        """Raises `UsedByTwoThreads`, unless this thread has the session and is in no call: before
+        Python 3.11 an error may come just when a call begins or ends, and it does not give the
+        session back."""
         frame: FrameType | None = sys._getframe(2)
         is_in_call = self._taken.get(0) != [get_ident()]
         while frame and not is_in_call:
             is_in_call = frame.f_code is call and frame.f_locals.get("self") is self
             frame = frame.f_back
         if is_in_call:
-            raise UsedByTwoThreads("used by two threads at once: each needs a network of its own, or a lock around its calls") from None
+            raise UsedByTwoThreads(
+                "used by two threads at once: each needs a network of its own, or a lock around "
+                "its "
+                "calls"
+            ) from None
         self._is_broken = self._is_broken or not self._session.end.alive
 
     @exclusive
@@ -116,12 +130,20 @@ class SessionHolder(Generic[Node]):
 
     @exclusive
     def _try_cases(self, cases: Sequence[Sequence[Command]], found: list[int]) -> None:
-        """Carries out cases, each of commands, and adds the greatest value of each to what is found. The network is as it was then."""
+        """Carries out cases, each of commands, and adds the greatest value of each to what is
+        found. The network is as it was then."""
         self._session.try_cases(cases, self._kept.value, found)
 
     @exclusive
+    def _cut_side(self) -> list[int]:
+        """The side of the smallest minimum cut, by the numbers of its nodes. Raises
+        `FlowIsNotGreatest`."""
+        return self._session.cut()[1]
+
+    @exclusive
     def _leaving_cut(self) -> list[Arc[Node]]:
-        """The open arcs out of the side of the smallest minimum cut, those that are not of a table too. Raises `FlowIsNotGreatest`."""
+        """The open arcs out of the side of the smallest minimum cut, those that are not of a table
+        too. Raises `FlowIsNotGreatest`."""
         return self._kept.leaving(self._session.cut()[1])
 
     def _begin_call(self) -> None:
@@ -132,24 +154,30 @@ class SessionHolder(Generic[Node]):
         self._kept.begin_call()
 
     def _break_off(self, present: weakref.ref[Flows[Node]] | None) -> None:
-        """Goes back to the state before the present call, which the session may have left. `present` was the present flow then."""
+        """Goes back to the state before the present call, which the session may have left.
+        `present` was the present flow then."""
         self._why_over = f"{TWICE} at once"
         self._session.kill("the session was ended when a call was broken off")
         self._kept.roll_back()
         self._present, self._told = present, None
         self._is_broken, self._why_over = True, ""
 
-    def _take_back(self, place: int, value: int) -> None:
-        """Takes back all changes but the first so many without the session. If that still goes on, it is ended, since something broke off
-        its `undo`."""
+    def _go_without_session(self, place: int, value: int) -> None:
+        """Goes to the state after so many of the changes, with a flow of this value, without the
+        session. If that still goes on, it is ended, since something broke off its `undo`."""
         self._lose_flows()
         if self._is_running:
             self._session.kill("the session was ended when a call was broken off")
             self._is_broken = True
-        self._kept.undo(self._kept.place - place, value)
+        kept = self._kept
+        if place < kept.place:
+            kept.undo(kept.place - place, value)
+        else:
+            kept.redo(place - kept.place, value)
 
     def _has_sent_much(self) -> bool:
-        """Whether the session will soon have taken all the lines that it takes, and a new one would take fewer to get here."""
+        """Whether the session will soon have taken all the lines that it takes, and a new one would
+        take fewer to get here."""
         return self._session.is_full_after(MOST_LINES) and self._kept.place < MOST_LINES // 2
 
     def _begin_anew(self) -> None:
@@ -168,7 +196,8 @@ class SessionHolder(Generic[Node]):
         self._is_broken, self._why_over = False, ""
 
     def _stop(self, why: str) -> None:
-        """Ends the session at once and for good, for a thread that waits for an answer, or may ask later."""
+        """Ends the session at once and for good, for a thread that waits for an answer, or may ask
+        later."""
         self._why_stopped = why
         self._session.break_off(why)
 
@@ -183,7 +212,8 @@ class SessionHolder(Generic[Node]):
         return self._session.end.alive and not self._is_broken
 
     def _stepped(self, command: Command, at: object = None) -> int:
-        """The value in the reply to a command that changes the network. Reads the flows that somebody has before the change."""
+        """The value in the reply to a command that changes the network. Reads the flows that
+        somebody has before the change."""
         self._part()
         value = self._session.step(command, at)
         self._present = self._told = None
@@ -203,7 +233,9 @@ class SessionHolder(Generic[Node]):
         """The present flow. If nobody has looked at it, only its value is known so far."""
         flows = None if self._present is None else self._present()
         if flows is None:
-            flows = Flows(self._kept.value, self._kept.opened(), self._kept.capacities, self._ask_flow)
+            flows = Flows(
+                self._kept.value, self._kept.opened(), self._kept.capacities, self._ask_flow
+            )
             self._present = weakref.ref(flows)
         return flows
 

@@ -19,10 +19,14 @@ Other = TypeVar("Other")
 
 
 class Flows(Generic[Node]):
-    """The flow of one state of a network. It asks the session for it when somebody looks at it, and at the latest before the network
-    changes. It keeps what it was told, a text or an array, and reads a text when somebody looks at a flow."""
+    """The flow of one state of a network. It asks the session for it when somebody looks at it, and
+    at the latest before the network changes. It keeps what it was told, a text or an array, and
+    reads a text when somebody looks at a flow.
+    """
 
-    def __init__(self, value: int, arcs: OpenArcs[Node], capacities: array[int], ask: Callable[[], Told]) -> None:
+    def __init__(
+        self, value: int, arcs: OpenArcs[Node], capacities: array[int], ask: Callable[[], Told]
+    ) -> None:
         self.value = value
         self.arcs = arcs
         # These belong to the network until it changes.
@@ -31,7 +35,8 @@ class Flows(Generic[Node]):
         self._told: Told = b""
 
     def settle(self, ask: Callable[[], Told] | None = None) -> None:
-        """Takes the flow, if it was not asked for yet. A caller who is using the session passes the function that asks for it."""
+        """Takes the flow, if it was not asked for yet. A caller who is using the session passes the
+        function that asks for it."""
         own = self._ask
         if own:
             told = (ask or own)()
@@ -40,7 +45,8 @@ class Flows(Generic[Node]):
                 self._told, self._ask = told, None
 
     def lose(self, error: SessionEnded) -> None:
-        """Notes that the session can tell the flow no more, if it was not asked for yet: whoever asks for it gets this error."""
+        """Notes that the session can tell the flow no more, if it was not asked for yet: whoever
+        asks for it gets this error."""
 
         def ask() -> Told:
             raise error
@@ -59,13 +65,16 @@ class Flows(Generic[Node]):
         return self._told
 
     def numbers(self) -> array[int]:
-        """The flow on each open arc. Raises `SessionEnded` if the program answered something else."""
+        """The flow on each open arc. Raises `SessionEnded` if the program answered something
+        else."""
         told = self.told()
         if isinstance(told, array):
             return told
         numbers = read_flows(told, len(self.arcs))
         if numbers is None:
-            raise SessionEnded("what dmf answered was not understood: it told no flow for each open arc")
+            raise SessionEnded(
+                "what dmf answered was not understood: it told no flow for each open arc"
+            )
         self._told = numbers
         return numbers
 
@@ -77,7 +86,9 @@ class Flows(Generic[Node]):
         return _settled, (self.value, self.arcs, self._capacities[:], self.numbers())
 
 
-def _settled(value: int, arcs: OpenArcs[Any], capacities: array[int], numbers: array[int]) -> Flows[Any]:
+def _settled(
+    value: int, arcs: OpenArcs[Any], capacities: array[int], numbers: array[int]
+) -> Flows[Any]:
     flows = Flows(value, arcs, capacities, lambda: numbers)
     flows.settle()
     return flows
@@ -106,18 +117,20 @@ class _Items(ItemsView[Arc[Node], int]):
 
 
 class Solution(Mapping[Arc[Node], int], Generic[Node]):
-    """A flow: the flow on each open arc of a network, in their order. `value` is the flow from the source to the sink.
+    """A flow: the flow on each open arc of a network, in their order. `value` is the flow from the
+    source to the sink.
 
-    `solution[arc]` looks an arc up by its handle, by its key, or by `(tail, head)`. It raises `NoSuchArc` if that names no open arc,
-    and `AmbiguousArc` if it names several:
+    `solution[arc]` looks an arc up by its handle, by its key, or by `(tail, head)`. It raises
+    `NoSuchArc` if that names no open arc, and `AmbiguousArc` if it names several:
 
-    >>> with Network([("a", "b", 3), ("a", "b", 4), ("b", "c", 5, "pipe")], source="a", sink="c") as network:
+    >>> rows = [("a", "b", 3), ("a", "b", 4), ("b", "c", 5, "pipe")]
+    >>> with Network(rows, source="a", sink="c") as network:
     ...     solution = network.solve()
     >>> solution["pipe"], solution["b", "c"], solution.between("a", "b"), solution.value
     (5, 5, 5, 5)
 
-    The session tells the flows when somebody looks at one, and at the latest before the network changes or ends; so a value alone
-    costs nothing more.
+    The session tells the flows when somebody looks at one, and at the latest before the network
+    changes or ends; so a value alone costs nothing more.
     """
 
     __module__ = __package__
@@ -135,10 +148,12 @@ class Solution(Mapping[Arc[Node], int], Generic[Node]):
         return self._flows.numbers()[arcs.place(arcs.find(arc).number)]
 
     @overload
-    def get(self, arc: Hashable, /) -> int | None: ...
+    def get(self, arc: Hashable, /) -> int | None:
+        ...
 
     @overload
-    def get(self, arc: Hashable, /, default: int | Other) -> int | Other: ...
+    def get(self, arc: Hashable, /, default: int | Other) -> int | Other:
+        ...
 
     def get(self, arc: Hashable, /, default: Any = None) -> Any:
         """As `solution[arc]`, but returns `default` if that names no open arc."""
@@ -182,17 +197,18 @@ class Solution(Mapping[Arc[Node], int], Generic[Node]):
         return sum(flows[arcs.place(number)] for number in numbers)
 
     def array(self) -> Any:
-        """The flows as an array of numpy, in the order of the arcs: signed integers of 64 bits, or unsigned ones if a flow is 2^63 or
-        more. Raises an ImportError if numpy is not installed."""
+        """The flows as an array of numpy, in the order of the arcs: signed integers of 64 bits, or
+        unsigned ones if a flow is 2^63 or more. Raises an ImportError if numpy is not installed."""
         return flow_array(self._flows.told(), len(self))
 
     def frame(self) -> Any:
-        """A frame of pandas with a row for each open arc: its number, tail, head and key, its flow, and the capacity that it had.
-        Raises an ImportError if pandas or numpy is not installed."""
+        """A frame of pandas with a row for each open arc: its number, tail, head and key, its flow,
+        and the capacity that it had. Raises an ImportError if pandas or numpy is not installed."""
         return arrays.frame(self._flows.arcs, self.array(), self._flows.capacities())
 
     def flow_dict(self) -> dict[Node, dict[Node, int]]:
-        """The flows as networkx has them: for each node, those to each node to which an open arc leads, on all these arcs together."""
+        """The flows as networkx has them: for each node, those to each node to which an open arc
+        leads, on all these arcs together."""
         arcs = self._flows.arcs
         names = arcs.columns.names
         found: dict[Node, dict[Node, int]] = {node: {} for node in names}
@@ -202,9 +218,10 @@ class Solution(Mapping[Arc[Node], int], Generic[Node]):
         return found
 
     def flow_matrix(self) -> Any:
-        """A sparse matrix of scipy: row i and column j have the flow from node i to node j on all arcs together. Nodes are counted
-        from 0 in the order of `Network.nodes`. The numbers are signed, or unsigned if one is 2^63 or more. Raises an ImportError if scipy or
-        numpy is not installed."""
+        """A sparse matrix of scipy: row i and column j have the flow from node i to node j on all
+        arcs together. Nodes are counted from 0 in the order of `Network.nodes`. The numbers are
+        signed, or unsigned if one is 2^63 or more. Raises an ImportError if scipy or numpy is not
+        installed."""
         return arrays.flow_matrix(self._flows.arcs, self.array())
 
     def __repr__(self) -> str:
@@ -213,7 +230,9 @@ class Solution(Mapping[Arc[Node], int], Generic[Node]):
     def _repr_html_(self) -> str:
         from .notebook import table
 
-        return table(f"value {self.value}", ("arc", "tail", "head", "flow"), len(self), self._rows())
+        return table(
+            f"value {self.value}", ("arc", "tail", "head", "flow"), len(self), self._rows()
+        )
 
     def _rows(self) -> Iterator[tuple[object, ...]]:
         for arc, flow in self.items():
@@ -221,9 +240,12 @@ class Solution(Mapping[Arc[Node], int], Generic[Node]):
 
 
 class Cut(Generic[Node]):
-    """The smallest minimum cut: `capacity` is its capacity, `side` the nodes that every minimum cut has on the side of the source,
-    `other_side` all other nodes, and `arcs` the open arcs that lead from the first to the second, in their order. A notebook shows it as a
-    picture if Graphviz is installed and the network is not large, and else as a table. Two cuts are equal if their capacities, sides and arcs are."""
+    """The smallest minimum cut: `capacity` is its capacity, `side` the nodes that every minimum cut
+    has on the side of the source, `other_side` all other nodes, and `arcs` the open arcs that lead
+    from the first to the second, in their order. A notebook shows it as a picture if Graphviz is
+    installed and the network is not large, and else as a table. Two cuts are equal if their
+    capacities, sides and arcs are.
+    """
 
     __module__ = __package__
 
@@ -263,5 +285,10 @@ class Cut(Generic[Node]):
     def _repr_html_(self) -> str:
         from .notebook import table
 
-        rows = ((arc.number if arc.given_key is None else arc.given_key, arc.tail, arc.head) for arc in self.arcs)
-        return table(f"cut of capacity {self.capacity}", ("arc", "tail", "head"), len(self.arcs), rows)
+        rows = (
+            (arc.number if arc.given_key is None else arc.given_key, arc.tail, arc.head)
+            for arc in self.arcs
+        )
+        return table(
+            f"cut of capacity {self.capacity}", ("arc", "tail", "head"), len(self.arcs), rows
+        )

@@ -1,4 +1,5 @@
-"""What is kept of a network outside its session, which knows only numbers: names, which arcs are open, and the changes."""
+"""What is kept of a network outside its session, which knows only numbers: names, which arcs are
+open, and the changes."""
 
 from __future__ import annotations
 
@@ -19,14 +20,16 @@ if TYPE_CHECKING:
 
 
 class NetworkState(History, Generic[Node]):
-    """The arcs of a network with the capacities that they have, or had when they were closed; which arcs are closed; the added arcs;
-    and the changes that can be undone or redone, of which there are at most `most`. With its commands and the first capacities, a session
-    can begin anew."""
+    """The arcs of a network with the capacities that they have, or had when they were closed; which
+    arcs are closed; the added arcs; and the changes that can be undone or redone, of which there
+    are at most `most`. With its commands and the first capacities, a session can begin anew."""
 
     # Who is told of each change, when it was made or unmade.
     watcher: Callable[[Change, bool], None] | None = None
 
-    def __init__(self, columns: Columns[Node], capacities: array[int], source: Node, sink: Node, most: int) -> None:
+    def __init__(
+        self, columns: Columns[Node], capacities: array[int], source: Node, sink: Node, most: int
+    ) -> None:
         """Raises `NoSuchNode` if the source or the sink is no node."""
         super().__init__(most)
         self.columns = columns
@@ -36,7 +39,8 @@ class NetworkState(History, Generic[Node]):
         self.added: list[Arc[Node]] = []
         # For each of these the number of the closed arc that it replaces.
         self.replaced: list[int | None] = []
-        # The arcs of the network from which this one was copied. Their handles name the arcs here too.
+        # The arcs of the network from which this one was copied. Their handles name the arcs here
+        # too.
         self.origin: OpenArcs[Node] | None = None
         # What the problem tells of its table.
         self._described: TableComments | None = columns.described
@@ -85,7 +89,7 @@ class NetworkState(History, Generic[Node]):
         if node in self.columns.numbers:
             return False
         if is_missing(node):
-            raise NotAnArc(f"not an arc: the node {shown_value(node)} is no name")
+            raise NotAnArc(f"not an arc: {shown_value(node)} cannot be the name of a node")
         if len(self.columns.numbers) >= MOST_NODES:
             raise CountOutOfRange(shown_value(node))
         columns = self.columns.with_node(node)
@@ -100,15 +104,18 @@ class NetworkState(History, Generic[Node]):
             tails = tails + array(NODES, [self.columns.outlet(arc.tail) for arc in added])
             heads = heads + array(NODES, [self.number(arc.head) for arc in added])
         ends = self.number(self.source), self.number(self.sink)
-        return ProblemColumns(len(self.columns.numbers), *ends, tails, heads, self.first_capacities())
+        return ProblemColumns(
+            len(self.columns.numbers), *ends, tails, heads, self.first_capacities()
+        )
 
     def first_capacity(self, number: int) -> int:
         """The capacity that an arc had at first."""
         return self._first.get(number, self.capacities[number - 1])
 
     def first_capacities(self) -> array[int]:
-        """The capacities by which the first arcs stand in the problem of a session that begins anew. Those that were closed already stand
-        there too, with 0. The array may have more entries than that."""
+        """The capacities by which the first arcs stand in the problem of a session that begins
+        anew. Those that were closed already stand there too, with 0. The array may have more
+        entries than that."""
         if not self._first and not self._first_closed:
             return self.capacities
         capacities = self.capacities[:]
@@ -130,7 +137,11 @@ class NetworkState(History, Generic[Node]):
 
     def handle(self, number: int) -> Arc[Node]:
         """The handle of an existing arc's number."""
-        return self.handles.of(number) if number <= len(self.columns) else self.added[number - len(self.columns) - 1]
+        return (
+            self.handles.of(number)
+            if number <= len(self.columns)
+            else self.added[number - len(self.columns) - 1]
+        )
 
     def arc(self, key: Hashable) -> Arc[Node]:
         """The arc of a handle, a key or a pair of ends. Raises `NoSuchArc` and `AmbiguousArc`."""
@@ -146,7 +157,11 @@ class NetworkState(History, Generic[Node]):
             raise self.columns.no_such_arc(key)
         if opened:
             return one_of(list(map(self.handle, opened)), key)
-        return one_of([self.handle(number) for number in numbers if number not in self.replaced], key, "closed")
+        return one_of(
+            [self.handle(number) for number in numbers if number not in self.replaced],
+            key,
+            "closed",
+        )
 
     def _added_named(self, key: Hashable) -> list[Arc[Node]]:
         if self._added_index is None:
@@ -162,8 +177,16 @@ class NetworkState(History, Generic[Node]):
 
     def at(self, node: Node) -> list[Arc[Node]]:
         """The open arcs at a node, in their order."""
-        numbers = [number for number in self.columns.at(self.columns.numbers[node]) if number not in self.closed]
-        added = (arc for arc in self.added if node in (arc.tail, arc.head) and arc.number not in self.closed)
+        numbers = [
+            number
+            for number in self.columns.at(self.columns.numbers[node])
+            if number not in self.closed
+        ]
+        added = (
+            arc
+            for arc in self.added
+            if node in (arc.tail, arc.head) and arc.number not in self.closed
+        )
         return [*map(self.handles.of, numbers), *added]
 
     def leaving(self, side: list[int]) -> list[Arc[Node]]:
@@ -172,7 +195,11 @@ class NetworkState(History, Generic[Node]):
         if not self.added:
             return list(map(self.handles.of, numbers))
         inside = set(side)
-        leaving = (arc for arc in self.added if self.columns.outlet(arc.tail) in inside and self.number(arc.head) not in inside)
+        leaving = (
+            arc
+            for arc in self.added
+            if self.columns.outlet(arc.tail) in inside and self.number(arc.head) not in inside
+        )
         added = (arc for arc in leaving if arc.number not in self.closed)
         return [*map(self.handles.of, numbers), *added]
 
@@ -182,9 +209,15 @@ class NetworkState(History, Generic[Node]):
             raise ArcIsClosed(repr(arc))
         return self.capacities[arc.number - 1]
 
-    def note_capacities(self, command: Command, arcs: Iterable[Arc[Node]], after: int | None, value: int) -> None:
-        """Notes a change that gave these open arcs this capacity, or closed them. The flow has this value then."""
-        self.note(Change(command, [(arc.number, self.capacities[arc.number - 1], after) for arc in arcs]), value)
+    def note_capacities(
+        self, command: Command, arcs: Iterable[Arc[Node]], after: int | None, value: int
+    ) -> None:
+        """Notes a change that gave these open arcs this capacity, or closed them. The flow has this
+        value then."""
+        self.note(
+            Change(command, [(arc.number, self.capacities[arc.number - 1], after) for arc in arcs]),
+            value,
+        )
 
     def _make(self, change: Change) -> None:
         self._opened = None
@@ -241,13 +274,15 @@ class NetworkState(History, Generic[Node]):
         super().roll_back()
 
     def copy(self) -> NetworkState[Node]:
-        """The same arcs as they are now, without changes and without flow. The handles of these arcs name the arcs of the copy too."""
+        """The same arcs as they are now, without changes and without flow. The handles of these
+        arcs name the arcs of the copy too."""
         copy = self._copy(Arc.again)
         copy.begin_here()
         return copy
 
     def twin(self) -> NetworkState[Node]:
-        """The same arcs, with the same changes, made and undone, and the same flow. The handles of the arcs here name those there too."""
+        """The same arcs, with the same changes, made and undone, and the same flow. The handles of
+        the arcs here name those there too."""
         made: dict[Arc[Node], Arc[Node]] = {}
 
         def again(arc: Arc[Node]) -> Arc[Node]:
@@ -255,7 +290,11 @@ class NetworkState(History, Generic[Node]):
             return made[arc]
 
         twin = self._copy(again)
-        twin.first_count, twin._first_closed, twin._first = self.first_count, self._first_closed, dict(self._first)
+        twin.first_count, twin._first_closed, twin._first = (
+            self.first_count,
+            self._first_closed,
+            dict(self._first),
+        )
         twin.take_changes(self, again)
         return twin
 
@@ -270,7 +309,8 @@ class NetworkState(History, Generic[Node]):
         return copy
 
     def put_added(self, arc: Arc[Node], replaced: int | None) -> None:
-        """Takes in an arc that was added before. It replaces this closed one, if there is one; its capacity is there."""
+        """Takes in an arc that was added before. It replaces this closed one, if there is one; its
+        capacity is there."""
         self.added.append(arc)
         self.replaced.append(replaced)
         self._added_index = None

@@ -1,8 +1,9 @@
 """Maximum flows and minimum cuts of networks in which some arcs have no bound.
 
-A solver takes capacities that are below 2^64 together, so an arc without a bound gets one that no flow can reach. Where these are too
-large together, the network is solved in rounds, as by capacity scaling: all capacities without their last bits, and then what is left of
-them, which is less. Each round is a solve of the same solver, and adds to the flow."""
+A solver takes capacities that are below 2^64 together, so an arc without a bound gets one that no
+flow can reach. Where these are too large together, the network is solved in rounds, as by capacity
+scaling: all capacities without their last bits, and then what is left of them, which is less. Each
+round is a solve of the same solver, and adds to the flow."""
 
 from __future__ import annotations
 
@@ -21,15 +22,19 @@ BITS = 64
 
 
 class BoundlessFlow(NamedTuple):
-    """What `Solved` has, with the flow on each arc as a number: one of an arc without a bound may be past 64 bits."""
+    """What `Solved` has, with the flow on each arc as a number: one of an arc without a bound may
+    be past 64 bits."""
 
     value: int
     flows: Sequence[int] = ()
     side: Sequence[int] = ()
 
 
-def solve_unbounded(problem: ProblemColumns, unbounded: Sequence[int], words: list[str], solver: Solver) -> BoundlessFlow:
-    """Return what these words ask for, where the arcs at the places `unbounded`, from 0 on, have no bound.
+def solve_unbounded(
+    problem: ProblemColumns, unbounded: Sequence[int], words: list[str], solver: Solver
+) -> BoundlessFlow:
+    """Return what these words ask for, where the arcs at the places `unbounded`, from 0 on, have no
+    bound.
 
     Raises
     ------
@@ -47,7 +52,8 @@ def solve_unbounded(problem: ProblemColumns, unbounded: Sequence[int], words: li
         value += found.value << shift
         if is_last and found.value >= most:
             raise Unbounded(
-                "the flow has no bound: a path from the source to the sink has only arcs of infinite or missing capacity"
+                "the flow has no bound: a path from the source to the sink has only arcs of "
+                "infinite or missing capacity"
             )
         if not is_last or words == FLOW:
             residual.carry(flows_of(found.flows, len(rooms)), shift)
@@ -65,7 +71,8 @@ def flows_of(told: Told, count: int) -> Sequence[int]:
 
 
 class _Residual:
-    """A problem with the flow that its arcs carry. The residual network has them, and after them their opposites where they carry."""
+    """A problem with the flow that its arcs carry. The residual network has them, and after them
+    their opposites where they carry."""
 
     def __init__(self, problem: ProblemColumns, unbounded: Sequence[int]) -> None:
         self._problem = problem
@@ -83,7 +90,10 @@ class _Residual:
     def rooms(self, most: int) -> list[int]:
         """Return the residual capacities, of which what is above `most` cannot matter."""
         self._carrying = [place for place, flow in enumerate(self.flows) if flow]
-        on = [most if most_of is None else min(most_of - flow, most) for most_of, flow in zip(self._capacities, self.flows)]
+        on = [
+            most if most_of is None else min(most_of - flow, most)
+            for most_of, flow in zip(self._capacities, self.flows)
+        ]
         return on + [min(self.flows[place], most) for place in self._carrying]
 
     def problem(self, rooms: list[int], shift: int) -> ProblemColumns:

@@ -70,7 +70,7 @@ fn run_asked(rt: &HostRuntime, asked: &Arguments) -> Result<Status, Fault>
     ensures { MayRun (task_of asked.now) result }
 {
     let out = output(rt)?;
-    if let Mode::Solve { .. } = asked.mode {
+    if let Mode::Solve { .. } | Mode::Vital = asked.mode {
         invite(rt);
     }
     let progress = Progress::new(rt, asked.progress);
@@ -126,10 +126,10 @@ fn input_for<'a>(
     }
 }
 
-/// The path of the problem's file, which a solve does not have.
+/// The path of the problem's file. A run that reads its problem from standard input has none.
 fn path_in(mode: &Mode) -> &str {
     match mode {
         Mode::Session { problem, .. } | Mode::Check { problem } => problem.as_str(),
-        Mode::Solve { .. } => "",
+        Mode::Solve { .. } | Mode::Vital => "",
     }
 }

@@ -23,6 +23,7 @@ no_command (x ∷ xs) rest named name =
       told_apart (codes "solve") (x ∷ xs) named.solve,
       told_apart (codes "session") (x ∷ xs) named.session,
       told_apart (codes "check") (x ∷ xs) named.check,
+      told_apart (codes "vital") (x ∷ xs) named.vital,
       told_apart (codes "help") (x ∷ xs) named.help,
       named.plain,
       named.plain,
@@ -53,6 +54,11 @@ unfolding clap_on_literals
 solve_path [] plain name = refl
 solve_path (x ∷ xs) plain name = rw (plain, plain) refl
 
+vital_path : (path : Text) → IsPlain path → HasFaults (UnknownArgument ∷ []) (codes "vital" ∷ path ∷ [])
+unfolding clap_on_literals
+vital_path [] plain name = refl
+vital_path (x ∷ xs) plain name = rw (plain, plain) refl
+
 second_path : (path other : Text) → IsPlain path → IsPlain other → HasFaults (UnknownArgument ∷ []) (codes "check" ∷ path ∷ other ∷ [])
 unfolding clap_on_literals
 second_path [] [] plain also name = refl
@@ -76,14 +82,38 @@ plain_words = record {
   session_cut = session_cut;
   cut_behind = cut_behind;
   check = check;
+  vital = (λ name. refl, λ name. refl);
+  vital_progress = (λ name. refl, λ name. refl);
   no_path = (λ name. refl, λ name. refl);
   solve_path = solve_path;
+  vital_path = vital_path;
   second_path = second_path;
   misplaced_option = λ rest. (λ n. refl, (λ n. refl, (λ n. refl, (λ n. refl, (λ n. refl, tt)))));
-  strange_option = λ word. (λ n. refl, (λ n. refl, (λ n. refl, (λ n. refl, (λ n. refl, (λ n. refl, (λ n. refl, tt)))))));
-  second_option = λ word. (λ n. refl, (λ n. refl, (λ n. refl, (λ n. refl, (λ n. refl, (λ n. refl, (λ n. refl, tt)))))));
+  strange_option = λ word. (
+    λ n. refl,
+    (
+      λ n. refl,
+      (
+        λ n. refl,
+        (
+          λ n. refl,
+          (
+            λ n. refl,
+            (
+              λ n. refl,
+              (
+                λ n. refl,
+                (λ n. refl, (λ n. refl, (λ n. refl, (λ n. refl, tt)))),
+              ),
+            ),
+          ),
+        ),
+      ),
+    ),
+  );
+  second_option = λ word. (λ n. refl, (λ n. refl, (λ n. refl, (λ n. refl, (λ n. refl, (λ n. refl, (λ n. refl, (λ n. refl, tt))))))));
   no_command = no_command;
-  help = λ rest. (λ n. refl, (λ n. refl, (λ n. refl, (λ n. refl, tt))));
+  help = λ rest. (λ n. refl, (λ n. refl, (λ n. refl, (λ n. refl, (λ n. refl, tt)))));
   help_of = λ rest name. refl;
   version = λ rest name. refl;
 }

@@ -37,6 +37,7 @@ module _ (kinds : Kinds) (kind : ErrorKind) (fault : WordsFault) (among : (kind 
         λ cut brief any progress text path is. memory,
         λ cut brief progress any text bound path is written. memory,
         λ cut brief any progress text path is. memory,
+        λ progress cut brief any text path is. memory,
       )
 
   -- Where a parse gives some kinds of fault, the answer tells of one of these.

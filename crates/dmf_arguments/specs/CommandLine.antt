@@ -42,13 +42,16 @@ session_line =
 abbrev pub check_line : App
 check_line = with_rule (new_app (codes "check")) problem_rule
 
+abbrev pub vital_line : App
+vital_line = with_rule (new_app (codes "vital")) (flag_rule (codes "progress"))
+
 -- the program itself, which has a version
 abbrev pub program_line : App
 program_line = on_top (λ line. record line { has_version = true }) (new_app (codes "dmf"))
 
 abbrev pub arguments : App
 arguments =
-    with_subcommand (with_subcommand (with_subcommand program_line solve_line.top) session_line.top) check_line.top
+    with_subcommand (with_subcommand (with_subcommand (with_subcommand program_line solve_line.top) session_line.top) check_line.top) vital_line.top
 
 -- The argument has this rule, and belongs to its command alone.
 abbrev pub IsRule : Rule → Arg → Type 0

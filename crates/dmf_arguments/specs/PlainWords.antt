@@ -14,12 +14,13 @@ abbrev pub IsPlain : Text → Type 0
 IsPlain [] = ⊤
 IsPlain (byte ∷ rest) = (byte == 45) ≡ false
 
--- The word is no command: none of the three, nor `help`.
+-- The word is no command: none of the four, nor `help`.
 pub record IsNoCommand (word : Text) : Type 0 where
   pub plain : IsPlain word
   pub solve : word ≢ codes "solve"
   pub session : word ≢ codes "session"
   pub check : word ≢ codes "check"
+  pub vital : word ≢ codes "vital"
   pub help : word ≢ codes "help"
 
 -- Whatever the program's name, the faults of these words are of just these kinds.
@@ -31,7 +32,7 @@ abbrev pub IsTaken : List Text → Option Asked → Type 0
 IsTaken words asked = HasFaults [] words × ((name : Text) → asked_in (name ∷ words) ≡ asked)
 
 -- a solve, with the cut, a brief answer, any greatest flow and progress or without; a session, with the cut, brief replies and progress or
--- without; a check
+-- without; a check; a valuing of each arc, with progress or without
 abbrev pub solve_of : Bool → Bool → Bool → Bool → Option Asked
 solve_of cut brief any progress =
     Some (record {
@@ -60,6 +61,18 @@ abbrev pub check_of : Text → Option Asked
 check_of path =
     Some (record { command = codes "check"; cut = None; brief = None; any = None; progress = None; history = None; problem = Some path })
 
+abbrev pub vital_of : Bool → Option Asked
+vital_of progress =
+    Some (record {
+      command = codes "vital";
+      cut = None;
+      brief = None;
+      any = None;
+      progress = Some (bool_text progress);
+      history = None;
+      problem = None;
+    })
+
 -- words that begin with an option, whatever stands after it
 abbrev pub misplaced : List Text → List (List Text)
 misplaced rest = (codes "--cut" ∷ rest) ∷ (codes "--brief" ∷ rest) ∷ (codes "--any" ∷ rest) ∷ (codes "--progress" ∷ rest)
@@ -69,19 +82,21 @@ misplaced rest = (codes "--cut" ∷ rest) ∷ (codes "--brief" ∷ rest) ∷ (co
 abbrev pub strange : Text → List (List Text)
 strange word = (codes "solve" ∷ codes "--history" ∷ word ∷ []) ∷ (codes "session" ∷ codes "--any" ∷ word ∷ [])
     ∷ (codes "check" ∷ codes "--any" ∷ word ∷ []) ∷ (codes "check" ∷ codes "--cut" ∷ word ∷ []) ∷ (codes "check" ∷ codes "--brief" ∷ word ∷ [])
-    ∷ (codes "check" ∷ codes "--progress" ∷ word ∷ []) ∷ (codes "check" ∷ codes "--history" ∷ word ∷ []) ∷ []
+    ∷ (codes "check" ∷ codes "--progress" ∷ word ∷ []) ∷ (codes "check" ∷ codes "--history" ∷ word ∷ [])
+    ∷ (codes "vital" ∷ codes "--any" ∷ word ∷ []) ∷ (codes "vital" ∷ codes "--cut" ∷ word ∷ []) ∷ (codes "vital" ∷ codes "--brief" ∷ word ∷ [])
+    ∷ (codes "vital" ∷ codes "--history" ∷ word ∷ []) ∷ []
 
 -- words that say an option twice
 abbrev pub repeated : Text → List (List Text)
 repeated word = (codes "solve" ∷ codes "--any" ∷ codes "--any" ∷ []) ∷ (codes "solve" ∷ codes "--brief" ∷ codes "--brief" ∷ [])
     ∷ (codes "solve" ∷ codes "--cut" ∷ codes "--cut" ∷ []) ∷ (codes "solve" ∷ codes "--progress" ∷ codes "--progress" ∷ [])
     ∷ (codes "session" ∷ codes "--cut" ∷ codes "--cut" ∷ word ∷ []) ∷ (codes "session" ∷ codes "--brief" ∷ codes "--brief" ∷ word ∷ [])
-    ∷ (codes "session" ∷ codes "--progress" ∷ codes "--progress" ∷ word ∷ []) ∷ []
+    ∷ (codes "session" ∷ codes "--progress" ∷ codes "--progress" ∷ word ∷ []) ∷ (codes "vital" ∷ codes "--progress" ∷ codes "--progress" ∷ []) ∷ []
 
 -- words that ask for help: alone, whatever stands after it, and after a command
 abbrev pub helps : List Text → List (List Text)
 helps rest = (codes "--help" ∷ rest) ∷ (codes "solve" ∷ codes "--help" ∷ []) ∷ (codes "session" ∷ codes "--help" ∷ [])
-    ∷ (codes "check" ∷ codes "--help" ∷ []) ∷ []
+    ∷ (codes "check" ∷ codes "--help" ∷ []) ∷ (codes "vital" ∷ codes "--help" ∷ []) ∷ []
 
 pub record PlainWords : Type 0 where
   pub nothing : IsTaken [] None
@@ -96,8 +111,11 @@ pub record PlainWords : Type 0 where
   pub session_cut : (path : Text) → IsPlain path → IsTaken (codes "session" ∷ codes "--cut" ∷ path ∷ []) (session_of true false false path)
   pub cut_behind : (path : Text) → IsPlain path → IsTaken (codes "session" ∷ path ∷ codes "--cut" ∷ []) (session_of true false false path)
   pub check : (path : Text) → IsPlain path → IsTaken (codes "check" ∷ path ∷ []) (check_of path)
+  pub vital : IsTaken (codes "vital" ∷ []) (vital_of false)
+  pub vital_progress : IsTaken (codes "vital" ∷ codes "--progress" ∷ []) (vital_of true)
   pub no_path : HasFaults (MissingRequiredArgument ∷ []) (codes "session" ∷ []) × HasFaults (MissingRequiredArgument ∷ []) (codes "check" ∷ [])
   pub solve_path : (path : Text) → IsPlain path → HasFaults (UnknownArgument ∷ []) (codes "solve" ∷ path ∷ [])
+  pub vital_path : (path : Text) → IsPlain path → HasFaults (UnknownArgument ∷ []) (codes "vital" ∷ path ∷ [])
   pub second_path : (path other : Text) → IsPlain path → IsPlain other → HasFaults (UnknownArgument ∷ []) (codes "check" ∷ path ∷ other ∷ [])
   pub misplaced_option : (rest : List Text) → AllByRecursion (HasFaults (UnknownArgument ∷ [])) (misplaced rest)
   pub strange_option : (word : Text) → AllByRecursion (HasFaults (UnknownArgument ∷ [])) (strange word)

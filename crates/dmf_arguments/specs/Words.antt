@@ -15,16 +15,18 @@ use Rattle.dmf_arguments.specs.declared.words.WordsFault.TheVariants.{Help, Usag
 
 -- The task of the program, with the path of the problem's file. A solve and a session say whether the cut is wanted, whether a solve is
 -- answered briefly, and last whether progress is wanted where standard error is no terminal. A solve also says before that whether any
--- greatest flow will do, and a session after it the bound of its history.
+-- greatest flow will do, and a session after it the bound of its history. To value each arc has no path, and says whether progress is wanted.
 pub data Task : Type 0 where
   solving : Bool → Bool → Bool → Bool → Task
   holding : Bool → Bool → Bool → ℕ → Text → Task
   checking : Text → Task
+  valuing : Bool → Task
 
 abbrev pub task_with : Bool → Bool → Mode → Task
 task_with brief progress (mode.Solve cut any) = solving cut brief any progress
 task_with brief progress (mode.Session cut history problem) = holding cut brief progress history problem.bytes.items
 task_with brief progress (mode.Check problem) = checking problem.bytes.items
+task_with brief progress mode.Vital = valuing progress
 
 abbrev pub task_of : Arguments → Task
 task_of asked = task_with asked.brief asked.progress asked.mode
@@ -38,6 +40,7 @@ abbrev pub HasBound : Mode → Type 0
 HasBound (mode.Solve cut any) = ⊤
 HasBound (mode.Session cut history problem) = history ≤ 1000000
 HasBound (mode.Check problem) = ⊤
+HasBound mode.Vital = ⊤
 
 -- The text writes this bound: decimal digits, after a plus or not, of a number that is at most 1,000,000.
 pub record IsBound (text : Text) (bound : ℕ) : Type 0 where
@@ -82,8 +85,21 @@ AsksCheck asked result = (cut brief any progress text : Option Text) (path : Tex
     → asked ≡ Some (record { command = codes "check"; cut = cut; brief = brief; any = any; progress = progress; history = text; problem = Some path })
     → GivesTask (checking path) result
 
+abbrev pub AsksVital : Option Asked → Result Arguments WordsFault → Type 0
+AsksVital asked result = (progress : Bool) (cut brief any text path : Option Text)
+    → asked ≡ Some (record {
+      command = codes "vital";
+      cut = cut;
+      brief = brief;
+      any = any;
+      progress = Some (bool_text progress);
+      history = text;
+      problem = path;
+    })
+    → GivesTask (valuing progress) result
+
 abbrev pub Asks : Option Asked → Result Arguments WordsFault → Type 0
-Asks asked result = AsksNothing asked result × AsksSolve asked result × AsksSession asked result × AsksCheck asked result
+Asks asked result = AsksNothing asked result × AsksSolve asked result × AsksSession asked result × AsksCheck asked result × AsksVital asked result
 
 -- ---- the answer to words that ask for no task
 

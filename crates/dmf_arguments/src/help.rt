@@ -43,7 +43,8 @@ pub const PROGRAM: Help = Help {
     about: "Find how much a network can carry and where its limit is, and try out changes",
     usage: "dmf [solve [--any] [--brief] [--cut] [--progress]] <FILE
        dmf session [--brief] [--cut] [--history N] [--progress] PROBLEM
-       dmf check PROBLEM <SOLUTION",
+       dmf check PROBLEM <SOLUTION
+       dmf vital [--progress] <FILE",
     notes: "How much can the network carry, and where is its limit?
   $ dmf solve --cut <network.max | grep -v '^f'
   s 5
@@ -58,6 +59,15 @@ What would it carry if the fifth arc had the capacity 1?
 Is a solution right, and is its flow the greatest?
   $ dmf solve <network.max | dmf check network.max
   c greatest 5
+
+What would it carry without each of its arcs?
+  $ dmf vital <network.max
+  c value 5
+  v 1 2
+  v 2 3
+  v 3 4
+  v 4 3
+  v 5 2
 
 Exit status:
   0  success
@@ -150,4 +160,25 @@ pub const CHECK: Help = Help {
 The solution may come from any program. The reply is c greatest VALUE where no
 flow of the problem has a larger value. Else it is c flow VALUE, with exit
 status 1. man dmf has the formats.",
+};
+
+/// The help of `dmf vital`.
+pub const VITAL: Help = Help {
+    about: "Find how much can be sent without each arc",
+    usage: "dmf vital [--progress] <FILE",
+    notes: "Example:
+  $ dmf vital <network.max
+  c value 5
+  v 1 2
+  v 2 3
+  v 3 4
+  v 4 3
+  v 5 2
+
+The line c value has how much can be sent in all. Each line v has the number of
+an arc and how much can be sent if that arc alone is closed. Arcs are numbered
+from 1 in the order of the problem. An arc that costs nothing to lose has its
+line too.
+
+man dmf has the formats.",
 };

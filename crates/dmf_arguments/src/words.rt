@@ -2,8 +2,8 @@
 ghost use Rattle.std.specs.Prelude.{ℕ, ◌≡◌, ◌≤◌, IfOk, Some, codes, map};
 ghost use Rattle.clap.specs.Words.{app_of, first_value, found_of, kind_of, new_app, one_text, subcommand_rows_of, Text};
 ghost use Rattle.dmf_arguments.specs.CommandLine.{IsCommandLine, IsRule, asked_of, arguments, flag_rule, history_rule, problem_rule};
-ghost use Rattle.dmf_arguments.specs.CommandLine.{check_line, program_line, session_line, solve_line};
-ghost use Rattle.dmf_arguments.specs.Words.{AsksCheck, AsksNothing, AsksSession, AsksSolve, HasBound, IsBound, ReadsMode, ReadsWords, TellsKind};
+ghost use Rattle.dmf_arguments.specs.CommandLine.{check_line, program_line, session_line, solve_line, vital_line};
+ghost use Rattle.dmf_arguments.specs.Words.{AsksCheck, AsksNothing, AsksSession, AsksSolve, AsksVital, HasBound, IsBound, ReadsMode, ReadsWords, TellsKind};
 
 use crate::help;
 use crate::help::Help;
@@ -34,6 +34,8 @@ pub enum Mode {
     Check {
         problem: String,
     },
+    /// Find what is left without each arc of the problem on standard input.
+    Vital,
 }
 
 /// All that the arguments ask for: a run; whether it reports progress even if standard error is no terminal; and whether a solve is
@@ -81,9 +83,9 @@ pub fn read_words(alloc: Global, words: Vec<String>) -> Result<Mode, WordsFault>
 
 /// Reads the program's arguments, of which the first is its name.
 ///
-/// No words after it, or `solve`, ask for [`Mode::Solve`]. `session PROBLEM` asks for [`Mode::Session`], and `check PROBLEM` for
-/// [`Mode::Check`]. The flags `--brief`, `--cut` and `--progress` may stand after `solve` and `session`, `--any` after `solve` alone,
-/// and `--history N` after `session` alone. N is a number up to [`MAX_HISTORY`], which is its default. `--help` may stand after each
+/// No words after it, or `solve`, ask for [`Mode::Solve`]. `session PROBLEM` asks for [`Mode::Session`], `check PROBLEM` for
+/// [`Mode::Check`], and `vital` for [`Mode::Vital`]. The flags `--brief`, `--cut` and `--progress` may stand after `solve` and `session`,
+/// `--any` after `solve` alone, `--history N` after `session` alone, and `--progress` after `vital` too. N is a number up to [`MAX_HISTORY`], which is its default. `--help` may stand after each
 /// command or alone. A PROBLEM that begins with a dash stands after `--`.
 ///
 /// `--help` gives [`WordsFault::Help`], and so do `help`, alone or before a command, and `--version` alone. All other words give
@@ -107,7 +109,8 @@ fn command<'a>(alloc: Global) -> Result<Command<'a>, AllocError>
     program(alloc)
         .subcommand(solve(alloc)?)?
         .subcommand(session(alloc)?)?
-        .subcommand(check(alloc)?)
+        .subcommand(check(alloc)?)?
+        .subcommand(vital(alloc)?)
 }
 
 /// The program, without its commands.
@@ -161,6 +164,14 @@ fn check<'a>(alloc: Global) -> Result<Command<'a>, AllocError>
     named(alloc, "check", help::CHECK).arg(problem(alloc))
 }
 
+/// The command `vital`.
+#[inline(never)]
+fn vital<'a>(alloc: Global) -> Result<Command<'a>, AllocError>
+    ensures { IfOk result (IsCommandLine vital_line) }
+{
+    named(alloc, "vital", help::VITAL).arg(flag(alloc, "progress", help::PROGRESS))
+}
+
 /// The option of this name, which has no value.
 fn flag<'a>(alloc: Global, name: &'a str, help: &'a str) -> Arg<'a>
     ensures { IsRule (flag_rule name.now) result }
@@ -200,6 +211,7 @@ fn arguments_of(alloc: Global, matches: &ArgMatches<'_>) -> Result<Arguments, Wo
     ensures solve { AsksSolve (asked_of (subcommand_rows_of matches.now)) result }
     ensures session { AsksSession (asked_of (subcommand_rows_of matches.now)) result }
     ensures check { AsksCheck (asked_of (subcommand_rows_of matches.now)) result }
+    ensures vital { AsksVital (asked_of (subcommand_rows_of matches.now)) result }
     ensures bound { IfOk result (λ asked. HasBound asked.mode) }
 {
     match matches.subcommand() {
@@ -218,6 +230,11 @@ fn arguments_of(alloc: Global, matches: &ArgMatches<'_>) -> Result<Arguments, Wo
             mode: Mode::Check {
                 problem: path_of(alloc, check)?,
             },
+        }),
+        Some(("vital", vital)) => Ok(Arguments {
+            progress: vital.get_flag("progress"),
+            brief: false,
+            mode: Mode::Vital,
         }),
         Some((_, solve)) => Ok(Arguments {
             progress: solve.get_flag("progress"),

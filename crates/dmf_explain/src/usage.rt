@@ -11,6 +11,10 @@ pub enum Meant<'a> {
         flags: SolveFlags,
         file: &'a str,
     },
+    /// To value each arc of the problem in this file, which has to come from standard input.
+    Vital {
+        file: &'a str,
+    },
     /// To check a problem's solution, or to run commands on a problem, from this file, which has to come from standard input.
     Input {
         command: &'a str,
@@ -47,6 +51,10 @@ impl fmt::Display for Meant<'_> {
                 let shown = Shown(file.as_bytes());
                 write!(f, "dmf solve {flags}<{shown}")
             }
+            Meant::Vital { file } => {
+                let shown = Shown(file.as_bytes());
+                write!(f, "dmf vital <{shown}")
+            }
             Meant::Input {
                 command,
                 problem,
@@ -68,6 +76,11 @@ pub fn meant_by<'a>(words: &'a [String], most: u32) -> Option<Meant<'a>> {
     }
     match words {
         [_, command, rest @ ..] if command.as_str() == "solve" => solve_of(rest),
+        [_, command, file] if command.as_str() == "vital" && is_file_name(file.as_str()) => {
+            Some(Meant::Vital {
+                file: file.as_str(),
+            })
+        }
         [_, command, problem, file] => input_of(command.as_str(), problem.as_str(), file.as_str()),
         [_, file] if is_file_name(file.as_str()) => Some(Meant::Solve {
             flags: SolveFlags::default(),

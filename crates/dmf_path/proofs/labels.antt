@@ -16,6 +16,7 @@ pub mod LoweredLabels
 pub mod Marking
 pub mod Marks
 pub mod Meeting
+pub mod Narrowed
 pub mod Parted
 pub mod RaisedLabels
 pub mod Redirected

@@ -11,6 +11,7 @@ pub mod Search
 pub mod Touched
 pub mod Searching
 pub mod Raising
+pub mod Windows
 pub mod Ball
 pub mod Going
 pub mod Phase

@@ -1,17 +1,21 @@
 //! The nodes near a goal.
-ghost use Rattle.std.specs.Prelude.{◌≡◌, ◌≤◌, ◌<◌, ◌^◌, length, slice_index, IfOk};
+ghost use Rattle.std.specs.Prelude.{◌≡◌, ◌+◌, ◌≤◌, ◌<◌, ◌^◌, ◌⊎◌, ℕ, true, length, slice_index, IfOk};
 ghost use Rattle.dmf_node.specs.Node.{IsNode};
+ghost use Rattle.dmf_links.specs.Links.{LiesAt};
 ghost use Rattle.dmf_links.specs.LinkTable.{links_of};
-ghost use Rattle.dmf_path.specs.Ball.{AreInside, AreNear, AreNodes, IsAround, IsFit, IsFitFor};
+ghost use Rattle.dmf_path.specs.Ball.{AreListed, AreNear, AreNodes, IsAround, IsFit, IsFitFor};
 ghost use Rattle.dmf_path.specs.Frontier.{IsClean};
 ghost use Rattle.dmf_path.specs.Residual.{ResidualLinks, residual_of};
+ghost use Rattle.dmf_path.specs.Windows.{AreRanges, AreWindows, IsWithin};
 
 use crate::frontier::Frontier;
 use crate::label::NO_LABEL;
 use crate::open::Flagged;
 use crate::residual::Residual;
+use crate::windows::Windows;
 use dmf_links::LinkTable;
 use std::alloc::{AllocError, Global};
+use std::ops::Range;
 
 /// At most so many links are looked at for one goal, or those of the goal, if these are more.
 const MOST: u64 = 4096;
@@ -27,6 +31,10 @@ pub struct Ball {
     /// The level that the search has not looked through: each node with a lower label is known, and so are all links that lead to it. 0 if
     /// nothing is known.
     pub radius: u32,
+    /// Where links lead to nodes.
+    pub windows: Windows,
+    /// How many links are in the windows of the nodes that are known.
+    pub links: u64,
 }
 
 impl Ball {
@@ -38,10 +46,12 @@ impl Ball {
             around: Frontier::none(alloc),
             goal: 0,
             radius: 0,
+            windows: Windows::none(alloc),
+            links: 0,
         }
     }
 
-    /// No node is known to be near a goal until [`surround`](Ball::surround) is called. Takes memory for two numbers a node.
+    /// No node is known to be near a goal until [`surround`](Ball::surround) is called. Takes memory for four numbers a node.
     pub fn new(alloc: Global, nodes: u32) -> Result<Ball, AllocError>
         requires { nodes < 2 ^ 31 }
         ensures { IfOk result (λ ball. (r : ResidualLinks) → IsFit ball r) }
@@ -50,12 +60,15 @@ impl Ball {
             around: Frontier::new(alloc, nodes)?,
             goal: 0,
             radius: 0,
+            windows: Windows::new(alloc, nodes)?,
+            links: 0,
         })
     }
 
     /// Looks for the nodes near this goal, if there is memory for them, and no push is taken back.
     pub fn surround(&mut self, links: &Residual, goal: u32)
-        requires { IsNode links.now.table.value.nodes goal }
+        requires fit { IsFit self.old (residual_of links.now) }
+        requires goal { IsNode links.now.table.value.nodes goal }
         ensures { IsFitFor self.new (residual_of links.now) goal }
     {
         self.around.unlabel();
@@ -65,6 +78,8 @@ impl Ball {
             return;
         }
         self.radius = look_around(links, &mut self.around, goal);
+        self.windows.open(links);
+        self.links = narrow_at(links, &mut self.windows, self.around.queue());
     }
 
     /// Looks for them anew, if that is wanted.
@@ -92,6 +107,7 @@ impl Ball {
     pub fn forget(&mut self)
         ensures fit { (r : ResidualLinks) → IsFit self.new r }
     {
+        self.windows.known = false;
         self.radius = 0;
     }
 }
@@ -101,8 +117,8 @@ fn look_around(links: &Residual, around: &mut Frontier, goal: u32) -> u32
     requires goal { IsNode links.now.table.value.nodes goal }
     requires clean { IsClean links.now.table.value.nodes around.old }
     ensures near { AreNear (links_of links.now.table.value) links.now.rooms.items goal result around.new.labels }
-    ensures inside { AreInside around.new.labels around.new.queue around.new.done result }
-    ensures nodes { AreNodes links.now.table.value.nodes around.new.queue around.new.done }
+    ensures listed { AreListed around.new.labels around.new.queue }
+    ensures nodes { AreNodes links.now.table.value.nodes around.new.queue }
 {
     around.begin(goal);
     while around.has_next() && is_close(&links.table, around) {
@@ -112,6 +128,41 @@ fn look_around(links: &Residual, around: &mut Frontier, goal: u32) -> u32
         return around.next_label();
     }
     NO_LABEL
+}
+
+/// Makes the windows of these nodes narrower. Returns how many links are in them, or more.
+fn narrow_at(links: &Residual, windows: &mut Windows, nodes: &[u32]) -> u64
+    requires nodes { AreNodes links.now.table.value.nodes nodes.now }
+    requires known { windows.old.known ≡ true → AreWindows windows.old (residual_of links.now) }
+    ensures known { windows.new.known ≡ true → AreWindows windows.new (residual_of links.now) }
+{
+    let mut count = 0u64;
+    for node in nodes {
+        count = count.saturating_add(windows.narrow(links, *node));
+    }
+    count
+}
+
+impl Ball {
+    /// The places among the links of a node where links that lead there may have room.
+    pub fn places_at(&self, table: &LinkTable, node: u32) -> Range<usize>
+        requires node { IsNode table.now.nodes node }
+        requires ranges { self.now.windows.known ≡ true → AreRanges (links_of table.now) self.now.windows }
+        ensures start { slice_index table.now.first.items node ≤ result.start }
+        ensures order { result.start ≤ result.end }
+        ensures end { result.end ≤ slice_index table.now.first.items (node + 1) }
+        ensures within { result.end ≤ length table.now.heads.items }
+        ensures left_out { (p : ℕ) → LiesAt (links_of table.now) node p
+            → ((result.start ≤ p) × (p < result.end)) ⊎ ((self.now.windows.known ≡ true) × (¬ IsWithin self.now.windows node p)) }
+    {
+        let all = table.places_at(node);
+        if !self.windows.known {
+            return all;
+        }
+        let from = self.windows.from[node as usize] as usize;
+        let end = self.windows.end[node as usize] as usize;
+        from..end
+    }
 }
 
 /// Whether the search may look at the links of the next node.

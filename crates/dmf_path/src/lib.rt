@@ -32,3 +32,4 @@ mod through;
 mod touched;
 mod trail;
 mod walk;
+mod windows;

@@ -1,8 +1,11 @@
 //! Which link of a node a walk takes.
 ghost use Rattle.std.specs.Prelude.{◌≡◌, ◌≢◌, ℕ, true, false, ◌+◌, ◌≤◌, ◌<◌, ◌⊎◌, length, slice_index};
 ghost use Rattle.dmf_node.specs.Node.{IsNode};
-ghost use Rattle.dmf_path.specs.Astray.{IsAstray};
+ghost use Rattle.dmf_links.specs.LinkTable.{links_of};
+ghost use Rattle.dmf_path.specs.Astray.{IsAstray, IsOutside};
+ghost use Rattle.dmf_path.specs.Labels.{no_label};
 ghost use Rattle.dmf_path.specs.Look.{AreLinksOf, AreSeen, IsLook, IsLookFrom, IsNext};
+ghost use Rattle.dmf_path.specs.Windows.{AreRanges};
 
 use crate::ball::Ball;
 use crate::residual::Residual;
@@ -92,21 +95,21 @@ impl Residual {
         }
     }
 
-    /// Where the look over the links of a node from `from` up to `end` is to stop, and to go on at the nodes near the goal. `end` where not
-    /// all of these are known.
+    /// Where the look over the links of a node from `from` up to `end` is to stop, and to go on at the nodes near the goal. `end` where
+    /// these have more links than are left.
     fn few(&self, ball: &Ball, wanted: Wanted, from: u32, end: u32) -> u32
         requires goal { IsNode self.now.table.value.nodes wanted.goal }
+        requires ranges { ball.now.windows.known ≡ true → AreRanges (links_of self.now.table.value) ball.now.windows }
         requires range { from ≤ end }
         ensures from { from ≤ result }
         ensures to { result ≤ end }
-        ensures known { result < end → (wanted.left ≡ 0) ⊎ (wanted.left < ball.now.radius) }
     {
-        if wanted.left > 0 && wanted.left >= ball.radius {
-            return end;
-        }
         let mut count = ball.around.looked();
+        if wanted.left >= ball.radius {
+            count = ball.links;
+        }
         if wanted.left == 0 {
-            let places = self.table.places_at(wanted.goal);
+            let places = ball.places_at(&self.table, wanted.goal);
             count = (places.end - places.start) as u64;
         }
         if count < u64::from(end - from) {
@@ -155,12 +158,12 @@ impl Residual {
         requires links { AreLinksOf self.now range.node range.from range.end }
         requires goal { IsNode self.now.table.value.nodes wanted.goal }
         requires low { slice_index labels.now wanted.goal + 1 + wanted.left ≡ wanted.label }
-        requires near { (wanted.left ≡ 0) ⊎ (wanted.left < ball.now.radius) }
+        requires near { (wanted.left ≡ 0) ⊎ (wanted.left ≤ ball.now.radius) }
         requires seen { AreSeen self.now labels.now ball.now }
         ensures { IsNext self.now labels.now ball.now wanted range.from range.end result }
     {
         if wanted.left == 0 {
-            return self.first_from(wanted.goal, range.node, range.from, range.end);
+            return self.first_from(ball, wanted.goal, range.node, range.from, range.end);
         }
         self.first_inside(labels, ball, wanted, range.node, range.from, range.end)
     }
@@ -177,7 +180,8 @@ impl Residual {
         end: u32,
     ) -> u32
         requires links { AreLinksOf self.now node from end }
-        requires near { wanted.left < ball.now.radius }
+        requires near { 0 < ball.now.radius }
+        requires left { wanted.left < no_label }
         requires seen { AreSeen self.now labels.now ball.now }
         ensures from { from ≤ result }
         ensures to { result ≤ end }
@@ -185,12 +189,13 @@ impl Residual {
         ensures falls { result < end → slice_index labels.now (slice_index self.now.table.value.heads.items result) + 1 ≡ wanted.label }
         ensures only { (p : ℕ) → from ≤ p → p < result → 0 < slice_index self.now.rooms.items p
             → slice_index labels.now (slice_index self.now.table.value.heads.items p) + 1 ≡ wanted.label
-            → wanted.left < slice_index ball.now.around.labels (slice_index self.now.table.value.heads.items p) }
+            → (wanted.left < slice_index ball.now.around.labels (slice_index self.now.table.value.heads.items p))
+            ⊎ IsOutside ball.now (links_of self.now.table.value) p }
     {
         let mut first = end;
-        for head in ball.around.seen() {
+        for head in ball.around.queue() {
             if is_next(labels, wanted.label, *head) && ball.around.label(*head) <= wanted.left {
-                first = self.first_from(*head, node, from, first);
+                first = self.first_from(ball, *head, node, from, first);
             }
         }
         first
@@ -198,17 +203,18 @@ impl Residual {
 
     /// The first place from `from` up to `end`, among links of the node, whose link has room and leads to `head`, or `end`. Found at the
     /// head: among its links are the opposites of all that lead there.
-    fn first_from(&self, head: u32, node: u32, from: u32, end: u32) -> u32
+    fn first_from(&self, ball: &Ball, head: u32, node: u32, from: u32, end: u32) -> u32
         requires links { AreLinksOf self.now node from end }
+        requires ranges { ball.now.windows.known ≡ true → AreRanges (links_of self.now.table.value) ball.now.windows }
         requires head { IsNode self.now.table.value.nodes head }
         ensures from { from ≤ result }
         ensures to { result ≤ end }
         ensures room { result < end → 0 < slice_index self.now.rooms.items result }
         ensures leads { result < end → slice_index self.now.table.value.heads.items result ≡ head }
         ensures first { (p : ℕ) → from ≤ p → p < result → 0 < slice_index self.now.rooms.items p
-            → slice_index self.now.table.value.heads.items p ≢ head }
+            → (slice_index self.now.table.value.heads.items p ≢ head) ⊎ IsOutside ball.now (links_of self.now.table.value) p }
     {
-        let places = self.table.places_at(head);
+        let places = ball.places_at(&self.table, head);
         let mut first = end;
         for place in places.start..places.end {
             if self.flags[place] == 1 && self.table.heads[place] == node {

@@ -1,7 +1,7 @@
 -- What the program does: which run its arguments ask for, on what, and how it ends.
 -- Public: a public contract says no more than this.
 use Rattle.std.specs.Prelude.{ℕ, ◌≡◌, ◌⊎◌, List, Bool, true, false, Result, Ok, Err, ⊤}
-use Rattle.dmf_arguments.specs.Words.{Task, solving, holding, checking, task_of, ReadsWords}
+use Rattle.dmf_arguments.specs.Words.{Task, solving, holding, checking, valuing, task_of, ReadsWords}
 use Rattle.dmf_arguments.specs.declared.words.Arguments.{Arguments}
 use Rattle.dmf_arguments.specs.declared.words.WordsFault.{WordsFault}
 use Rattle.dmf_arguments.specs.declared.words.WordsFault.TheVariants as words
@@ -10,6 +10,8 @@ use Rattle.dmf_streams.specs.declared.fault.Status.{Status}
 use Rattle.dmf_streams.specs.declared.fault.EngineFault.{EngineFault}
 use Rattle.dmf_solving.specs.SolveRun.{RunsSolve, RunsBrief, RunsAny}
 use Rattle.dmf_solving.specs.CheckRun.{RunsCheck}
+use Rattle.dmf_valuing.specs.Rows.{AreArcRows}
+use Rattle.dmf_valuing.specs.VitalRun.{RunsVital}
 use Rattle.dmf_runs.specs.Streams.{Streams}
 use Rattle.dmf_runs.specs.Session.{RunsSessionWith}
 use Rattle.dmf_host.specs.declared.fault.Fault.{Fault}
@@ -60,8 +62,8 @@ pub record FindsNoFile (Opens : Opening) (path : List ℕ) (old new : Streams) (
 abbrev pub RunsOn : Opening → List ℕ → Streams → Streams → (Reader → Reader → Result Status EngineFault → Type 0) → Result Status Fault → Type 0
 RunsOn Opens path old new Runs result = RunsOnFile Opens path Runs result ⊎ FindsNoFile Opens path old new result
 
--- The run of a task, over standard input and standard output. A solve reads its problem from standard input. A session and a check read
--- it from the file at their path, and the commands or the solution from standard input. Progress is no part of this: it goes to standard
+-- The run of a task, over standard input and standard output. A solve reads its problem from standard input, and so does a run that values
+-- each arc. A session and a check read it from the file at their path, and the commands or the solution from standard input. Progress is no part of this: it goes to standard
 -- error, of which no definition speaks.
 abbrev pub RunsTask : Opening → Task → Streams → Streams → Result Status Fault → Type 0
 RunsTask Opens (solving cut brief any progress) old new result =
@@ -70,6 +72,7 @@ RunsTask Opens (holding cut brief progress bound path) old new result =
     RunsOn Opens path old new (λ from to. RunsSessionWith (record { cut = cut; brief = brief }) bound from to old new) result
 RunsTask Opens (checking path) old new result =
     RunsOn Opens path old new (λ from to. RunsCheck from to old.reader new.reader old.writer new.writer) result
+RunsTask Opens (valuing progress) old new result = EndsAs (RunsVital AreArcRows old.reader new.reader old.writer new.writer) result
 
 -- ---- the program
 

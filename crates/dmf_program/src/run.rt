@@ -12,6 +12,7 @@ use dmf_solver::Watch;
 use dmf_solving::{run_check, run_solve_any, run_solve_brief, run_solve_watched};
 use dmf_streams::{EngineFault, Status};
 use dmf_text::{Sink, Source};
+use dmf_valuing::run_vital;
 use std::alloc::Global;
 
 /// What a solve is to write.
@@ -25,8 +26,8 @@ pub struct SolveAnswer {
     pub any: bool,
 }
 
-/// Runs what the arguments ask for. A solve reads its problem from standard input. A session and a check read it from the file at the
-/// path of the arguments, and the commands or the solution from standard input.
+/// Runs what the arguments ask for. A solve reads its problem from standard input, and so does a run that values each arc. A session and a
+/// check read it from the file at the path of the arguments, and the commands or the solution from standard input.
 ///
 /// Fails with the fault of the opening if the file cannot be opened. Then nothing is read and nothing is written. Else fails as the
 /// run does.
@@ -67,6 +68,7 @@ pub fn run_program<P: Source + Drop, F: Files<P>, C: Source, W: Sink, V: Session
             let mut problem = files.open(path.as_str())?;
             ended(run_check(alloc, &mut problem, input, out))
         }
+        Mode::Vital => ended(run_vital(alloc, input, out, watch)),
     }
 }
 

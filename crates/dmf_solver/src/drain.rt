@@ -12,7 +12,7 @@ ghost use Rattle.dmf_solver.specs.Told.{AreTold};
 ghost use Rattle.dmf_solver.specs.Turns.{TellsDrain};
 
 use crate::drained_flows::DrainedFlows;
-use crate::moves::list_moves;
+use crate::moves::{list_moves, most_touched};
 use crate::residual_network::{ResidualNetwork, new_network};
 use crate::watch::{Turn, Watch};
 use dmf_path::{Search, Touched};
@@ -117,7 +117,7 @@ fn drain_by<W: Watch>(
     ensures told { AreTold (W.told watch.old) (W.told watch.new) [] }
     ensures drained { TellsMoves state.now (turn ∷ []) result (W.drained watch.old) (W.drained watch.new) }
 {
-    let mut touched = carrying.none_touched(alloc, state.nodes() as usize / 8)?;
+    let mut touched = carrying.none_touched(alloc, most_touched(state))?;
     drain_along(state, turn, &mut carrying, &mut touched, watch);
     list_drained(alloc, state, &[], carrying, touched)
 }

@@ -2,6 +2,7 @@
 ghost use Rattle.std.specs.Prelude.{◌≡◌, ◌<◌, length, IfOk, MatchOption};
 ghost use Rattle.dmf_path.specs.Search.{indices_of};
 ghost use Rattle.dmf_state.specs.Edit.{differences};
+ghost use Rattle.dmf_state.specs.NetworkState.{IsState};
 ghost use Rattle.dmf_solver.specs.Moves.{CoverDifferences, Stays, IsMoveAt};
 
 use dmf_path::Indices;
@@ -51,6 +52,14 @@ pub fn list_moves<F: Flows>(
         }
     }
     Ok(moves)
+}
+
+/// So many touched pairs are listed at most: to sort a list of more takes as long as a look at all arcs.
+pub fn most_touched(state: &State) -> usize
+    ensures { IsState state.now }
+{
+    let nodes = state.nodes() as usize;
+    (nodes / 8).max(state.arcs().len() / 32)
 }
 
 /// The move of the arc at index `k`. `None` if there is no such arc, or if its flow does not differ.

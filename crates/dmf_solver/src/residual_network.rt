@@ -20,7 +20,7 @@ use crate::carrying_pairs::CarryingPairs;
 use crate::closed_side::SidedSearch;
 use crate::fault::{CutFault, PlanFault};
 use crate::following::{carry_flows, moves_of, put_capacities, put_flows};
-use crate::moves::list_moves;
+use crate::moves::{list_moves, most_touched};
 use crate::reached_flows::ReachedFlows;
 use crate::residual::{residual_pair, residual_search};
 use crate::side::{side_along, wanted_side};
@@ -68,10 +68,10 @@ impl ResidualNetwork {
     /// the plan looks at no arc but those that were changed.
     ///
     /// The first solve or drain looks at all arcs for its moves. Once the links have numbers, a solve looks only at the arcs of its paths,
-    /// unless these have an eighth as many links as there are nodes.
+    /// unless these have an eighth as many links as there are nodes, and a 32nd as many as there are arcs.
     ///
     /// Takes memory for the moves, and for a side that is wanted, with marks and numbers while it looks for the side, and once the links
-    /// have numbers for an eighth of a number a node. If memory is refused, fails with [`PlanFault::NoMemory`].
+    /// have numbers for an eighth of a number a node or a 32nd of one an arc. If memory is refused, fails with [`PlanFault::NoMemory`].
     pub fn plan_solve<W: Watch>(
         mut self,
         alloc: Global,
@@ -146,7 +146,7 @@ impl ResidualNetwork {
             ..
         } = self;
         let (search, mut marks, known) = search.into_ways_out(alloc, state.nodes());
-        let touched = search.none_touched(alloc, state.nodes() as usize / 8)?;
+        let touched = search.none_touched(alloc, most_touched(state))?;
         let solved = solve(alloc, search, state, touched, &mut marks, known, watch);
         let side = wanted_side(alloc, state, &solved.search, solved.value, want_side)?;
         let moves = touched_moves(alloc, state, &solved)?;

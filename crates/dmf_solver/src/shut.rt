@@ -16,6 +16,7 @@ ghost use Rattle.dmf_solver.specs.Told.{AreTold};
 ghost use Rattle.dmf_solver.specs.Turns.{turns_to_zero};
 
 use crate::drain::{Drained, drain_along, list_drained, take_carrying};
+use crate::moves::most_touched;
 use crate::residual_network::ResidualNetwork;
 use crate::watch::{Turn, Watch};
 use dmf_path::{Indices, Search, Touched};
@@ -131,7 +132,7 @@ fn drain_all_by<W: Watch>(
     ensures told { AreTold (W.told watch.old) (W.told watch.new) [] }
     ensures drained { TellsMoves state.now (turns_to_zero (numbers arcs.now)) result (W.drained watch.old) (W.drained watch.new) }
 {
-    let mut touched = search.none_touched(alloc, state.nodes() as usize / 8)?;
+    let mut touched = search.none_touched(alloc, most_touched(state))?;
     for (i, shutting) in arcs.iter().enumerate() {
         let turn = Turn {
             arc: shutting.arc,

@@ -67,8 +67,9 @@ pub fn run_solve_any<P: Source, W: Sink, V: Watch>(
     Ok(Status::Well)
 }
 
-/// Solves a state by a flow that the engine finds, or by an ordinary solve where it finds none. Drops the state if memory is refused.
-fn solve_any<V: Watch>(
+/// Finds some greatest flow of a state's network, and its smallest side if this is wanted, by a flow that the engine finds, or by an ordinary
+/// solve where it finds none. Drops the state if memory is refused. Reports to the watch what [`solve_from`] reports.
+pub fn solve_any<V: Watch>(
     alloc: Global,
     state: State,
     want_cut: bool,

@@ -3,11 +3,16 @@ pub mod Closing
 pub mod Shutting
 pub mod Bounds
 pub mod Held
+pub mod HeldNode
 pub mod Least
 pub mod Chained
 pub mod Listed
 pub mod Growing
+pub mod Summed
+pub mod Entering
 pub mod Pushed
+pub mod Moved
 pub mod Stuck
+pub mod Lost
 pub mod Second
 pub mod Ranking

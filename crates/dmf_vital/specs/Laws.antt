@@ -7,8 +7,9 @@ use Rattle.dmf_state.specs.NetworkState.{NetworkState}
 use Rattle.dmf_solver.specs.Change.{Close, Shut, Becomes}
 use Rattle.dmf_solver.specs.Greatest.{IsGreatest}
 use Rattle.dmf_vital.specs.GreatestValue.{IsGreatestValue}
-use Rattle.dmf_vital.specs.Kept.{HoldsTail}
+use Rattle.dmf_vital.specs.Kept.{HoldsTail, HoldsNode}
 use Rattle.dmf_vital.specs.Loss.{IsLoss, IsLossOfArc, IsLossOfNode, IsGainOfSecond, IsMostVital}
+use Rattle.dmf_vital.specs.Through.{flow_through}
 use Rattle.dmf_vital.specs.Without.{without_arc, without_node, with_second}
 use Rattle.dmf_vital.specs.Worst.{NumberedLoss, AreWorst}
 
@@ -67,6 +68,19 @@ HeldFlowIsLost = (n : Network) (flows : List ℕ) (j : ℕ) (has : ℕ → Bool)
 -- The loss is the least that the arc carries in any greatest flow: some greatest flow has that on it.
 abbrev pub SomeFlowIsLoss : Type 0
 SomeFlowIsLoss = (n : Network) (j loss : ℕ) → IsNetwork n → IsLossOfArc n j loss → (flows : List ℕ) × IsGreatest n flows × (flow_on flows j ≡ loss)
+
+-- ---- the loss of a node
+
+-- Without a node at most that is lost which flows through it in a greatest flow.
+abbrev pub NodeLossIsAtMostFlow : Type 0
+NodeLossIsAtMostFlow = (n : Network) (flows : List ℕ) (v loss : ℕ) → IsNetwork n → IsGreatest n flows → IsLossOfNode n v loss → loss ≤ flow_through n flows v
+
+-- If no residual path but over arcs from the node leads from it to where its arcs carry something, all is lost that flows through it.
+abbrev pub HeldNodeFlowIsLost : Type 0
+HeldNodeFlowIsLost = (n : Network) (flows : List ℕ) (v : ℕ) (has : ℕ → Bool) → IsNetwork n → IsGreatest n flows → IsInnerNode n v
+    → HoldsNode n flows v has → IsLossOfNode n v (flow_through n flows v)
+
+-- ---- the worst
 
 -- The first of the worst arcs is a most vital arc.
 abbrev pub WorstIsMostVital : Type 0

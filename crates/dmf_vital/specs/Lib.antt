@@ -2,9 +2,11 @@ pub mod Without
 pub mod GreatestValue
 pub mod Loss
 pub mod Worst
+pub mod Through
 pub mod Kept
 pub mod Laws
 pub mod Hop
+pub mod Exits
 pub mod Chains
 pub mod Tree
 pub mod Shifted

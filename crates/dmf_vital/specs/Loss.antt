@@ -23,6 +23,12 @@ IsLossOfArc n j loss = (has_arc n j ≡ true) × IsLoss n (without_arc n j) loss
 abbrev pub IsLossOfNode : Network → ℕ → ℕ → Type 0
 IsLossOfNode n v loss = IsInnerNode n v × IsLoss n (without_node n v) loss
 
+-- This is lost without node `v`; 0 if it is the source or the sink.
+pub record IsLossAt (n : Network) (v loss : ℕ) : Type 0 where
+  pub inner : IsInnerNode n v → IsLossOfNode n v loss
+  pub source : v ≡ n.source → loss ≡ 0
+  pub sink : v ≡ n.sink → loss ≡ 0
+
 -- There is an arc number `j`, and a second arc beside it gains this.
 abbrev pub IsGainOfSecond : Network → ℕ → ℕ → Type 0
 IsGainOfSecond n j gain = (has_arc n j ≡ true) × IsLoss (with_second n j) n gain

@@ -1,5 +1,5 @@
 ghost use Rattle.std.specs.Prelude.{◌≡◌, ◌≤◌};
-ghost use Rattle.dmf_vital.specs.Hop.{from_of, to_of, room_of};
+ghost use Rattle.dmf_vital.specs.Hop.{from_of, to_of, room_of, turned};
 
 use dmf_state::Arc;
 
@@ -32,4 +32,11 @@ pub fn room_of(against: bool, arc: Arc, flow: u64) -> u64
     ensures { result ≡ room_of against arc flow }
 {
     if against { flow } else { arc.cap - flow }
+}
+
+/// The direction over the arc of the step that a search goes over: from behind it goes over steps the other way.
+pub fn turned(back: bool, against: bool) -> bool
+    ensures { result ≡ turned back against }
+{
+    if back { !against } else { against }
 }

@@ -1,6 +1,7 @@
 ghost use Rattle.dmf_vital.specs.Laws.{HasGreatestValue, HasOneGreatestValue, ArcHasLoss, NodeHasLoss, HasOneLoss};
 ghost use Rattle.dmf_vital.specs.Laws.{ClosingLeavesOut, ShuttingLeavesOut};
 ghost use Rattle.dmf_vital.specs.Laws.{LossIsAtMostFlow, IdleArcLosesNothing, LoopLosesNothing, HeldFlowIsLost, SomeFlowIsLoss};
+ghost use Rattle.dmf_vital.specs.Laws.{NodeLossIsAtMostFlow, HeldNodeFlowIsLost};
 ghost use Rattle.dmf_vital.specs.Laws.{WorstIsMostVital, SecondHasGain, GainIsAtMostCapacity};
 
 /// The law that a network has one greatest value.
@@ -45,6 +46,12 @@ pub fn held_flow_is_lost()
 pub fn loss_is_flow()
     ensures at_most { LossIsAtMostFlow }
     ensures some { SomeFlowIsLoss }
+{}
+
+/// The law that the loss of a node is at most what flows through it in a greatest flow, and all of that if none of it can go another way.
+pub fn node_loss_is_flow()
+    ensures at_most { NodeLossIsAtMostFlow }
+    ensures held { HeldNodeFlowIsLost }
 {}
 
 /// The law that the first of the worst arcs is a most vital arc.

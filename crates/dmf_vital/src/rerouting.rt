@@ -1,11 +1,16 @@
-ghost use Rattle.std.specs.Prelude.{◌≡◌, ◌≢◌, ◌<◌, true, IfOk};
-ghost use Rattle.dmf_state.specs.Flow.{flow_on};
-ghost use Rattle.dmf_state.specs.Network.{arc_number, has_arc};
+ghost use Rattle.std.specs.Prelude.{◌≡◌, false, true, IfOk};
+ghost use Rattle.dmf_node.specs.Node.{IsNode};
+ghost use Rattle.dmf_state.specs.Flow.{AreWithinCapacities, IsInnerNode};
+ghost use Rattle.dmf_state.specs.Network.{IsNetwork, arc_number, has_arc};
 ghost use Rattle.dmf_solver.specs.Greatest.{IsGreatest};
-ghost use Rattle.dmf_vital.specs.Loss.{IsLossOfArc};
-ghost use Rattle.dmf_vital.specs.Shifted.{IsReady, IsMoved};
+ghost use Rattle.dmf_vital.specs.Chains.{AreChains};
+ghost use Rattle.dmf_vital.specs.Exits.{AreExits, exit_flow};
+ghost use Rattle.dmf_vital.specs.Loss.{IsLossAt, IsLossOfArc, IsLossOfNode};
+ghost use Rattle.dmf_vital.specs.Shifted.{IsReady, IsMoved, IsLeft};
+ghost use Rattle.dmf_vital.specs.Through.{part_off};
 
 use crate::chains::{Chains, make_chains};
+use crate::exits::Exits;
 use crate::push::push;
 use crate::search::{Steps, search};
 use crate::tree::{Tree, make_tree};
@@ -38,8 +43,8 @@ pub fn make_rerouting(alloc: Global, state: &State) -> Result<Rerouting, AllocEr
     })
 }
 
-/// Finds what is lost without arc number `j`: moves its flow to other ways, one path at a time, until none is left or no path is.
-pub fn loss_of(state: &State, rerouting: &mut Rerouting, j: u32) -> Result<u64, AllocError>
+/// Finds what is lost without arc number `j`.
+pub fn loss_of_arc(state: &State, rerouting: &mut Rerouting, j: u32) -> Result<u64, AllocError>
     requires is_there { has_arc state.now.network j ≡ true }
     requires ready { IsReady state.now rerouting.old }
     ensures loss { IfOk result (IsLossOfArc state.now.network j) }
@@ -49,9 +54,50 @@ pub fn loss_of(state: &State, rerouting: &mut Rerouting, j: u32) -> Result<u64, 
     if arc.tail == arc.head {
         return Ok(0);
     }
-    let mut left = rerouting.flows[j as usize - 1];
+    let exits = Exits {
+        node: arc.tail,
+        arc: j,
+    };
+    left_on(state, rerouting, exits)
+}
+
+/// Finds what is lost without node `v`.
+pub fn loss_of_node(state: &State, rerouting: &mut Rerouting, v: u32) -> Result<u64, AllocError>
+    requires inner { IsInnerNode state.now.network v }
+    requires ready { IsReady state.now rerouting.old }
+    ensures loss { IfOk result (IsLossOfNode state.now.network v) }
+    ensures ready { IsReady state.now rerouting.new }
+{
+    let exits = Exits { node: v, arc: 0 };
+    left_on(state, rerouting, exits)
+}
+
+/// Finds what is lost without node `v`, or 0 if it is the source or the sink.
+pub fn loss_at(state: &State, rerouting: &mut Rerouting, v: u32) -> Result<u64, AllocError>
+    requires node { IsNode state.now.network.nodes v }
+    requires ready { IsReady state.now rerouting.old }
+    ensures loss { IfOk result (IsLossAt state.now.network v) }
+    ensures ready { IsReady state.now rerouting.new }
+{
+    if v == state.source() {
+        return Ok(0);
+    }
+    if v == state.sink() {
+        return Ok(0);
+    }
+    loss_of_node(state, rerouting, v)
+}
+
+/// Moves the flow on the exits to other ways, one path at a time, until none is left or no path is. Returns what is left.
+fn left_on(state: &State, rerouting: &mut Rerouting, exits: Exits) -> Result<u64, AllocError>
+    requires exits { AreExits state.now.network exits }
+    requires ready { IsReady state.now rerouting.old }
+    ensures left { IfOk result (IsLeft state.now.network exits) }
+    ensures ready { IsReady state.now rerouting.new }
+{
+    let mut left = flow_on_exits(state, &rerouting.along, exits, &rerouting.flows);
     while left > 0 {
-        let moved = move_off(state, rerouting, j)?;
+        let moved = move_off(state, rerouting, exits)?;
         if moved == 0 {
             return Ok(left);
         }
@@ -60,33 +106,59 @@ pub fn loss_of(state: &State, rerouting: &mut Rerouting, j: u32) -> Result<u64, 
     Ok(0)
 }
 
-/// Moves flow from arc number `j` to another path from its tail to its head. Returns how much, which is 0 if there is no such path.
-fn move_off(state: &State, rerouting: &mut Rerouting, j: u32) -> Result<u64, AllocError>
-    requires is_there { has_arc state.now.network j ≡ true }
-    requires no_loop { (arc_number state.now.network j).tail ≢ (arc_number state.now.network j).head }
+/// What flows on the exits.
+fn flow_on_exits(state: &State, along: &Chains, exits: Exits, flows: &[u64]) -> u64
+    requires network { IsNetwork state.now.network }
+    requires exits { AreExits state.now.network exits }
+    requires within { AreWithinCapacities state.now.network.arcs flows.now }
+    requires along { AreChains false state.now.network.nodes state.now.network.arcs along.now.last.items along.now.before.items }
+    ensures { result ≡ exit_flow state.now.network exits flows.now }
+{
+    if exits.arc != 0 {
+        return flows[exits.arc as usize - 1];
+    }
+    let mut sum = 0u64;
+    let mut arc = along.last[exits.node as usize - 1];
+    while arc != 0 {
+        sum += flow_off(state, exits.node, arc, flows[arc as usize - 1]);
+        arc = along.before[arc as usize - 1];
+    }
+    sum
+}
+
+/// What flows on arc number `j`, if it leads from node `v` to another.
+fn flow_off(state: &State, v: u32, j: u32, flow: u64) -> u64
+    requires { has_arc state.now.network j ≡ true }
+    ensures { result ≡ part_off v (arc_number state.now.network j, flow) }
+{
+    let arc = state.arc(j);
+    if arc.tail == v && arc.head != v {
+        flow
+    } else {
+        0
+    }
+}
+
+/// Moves flow from the exits to another path to where they lead. Returns how much, which is 0 if there is no such path.
+fn move_off(state: &State, rerouting: &mut Rerouting, exits: Exits) -> Result<u64, AllocError>
+    requires exits { AreExits state.now.network exits }
     requires ready { IsReady state.now rerouting.old }
-    requires carries { 0 < flow_on rerouting.old.flows.items j }
-    ensures moved { IfOk result (λ moved. IsMoved state.now.network j moved rerouting.old.flows.items rerouting.new.flows.items) }
+    ensures moved { IfOk result (λ moved. IsMoved state.now.network exits moved rerouting.old.flows.items rerouting.new.flows.items) }
     ensures ready { IsReady state.now rerouting.new }
 {
-    let head = state.arc(j).head as usize - 1;
-    let k = j as usize - 1;
-    let left = rerouting.flows[k];
     let steps = Steps {
         state,
         flows: &rerouting.flows,
-        without: j,
+        exits,
     };
-    if !search(
+    let hop = search(
         &steps,
         &rerouting.along,
         &rerouting.against,
         &mut rerouting.tree,
-    )? {
+    )?;
+    if hop.arc == 0 {
         return Ok(0);
     }
-    let moved = rerouting.tree.nodes[head].width.min(left);
-    push(state, &rerouting.tree, j, moved, &mut rerouting.flows);
-    rerouting.flows[k] = left - moved;
-    Ok(moved)
+    Ok(push(state, &rerouting.tree, exits, hop, &mut rerouting.flows))
 }

@@ -10,10 +10,12 @@ use std::alloc::{AllocError, Global};
 pub struct Reached {
     /// Its place in the order in which nodes were reached, from 1 on; 0 if it was not.
     pub place: usize,
-    /// The last step to it.
+    /// The last step to it, or the exit that enters it.
     pub hop: Hop,
     /// So much can be sent over all steps to it.
     pub width: u64,
+    /// Whether it was reached from behind.
+    pub back: bool,
 }
 
 /// The nodes that a search has reached.
@@ -36,6 +38,7 @@ pub fn make_tree(alloc: Global, nodes: u32) -> Result<Tree, AllocError>
             against: false,
         },
         width: 0,
+        back: false,
     };
     Ok(Tree {
         nodes: vec![in alloc; nobody; nodes as usize]?,
@@ -57,17 +60,17 @@ pub fn forget(tree: &mut Tree)
     tree.found.clear();
 }
 
-/// Counts node `v` as reached by this step.
-pub fn reach(tree: &mut Tree, v: u32, hop: Hop, width: u64) -> Result<(), AllocError>
+/// Counts node `v` as reached in this way, at the next place.
+pub fn reach(tree: &mut Tree, v: u32, by: Reached) -> Result<(), AllocError>
     requires { IsNode (length tree.old.nodes.items) v }
     ensures nodes { OnOk result (tree.new.nodes.items ≡ slice_set tree.old.nodes.items (v - 1)
-        (record { place = length tree.old.found.items + 1; hop = hop; width = width })) }
+        (record { place = length tree.old.found.items + 1; hop = by.hop; width = by.width; back = by.back })) }
     ensures found { OnOk result (tree.new.found.items ≡ tree.old.found.items ++ v ∷ []) }
     ensures nodes_stay { OnErr result (tree.new.nodes.items ≡ tree.old.nodes.items) }
     ensures found_stay { OnErr result (tree.new.found.items ≡ tree.old.found.items) }
 {
     let place = tree.found.len() + 1;
     tree.found.push(v)?;
-    tree.nodes[v as usize - 1] = Reached { place, hop, width };
+    tree.nodes[v as usize - 1] = Reached { place, ..by };
     Ok(())
 }

@@ -1,9 +1,9 @@
 ghost use Rattle.std.specs.Prelude.{◌≡◌, ◌<◌, OnOk};
 ghost use Rattle.dmf_solver.specs.Greatest.{IsGreatest};
 
-use dmf_solver::{is_greatest, plan_close, plan_solve};
+use dmf_solver::{is_greatest, plan_close, plan_shut, plan_solve};
 use dmf_state::State;
-use dmf_vital::{arc_losses, value_without_arc};
+use dmf_vital::{arc_losses, node_losses, value_without_arc, value_without_node};
 use std::alloc::Global;
 use std::test::Fail;
 
@@ -72,6 +72,45 @@ fn agree(alloc: Global, state: &State) -> Result<bool, Fail> {
     Ok(true)
 }
 
+/// The greatest value after a node is shut in a copy.
+fn shut_value(alloc: Global, state: &State, v: u64) -> Result<u64, Fail> {
+    let mut copy = state.copy(alloc)?;
+    let edit = plan_shut(alloc, &copy, v)?;
+    copy.apply(&edit)?;
+    solve(alloc, &mut copy)?;
+    Ok(copy.value())
+}
+
+/// Whether the losses are what shutting and solving tells, for each node but the source and the sink, and 0 for these two.
+fn nodes_agree(alloc: Global, state: &State) -> Result<bool, Fail> {
+    if !is_greatest(alloc, state)? {
+        return Err(Fail::from("the solved flow is not greatest"));
+    }
+    let losses = node_losses(alloc, state)?;
+    for (k, loss) in losses.iter().enumerate() {
+        let v = k as u64 + 1;
+        let left = if v == u64::from(state.source()) || v == u64::from(state.sink()) {
+            state.value()
+        } else {
+            shut_value(alloc, state, v)?
+        };
+        if left.checked_add(*loss) != Some(state.value()) {
+            return Ok(false);
+        }
+    }
+    Ok(true)
+}
+
+#[test]
+fn losses_of_nodes_are_what_shutting_tells(rt: HostRuntime) -> Result<(), Fail> {
+    for seed in 0..1_000 {
+        let mut state = network(rt.alloc(), seed)?;
+        solve(rt.alloc(), &mut state)?;
+        assert!(rt; nodes_agree(rt.alloc(), &state)?);
+    }
+    Ok(())
+}
+
 #[test]
 fn losses_are_what_closing_tells(rt: HostRuntime) -> Result<(), Fail> {
     for seed in 0..1_000 {
@@ -83,7 +122,8 @@ fn losses_are_what_closing_tells(rt: HostRuntime) -> Result<(), Fail> {
 }
 
 /// The network of four nodes and five arcs that the examples of the documentation use, solved. Worked by hand: 5 flow; without the arcs
-/// in turn 2, 3, 4, 3 and 2 do.
+/// in turn 2, 3, 4, 3 and 2 do. Without node 2 there is the way over node 3 alone, on which 2 flow, and without node 3 that over node 2, on
+/// which 2 do.
 #[test]
 fn the_example(rt: HostRuntime) -> Result<(), Fail> {
     let mut state = State::new(rt.alloc(), 4, 1, 4);
@@ -98,6 +138,11 @@ fn the_example(rt: HostRuntime) -> Result<(), Fail> {
     assert!(rt; losses.as_slice() == [3, 2, 1, 2, 3].as_slice());
     if state.arcs().len() == 5 {
         assert!(rt; value_without_arc(rt.alloc(), &state, 3)? == 4);
+    }
+    let node_losses = node_losses(rt.alloc(), &state)?;
+    assert!(rt; node_losses.as_slice() == [0, 3, 3, 0].as_slice());
+    if state.nodes() == 4 && state.source() == 1 && state.sink() == 4 {
+        assert!(rt; value_without_node(rt.alloc(), &state, 2)? == 2);
     }
     Ok(())
 }

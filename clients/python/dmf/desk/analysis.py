@@ -1,9 +1,11 @@
 """What each arc is worth, and what a greater value costs.
 
-A sweep tries each arc alone: closed, and with a second one beside it. A cheap way to a greater value is found greedily, by what a column of
-the table says each unit more costs at an arc, or a second arc beside it. It goes from limit to limit: it widens the cheapest arc of the
-present one, and where the value does not grow for another limit behind it, the cheapest arc of that too. Each value on it is a greatest
-one, but a cheaper way may exist: least-cost flows and exact budgets are the business of other solvers."""
+A sweep tries each arc alone: closed, and with a second one beside it. A cheap way to a greater
+value is found greedily, by what a column of the table says each unit more costs at an arc, or a
+second arc beside it. It goes from limit to limit: it widens the cheapest arc of the present one,
+and where the value does not grow for another limit behind it, the cheapest arc of that too. Each
+value on it is a greatest one, but a cheaper way may exist: least-cost flows and exact budgets are
+the business of other solvers."""
 
 from __future__ import annotations
 
@@ -16,7 +18,7 @@ from decimal import Decimal
 from ..errors import CapacitiesPast64Bits, TooManyArcs
 from ..quantity import EXACT, LARGEST, Quantity, QuantityFault, number_in, plain_text
 from ..sweeps.cases import SweepResult, sweep
-from ..tables.headings import title_of
+from ..tables.titles import title_of
 from ..text.spelling import quoted_name
 from .live_network import LiveNetwork
 from .steps import Add, DeskFault, Follow, Node, Trial
@@ -24,25 +26,31 @@ from .workspace import Desk
 
 
 def trials_of(desk: Desk, numbers: Iterable[int]) -> Generator[Trial, None, None]:
-    """What each of these arcs means for the greatest value: if it alone is closed, and if it alone has a second one beside it. Tries each
-    on a copy of the network as it is at the call, on all processors. Raises a `DeskFault` unless the flow is greatest and the arcs are
-    open."""
+    """What each of these arcs means for the greatest value: if it alone is closed, and if it alone
+    has a second one beside it. Tries each on a copy of the network as it is at the call, on all
+    processors. Raises a `DeskFault` unless the flow is greatest and the arcs are open."""
     if not desk.is_greatest:
-        raise DeskFault("the flow is not greatest, so nothing can be compared with it; `solve` first")
+        raise DeskFault(
+            "the flow is not greatest, so nothing can be compared with it; `solve` first"
+        )
     wanted = list(numbers)
     for number in wanted:
-        desk.open_line(number)
+        desk.network.open_line(number)
     desk.follow()
-    return trials(desk.live, desk.value, wanted)
+    return trials(desk, wanted)
 
 
-def trials(held: LiveNetwork, value: Quantity, wanted: Iterable[int]) -> Generator[Trial, None, None]:
-    """For each of these open arcs, if the greatest value is this one: the greatest values if it alone is closed, and if it alone has a
-    second one beside it. Tries each on a copy of the network as it is at the call, on all processors."""
-    numbers, cut, quantity = list(wanted), set(held.cut_arcs()), held.measure.quantity
-    # Closing an arc that carries nothing leaves the flow as it is. A second arc beside one that is not in the cut leaves the cut
-    # as it is, and so the value, if there is room for its capacity.
-    room = LARGEST - sum(map(held.whole, (number for number, line in enumerate(held.lines, 1) if not line.is_closed)))
+def trials(desk: Desk, wanted: Iterable[int]) -> Generator[Trial, None, None]:
+    """For each of these open arcs, if the flow is greatest: the greatest values if it alone is
+    closed, and if it alone has a second one beside it. Tries each on a copy of the network as it is
+    at the call, on all processors."""
+    held, value = desk.network, desk.value
+    numbers, cut, quantity = list(wanted), set(desk.cut_arcs()), held.measure.quantity
+    # Closing an arc that carries nothing leaves the flow as it is. A second arc beside one that is
+    # not in the cut leaves the cut as it is, and so the value, if there is room for its capacity.
+    room = LARGEST - sum(
+        map(held.whole, (number for number, line in enumerate(held.lines, 1) if not line.is_closed))
+    )
     doubling = {number: _doubling(held, number) for number in numbers}
     carrying = {number for number in numbers if held.flow(number)}
     cases: list[list[tuple[object, ...]]] = []
@@ -51,9 +59,16 @@ def trials(held: LiveNetwork, value: Quantity, wanted: Iterable[int]) -> Generat
         if number in carrying:
             cases.append([("close", arc)])
         if number in cut:
-            others = [("cap", held.handle(cap.arc), held.measure.whole(cap.capacity)) for cap in doubling[number]]
+            others = [
+                ("cap", held.handle(cap.arc), held.measure.whole(cap.capacity))
+                for cap in doubling[number]
+            ]
             cases.append([("add", arc.tail, arc.head, held.whole(number)), *others])
-    wholes = {number: held.whole(number) + sum(held.measure.whole(it.capacity) - held.whole(it.arc) for it in doubling[number]) for number in numbers}
+    wholes = {
+        number: held.whole(number)
+        + sum(held.measure.whole(it.capacity) - held.whole(it.arc) for it in doubling[number])
+        for number in numbers
+    }
     jobs = max(1, min(len(cases), len(os.sched_getaffinity(0))))
     # The desk may change before the trials are asked for; each is of the network as it is now.
     results = sweep(held.network, cases, jobs=jobs)
@@ -80,13 +95,17 @@ def _doubling(held: LiveNetwork, number: int) -> list[Follow]:
 def _greatest(result: SweepResult[Node]) -> int:
     """The greatest value of a case."""
     if result.value is None:
-        raise DeskFault(f"what was tried came to no end: {result.refusal}")
+        raise DeskFault(f"what was tried failed: {result.refusal}")
     return result.value
 
 
 def _greatest_or_none(result: SweepResult[Node]) -> int | None:
     """The greatest value of a case, or None if the sum of the capacities would exceed 64 bits."""
-    return None if isinstance(result.refusal, (CapacitiesPast64Bits, TooManyArcs)) else _greatest(result)
+    return (
+        None
+        if isinstance(result.refusal, (CapacitiesPast64Bits, TooManyArcs))
+        else _greatest(result)
+    )
 
 
 TITLES = set("cost costs kosten cout coste price preis".split())
@@ -96,8 +115,8 @@ MOST_BOUGHT = 100
 
 @dataclass(frozen=True)
 class Prices:
-    """What the column of this title says: by the numbers of the table's arcs what one unit more costs there, or, `is_second`, a second arc
-    beside it."""
+    """What the column of this title says: by the numbers of the table's arcs what one unit more
+    costs there, or, `is_second`, a second arc beside it."""
 
     title: str
     of: Mapping[int, Decimal]
@@ -106,7 +125,8 @@ class Prices:
 
 @dataclass(frozen=True)
 class Bought:
-    """What is bought at once: by how much each arc is widened, what that costs, what all costs so far, and the greatest value then."""
+    """What is bought at once: by how much each arc is widened, what that costs, what all costs so
+    far, and the greatest value then."""
 
     wider: tuple[tuple[int, Quantity], ...]
     cost: Decimal
@@ -123,51 +143,72 @@ class Way:
 
 
 def prices(desk: Desk, column: str = "", *, is_second: bool = False) -> Prices:
-    """The prices in a column of the table, by its title; without one that of the only column called cost, or alike. Raises a `DeskFault` if
-    there is no such column, or if a cell in it is no number from 0 on. An arc of an empty cell has no price."""
-    extra = desk.subject.extra
+    """The prices in a column of the table, by its title; without one that of the only column called
+    cost, or alike. Raises a `DeskFault` if there is no such column, or if a cell in it is not a
+    number
+    from 0 on. An arc of an empty cell has no price.
+    """
+    extra = desk.network.subject.extra
     words = [title_of(title).word for title in extra.titles]
-    found = [at for at, word in enumerate(words) if (word == title_of(column).word if column else word in TITLES)]
+    found = [
+        at
+        for at, word in enumerate(words)
+        if (word == title_of(column).word if column else word in TITLES)
+    ]
     if len(found) != 1:
         listed = ", ".join(map(quoted_name, extra.titles)) or "none"
-        why = f"no column is called {quoted_name(column)}" if column and not found else f"{'several columns' if found else 'no column'} can be the cost"
+        why = (
+            f"no column is called {quoted_name(column)}"
+            if column and not found
+            else f"{'several columns' if found else 'no column'} can be the cost"
+        )
         raise DeskFault(f"{why}; the columns beside places and capacities are: {listed}")
     title = extra.titles[found[0]]
     of = {}
-    for number in range(1, desk.first_count + 1):
-        cell = "" if desk.role(number) else extra.of(number)[found[0]].strip()
+    for number in range(1, desk.network.first_count + 1):
+        cell = "" if desk.network.role(number) else extra.of(number)[found[0]].strip()
         if cell:
             of[number] = _price(cell, desk, title, number)
     return Prices(title, of, is_second)
 
 
 def _price(cell: str, desk: Desk, title: str, number: int) -> Decimal:
+    network = desk.network
+    where = f"{network.names.arc(number)}: {quoted_name(cell)} in the column {quoted_name(title)}"
     try:
-        found = Decimal(number_in(cell, desk.measure.sign))
+        found = Decimal(number_in(cell, network.measure.sign))
     except QuantityFault as fault:
-        raise DeskFault(f"{desk.names.arc(number)}: {quoted_name(cell)} in the column {quoted_name(title)} {fault}") from None
+        raise DeskFault(f"{where} {fault}") from None
     if found < 0:
-        raise DeskFault(f"{desk.names.arc(number)}: {quoted_name(cell)} in the column {quoted_name(title)} is below 0")
+        raise DeskFault(f"{where} is below 0")
     return found
 
 
 def priced(desk: Desk, given: Prices) -> dict[int, Decimal | None]:
-    """The arcs of the limit, each with its price if it has one. An arc that was opened again has that of the one that it was."""
-    return {number: given.of.get(desk.lines[number - 1].first or number) for number in desk.cut_arcs()}
+    """The arcs of the limit, each with its price if it has one. An arc that was opened again has
+    that of the one that it was."""
+    return {
+        number: given.of.get(desk.network.lines[number - 1].first or number)
+        for number in desk.cut_arcs()
+    }
 
 
 def cheapest(desk: Desk, given: Prices, to: Quantity | None = None) -> Way:
-    """A cheap way to a value, by default to twice the present one, found greedily; the desk is as it was then. Takes a few solves for each
-    purchase, and where second arcs are bought a trial of each arc of the limit. Raises a `DeskFault` if the flow is not greatest."""
+    """A cheap way to a value, by default to twice the present one, found greedily; the desk is as
+    it was then. Takes a few solves for each purchase, and where second arcs are bought a trial of
+    each arc of the limit. Raises a `DeskFault` if the flow is not greatest.
+    """
     if not desk.is_greatest:
-        raise DeskFault("the flow is not greatest, so there is no limit to widen; `solve` first")
+        raise DeskFault("the flow is not greatest, so the limit is not known; `solve` first")
     wanted = EXACT.multiply(desk.value, 2) if to is None else to
     if wanted < desk.value:
-        raise DeskFault(f"{plain_text(wanted)} is less than the present value, {plain_text(desk.value)}")
+        raise DeskFault(
+            f"{plain_text(wanted)} is less than the present value, {plain_text(desk.value)}"
+        )
     way = Way([])
-    with desk.aside():
+    with desk.aside() as tried:
         buy = _seconds if given.is_second else _units
-        for it in buy(desk, given, wanted, way):
+        for it in buy(tried, given, wanted, way):
             way.bought.append(it)
             if len(way.bought) == MOST_BOUGHT:
                 way.end = f"these are the first {MOST_BOUGHT} purchases"
@@ -182,21 +223,34 @@ def _units(desk: Desk, given: Prices, wanted: Quantity, way: Way) -> Iterator[Bo
         before, at, left = desk.value, desk.at, EXACT.subtract(wanted, desk.value)
         chosen: dict[int, Quantity] = {}
         while desk.value == before:
-            offers = {number: price for number, price in priced(desk, given).items() if price is not None and number not in chosen}
+            offers = {
+                number: price
+                for number, price in priced(desk, given).items()
+                if price is not None and number not in chosen
+            }
             if not offers:
-                way.end = "no arc of the limit then has a price" if not chosen else "no arc of a limit behind it has a price"
+                way.end = (
+                    "no arc of the limit then has a price"
+                    if not chosen
+                    else "no arc of a limit behind it has a price"
+                )
                 return
             number = min(offers, key=lambda it: (offers[it], it))
-            chosen[number] = desk.lines[number - 1].capacity
+            chosen[number] = desk.network.lines[number - 1].capacity
             desk.cap(number, EXACT.add(chosen[number], left))
             desk.solve()
         # As much as flows there is enough.
-        needed = {number: flow for number, most in chosen.items() if (flow := desk.flow(number)) > most}
+        needed = {
+            number: flow for number, most in chosen.items() if (flow := desk.flow(number)) > most
+        }
         wider = {number: EXACT.subtract(flow, chosen[number]) for number, flow in needed.items()}
         desk.undo(desk.at - at)
         desk.cap_each(needed)
         desk.solve()
-        cost = sum((EXACT.multiply(by, given.of[_row(desk, number)]) for number, by in wider.items()), Decimal(0))
+        cost = sum(
+            (EXACT.multiply(by, given.of[_row(desk, number)]) for number, by in wider.items()),
+            Decimal(0),
+        )
         total = EXACT.add(total, cost)
         yield Bought(tuple(wider.items()), cost, total, desk.value)
 
@@ -205,13 +259,23 @@ def _seconds(desk: Desk, given: Prices, wanted: Quantity, way: Way) -> Iterator[
     """Second arcs beside those of the limit, of which each brings the most for its money."""
     total = Decimal(0)
     while desk.value < wanted:
-        offers = {number: price for number, price in priced(desk, given).items() if price is not None}
-        gains = {it.arc: EXACT.subtract(it.doubled, desk.value) for it in trials_of(desk, offers) if it.doubled is not None and it.doubled > desk.value}
+        offers = {
+            number: price for number, price in priced(desk, given).items() if price is not None
+        }
+        gains = {
+            it.arc: EXACT.subtract(it.doubled, desk.value)
+            for it in trials_of(desk, offers)
+            if it.doubled is not None and it.doubled > desk.value
+        }
         if not gains:
-            way.end = "no second one beside any arc of the limit alone brings more" if offers else "no arc of the limit then has a price"
+            way.end = (
+                "no second one beside any arc of the limit alone brings more"
+                if offers
+                else "no arc of the limit then has a price"
+            )
             return
         number = min(gains, key=lambda it: (Decimal(offers[it]) / Decimal(gains[it]), it))
-        wider = (number, desk.lines[number - 1].capacity)
+        wider = (number, desk.network.lines[number - 1].capacity)
         desk.double(number)
         desk.solve()
         total = EXACT.add(total, offers[number])
@@ -219,18 +283,38 @@ def _seconds(desk: Desk, given: Prices, wanted: Quantity, way: Way) -> Iterator[
 
 
 def _row(desk: Desk, number: int) -> int:
-    return desk.lines[number - 1].first or number
+    return desk.network.lines[number - 1].first or number
 
 
 def purchase_lines(desk: Desk, given: Prices, way: Way) -> Iterator[str]:
     """What each arc of the limit costs, and a way to a greater value, in words."""
-    each = "a second one" if given.is_second else f"one more ({desk.measure.told_unit})" if desk.measure.told_unit else "one more"
+    each = (
+        "a second one"
+        if given.is_second
+        else f"one more ({desk.network.measure.told_unit})"
+        if desk.network.measure.told_unit
+        else "one more"
+    )
     yield f"what {each} costs at each arc of the limit, by the column {quoted_name(given.title)}:"
     for number, price in priced(desk, given).items():
-        yield f"  #{number} {desk.names.arc(number)}: {'no price' if price is None else plain_text(price)}"
-    yield f"a cheap way, found greedily, so a cheaper one may exist; money and value, {plain_text(desk.value)} at first:"
+        yield (
+            f"  #{number} {desk.network.names.arc(number)}: "
+            f"{'no price' if price is None else plain_text(price)}"
+        )
+    yield (
+        "a cheap way, found greedily, so a cheaper one may exist; money and value, "
+        f"{plain_text(desk.value)} at first:"
+    )
     for it in way.bought:
-        what = [f"a second {desk.names.short(number)}" if given.is_second else f"{desk.names.short(number)} {plain_text(by)} wider" for number, by in it.wider]
-        yield f"  {plain_text(it.total)}: {plain_text(it.value)} ({' and '.join(what)}: {plain_text(it.cost)})"
+        what = [
+            f"a second {desk.network.names.short(number)}"
+            if given.is_second
+            else f"{desk.network.names.short(number)} {plain_text(by)} wider"
+            for number, by in it.wider
+        ]
+        yield (
+            f"  {plain_text(it.total)}: {plain_text(it.value)} ({' and '.join(what)}: "
+            f"{plain_text(it.cost)})"
+        )
     if way.end:
         yield f"  there it ends: {way.end}"

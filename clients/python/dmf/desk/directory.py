@@ -16,19 +16,28 @@ ARROWS = (" -> ", "->", " - ", "-")
 
 
 class Directory:
-    """The names of places and arcs, and which of them a text means. What is not of the table goes by what it means there: a place with
-    a limit is one, and the arc that has its limit is `what Mill lets through`."""
+    """The names of places and arcs, and which of them a text means. What is not of the table goes
+    by what it means there: a place with a limit is one, and the arc that has its limit is `what
+    Mill lets through`."""
 
     def __init__(
-        self, node_names: dict[int, str], lines: Sequence[DeskArc], keys: Mapping[int, Hashable], nodes: Sequence[Node], folding: TableRoles
+        self,
+        node_names: dict[int, str],
+        lines: Sequence[DeskArc],
+        keys: Mapping[int, Hashable],
+        nodes: Sequence[Node],
+        folding: TableRoles,
     ) -> None:
-        """`lines` are the arcs by their numbers, and `keys` the names that were given to some; both may grow."""
+        """`lines` are the arcs by their numbers, and `keys` the names that were given to some; both
+        may grow."""
         self._lines = lines
         self._keys = keys
         self._folding = folding
         # Whether a name that is only one without regard to case and accents means that one.
         self.is_any_case = False
-        self._node_names = [node_names.get(number, str(number)) for number in range(1, len(nodes) + 1)]
+        self._node_names = [
+            node_names.get(number, str(number)) for number in range(1, len(nodes) + 1)
+        ]
         self._labels = [*map(display, self._node_names)]
         self.nodes = {node: number for number, node in enumerate(nodes, 1)}
         self.places: dict[str, Place] = {}
@@ -79,7 +88,11 @@ class Directory:
 
     def _typed(self, number: int) -> set[str]:
         """The names by which an arc can be typed: how it is called, and its name in the problem."""
-        return {cleaned(name) for name in (self.arc_name(number), display(self.given_arc(number))) if name}
+        return {
+            cleaned(name)
+            for name in (self.arc_name(number), display(self.given_arc(number)))
+            if name
+        }
 
     def _ends(self, number: int) -> tuple[int, int]:
         return self._lines[number - 1][:2]
@@ -89,7 +102,8 @@ class Directory:
         return self._labels[self._folding.place(number) - 1]
 
     def terminal(self, node: int) -> str:
-        """How the source of the network is called, or its sink: where it joins several places, by these."""
+        """How the source of the network is called, or its sink: where it joins several places, by
+        these."""
         return listed(map(self.node, self._folding.ends(node)))
 
     def side(self, nodes: Iterable[int]) -> list[str]:
@@ -102,7 +116,8 @@ class Directory:
         return role_phrase(role, self.node) if role else f"{self.short(number)} carries"
 
     def is_role(self, number: int) -> bool:
-        """Whether an arc is none of the table, but stands for what a place gives, takes or lets through."""
+        """Whether an arc is none of the table, but stands for what a place gives, takes or lets
+        through."""
         return self._folding.role(*self._ends(number)) is not None
 
     def arc_name(self, number: int) -> str:
@@ -126,7 +141,13 @@ class Directory:
     def arc(self, number: int) -> str:
         """An arc by its name and its ends."""
         name = self.arc_name(number)
-        return self.ends(number) if not name else name if self.is_role(number) else f"{name}, {self.ends(number)}"
+        return (
+            self.ends(number)
+            if not name
+            else name
+            if self.is_role(number)
+            else f"{name}, {self.ends(number)}"
+        )
 
     def short(self, number: int) -> str:
         """An arc by its name, or else by its ends."""
@@ -139,7 +160,9 @@ class Directory:
             return self.places[name]
         if name in self._several:
             listed = ", ".join(f"#{number}" for number in self._several[name][:MOST_LISTED])
-            raise DeskFault(f"several nodes are called {quoted_name(name)}: {listed}; say one by its number")
+            raise DeskFault(
+                f"several nodes are called {quoted_name(name)}: {listed}; say one by its number"
+            )
         number = self._numbered(name)
         if number:
             return self.place_of(number)
@@ -148,7 +171,7 @@ class Directory:
     def place_of(self, node: int) -> Place:
         """The place of a node. Raises a `DeskFault` if no place has a node of this number."""
         if not 1 <= node <= len(self._labels) or self._folding.is_joint(node):
-            raise DeskFault(f"there is no place #{node}")
+            raise DeskFault(f"place #{node} does not exist")
         first = self._folding.place(node)
         return Place(first, self._folding.second(first))
 
@@ -157,19 +180,28 @@ class Directory:
         return cleaned(self.node(node))
 
     def alike(self, number: int) -> list[int]:
-        """The arcs with the ends and the name of one, in their order; none that was opened again as another one."""
+        """The arcs with the ends and the name of one, in their order; none that was opened again as
+        another one."""
         return self.alike_between(*self._ends(number), self.arc_name(number))
 
     def alike_between(self, tail: int, head: int, name: str) -> list[int]:
         """The arcs of a name, which may be empty, between two nodes, in their order."""
-        return sorted(number for number in self._between.get((tail, head), ()) if self.arc_name(number) == name)
+        return sorted(
+            number
+            for number in self._between.get((tail, head), ())
+            if self.arc_name(number) == name
+        )
 
     def is_place(self, text: str) -> bool:
         return self._place_name(cleaned(text)) in self.places
 
     def _place_name(self, name: str) -> str:
         """The name of the place that a text names, if it may be in any case, or else the text."""
-        found = self._folded_places.get(folded(name), []) if self.is_any_case and name not in self.places else []
+        found = (
+            self._folded_places.get(folded(name), [])
+            if self.is_any_case and name not in self.places
+            else []
+        )
         return found[0] if len(found) == 1 else name
 
     @cached_property
@@ -185,24 +217,35 @@ class Directory:
         if not self.is_any_case or name in self._arcs:
             return name
         sought = folded(name)
-        found = [other for other, numbers in self._arcs.items() if numbers and folded(other) == sought]
+        found = [
+            other for other, numbers in self._arcs.items() if numbers and folded(other) == sought
+        ]
         return found[0] if len(found) == 1 else name
 
     @staticmethod
     def _numbered(name: str) -> int:
         """The number of a text like `#7`, or 0."""
         digits = name[1:]
-        return int(digits) if name[:1] == "#" and digits.isascii() and digits.isdigit() and len(digits) < 12 else 0
+        return (
+            int(digits)
+            if name[:1] == "#" and digits.isascii() and digits.isdigit() and len(digits) < 12
+            else 0
+        )
 
     def arcs(self, text: str) -> list[int]:
-        """The arcs, open or closed, that a text names: by their name, by their ends, as in `Mill-Town` or `Mill Town`, or by their
-        number, as in `#7`. Raises a `DeskFault` if there are none."""
+        """The arcs, open or closed, that a text names: by their name, by their ends, as in
+        `Mill-Town` or `Mill Town`, or by their number, as in `#7`. Raises a `DeskFault` if there
+        are none."""
         name = cleaned(text)
         number = self._numbered(name)
         found = {number: None} if 1 <= number <= len(self._lines) else {}
         found.update(dict.fromkeys(self._arcs.get(self._arc_name(name), ())))
         for tail, head in self._splits(name):
-            found.update(dict.fromkeys(self._between.get((self.places[tail].exit, self.places[head].entry), ())))
+            found.update(
+                dict.fromkeys(
+                    self._between.get((self.places[tail].exit, self.places[head].entry), ())
+                )
+            )
         if not found:
             raise DeskFault(self._unknown_arc(name))
         return sorted(found)
@@ -212,7 +255,9 @@ class Directory:
         for arrow in (*ARROWS, " "):
             at = name.find(arrow)
             while at >= 0:
-                tail, head = (self._place_name(part.strip()) for part in (name[:at], name[at + len(arrow) :]))
+                tail, head = (
+                    self._place_name(part.strip()) for part in (name[:at], name[at + len(arrow) :])
+                )
                 if tail in self.places and head in self.places:
                     yield tail, head
                 at = name.find(arrow, at + 1)

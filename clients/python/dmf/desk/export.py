@@ -23,21 +23,29 @@ MOST_DRAWN = 300
 PATIENCE = 60
 DRAWN = {".svg": "svg", ".png": "png", ".pdf": "pdf"}
 # How a picture is read, and the title of the column that says of which plan a table is.
-LEGEND = "45/60: 45 flow where 60 fit; thick: full; red: the limit; grey: nothing flows; dashed: closed; blue places: before the limit"
+LEGEND = (
+    "45/60: 45 flow where 60 fit; thick: full; red: the limit; grey: nothing flows; dashed: "
+    "closed; "
+    "blue places: before the limit"
+)
 SAID = "said of the plan"
 
 
 def said_of(desk: Desk) -> list[str]:
-    """What is said of a plan that is taken along: of which network it is, its value, its scenario, and the day."""
-    ends = f"from {desk.names.terminal(desk.source)} to {desk.names.terminal(desk.sink)}"
-    most = "at most " * desk.is_greatest
-    said = f"{display(os.path.basename(desk.subject.path))}: {most}{desk.told(desk.value)} {ends}"
-    return [said, f"{f'scenario {display(desk.scenario_name)}, ' * bool(desk.scenario_name)}{time.strftime('%Y-%m-%d')}"]
+    """What is said of a plan that is taken along: of which network it is, its value, its scenario,
+    and the day."""
+    network = desk.network
+    source, sink = map(network.names.terminal, (network.source, network.sink))
+    most = f"{'at most ' * desk.is_greatest}{network.told(desk.value)} from {source} to {sink}"
+    said = f"{display(os.path.basename(network.subject.path))}: {most}"
+    scenario = f"scenario {display(desk.state.scenario)}, " * bool(desk.state.scenario)
+    return [said, f"{scenario}{time.strftime('%Y-%m-%d')}"]
 
 
 @dataclass(frozen=True)
 class _SaidColumns(Extra):
-    """Columns of a table that are kept, and one more that says of which plan it is, in the row of this arc."""
+    """Columns of a table that are kept, and one more that says of which plan it is, in the row of
+    this arc."""
 
     text: str = ""
     row: int = 0
@@ -47,66 +55,125 @@ class _SaidColumns(Extra):
 
 
 def _columns(desk: Desk, row: int) -> Extra:
-    """The other columns of a plan's table. One of a project has one more, in place of that which an older plan had."""
-    extra = desk.subject.extra
-    if not desk.scenario_name:
+    """The other columns of a plan's table. One of a project has one more, in place of that which an
+    older plan had."""
+    extra = desk.network.subject.extra
+    if not desk.state.scenario:
         return extra
     kept = [at for at, title in enumerate(extra.titles) if title != SAID]
     titles = [*(extra.titles[at] for at in kept), SAID]
-    return _SaidColumns(titles, [extra.columns[at] for at in kept], extra.ways, "; ".join(said_of(desk)), row)
+    return _SaidColumns(
+        titles, [extra.columns[at] for at in kept], extra.ways, "; ".join(said_of(desk)), row
+    )
 
 
 def table(desk: Desk) -> str:
-    """The open arcs as the table that `dmf-names --csv` writes; that of a project says in one more column of which plan it is. If the flow is
-    not greatest, the column of the cut is empty."""
+    """The open arcs as the table that `dmf-names --csv` writes; that of a project says in one more
+    column of which plan it is. If the flow is not greatest, the column of the cut is empty."""
+    network = desk.network
     crossing = desk.cut_arcs() if desk.is_greatest else None
     arcs = [
-        WriterRow(number, line.tail, line.head, line.capacity, desk.flow(number), None if crossing is None else number in crossing)
-        for number, line in enumerate(desk.lines, 1) if not line.is_closed
-    ]  # fmt: skip
-    ends = desk.source, desk.sink
-    names = desk.names
-    first = next((arc.number for arc in arcs if not desk.role(arc.number)), 0)
+        WriterRow(
+            number,
+            line.tail,
+            line.head,
+            line.capacity,
+            desk.flow(number),
+            None if crossing is None else number in crossing,
+        )
+        for number, line in enumerate(network.lines, 1)
+        if not line.is_closed
+    ]
+    ends = network.source, network.sink
+    names = network.names
+    first = next((arc.number for arc in arcs if not network.role(arc.number)), 0)
     extra = _columns(desk, row_of(desk, first) if first else 0)
-    told = Told(desk.folding, names.node, names.arc_name, ends, extra, lambda number: row_of(desk, number), desk.limited())
-    return plan_text(arcs, told, desk.measure, raw_names=desk.subject.raw_names)
+    told = Told(
+        network.folding,
+        names.node,
+        names.arc_name,
+        ends,
+        extra,
+        lambda number: row_of(desk, number),
+        network.limited(),
+    )
+    return plan_text(arcs, told, network.measure, raw_names=network.subject.raw_names)
 
 
 def row_of(desk: Desk, number: int) -> int:
     """The number that an arc had before it was opened again, by which its row has other columns."""
-    return desk.line(number).first or number
+    return desk.network.line(number).first or number
 
 
 def problem(desk: Desk) -> str:
-    """The problem of the open arcs, with what comments say of its table and its columns and the names of places and arcs; what cannot be
-    written of a name is escaped. It needs no session, so that it can be had where that has ended."""
-    names = desk.names
-    opened = {number: line for number, line in enumerate(desk.lines, 1) if not line.is_closed}
+    """The problem of the open arcs, with what comments say of its table and its columns and the
+    names of places and arcs; what cannot be written of a name is escaped. It needs no session, so
+    that it can be had where that has ended.
+    """
+    network = desk.network
+    names = network.names
+    opened = {number: line for number, line in enumerate(network.lines, 1) if not line.is_closed}
     labels = ((number, names.given_node(number)) for number in range(1, len(names.nodes) + 1))
-    nodes = "".join(f"c node {number} {written(NODE, number, label)}\n" for number, label in labels if label != str(number))
+    nodes = "".join(
+        f"c node {number} {written(NODE, number, label)}\n"
+        for number, label in labels
+        if label != str(number)
+    )
     keys = ((place, names.given_arc(number)) for place, number in enumerate(opened, 1))
-    arcs = "".join(f"c arc {place} {written(ARC, place, key)}\n" for place, key in keys if key.strip(" \t"))
-    head = f"p max {len(names.nodes)} {len(opened)}\nn {desk.source} s\nn {desk.sink} t\n"
-    whole = desk.measure.whole
-    lines = "".join(f"a {line.tail} {line.head} {whole(line.capacity)}\n" for line in opened.values())
-    said = renumbered(desk.subject.described, ((line.tail, line.head) for line in opened.values()), desk.limited())
-    columns = desk.subject.extra.comments(row_of(desk, number) for number in opened)
-    plan = "".join(f"c plan {line}\n" for line in said_of(desk)) if desk.scenario_name else ""
+    arcs = "".join(
+        f"c arc {place} {written(ARC, place, key)}\n" for place, key in keys if key.strip(" \t")
+    )
+    head = f"p max {len(names.nodes)} {len(opened)}\nn {network.source} s\nn {network.sink} t\n"
+    whole = network.measure.whole
+    lines = "".join(
+        f"a {line.tail} {line.head} {whole(line.capacity)}\n" for line in opened.values()
+    )
+    said = renumbered(
+        network.subject.described,
+        ((line.tail, line.head) for line in opened.values()),
+        network.limited(),
+    )
+    columns = network.subject.extra.comments(row_of(desk, number) for number in opened)
+    plan = "".join(f"c plan {line}\n" for line in said_of(desk)) if desk.state.scenario else ""
     return table_comments(said) + plan + nodes + arcs + columns + head + lines
 
 
 def drawing(desk: Desk) -> Drawing:
     """What a picture of the desk shows. An arc that was opened again is drawn once."""
-    numbers = [number for number, line in enumerate(desk.lines, 1) if not line.is_replaced]
-    names = desk.names
+    network = desk.network
+    numbers = [number for number, line in enumerate(network.lines, 1) if not line.is_replaced]
+    names = network.names
     labels = {number: names.node(number) for number in range(1, len(names.nodes) + 1)}
-    arc_names = {place: names.arc_name(number) for place, number in enumerate(numbers, 1) if names.arc_name(number)}
-    drawn = Problem(len(labels), desk.source, desk.sink, [], labels, arc_names, desk.subject.described)
-    flows = [None if desk.lines[number - 1].is_closed else desk.flow(number) for number in numbers]
+    arc_names = {
+        place: names.arc_name(number)
+        for place, number in enumerate(numbers, 1)
+        if names.arc_name(number)
+    }
+    drawn = Problem(
+        len(labels),
+        network.source,
+        network.sink,
+        [],
+        labels,
+        arc_names,
+        network.subject.described,
+    )
+    flows = [
+        None if network.lines[number - 1].is_closed else desk.flow(number) for number in numbers
+    ]
     side = desk.side() if desk.is_greatest else set()
-    lines = arcs_of([desk.lines[number - 1] for number in numbers])
-    notes = [*said_of(desk), LEGEND] if desk.scenario_name else []
-    return Drawing(drawn, lines, flows, side, set(desk.shut_nodes), notes, has_quantities=True, limited=desk.limited())
+    lines = arcs_of([network.lines[number - 1] for number in numbers])
+    notes = [*said_of(desk), LEGEND] if desk.state.scenario else []
+    return Drawing(
+        drawn,
+        lines,
+        flows,
+        side,
+        set(network.shut_nodes),
+        notes,
+        has_quantities=True,
+        limited=network.limited(),
+    )
 
 
 def arcs_of(lines: list[DeskArc]) -> list[ArcRecord]:
@@ -133,6 +200,9 @@ def drawn(desk: Desk, path: str) -> bytes:
     try:
         return graphviz(text.encode(), "dot", f"-T{kind}", patience=PATIENCE)
     except FileNotFoundError:
-        raise DeskFault("Graphviz is not there, which draws; its program is called dot. A FILE.dot can be had") from None
+        raise DeskFault(
+            "Graphviz, which draws it, is not installed; its program is called dot. A FILE.dot can "
+            "be had"
+        ) from None
     except RuntimeError as error:
         raise DeskFault(str(error)) from None

@@ -1,4 +1,5 @@
-"""What a planner types at the desk: amounts, also relative to the present one, as in `+10 %`, and conditions, as in `flow > 5`."""
+"""What a planner types at the desk: amounts, also relative to the present one, as in `+10 %`, and
+conditions, as in `flow > 5`."""
 
 from __future__ import annotations
 
@@ -21,12 +22,16 @@ def is_amount(text: str) -> bool:
 
 
 def amount(text: str, measure: Measure, present: Quantity | None = None) -> Quantity:
-    """The amount that a text means: `47,3`, `12 l/s`; and where there is a present one, `+10 %`, `-5` and `+2,5` change that. Raises a
-    `DeskFault`, as of a text that can be read in two ways."""
+    """The amount that a text means: `47,3`, `12 l/s`; and where there is a present one, `+10 %`,
+    `-5` and `+2,5` change that. Raises a `DeskFault`, as of a text that can be read in two ways."""
     wanted = text.strip()
     if not wanted:
-        raise DeskFault("a number is wanted")
-    plain = wanted.removesuffix(measure.unit).rstrip() if measure.unit and wanted != measure.unit else wanted
+        raise DeskFault("expected a number")
+    plain = (
+        wanted.removesuffix(measure.unit).rstrip()
+        if measure.unit and wanted != measure.unit
+        else wanted
+    )
     change = _CHANGE.fullmatch(plain)
     try:
         by = number_in(change[2] if change else plain, measure.sign)
@@ -39,50 +44,66 @@ def amount(text: str, measure: Measure, present: Quantity | None = None) -> Quan
         by = EXACT.multiply(by, present).scaleb(-2, EXACT) if change[3] else by
         after = EXACT.add(present, by) if change[1] == "+" else EXACT.subtract(present, by)
         if after < 0:
-            raise QuantityFault(f"makes {plain_text(after)} of {plain_text(present)}, which is below 0")
+            raise QuantityFault(
+                f"makes {plain_text(after)} of {plain_text(present)}, which is below 0"
+            )
         return after
     except QuantityFault as fault:
         raise DeskFault(f"{quoted_name(wanted)} {fault}") from None
 
 
 COMPARED: dict[str, Callable[[Quantity, Quantity], bool]] = {
-    "<": operator.lt, "<=": operator.le, "=": operator.eq, ">=": operator.ge, ">": operator.gt,
+    "<": operator.lt,
+    "<=": operator.le,
+    "=": operator.eq,
+    ">=": operator.ge,
+    ">": operator.gt,
     # As some write them.
-    "=<": operator.le, "≤": operator.le, "=>": operator.ge, "≥": operator.ge,
-}  # fmt: skip
+    "=<": operator.le,
+    "≤": operator.le,
+    "=>": operator.ge,
+    "≥": operator.ge,
+}
 Condition = Callable[[int], bool]
 
 
 def condition(desk: Desk, words: list[str]) -> Condition | None:
-    """Whether something is so of an arc: `full`, `limit`, `name ~ TEXT` (in any case; also of `from` and `to`), or `capacity < NUMBER` (also of `flow`
-    and with `<=`, `=`, `>=`, `>`). None if the words are no condition. Raises a `DeskFault` where it cannot be told."""
+    """Whether something is so of an arc: `full`, `limit`, `name ~ TEXT` (in any case; also of
+    `from` and `to`), or `capacity < NUMBER` (also of `flow` and with `<=`, `=`, `>=`, `>`). None if
+    the words are no condition. Raises a `DeskFault` where it cannot be told.
+    """
+    network = desk.network
     if words == ["full"]:
-        return lambda number: 0 < desk.flow(number) == desk.line(number).capacity
+        return lambda number: 0 < desk.flow(number) == network.line(number).capacity
     if words == ["limit"]:
         if not desk.is_greatest:
-            raise DeskFault("the flow is not greatest, so there is no limit to tell; `solve` first")
+            raise DeskFault("the flow is not greatest, so the limit is not known; `solve` first")
         return lambda number: number in desk.cut_arcs()
     if len(words) < 3:
         return None
     what, sign, text = words[0], words[1], " ".join(words[2:])
     names: dict[str, Callable[[int], str]] = {
-        "name": desk.names.arc_name,
-        "from": lambda number: desk.names.node(desk.line(number).tail),
-        "to": lambda number: desk.names.node(desk.line(number).head),
+        "name": network.names.arc_name,
+        "from": lambda number: network.names.node(network.line(number).tail),
+        "to": lambda number: network.names.node(network.line(number).head),
     }
-    numbers: dict[str, Callable[[int], Quantity]] = {"capacity": lambda number: desk.line(number).capacity, "flow": desk.flow}
+    numbers: dict[str, Callable[[int], Quantity]] = {
+        "capacity": lambda number: network.line(number).capacity,
+        "flow": desk.flow,
+    }
     if what in names and sign == "~":
         sought = folded(text)
         return lambda number: sought in folded(names[what](number))
     if what in numbers and sign in COMPARED:
-        bound = amount(text, desk.measure)
+        bound = amount(text, network.measure)
         return lambda number: COMPARED[sign](numbers[what](number), bound)
     return None
 
 
 def successors(desk: Desk) -> dict[int, int]:
     """The arcs that were closed and opened again, with what they are now."""
-    added = enumerate(desk.lines[desk.first_count :], desk.first_count + 1)
+    network = desk.network
+    added = enumerate(network.lines[network.first_count :], network.first_count + 1)
     again = [(number, line.first) for number, line in added if line.first]
     last = {first: number for number, first in again}
     return {**last, **{number: last[first] for number, first in again if last[first] != number}}

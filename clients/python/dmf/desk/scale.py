@@ -14,8 +14,9 @@ _ARC = re.compile(rb"^([ \t]*a[ \t]+[0-9]+[ \t]+[0-9]+[ \t]+)([0-9]+)", re.MULTI
 
 
 def finer(subject: LoadedProblem, quantity: Quantity) -> LoadedProblem:
-    """The subject with the least scale in which a quantity is whole too: itself, or one with all capacities times a power of ten. Raises
-    a `DeskFault` if that would take the capacities past 64 bits."""
+    """The subject with the least scale in which a quantity is whole too: itself, or one with all
+    capacities times a power of ten. Raises a `DeskFault` if that would take the capacities past 64
+    bits."""
     now = subject.measure
     measure = now.finer(quantity)
     try:
@@ -31,7 +32,10 @@ def finer(subject: LoadedProblem, quantity: Quantity) -> LoadedProblem:
     # The first comment that tells a scale counts.
     head = table_comments(TableComments(Measure(measure.scale))).encode()
     following = iter(capacities)
-    return replace(subject, text=head + _ARC.sub(lambda found: found[1] + b"%d" % next(following), subject.text))
+    return replace(
+        subject,
+        text=head + _ARC.sub(lambda found: found[1] + b"%d" % next(following), subject.text),
+    )
 
 
 def past_64_bits(measure: Measure, what: str = "") -> DeskFault:

@@ -1,11 +1,12 @@
-"""What a desk's steps are made of: places and arcs, changes, steps, trials, and why the desk refuses a request. All amounts are
-quantities, as the table has them."""
+"""What a desk's steps are made of: places and arcs, changes, steps, trials, and why the desk
+refuses a request. All amounts are quantities, as the table has them."""
 
 from __future__ import annotations
 
 from dataclasses import dataclass, field
 from typing import NamedTuple, Union
 
+from .. import history as session
 from ..errors import Error
 from ..quantity import Quantity
 
@@ -17,18 +18,19 @@ class DeskFault(Exception):
 
 
 class Place(NamedTuple):
-    """A place: arcs into it enter the node `entry`, and arcs out of it leave the node `exit`. The two differ if the place has a
-    limit."""
+    """A place: arcs into it enter the node `entry`, and arcs out of it leave the node `exit`. The
+    two differ if the place has a limit."""
 
     entry: int
     exit: int
 
 
 class DeskArc(NamedTuple):
-    """An arc as it is: its ends by their numbers, and its capacity, which one that is closed had before. `was_shut` says that it was
-    closed when a place was shut, and `is_replaced` that it was closed and then opened again, as another arc. `is_unlimited` says that it
-    is what a source gives, or a sink takes, as much as the arcs there carry. `first` is the number of the arc that one was before it was
-    opened again, if it was."""
+    """An arc as it is: its ends by their numbers, and its capacity, which one that is closed had
+    before. `was_shut` says that it was closed when a place was shut, and `is_replaced` that it was
+    closed and then opened again, as another arc. `is_unlimited` says that it is what a source
+    gives, or a sink takes, as much as the arcs there carry. `first` is the number of the arc that
+    one was before it was opened again, if it was."""
 
     tail: int
     head: int
@@ -46,8 +48,8 @@ class DeskArc(NamedTuple):
 
 
 class Marks(NamedTuple):
-    """What the network does not know of what was done: the nodes that are shut, and the unlimited sources and sinks that got a limit, by the
-    first numbers of their arcs."""
+    """What the network does not know of what was done: the nodes that are shut, and the unlimited
+    sources and sinks that got a limit, by the first numbers of their arcs."""
 
     shut: frozenset[int] = frozenset()
     limited: frozenset[int] = frozenset()
@@ -100,12 +102,15 @@ Change = Union[Solve, Close, Cap, Add, Reopen, Shut]
 
 @dataclass(frozen=True)
 class Step:
-    """What was done, in words, the changes that it made, the value of the flow that they left, and the marks before it."""
+    """What was done, in words, the changes that were asked for, the value of the flow that they
+    left, and the marks after it. `made` are the changes of the network's history, by which it is
+    known whether the session has made it; None if it never did."""
 
     text: str
     changes: tuple[Change, ...]
     value: Quantity
     marks: Marks
+    made: tuple[session.Change, ...] | None = field(default=None, repr=False, compare=False)
 
     @property
     def is_solved(self) -> bool:
@@ -114,8 +119,8 @@ class Step:
 
 @dataclass(frozen=True)
 class Trial:
-    """The greatest values if an arc is closed, and if a second one of its capacity lies beside it. The second is None if the sum of
-    the capacities would exceed 64 bits."""
+    """The greatest values if an arc is closed, and if a second one of its capacity lies beside it.
+    The second is None if the sum of the capacities would exceed 64 bits."""
 
     arc: int
     closed: Quantity
@@ -126,15 +131,4 @@ def unforeseen(error: BaseException) -> str:
     """Why something came to no end, also for an error that nothing foresaw."""
     if isinstance(error, (Error, DeskFault, OSError)):
         return str(error)
-    return f"that came to no end ({type(error).__name__}{f': {error}' if str(error) else ''})"
-
-
-@dataclass
-class Timeline:
-    """The steps that were made, those that were undone, the last undone at the end, and how many steps each trial that is open began
-    with. `turn` counts what was done: each step that was made or undone, and what a project was told."""
-
-    done: list[Step] = field(default_factory=list)
-    undone: list[Step] = field(default_factory=list)
-    floors: list[int] = field(default_factory=list)
-    turn: int = 0
+    return f"that failed ({type(error).__name__}{f': {error}' if str(error) else ''})"

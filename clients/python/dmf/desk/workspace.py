@@ -1,105 +1,293 @@
 """A planner's desk: a network by its names, the steps that were tried on it, and sweeps.
 
-A step is one thing that a planner does, such as closing a place with a limit. It may be several changes of the network, and is undone
-as a whole. Arcs go by their numbers here, as `dmf-names` prints them, and `Directory` finds the number of a name. A step is kept as the
-request, so it can be made again after a sweep, or on a new session if one has ended, or if an amount has more decimals than the numbers
-of the session allow: then the steps are made again on the problem of a finer scale.
+A step is one thing that a planner does, such as closing a place with a limit. It may be several
+changes of the network, and is undone as a whole. Arcs go by their numbers here, as `dmf-names`
+prints them, and `Directory` finds the number of a name. A step is kept as the request, so it can be
+made again after a sweep, or on a new session if one has ended, or if an amount has more decimals
+than the numbers of the session allow: then the steps are made again on the problem of a finer
+scale.
+
+An act is one thing. It is prepared, which changes nothing that is shown, though the session may
+move on; what keeps the desk writes it; and then the state that was prepared takes the place of the
+one before, by one assignment. Wherever an act is broken off, the desk is in the state before it or
+in the one after it, and the session is brought to that when something is asked.
 """
 
 from __future__ import annotations
 
 import contextlib
-from collections.abc import Iterator, Mapping, Sequence
+import copy
+from collections.abc import Iterable, Iterator, Mapping, Sequence
+from dataclasses import replace
 
-from ..errors import CapacitiesPast64Bits, Error, SessionEnded
+from ..errors import CapacitiesPast64Bits, Error
 from ..quantity import Quantity, plain_text
 from ..session.base import Program
 from ..tables.loader import LoadedProblem
 from ..text.spelling import quoted_name
-from .answers import FirstAnswer
-from .desk_view import DeskView
+from .answers import Answers, FirstAnswer
+from .desk_state import DeskState, Keeper
 from .live_network import LiveNetwork
 from .scale import finer, past_64_bits
-from .steps import Add, Cap, Change, Close, DeskArc, DeskFault, Place, Reopen, Shut, Solve, Step
+from .steps import Add, Cap, Change, Close, DeskFault, Place, Reopen, Shut, Solve, Step
 
 
-class Desk(DeskView):
-    """A network, and what was done to it. `with_solve` says that each step solves after its change, so that its value is always
-    the greatest. What a call raises beside a `DeskFault` is what the client raises. Any error in the midst of a step ends the session,
-    since that might be left between two steps; `has_ended` says so, and `begin_again` makes the steps once more on a new one.
-    `may_follow` says that the first solve of a large network may tell the value and the limit alone: `follow` then finds the flows, and so
-    does whatever needs them."""
+class Desk:
+    """A network, and what was done to it. `with_solve` says that each step solves after its change,
+    so that its value is always the greatest. What a call raises beside a `DeskFault` is what the
+    client raises. Any error in the midst of a step ends the session, since that might be left
+    between two steps; `has_ended` says so, and `begin_again` makes the steps once more on a new
+    one. `may_follow` says that the first solve of a large network may tell the value and the limit
+    alone: `follow` then finds the flows, and so does whatever needs them. `keeper` keeps each act,
+    if there is one."""
 
-    def __init__(self, subject: LoadedProblem, *, with_solve: bool = False, may_follow: bool = False, program: Program = None) -> None:
+    keeper: Keeper | None = None
+
+    def __init__(
+        self,
+        subject: LoadedProblem,
+        *,
+        with_solve: bool = False,
+        may_follow: bool = False,
+        program: Program = None,
+    ) -> None:
         first = FirstAnswer.of(subject.text, program) if with_solve and may_follow else None
-        super().__init__(LiveNetwork(subject, program), with_solve)
+        network = LiveNetwork(subject, program)
+        self.with_solve = with_solve
         self._program = program
-        self._coming: LiveNetwork | None = None
+        # Those that `break_off` ends: the present one, and one on which the steps are made again.
+        self._running = [network]
+        # The network of the desk that this one tries something out for, if it does.
+        self._lent: LiveNetwork | None = None
+        self.state = DeskState(network)
         if with_solve:
             found = first.wait() if first else None
-            if found:
-                self._take_step(self._held.promise(found.value, found.side))
-            else:
-                self._do("solve", [Solve()])
-            self._time.floors.append(1)
+            answers = Answers(found.side, found.value) if found else Answers()
+            step = network.promise(found.value) if found else network.make("solve", (Solve(),))
+            self.state = replace(
+                self.state, steps=(step,), at=1, floors=(1,), turn=1, answers=answers
+            )
+
+    # The state, and how another one takes its place.
+
+    @property
+    def network(self) -> LiveNetwork:
+        """The network, which stands where the state does. Raises `SessionEnded` if it cannot be
+        brought there."""
+        state = self.state
+        done = state.network.stand_on(state.done)
+        if done is not state.done:
+            self.state = state.as_made(done)
+        return state.network
+
+    def take(self, after: DeskState) -> None:
+        """Have a state that is prepared take the place of the present one, once it is kept."""
+        if self.keeper and after.record is not self.state.record:
+            self.keeper.write(self.state, after)
+        self.state = after
+
+    def tell(self, *lines: str) -> None:
+        """Have lines said beside the next answer."""
+        self.state = replace(self.state, news=(*self.state.news, *lines))
+
+    def take_news(self) -> list[str]:
+        """Return what is to be said beside an answer, once."""
+        news = self.state.news
+        if news:
+            self.state = replace(self.state, news=())
+        return [*news]
 
     def follow(self) -> None:
         """Finds the flows, where only the value and the limit are known so far."""
-        self._held.follow()
+        state = self.state
+        if state.answers.promised is None:
+            return
+        network, (promise, *undone) = self.network, state.steps
+        step = network.make(promise.text, promise.changes)
+        if step.value != promise.value:
+            network.drop()
+            found, wanted = (network.measure.whole(it.value) for it in (step, promise))
+            raise DeskFault(f"the session came to the value {found}, and not to {wanted}")
+        self.state = replace(
+            state, steps=(step, *undone), answers=replace(state.answers, promised=None)
+        )
 
     def break_off(self, why: str) -> None:
-        """Ends the session at once, also for a thread that waits for it, and one on which the steps are made again."""
-        for held in filter(None, (self._held, self._coming)):
-            held.break_off(why)
+        """Ends the session at once, also for a thread that waits for it, and one on which the steps
+        are made again."""
+        for network in [*self._running]:
+            network.break_off(why)
 
     def begin_again(self) -> None:
-        """Makes all steps once more, from the first on, on a new session. If that fails, what is kept here stays as it was."""
-        self._held.drop()
-        self._held, self._time.done = self._made_again(self.subject)
+        """Makes all steps once more, from the first on, on a new session. If that fails, what is
+        kept here stays as it was."""
+        before = self.state
+        before.network.drop()
+        network, done = self._made_again(before.network.subject, before.done)
+        self.state = replace(before.as_made(done), network=network, answers=Answers())
+        self._leave(before.network)
 
-    def _made_again(self, subject: LoadedProblem) -> tuple[LiveNetwork, list[Step]]:
-        """A new session with all steps."""
-        held = self._coming = LiveNetwork(subject, self._program)
+    def _made_again(
+        self, subject: LoadedProblem, steps: Sequence[Step]
+    ) -> tuple[LiveNetwork, tuple[Step, ...]]:
+        """A new session with all these steps."""
+        network = LiveNetwork(subject, self._program)
+        self._running.append(network)
         try:
-            return held, [held.make(step.text, step.changes) for step in self._time.done]
+            return network, tuple(network.make(step.text, step.changes) for step in steps)
         except BaseException:
-            held.drop()
+            network.drop()
+            self._leave(network)
             raise
-        finally:
-            self._coming = None
 
-    def _take_in(self, amount: Quantity) -> Quantity:
-        """An amount that the session's numbers can have from now on: if they have too few decimals, the steps are made again on a new
-        session, with a finer scale. Raises a `DeskFault` where that cannot be; then all stays as it was."""
-        subject = finer(self.subject, amount)
-        if subject is not self.subject:
+    def _leave(self, network: LiveNetwork) -> None:
+        """End a network that the state does not have any more, or never had."""
+        with contextlib.suppress(Error):
+            network.network.end()
+        if network in self._running:
+            self._running.remove(network)
+
+    @contextlib.contextmanager
+    def _fine_for(self, amounts: Iterable[Quantity]) -> Iterator[DeskState]:
+        """The present state, on a network whose numbers can have these amounts: if they have too
+        few decimals, the steps are made again on a new session, with a finer scale. Raises a
+        `DeskFault` where that cannot be. If the block does not take it, it is left."""
+        self.follow()
+        before = self.network
+        state, subject, finest = self.state, before.subject, ""
+        for amount in amounts:
+            coarser, subject = subject, finer(subject, amount)
+            finest = finest if coarser is subject else plain_text(amount)
+        if subject is not before.subject:
             try:
-                held, done = self._made_again(subject)
+                network, done = self._made_again(subject, state.done)
             except CapacitiesPast64Bits:
-                raise past_64_bits(subject.measure, plain_text(amount)) from None
-            if [step.value for step in done] != [step.value for step in self._time.done]:
-                held.drop()
-                raise DeskFault("with finer numbers the steps have other values; nothing was changed")
-            before, self._held, self._time.done = self._held, held, done
-            with contextlib.suppress(Error):
-                before.network.end()
-        return self.measure.quantity(self.measure.whole(amount))
+                raise past_64_bits(subject.measure, finest) from None
+            state = replace(state.as_made(done), network=network, answers=Answers())
+        try:
+            if [step.value for step in state.done] != [step.value for step in self.state.done]:
+                raise DeskFault(
+                    "with finer numbers the steps have other values; nothing was changed"
+                )
+            yield state
+        finally:
+            for network in {before, state.network} - {self.state.network, self._lent}:
+                self._leave(network)
+
+    @contextlib.contextmanager
+    def aside(self) -> Iterator[Desk]:
+        """Have another desk that is in the same state, on which can be tried what this one does not
+        keep. It has the same session, which comes back when this one is asked."""
+        self.follow()
+        with self.beside(self.state) as other:
+            yield other
+
+    @contextlib.contextmanager
+    def beside(self, state: DeskState) -> Iterator[Desk]:
+        """Have another desk in a state of the same network, of which nothing is kept."""
+        other = copy.copy(self)
+        other.keeper, other.state, other._lent = None, state, state.network
+        try:
+            yield other
+        finally:
+            if other.state.network is not state.network:
+                self._leave(other.state.network)
 
     def end(self) -> None:
-        """Ends the session."""
-        self._held.network.end()
+        """Ends the session, and what keeps the desk."""
+        try:
+            self.state.network.network.end()
+        finally:
+            if self.keeper:
+                self.keeper.end()
+
+    # What is so now.
+
+    @property
+    def has_ended(self) -> bool:
+        """Whether the session is known to have ended."""
+        return self.state.network.has_ended
+
+    @property
+    def news(self) -> list[str]:
+        """What is to be said beside the next answer."""
+        return [*self.state.news]
+
+    @property
+    def value(self) -> Quantity:
+        """The value of the present flow."""
+        done = self.state.done
+        return done[-1].value if done else 0
+
+    @property
+    def steps(self) -> tuple[Step, ...]:
+        """The steps that were made, and after them those that were undone."""
+        return self.state.steps
+
+    @property
+    def at(self) -> int:
+        """How many of the steps are made."""
+        return self.state.at
+
+    @property
+    def turn(self) -> int:
+        """A number that is larger after each change."""
+        return self.state.turn
+
+    @property
+    def trials(self) -> int:
+        """How many trials are open."""
+        return len(self.state.floors) - self.with_solve
+
+    @property
+    def is_greatest(self) -> bool:
+        """Whether no flow has a larger value than the present one."""
+        done = self.state.done
+        return bool(done) and done[-1].is_solved or self.state.answers.is_greatest(self.network)
+
+    @property
+    def flows_follow(self) -> bool:
+        """Whether the value and the limit are known, and the flows are not yet."""
+        return self.state.answers.promised is not None
+
+    def cut_arcs(self) -> dict[int, None]:
+        """The arcs of the smallest minimum cut, in their order. Raises `FlowIsNotGreatest`."""
+        return self.state.answers.cut_arcs(self.network)
+
+    def side(self) -> set[int]:
+        """The nodes on the source's side of the cut. Raises `FlowIsNotGreatest`."""
+        return self.state.answers.side(self.network)
+
+    def flows(self) -> dict[int, int]:
+        """The flow on each open arc, in the whole numbers of the session."""
+        self.follow()
+        return self.network.flows()
+
+    def flow(self, number: int) -> Quantity:
+        """The flow on an arc, which is 0 if it is closed."""
+        network, answers = self.network, self.state.answers
+        if answers.promised is not None and not network.line(number).is_closed:
+            if number in answers.cut_arcs(network):
+                # Each maximum flow fills the arcs of a minimum cut.
+                return network.line(number).capacity
+            self.follow()
+        return network.flow(number)
 
     # What can be done.
 
     def solve(self) -> Step:
         """Makes the flow a maximum flow."""
-        return self._do("solve", [Solve()])
+        return self.step("solve", [Solve()])
 
     def close(self, *numbers: int, words: str = "") -> Step:
         """Closes arcs, in one step of these words."""
+        network = self.network
         for number in numbers:
-            self.open_line(number)
-        return self._do(f"close {words or self.names.short(numbers[0])}", [Close(number) for number in numbers])
+            network.open_line(number)
+        return self.step(
+            f"close {words or network.names.short(numbers[0])}",
+            [Close(number) for number in numbers],
+        )
 
     def cap(self, number: int, capacity: Quantity) -> Step:
         """Gives an arc another capacity."""
@@ -108,73 +296,107 @@ class Desk(DeskView):
     def cap_each(self, capacities: Mapping[int, Quantity], words: str = "") -> Step:
         """Gives arcs other capacities, in one step of these words."""
         for number in capacities:
-            self.open_line(number)
-        taken = {number: self._take_in(capacity) for number, capacity in capacities.items()}
-        words = words or " and ".join(f"{self.names.phrase(number)} {self.told(capacity)}" for number, capacity in taken.items())
-        return self._do(words, [Cap(number, capacity) for number, capacity in taken.items()])
+            self.network.open_line(number)
+        with self._fine_for(capacities.values()) as state:
+            network = state.network
+            taken = {number: network.taken(capacity) for number, capacity in capacities.items()}
+            phrase = network.names.phrase
+            words = words or " and ".join(
+                f"{phrase(number)} {network.told(capacity)}" for number, capacity in taken.items()
+            )
+            return self.step(
+                words, [Cap(number, capacity) for number, capacity in taken.items()], state
+            )
 
     def add(self, tail: Place, head: Place, capacity: Quantity, name: str = "") -> Step:
         """Adds an arc."""
-        ends = f"{self.names.node(tail.exit)} -> {self.names.node(head.entry)}"
-        capacity = self._take_in(capacity)
-        text = f"add {name + ', ' if name else ''}{ends}, {self.told(capacity)}"
-        return self._do(text, [Add(tail.exit, head.entry, capacity, name or None)])
+        with self._fine_for([capacity]) as state:
+            network = state.network
+            ends = f"{network.names.node(tail.exit)} -> {network.names.node(head.entry)}"
+            taken = network.taken(capacity)
+            text = f"add {name + ', ' if name else ''}{ends}, {network.told(taken)}"
+            return self.step(text, [Add(tail.exit, head.entry, taken, name or None)], state)
 
     def double(self, *numbers: int, words: str = "") -> Step:
-        """Adds a second arc beside each of these open ones, of the same capacity, in one step of these words."""
-        added: list[Change] = [Add(line.tail, line.head, line.capacity) for line in map(self.open_line, numbers)]
-        return self._do(f"a second one beside {words or self.names.short(numbers[0])}", added)
+        """Adds a second arc beside each of these open ones, of the same capacity, in one step of
+        these words."""
+        network = self.network
+        added: list[Change] = [
+            Add(line.tail, line.head, line.capacity) for line in map(network.open_line, numbers)
+        ]
+        return self.step(f"a second one beside {words or network.names.short(numbers[0])}", added)
 
     def shut(self, place: Place) -> Step:
         """Closes each open arc at a place, and the one that has its limit."""
-        if not any(not line.is_closed and (line.tail in place or line.head in place) for line in self.lines):
-            raise DeskFault(f"no arc is open at {quoted_name(self.names.node(place.entry))}")
-        return self._do(f"shut {self.names.node(place.entry)}", [Shut(node) for node in dict.fromkeys(place)])
+        network = self.network
+        if not any(
+            not line.is_closed and (line.tail in place or line.head in place)
+            for line in network.lines
+        ):
+            raise DeskFault(f"no arc is open at {quoted_name(network.names.node(place.entry))}")
+        return self.step(
+            f"shut {network.names.node(place.entry)}", [Shut(node) for node in dict.fromkeys(place)]
+        )
 
     def open(self, *numbers: int, words: str = "") -> Step:
-        """Opens closed arcs, with the capacities that they had, in one step of these words. To the network they are new arcs with new
-        numbers."""
+        """Opens closed arcs, with the capacities that they had, in one step of these words. To the
+        network they are new arcs with new numbers."""
+        network = self.network
         for number in numbers:
-            line = self.line(number)
+            line = network.line(number)
             if not line.is_closed or line.is_replaced:
-                raise DeskFault(f"{self.names.arc(number)} is open")
-        return self._do(f"open {words or self.names.short(numbers[0])}", [Reopen(number) for number in numbers])
+                raise DeskFault(f"{network.names.arc(number)} is open")
+        return self.step(
+            f"open {words or network.names.short(numbers[0])}",
+            [Reopen(number) for number in numbers],
+        )
 
     def open_place(self, place: Place) -> Step:
-        """Opens the arcs that were closed when a place was shut, except those to places that are shut too."""
-        label = self.names.node(place.entry)
-        if not self.shut_nodes & set(place):
+        """Opens the arcs that were closed when a place was shut, except those to places that are
+        shut too."""
+        network = self.network
+        label = network.names.node(place.entry)
+        if not network.shut_nodes & set(place):
             raise DeskFault(f"{quoted_name(label)} is not shut")
-        others = self.shut_nodes - set(place)
+        others = network.shut_nodes - set(place)
         closed = [
             number
-            for number, line in enumerate(self.lines, 1)
-            if line.is_shut and (line.tail in place or line.head in place) and not others & {line.tail, line.head}
+            for number, line in enumerate(network.lines, 1)
+            if line.is_shut
+            and (line.tail in place or line.head in place)
+            and not others & {line.tail, line.head}
         ]
         if not closed:
             raise DeskFault(f"each arc at {quoted_name(label)} leads to a place that is shut too")
-        return self._do(f"open {label}", [Reopen(number) for number in closed])
+        return self.step(f"open {label}", [Reopen(number) for number in closed])
 
     def undo(self, count: int = 1) -> None:
         """Undoes the last steps, all of them or none."""
+        if self.keeper and count:
+            self.keeper.judge(count)
         if count > self.at:
-            raise DeskFault(f"there {_are(self.at, 'step')} to undo")
-        if self._time.floors and self.at - count < self._time.floors[-1]:
-            raise DeskFault("the trial began there; `drop` or `keep` ends it" if self.trials else "there is no step to undo")
-        self._undo(count)
+            raise DeskFault(_only(self.at, "undo"))
+        if self.state.floors and self.at - count < self.state.floors[-1]:
+            raise DeskFault(
+                "the trial began there; `drop` or `keep` ends it"
+                if self.trials
+                else "nothing to undo"
+            )
+        self._move(self.at - count, self.state.floors)
 
     def redo(self, count: int = 1) -> None:
         """Redoes the steps that were undone last, all of them or none."""
-        if count > len(self._time.undone):
-            raise DeskFault(f"there {_are(len(self._time.undone), 'step')} to redo")
-        for _ in range(count):
-            *undone, step = self._time.undone
-            self._take_step(self._held.make_again(step), undone)
+        if self.keeper and count:
+            self.keeper.judge()
+        undone = len(self.steps) - self.at
+        if count > undone:
+            raise DeskFault(_only(undone, "redo"))
+        self._move(self.at + count, self.state.floors)
 
     def go_to(self, at: int) -> None:
         """Goes back or forward to the state after so many of the steps."""
         if not 0 <= at <= len(self.steps):
-            raise DeskFault(f"there is no step {at}")
+            raise DeskFault(f"step {at} does not exist")
         if at <= self.at:
             self.undo(self.at - at)
         else:
@@ -182,79 +404,58 @@ class Desk(DeskView):
 
     def begin_trial(self) -> None:
         """Begins a trial: what is done from here on is kept or dropped together."""
-        self._time.floors.append(self.at)
+        self.state = replace(self.state, floors=(*self.state.floors, self.at))
 
     def keep(self) -> None:
         """Ends the trial that began last, and keeps what was done."""
         self._refuse_no_trial()
-        self._time.floors.pop()
+        self.state = replace(self.state, floors=self.state.floors[:-1])
 
     def drop(self) -> None:
-        """Ends the trial that began last, and undoes what was done in it. `redo` can do it again."""
+        """Ends the trial that began last, and undoes what was done in it. `redo` can do it
+        again."""
         self._refuse_no_trial()
-        self._undo(self.at - self._time.floors[-1])
-        self._time.floors.pop()
+        *floors, floor = self.state.floors
+        if self.keeper and floor < self.at:
+            self.keeper.judge()
+        self._move(floor, tuple(floors))
 
     def _refuse_no_trial(self) -> None:
         if not self.trials:
-            raise DeskFault("there is no trial; `try` begins one")
+            raise DeskFault("no trial is open; `try` begins one")
 
-    @contextlib.contextmanager
-    def aside(self) -> Iterator[None]:
-        """Undoes at its end what the block did, and keeps no step of it."""
-        at, undone, turn = self.at, list(self._time.undone), self.turn
+    def step(self, text: str, changes: Sequence[Change], state: DeskState | None = None) -> Step:
+        """Make a new step of these changes, in these words: from the present state on, or from the
+        same one on another network."""
+        self.follow()
+        network = state.network if state else self.network
+        before = state or self.state
+        requests = self.keeper.requests(network, changes) if self.keeper else None
+        wanted = [*changes, *network.following(changes)]
+        solve = [Solve()] * (self.with_solve and wanted != [Solve()])
         try:
-            yield
-        finally:
-            try:
-                with contextlib.suppress(SessionEnded):
-                    self._undo(self.at - at)
-            finally:
-                # A session that has ended undoes nothing.
-                if self.at > at:
-                    self._held.take_back(self._time.done[at:])
-                self._step_back(self.at - at)
-                self._time.undone, self._time.turn = undone, turn
-
-    def the_arc(self, text: str, *, is_closed: bool = False) -> int:
-        """The arc that a text means: the open one, or else the closed one. Raises a `DeskFault` if it means none, or several."""
-        return self._held.the_arc(text, is_closed=is_closed)
-
-    def open_line(self, number: int) -> DeskArc:
-        """An open arc as it is. Raises a `DeskFault` if it is closed."""
-        line = self.line(number)
-        if line.is_closed:
-            raise DeskFault(f"{self.names.arc(number)} is closed")
-        return line
-
-    def _do(self, text: str, changes: list[Change]) -> Step:
-        """Makes a new step."""
-        wanted = [*changes, *self._held.following(changes)]
-        try:
-            return self._take_step(self._held.make(text, (*wanted, Solve()) if self.with_solve and wanted != [Solve()] else tuple(wanted)))
+            step = network.make(text, (*wanted, *solve))
         except CapacitiesPast64Bits:
-            raise past_64_bits(self.measure) from None
-
-    def _take_step(self, step: Step, undone: Sequence[Step] = ()) -> Step:
-        """Takes in a step that was made, after which these are undone."""
-        self._time.undone = [*undone]
-        self._time.done.append(step)
-        self._time.turn += 1
+            raise past_64_bits(network.measure) from None
+        steps, at, turn = (*before.done, step), before.at + 1, before.turn + 1
+        after = replace(before, steps=steps, at=at, turn=turn, answers=Answers())
+        self.take(self.keeper.with_step(after, requests) if self.keeper else after)
         return step
 
-    def _undo(self, count: int) -> None:
-        """Undoes so many steps, which exist."""
-        if not count:
+    def _move(self, at: int, floors: tuple[int, ...]) -> None:
+        """Go to the state after so many of the steps, in these trials."""
+        self.follow()
+        network, before = self.network, self.state
+        if at == before.at:
+            self.state = replace(before, floors=floors)
             return
-        self._held.undo(self._time.done[self.at - count :])
-        self._step_back(count)
-
-    def _step_back(self, count: int) -> None:
-        """Notes that the last steps are undone."""
-        for _ in range(count):
-            self._time.undone.append(self._time.done.pop())
-            self._time.turn += 1
+        after = replace(
+            before, at=at, floors=floors, turn=before.turn + abs(at - before.at), answers=Answers()
+        )
+        after = after.as_made(network.stand_on(after.done))
+        self.take(self.keeper.with_place(after) if self.keeper else after)
 
 
-def _are(count: int, what: str) -> str:
-    return f"is no {what}" if not count else f"is one {what}" if count == 1 else f"are {count} {what}s"
+def _only(count: int, do: str) -> str:
+    """How many steps can be undone or redone, where more were asked for."""
+    return f"only {count} step{'s' * (count != 1)} to {do}" if count else f"nothing to {do}"

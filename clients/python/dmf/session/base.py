@@ -1,4 +1,5 @@
-"""What a network asks of a running session, by the library or by the program, and the texts of numbers that go to it and come from it."""
+"""What a network asks of a running session, by the library or by the program, and the texts of
+numbers that go to it and come from it."""
 
 from __future__ import annotations
 
@@ -22,22 +23,24 @@ FilePath = Union[str, bytes, "os.PathLike[str]", "os.PathLike[bytes]"]
 Program = Optional[FilePath]
 # The largest number of changes that a session can keep.
 MOST_KEPT = 1_000_000
-# How much text is sent to a program at once, in bytes: every pipe has room for it, so that the program never waits for a reader of its
-# replies while it has lines to take.
+# How much text is sent to a program at once, in bytes: every pipe has room for it, so that the
+# program never waits for a reader of its replies while it has lines to take.
 MOST_TEXT = 4_096
-# How many commands of a case go with those of other cases: their lines, of at most 42 bytes each, are no longer than that.
+# How many commands of a case go with those of other cases: their lines, of at most 42 bytes each,
+# are no longer than that.
 MOST_COMMANDS = 90
 # What runs a session: a program, by its path, or the library.
 Way = Union[FilePath, "Runner"]
 PROGRAM = str, bytes, os.PathLike
 
-# The flow on each arc: the text of the open arcs, as the program writes it, or an array of all arcs, closed ones too.
+# The flow on each arc: the text of the open arcs, as the program writes it, or an array of all
+# arcs, closed ones too.
 Told = Union[bytes, "array[int]"]
 
 
 class ProblemColumns(NamedTuple):
-    """A network by its numbers: how many nodes there are, the source and the sink, and the columns of the arcs. The capacities may be
-    followed by others."""
+    """A network by its numbers: how many nodes there are, the source and the sink, and the columns
+    of the arcs. The capacities may be followed by others."""
 
     nodes: int
     source: int
@@ -62,15 +65,17 @@ class Runner(Protocol):
 
 
 class Session:
-    """A running session. It has one user at a time, but for `break_off`. Each call that asks something raises `SessionEnded` where the
-    session has ended, and a `Refused` that names the command, or the thing `at` that it was about. Whatever else breaks a call off leaves
-    the session in a state that nobody knows: whoever made it then has to `kill` it."""
+    """A running session. It has one user at a time, but for `break_off`. Each call that asks
+    something raises `SessionEnded` where the session has ended, and a `Refused` that names the
+    command, or the thing `at` that it was about. Whatever else breaks a call off leaves the session
+    in a state that nobody knows: whoever made it then has to `kill` it."""
 
     # The program, if the caller named it.
     program: Program = None
 
     def __init__(self, free: Callable[..., None], *held: object) -> None:
-        """`free` frees what is held, when nothing refers to the session any more, or `end` is called."""
+        """`free` frees what is held, when nothing refers to the session any more, or `end` is
+        called."""
         self.end = weakref.finalize(self, free, *held)
         self.why_ended = "the session was ended"
         self._why_broken = ""
@@ -98,7 +103,8 @@ class Session:
         return False
 
     def break_off(self, why: str) -> None:
-        """Ends the session for a thread that waits for its answer, or may ask it later: each of its calls raises `SessionEnded`."""
+        """Ends the session for a thread that waits for its answer, or may ask it later: each of its
+        calls raises `SessionEnded`."""
         raise NotImplementedError
 
     def kill(self, why: str) -> None:
@@ -110,8 +116,8 @@ class Session:
         raise NotImplementedError
 
     def carry_out(self, commands: Sequence[Command]) -> int:
-        """Carries out commands that a session has carried out before, and returns the value after the last; 0 if there are none. Raises
-        `SessionEnded` if one is refused now."""
+        """Carries out commands that a session has carried out before, and returns the value after
+        the last; 0 if there are none. Raises `SessionEnded` if one is refused now."""
         raise NotImplementedError
 
     def flows(self, value: int, open_count: int) -> Told:
@@ -119,7 +125,8 @@ class Session:
         raise NotImplementedError
 
     def cut(self) -> tuple[int, list[int]]:
-        """The capacity of the smallest minimum cut, and the numbers of the nodes of its side, ascending."""
+        """The capacity of the smallest minimum cut, and the numbers of the nodes of its side,
+        ascending."""
         raise NotImplementedError
 
     def problem(self) -> bytes:
@@ -127,9 +134,10 @@ class Session:
         raise NotImplementedError
 
     def try_cases(self, cases: Sequence[Sequence[Command]], value: int, found: list[int]) -> None:
-        """Carries out cases one after another, of which each is commands, `solve`, and the `undo` of all that, and adds the value of each
-        to what is found. The value is the given one before and after each. Raises `SessionEnded` if one is refused, since the answers
-        after it are of another network."""
+        """Carries out cases one after another, of which each is commands, `solve`, and the `undo`
+        of all that, and adds the value of each to what is found. The value is the given one before
+        and after each. Raises `SessionEnded` if one is refused, since the answers after it are of
+        another network."""
         raise NotImplementedError
 
 
@@ -142,7 +150,10 @@ def bound(history: int | None) -> int:
     except TypeError:
         kept = -1
     if not 0 <= kept <= MOST_KEPT:
-        raise HistoryOutOfRange(f"history out of range: {shown_value(history)} is no whole number from 0 to 1,000,000")
+        raise HistoryOutOfRange(
+            f"history out of range: {shown_value(history)} is not a whole number from 0 to "
+            "1,000,000"
+        )
     return kept
 
 
@@ -157,19 +168,22 @@ def case_lines(commands: Sequence[Command]) -> list[str]:
 
 
 def refused(text: str, line: str, at: object) -> Refused:
-    """The exception for a command that is refused, which names its line, or the thing that it was about."""
+    """The exception for a command that is refused, which names its line, or the thing that it was
+    about."""
     return Refused.of(text, line if at is None else shown_value(at))
 
 
 def refused_line(text: str, line: int | None) -> Refused:
-    """The exception for a problem that is refused, with the line of its fault, if it is that of a line."""
+    """The exception for a problem that is refused, with the line of its fault, if it is that of a
+    line."""
     fault = Refused.of(text, f"line {line} of the problem" if line else "")
     fault.line = line
     return fault
 
 
 def where(fault: Refused, handle: Callable[[int], object]) -> Refused:
-    """The refusal of a problem that was made of arcs, with the faulty one. The lines of the arcs stand after three others."""
+    """The refusal of a problem that was made of arcs, with the faulty one. The lines of the arcs
+    stand after three others."""
     number = (fault.line or 0) - 3
     return Refused.of(fault.text, repr(handle(number)) if number >= 1 else "")
 
@@ -181,7 +195,8 @@ def judged(value: int, wanted: int) -> int:
     return value
 
 
-# How many lines of a text are made or read at once, and how many are made without numpy, with an object for each number.
+# How many lines of a text are made or read at once, and how many are made without numpy, with an
+# object for each number.
 PIECE, PLAIN_PIECE = 1 << 14, 1 << 11
 # How many arcs are read before numpy is worth loading.
 MOST_PLAIN = 200_000
@@ -195,7 +210,10 @@ def import_package(name: str, why: str) -> Any:
     try:
         return importlib.import_module(name)
     except ImportError as error:
-        raise ImportError(f"{why} needs the package {name.partition('.')[0]}, which is not there: {error}", name=name) from None
+        raise ImportError(
+            f"{why} needs the package {name.partition('.')[0]}, which is not installed: {error}",
+            name=name,
+        ) from None
 
 
 def loaded_numpy() -> Any:
@@ -215,7 +233,12 @@ def problem_lines(problem: ProblemColumns) -> Iterator[bytes]:
 
 def problem_pieces(problem: ProblemColumns) -> Iterator[bytes]:
     """The text of a problem, in pieces."""
-    yield b"p max %d %d\nn %d s\nn %d t\n" % (problem.nodes, len(problem.tails), problem.source, problem.sink)
+    yield b"p max %d %d\nn %d s\nn %d t\n" % (
+        problem.nodes,
+        len(problem.tails),
+        problem.source,
+        problem.sink,
+    )
     yield from problem_lines(problem)
 
 
@@ -228,7 +251,8 @@ def _plain_lines(columns: list[array[int]]) -> bytes:
 
 
 def _lines(np: Any, columns: list[array[int]]) -> bytes:
-    """The same lines, all of one width: each number has zeros before it, up to a multiple of four digits."""
+    """The same lines, all of one width: each number has zeros before it, up to a multiple of four
+    digits."""
     four_digits = _four_digits(np)
     # Each field of a line with its type, its place, and what stands there.
     fields: list[tuple[str, int, Any]] = [("u1", 0, ord("a"))]
@@ -245,7 +269,10 @@ def _lines(np: Any, columns: list[array[int]]) -> bytes:
     fields.append(("u1", width, ord("\n")))
     types, places, contents = zip(*fields)
     names = list(map(str, range(len(fields))))
-    lines = np.empty(len(columns[0]), {"names": names, "formats": types, "offsets": places, "itemsize": width + 1})
+    lines = np.empty(
+        len(columns[0]),
+        {"names": names, "formats": types, "offsets": places, "itemsize": width + 1},
+    )
     for name, content in zip(names, contents):
         lines[name] = content
     return bytes(lines.tobytes())
@@ -258,7 +285,8 @@ def _four_digits(np: Any) -> Any:
 
 
 def numpy_for(count: int) -> Any:
-    """numpy, if it is loaded, or if it is installed and there are enough arcs to make it worth loading."""
+    """numpy, if it is loaded, or if it is installed and there are enough arcs to make it worth
+    loading."""
     if count >= MOST_PLAIN:
         with contextlib.suppress(ImportError):
             return importlib.import_module("numpy")
@@ -275,13 +303,18 @@ def pieces_of(lines: bytes) -> Iterator[bytes]:
 
 
 def read_lines(lines: bytes, np: Any) -> tuple[array[int], array[int], array[int]]:
-    """The tails, the heads and the capacities of arc lines, by numpy if it is given. Raises a ValueError for other lines."""
+    """The tails, the heads and the capacities of arc lines, by numpy if it is given. Raises a
+    ValueError for other lines."""
     count = lines.count(b"\n")
     # The letters of the lines are left out, so that numbers alone remain.
     text = lines.replace(b"a", b"")
     if np is None:
         numbers = list(map(int, text.split()))
-        columns = array(NODES, numbers[0::3]), array(NODES, numbers[1::3]), array(AMOUNTS, numbers[2::3])
+        columns = (
+            array(NODES, numbers[0::3]),
+            array(NODES, numbers[1::3]),
+            array(AMOUNTS, numbers[2::3]),
+        )
     else:
         found = np.fromstring(text, np.uint64, sep=" ")
         columns = array(NODES), array(NODES), array(AMOUNTS)
@@ -304,7 +337,11 @@ def read_flows(text: bytes, count: int) -> array[int] | None:
 def flow_array(text: bytes | array[int], count: int) -> Any:
     """The flows of a solution's text, or of a column, as an array of numpy."""
     np = import_package("numpy", "an array of flows")
-    column = np.frombuffer(text, np.uint64) if isinstance(text, array) else _last_numbers(np, text, count)
+    column = (
+        np.frombuffer(text, np.uint64)
+        if isinstance(text, array)
+        else _last_numbers(np, text, count)
+    )
     return column.astype(kind_for(column))
 
 
@@ -332,8 +369,8 @@ def _last_numbers(np: Any, text: bytes, count: int) -> Any:
 
 
 def _add_last_numbers(np: Any, letters: Any, ends: Any, column: Any) -> None:
-    """Adds to a column of zeros the number before each of these places. The digits of all are read together, from the last to the
-    first."""
+    """Adds to a column of zeros the number before each of these places. The digits of all are read
+    together, from the last to the first."""
     rows, places, scale = np.arange(len(ends)), ends - 1, 1
     while rows.size:
         digits = letters[places] - np.uint8(ord("0"))

@@ -18,31 +18,42 @@ from .versions import fits, needed, other_version
 PACKAGE = os.path.dirname(os.path.dirname(os.path.realpath(__file__)))
 # Where pip puts the executable, below this package.
 OWN = "bin/dmf"
-# Where this package can lie in a repository, and where `./install` and Debian put it, with the place of the program above that.
+# Where this package can lie in a repository, and where `./install` and Debian put it, with the
+# place of the program above that.
 PLACES = {
     ("clients", "python", "dmf"): "dmf",
-    ("share", "dmf", "python", "dmf"): "bin/dmf",
-    ("lib", "python3", "dist-packages", "dmf"): "bin/dmf",
+    ("share", "dmf", "python", "dmf"): "lib/dmf/dmf",
+    ("lib", "python3", "dist-packages", "dmf"): "lib/dmf/dmf",
 }
 # How long a program may take to print its version, in seconds.
 SECONDS = 2
 # What the system tells of a path that it cannot run.
-NOT_RUN = {errno.ENOENT, errno.ENOTDIR, errno.EACCES, errno.EPERM, errno.ENOEXEC, errno.ELOOP, errno.ENAMETOOLONG}
+NOT_RUN = {
+    errno.ENOENT,
+    errno.ENOTDIR,
+    errno.EACCES,
+    errno.EPERM,
+    errno.ENOEXEC,
+    errno.ELOOP,
+    errno.ENAMETOOLONG,
+}
 OTHER = "name another by the argument program or by DMF"
 _LACKING = re.compile(r"version `(GLIBC_([0-9.]+))' not found")
 
 
 def program() -> str:
-    """The path of the program that a network runs if its caller names none. It is what the environment variable DMF names; or what pip
-    installed inside this package; or the program of the repository or install in which the package lies, which a repository builds if
-    need be; or `dmf` on the PATH. Raises `NoProgram` if there is none."""
+    """The path of the program that a network runs if its caller names none. It is what the
+    environment variable DMF names; or what pip installed inside this package; or the program of the
+    repository or install in which the package lies, which a repository builds if need be; or `dmf`
+    on the PATH. Raises `NoProgram` if there is none."""
     named = os.environ.get("DMF")
     found = shutil.which(named) if named else _own() or _beside() or shutil.which("dmf")
     if named and not found:
-        raise NoProgram(f"DMF names {display(named)}, which is no program that can be run")
+        raise NoProgram(f"DMF names {display(named)}, which is not a program that can be run")
     if not found:
         raise NoProgram(
-            "there is no program dmf: this package has none for this machine, and none is on the PATH; "
+            "no program dmf was found: this package has none for this machine, and none is on the "
+            "PATH; "
             "build one by ./dmf in the repository, and name it by the argument program or by DMF"
         )
     return found
@@ -61,19 +72,22 @@ def _own() -> str | None:
 
 @functools.cache
 def _beside() -> str | None:
-    """The program of the repository, or of the install, that this package lies in. In a repository the first call builds it, if need
-    be, and reports on standard error how far it is. Raises `NoProgram` if it cannot be built."""
+    """The program of the repository, or of the install, that this package lies in. In a repository
+    the first call builds it, if need be, and reports on standard error how far it is. Raises
+    `NoProgram` if it cannot be built."""
     parts = PACKAGE.split(os.sep)
     for place, name in PLACES.items():
         path = os.path.join(os.sep.join(parts[: -len(place)]), name)
         if tuple(parts[-len(place) :]) == place and os.path.isfile(path):
             try:
-                status = subprocess.run([path, "--version"], stdin=subprocess.DEVNULL, stdout=subprocess.DEVNULL).returncode
+                status = subprocess.run(
+                    [path, "--version"], stdin=subprocess.DEVNULL, stdout=subprocess.DEVNULL
+                ).returncode
             except OSError as error:
                 refuse_unrun(path, error)
                 raise
             if status:
-                raise NoProgram(f"there is no program: {path} {end_reason(status)}; {OTHER}")
+                raise NoProgram(f"no program was found: {path} {end_reason(status)}; {OTHER}")
             return path
     return None
 
@@ -101,11 +115,15 @@ def refuse_unrun(path: str | bytes, error: OSError) -> None:
 
 
 def refuse_unfit(path: str | bytes, error: SessionEnded) -> None:
-    """Raises `NoProgram` if a session did not begin because the program is not the one that this package needs, or lacks a library."""
+    """Raises `NoProgram` if a session did not begin because the program is not the one that this
+    package needs, or lacks a library."""
     lacking = _LACKING.findall(str(error))
     if lacking:
         name, _ = max(lacking, key=lambda it: [*map(int, it[1].split("."))])
-        raise NoProgram(f"{_shown(path)} cannot be run: it needs {name}, and this system's libc is older; {OTHER}")
+        raise NoProgram(
+            f"{_shown(path)} cannot be run: it needs {name}, and this system's libc is older; "
+            f"{OTHER}"
+        )
     version = _version(path)
     if not version:
         raise NoProgram(f"{_shown(path)} is not dmf; {needed()}; {OTHER}: {error}")
@@ -114,8 +132,10 @@ def refuse_unfit(path: str | bytes, error: SessionEnded) -> None:
 
 
 def refuse_other_version(path: str | bytes) -> None:
-    """Raise `NoProgram` if a program prints a version that this package does not work with. A program is asked once, as long as its file stays
-    the same. One that prints no version, or cannot be run, is judged by what comes of its first session."""
+    """Raise `NoProgram` if a program prints a version that this package does not work with. A
+    program is asked once, as long as its file stays the same. One that prints no version, or cannot
+    be run, is judged by what comes of its first session.
+    """
     found = shutil.which(os.fsdecode(path))
     if found:
         file = os.stat(found)
@@ -137,7 +157,9 @@ def _shown(path: str | bytes) -> str:
 def _version(path: str | bytes) -> str | None:
     """The version that a program prints, if it prints one as dmf does."""
     try:
-        ran = subprocess.run([path, "--version"], stdin=subprocess.DEVNULL, capture_output=True, timeout=SECONDS)
+        ran = subprocess.run(
+            [path, "--version"], stdin=subprocess.DEVNULL, capture_output=True, timeout=SECONDS
+        )
     except (OSError, subprocess.TimeoutExpired):
         return None
     found = re.fullmatch(rb"dmf (\S{1,40})\n", ran.stdout)

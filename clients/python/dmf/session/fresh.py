@@ -1,4 +1,5 @@
-"""Answers without a session, and sessions whose solves begin from nothing: the value and the cut alone."""
+"""Answers without a session, and sessions whose solves begin from nothing: the value and the cut
+alone."""
 
 from __future__ import annotations
 
@@ -27,9 +28,11 @@ class Solved(NamedTuple):
     side: Sequence[int] = ()
 
 
-def solved(problem: Iterable[bytes], words: list[str], program: FilePath, begun: Begun | None = None) -> Solved:
-    """What the program answers to these words about a problem in pieces. `begun` is told its process. Raises what `answer_to` raises, and
-    `SessionEnded` for an answer of another form."""
+def solved(
+    problem: Iterable[bytes], words: list[str], program: FilePath, begun: Begun | None = None
+) -> Solved:
+    """What the program answers to these words about a problem in pieces. `begun` is told its
+    process. Raises what `answer_to` raises, and `SessionEnded` for an answer of another form."""
     # Small networks are solved without a program.
     from .process import answer_to
 
@@ -39,16 +42,21 @@ def solved(problem: Iterable[bytes], words: list[str], program: FilePath, begun:
         text = answer_to(file, program, words, begun)
     try:
         value = int(text[: text.find(b"\n")].split()[-1])
-        side = [int(line[7:]) for line in text.splitlines() if line.startswith(b"c side ")] if words == CUT else []
+        side = (
+            [int(line[7:]) for line in text.splitlines() if line.startswith(b"c side ")]
+            if words == CUT
+            else []
+        )
     except (ValueError, IndexError):
         raise SessionEnded(f"what dmf answered to `{' '.join(words)}` was not understood") from None
     return Solved(value, text if words == FLOW else b"", side)
 
 
 class FreshSession(Session):
-    """A session whose solves are those of `dmf solve --brief --cut`: each finds the greatest value and the smallest side of a minimum cut
-    of the network as it is then. No flow is known, and so no change takes long. What is refused, and why, is what another session
-    says, which takes all changes but the solves."""
+    """A session whose solves are those of `dmf solve --brief --cut`: each finds the greatest value
+    and the smallest side of a minimum cut of the network as it is then. No flow is known, and so no
+    change takes long. What is refused, and why, is what another session says, which takes all
+    changes but the solves."""
 
     def __init__(self, session: Session, program: FilePath) -> None:
         super().__init__(session.end)
@@ -57,7 +65,8 @@ class FreshSession(Session):
         self._found = Solved(0)
         # The program that runs now.
         self._running: subprocess.Popen[bytes] | None = None
-        # For each step that is made, and each that was undone, the last undone at the end, whether it is a solve.
+        # For each step that is made, and each that was undone, the last undone at the end, whether
+        # it is a solve.
         self._past: list[bool] = []
         self._future: list[bool] = []
 
@@ -118,7 +127,9 @@ class FreshSession(Session):
 
     def flows(self, value: int, open_count: int) -> bytes | array[int]:
         """Raises an `UnknownCommand`."""
-        raise UnknownCommand("the flow in a sweep whose cases are solved anew: value and cut alone are known")
+        raise UnknownCommand(
+            "the flow in a sweep whose cases are solved anew: value and cut alone are known"
+        )
 
     def cut(self) -> tuple[int, list[int]]:
         if not self._past or not self._past[-1] or not self._found.side:

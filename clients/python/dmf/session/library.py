@@ -1,4 +1,5 @@
-"""The C library in this process: its calls, and a session by them. include/dmf.h says what each call does."""
+"""The C library in this process: its calls, and a session by them. include/dmf.h says what each
+call does."""
 
 from __future__ import annotations
 
@@ -13,13 +14,22 @@ from typing import Any
 from ..errors import NoProgram, Refused
 from ..history import Command
 from ..text.lexical import AMOUNTS, display
-from .base import ProblemColumns, Session, command_line, judged, problem_pieces, refused, refused_line
+from .base import (
+    ProblemColumns,
+    Session,
+    command_line,
+    judged,
+    problem_pieces,
+    refused,
+    refused_line,
+)
 from .versions import ABI, fits, other_version
 from .worker_threads import Given, Handle, Job
 
-# The largest network of which all calls run in the thread of their caller, in arcs. There Ctrl-C waits for the call to end, which takes
-# milliseconds. The calls of a larger one run in a thread beside, which Ctrl-C leaves alone, but for steps over so many states at most,
-# each of which looks at each arc a few times at most.
+# The largest network of which all calls run in the thread of their caller, in arcs. There Ctrl-C
+# waits for the call to end, which takes milliseconds. The calls of a larger one run in a thread
+# beside, which Ctrl-C leaves alone, but for steps over so many states at most, each of which looks
+# at each arc a few times at most.
 MOST_AT_ONCE, MOST_STEPS = 20_000, 4
 
 OK, NO_MEMORY, NOT_GREATEST, BAD_LENGTH, BAD_TEXT = 0, 1, 9, 10, 12
@@ -71,9 +81,14 @@ class Library:
         self._loaded = loaded
         ends = [_WORD, _WORD, _WORD, *[_POINTER, _SIZE] * 3, _WORD, _POINTER, _POINTER]
         self.new = self._call("dmf_session_new", ends)
-        self.read = self._call("dmf_session_read", [_POINTER, _SIZE, _WORD, _POINTER, _POINTER, _POINTER])
+        self.read = self._call(
+            "dmf_session_read", [_POINTER, _SIZE, _WORD, _POINTER, _POINTER, _POINTER]
+        )
         self.free = self._call("dmf_session_free", [_POINTER], None)
-        self.commands = {word: self._call(f"dmf_session_{word}", [_POINTER, *[_LONG] * many]) for word, many in COMMANDS.items()}
+        self.commands = {
+            word: self._call(f"dmf_session_{word}", [_POINTER, *[_LONG] * many])
+            for word, many in COMMANDS.items()
+        }
         self.value = self._call("dmf_session_value", [_POINTER], _LONG)
         self.nodes = self._call("dmf_session_nodes", [_POINTER])
         self.arcs = self._call("dmf_session_arcs", [_POINTER], _SIZE)
@@ -87,9 +102,12 @@ class Library:
         return call  # type: ignore[no-any-return]
 
     def begin(self, problem: ProblemColumns, most: int) -> LibrarySession:
-        """A session on a problem, in which so many changes can be undone. Raises a `Refused` as the program does for its text."""
+        """A session on a problem, in which so many changes can be undone. Raises a `Refused` as the
+        program does for its text."""
         address, bad_arc = _POINTER(), _SIZE()
-        columns = [part for column in problem.columns() for part in (_place(column), len(problem.tails))]
+        columns = [
+            part for column in problem.columns() for part in (_place(column), len(problem.tails))
+        ]
         places = ctypes.byref(address), ctypes.byref(bad_arc)
         status = self.new(problem.nodes, problem.source, problem.sink, *columns, most, *places)
         if status == OK:
@@ -114,7 +132,8 @@ class Library:
 
 @functools.cache
 def load(path: str) -> Library:
-    """The library at this path. Raises `NoProgram` if it cannot be loaded, or is of another version than this package needs."""
+    """The library at this path. Raises `NoProgram` if it cannot be loaded, or is of another version
+    than this package needs."""
     with _loading(path):
         loaded = ctypes.CDLL(path)
         version = loaded.dmf_version()
@@ -136,7 +155,8 @@ def _loading(path: str) -> Iterator[None]:
 
 
 def refuse_other(path: str, number: int) -> None:
-    """Raise `NoProgram` for a library of a version that this package does not work with. The library gives its version as a number."""
+    """Raise `NoProgram` for a library of a version that this package does not work with. The
+    library gives its version as a number."""
     major, rest = divmod(number, 10_000)
     version = f"{major}.{rest // 100}.{rest % 100}"
     if not fits(version):
@@ -144,7 +164,8 @@ def refuse_other(path: str, number: int) -> None:
 
 
 def refuse_interface(path: str, number: int) -> None:
-    """Raise `NoProgram` for a library whose calls are of another form than this package makes them."""
+    """Raise `NoProgram` for a library whose calls are of another form than this package makes
+    them."""
     if number != ABI:
         raise NoProgram(f"{display(path)} has the interface {number}, and this package needs {ABI}")
 
@@ -164,7 +185,8 @@ class LibrarySession(Session):
         return self._library
 
     def break_off(self, why: str) -> None:
-        """Where a call waits for a thread beside it, it waits no more. Another one ends by itself before it raises `SessionEnded`."""
+        """Where a call waits for a thread beside it, it waits no more. Another one ends by itself
+        before it raises `SessionEnded`."""
         if self.end.alive:
             self._why_broken = why
             job = self._job
@@ -178,7 +200,8 @@ class LibrarySession(Session):
             self.end()
 
     def _do(self, work: Callable[..., Given], *words: Any, is_short: bool = False) -> Given:
-        """What calls at the session's address give. `is_short` says that they end soon, however large the network is."""
+        """What calls at the session's address give. `is_short` says that they end soon, however
+        large the network is."""
         if self._why_broken:
             self.kill(self._why_broken)
         held = next(iter(self._held), None)
@@ -233,7 +256,10 @@ class LibrarySession(Session):
             try:
                 value = self._carried_out(held, command)
             except Refused as error:
-                self._why_broken = f"the session could not begin anew: `{command_line(command)}` was refused: {error.text}"
+                self._why_broken = (
+                    f"the session could not begin anew: `{command_line(command)}` was refused: "
+                    f"{error.text}"
+                )
         return value
 
     def flows(self, value: int, open_count: int) -> array[int]:
@@ -263,7 +289,9 @@ class LibrarySession(Session):
         length = _SIZE()
         text = array("B", [0])
         while True:
-            status = self._library.problem(held.address, _place(text), len(text), ctypes.byref(length))
+            status = self._library.problem(
+                held.address, _place(text), len(text), ctypes.byref(length)
+            )
             if status == OK:
                 return text.tobytes()
             if status != BAD_LENGTH or len(text) == length.value:
@@ -273,10 +301,17 @@ class LibrarySession(Session):
     def try_cases(self, cases: Sequence[Sequence[Command]], value: int, found: list[int]) -> None:
         self._do(self._tried, cases, value, found)
 
-    def _tried(self, held: Handle, cases: Sequence[Sequence[Command]], value: int, found: list[int]) -> None:
-        """Raises a ValueError if something in a case is refused, or if all together leave another value: then none of theirs counts. Objects
-        of ctypes take less time than numbers, which it has to convert."""
-        address, calls, value_of = _POINTER(held.address), self._library.commands, self._library.value
+    def _tried(
+        self, held: Handle, cases: Sequence[Sequence[Command]], value: int, found: list[int]
+    ) -> None:
+        """Raises a ValueError if something in a case is refused, or if all together leave another
+        value: then none of theirs counts. Objects of ctypes take less time than numbers, which it
+        has to convert."""
+        address, calls, value_of = (
+            _POINTER(held.address),
+            self._library.commands,
+            self._library.value,
+        )
         solve, undo = calls["solve"], calls["undo"]
         back = [_LONG(steps) for steps in range(2 + max(map(len, cases), default=0))]
         begin = len(found)
@@ -297,5 +332,6 @@ class LibrarySession(Session):
 
 
 def _place(column: array[int]) -> int:
-    """The address of what an array has. The library wants one that is not 0 of an empty array too."""
+    """The address of what an array has. The library wants one that is not 0 of an empty array
+    too."""
     return column.buffer_info()[0] or 8

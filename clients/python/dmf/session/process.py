@@ -1,4 +1,5 @@
-"""The program as a child of this process: how it begins, the lines that go to it and come from it, and how it ends."""
+"""The program as a child of this process: how it begins, the lines that go to it and come from it,
+and how it ends."""
 
 from __future__ import annotations
 
@@ -15,7 +16,17 @@ from ..files import passed_on, scratch
 from ..history import Command
 from ..text.lexical import display
 from . import executable
-from .base import MOST_KEPT, MOST_TEXT, FilePath, Session, case_lines, command_line, judged, refused, refused_line
+from .base import (
+    MOST_KEPT,
+    MOST_TEXT,
+    FilePath,
+    Session,
+    case_lines,
+    command_line,
+    judged,
+    refused,
+    refused_line,
+)
 
 # How long the program may take to end after its input has ended, in seconds.
 SECONDS = 2
@@ -31,9 +42,11 @@ class ProgramSession(Session):
     """A running session of the program, and the lines that go to it and come from it."""
 
     def __init__(self, words: list[str | bytes], path: str) -> None:
-        """Starts a program with these words, on a problem at this path. Raises an OSError if it cannot be started."""
+        """Starts a program with these words, on a problem at this path. Raises an OSError if it
+        cannot be started."""
         pipe = subprocess.PIPE
-        # In a file, standard error has room for all that a program writes, and nobody has to read it meanwhile.
+        # In a file, standard error has room for all that a program writes, and nobody has to read
+        # it meanwhile.
         self._told = scratch()
         try:
             # In a session of its own: Ctrl-C at a terminal is for the caller alone.
@@ -57,8 +70,8 @@ class ProgramSession(Session):
 
     @contextlib.contextmanager
     def exchange(self, lines: str) -> Iterator[None]:
-        """Sends lines, and lets the caller read the answer. If an error breaks that off, the session ends, since the rest of the
-        answer would be read as that of the next command."""
+        """Sends lines, and lets the caller read the answer. If an error breaks that off, the
+        session ends, since the rest of the answer would be read as that of the next command."""
         if not self.end.alive:
             raise self.ended()
         try:
@@ -71,7 +84,9 @@ class ProgramSession(Session):
         except (BrokenPipeError, EOFError):
             raise self._fault() from None
         except (ValueError, IndexError) as error:
-            self.kill(f"the session was ended, since what dmf answered to `{lines}` was not understood")
+            self.kill(
+                f"the session was ended, since what dmf answered to `{lines}` was not understood"
+            )
             raise SessionEnded(self.why_ended) from error
         except BaseException:
             self.kill(f"the session was ended when `{lines}` was broken off")
@@ -100,7 +115,10 @@ class ProgramSession(Session):
                 for line, reply in zip(lines, self.lines(len(lines)).splitlines()):
                     fields = reply.split()
                     if fields[:2] == [b"c", b"refused"]:
-                        self.kill(f"the session could not begin anew: `{line}` was refused: {display(b' '.join(fields[3:]).decode())}")
+                        self.kill(
+                            f"the session could not begin anew: `{line}` was refused: "
+                            f"{display(b' '.join(fields[3:]).decode())}"
+                        )
                         raise self.ended()
                     if fields[:2] != [b"c", line.split()[0].encode()]:
                         raise ValueError
@@ -116,7 +134,8 @@ class ProgramSession(Session):
             return text
 
     def cut(self) -> tuple[int, list[int]]:
-        # A cut does not say how long it is. The reply to `undo 0`, which changes nothing, marks its end.
+        # A cut does not say how long it is. The reply to `undo 0`, which changes nothing, marks its
+        # end.
         with self.exchange("print cut\nundo 0"):
             lines = self.lines_before(b"c undo value ").split(b"\n")[:-1]
             capacity = int(_begun(lines[0].split(), "print cut", [b"c", b"cut"])[2])
@@ -135,8 +154,14 @@ class ProgramSession(Session):
         for piece in _pieces(map(case_lines, cases)):
             with self.exchange("\n".join(chain.from_iterable(piece))):
                 for case in piece:
-                    *changed, solved, undone = (line.split() for line in self.lines(len(case)).splitlines())
-                    if any(fields[1] == b"refused" for fields in changed) or solved[:3] != [b"c", b"solve", b"value"]:
+                    *changed, solved, undone = (
+                        line.split() for line in self.lines(len(case)).splitlines()
+                    )
+                    if any(fields[1] == b"refused" for fields in changed) or solved[:3] != [
+                        b"c",
+                        b"solve",
+                        b"value",
+                    ]:
                         raise ValueError
                     if undone != [b"c", b"undo", b"value", b"%d" % value]:
                         raise ValueError
@@ -168,7 +193,8 @@ class ProgramSession(Session):
         return text[:end]
 
     def lines_before(self, begin: bytes) -> bytes:
-        """The lines of the answer before the next one that begins so, which is the last of the whole answer."""
+        """The lines of the answer before the next one that begins so, which is the last of the
+        whole answer."""
         pieces = [self._rest]
         last = self._rest
         while not (last.endswith(b"\n") and last[last.rfind(b"\n", 0, -1) + 1 :].startswith(begin)):
@@ -200,17 +226,21 @@ class ProgramSession(Session):
         self.end()
 
     def _fault(self) -> Error:
-        """Why the program has ended: the refusal on its standard error, or else all that it wrote there, with its status."""
+        """Why the program has ended: the refusal on its standard error, or else all that it wrote
+        there, with its status."""
         status = self._status()
         self._told.seek(0)
         told = self._told.read(MOST_TOLD).decode(errors="replace").strip()
         self.end()
-        self.why_ended = self._why_broken or f"dmf {executable.end_reason(status)}{': ' if told else ''}{_shown(told)}"
+        self.why_ended = (
+            self._why_broken
+            or f"dmf {executable.end_reason(status)}{': ' if told else ''}{_shown(told)}"
+        )
         return _refusal(told) or SessionEnded(self.why_ended)
 
     def _status(self) -> int | None:
-        """The status of the program once it has ended. A program that goes on without reading or writing lines is killed, and gives
-        None."""
+        """The status of the program once it has ended. A program that goes on without reading or
+        writing lines is killed, and gives None."""
         try:
             return self.process.wait(SECONDS)
         except subprocess.TimeoutExpired:
@@ -248,7 +278,8 @@ def _refusal(told: str) -> Refused | None:
 
 
 def _begun(fields: list[bytes], command: str, begin: list[bytes], at: object = None) -> list[bytes]:
-    """The fields of the first line of a reply, which begins with these words. Raises a `Refused`, and a ValueError for another reply."""
+    """The fields of the first line of a reply, which begins with these words. Raises a `Refused`,
+    and a ValueError for another reply."""
     if fields[:2] == [b"c", b"refused"]:
         raise refused(display(b" ".join(fields[3:]).decode()), command, at)
     if fields[: len(begin)] != begin:
@@ -256,15 +287,20 @@ def _begun(fields: list[bytes], command: str, begin: list[bytes], at: object = N
     return fields
 
 
-def answer_to(file: IO[bytes], program: FilePath, words: list[str], begun: Begun | None = None) -> bytes:
-    """What the program answers to a problem's file, from its present place on. `begun` is told its process. Raises what `start`
-    raises."""
+def answer_to(
+    file: IO[bytes], program: FilePath, words: list[str], begun: Begun | None = None
+) -> bytes:
+    """What the program answers to a problem's file, from its present place on. `begun` is told its
+    process. Raises what `start` raises."""
     used = os.fspath(program)
     executable.refuse_other_version(used)
     pipe = subprocess.PIPE
     try:
-        # In a session of its own: Ctrl-C at a terminal is for the caller alone, who then ends the program.
-        process = subprocess.Popen([used, *words], stdin=file, stdout=pipe, stderr=pipe, start_new_session=True)
+        # In a session of its own: Ctrl-C at a terminal is for the caller alone, who then ends the
+        # program.
+        process = subprocess.Popen(
+            [used, *words], stdin=file, stdout=pipe, stderr=pipe, start_new_session=True
+        )
     except OSError as error:
         if error.filename == used:
             executable.refuse_unrun(used, error)
@@ -283,13 +319,16 @@ def answer_to(file: IO[bytes], program: FilePath, words: list[str], begun: Begun
     fault = _refusal(told)
     if fault:
         raise fault
-    ended = SessionEnded(f"dmf {executable.end_reason(process.returncode)}{': ' if told else ''}{_shown(told)}")
+    ended = SessionEnded(
+        f"dmf {executable.end_reason(process.returncode)}{': ' if told else ''}{_shown(told)}"
+    )
     executable.refuse_unfit(used, ended)
     raise ended
 
 
 def _end(process: subprocess.Popen[bytes], told: IO[bytes], owner: int) -> None:
-    """Ends a program: ends its input, and kills it if that is not enough. Only the owner process does so."""
+    """Ends a program: ends its input, and kills it if that is not enough. Only the owner process
+    does so."""
     if os.getpid() != owner:
         return
     assert process.stdin and process.stdout
@@ -305,14 +344,16 @@ def _end(process: subprocess.Popen[bytes], told: IO[bytes], owner: int) -> None:
 
 
 def session_words(most: int) -> list[str | bytes]:
-    """The words for a session in which so many changes can be undone, and whose replies to solves are brief."""
+    """The words for a session in which so many changes can be undone, and whose replies to solves
+    are brief."""
     words: list[str | bytes] = ["session", "--brief"]
     return words if most == MOST_KEPT else [*words, "--history", str(most)]
 
 
 def start_program(path: str, program: FilePath, words: list[str | bytes]) -> ProgramSession:
-    """A session with these words, on the problem's file, once it has read the problem. Raises a `Refused` if the problem has a fault,
-    `SessionEnded` if the program fails, and `NoProgram` if this package cannot use it."""
+    """A session with these words, on the problem's file, once it has read the problem. Raises a
+    `Refused` if the problem has a fault, `SessionEnded` if the program fails, and `NoProgram` if
+    this package cannot use it."""
     used = os.fspath(program)
     executable.refuse_other_version(used)
     try:

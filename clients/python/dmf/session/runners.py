@@ -1,5 +1,5 @@
-"""The two ways in which a session runs, by the C library in this process or by the program behind a pipe: which one is taken, and how a
-session begins by it."""
+"""The two ways in which a session runs, by the C library in this process or by the program behind a
+pipe: which one is taken, and how a session begins by it."""
 
 from __future__ import annotations
 
@@ -23,25 +23,32 @@ NAME = "libdmf.so.0"
 # Where pip puts the library, below this package.
 OWN = f"bin/{NAME}"
 REPOSITORY = ("clients", "python", "dmf")
-# Where this package lies where `./install` and Debian put it, with the place of the library above that.
+# Where this package lies where `./install` and Debian put it, with the place of the library above
+# that.
 PLACES = {
     ("share", "dmf", "python", "dmf"): f"lib/{NAME}",
-    ("lib", "python3", "dist-packages", "dmf"): f"lib/{getattr(sys.implementation, '_multiarch', '')}/{NAME}",
+    (
+        "lib",
+        "python3",
+        "dist-packages",
+        "dmf",
+    ): f"lib/{getattr(sys.implementation, '_multiarch', '')}/{NAME}",
 }
 
 
 def library() -> str | None:
-    """The path of the C library by which networks run in this process if their caller names no program; None if they run a program. It is
-    what the environment variable DMF_LIBRARY names; or, unless DMF names a program, what pip installed inside this package, or what lies in
-    the repository or install in which the package lies. An empty DMF_LIBRARY means none. Raises `NoProgram` if DMF_LIBRARY names one that
-    cannot be used."""
+    """The path of the C library by which networks run in this process if their caller names no
+    program; None if they run a program. It is what the environment variable DMF_LIBRARY names; or,
+    unless DMF names a program, what pip installed inside this package, or what lies in the
+    repository or install in which the package lies. An empty DMF_LIBRARY means none. Raises
+    `NoProgram` if DMF_LIBRARY names one that cannot be used."""
     found = _library()
     return None if found is None else found.path
 
 
 def chosen(program: Program) -> Way:
-    """What runs a session: the program that the caller names; or the library; or the program that is found without it. Raises
-    `NoProgram`."""
+    """What runs a session: the program that the caller names; or the library; or the program that
+    is found without it. Raises `NoProgram`."""
     found = _library() if program is None else None
     return program_of(program) if found is None else found
 
@@ -81,7 +88,11 @@ def _found() -> str | None:
         path = os.path.join(os.sep.join(parts[: -len(place)]), name)
         if tuple(parts[-len(place) :]) == place and os.path.isfile(path):
             return path
-    return _of_repository(os.sep.join(parts[: -len(REPOSITORY)])) if tuple(parts[-len(REPOSITORY) :]) == REPOSITORY else None
+    return (
+        _of_repository(os.sep.join(parts[: -len(REPOSITORY)]))
+        if tuple(parts[-len(REPOSITORY) :]) == REPOSITORY
+        else None
+    )
 
 
 def _of_repository(root: str) -> str | None:
@@ -93,7 +104,13 @@ def _of_repository(root: str) -> str | None:
         return None
     import subprocess
 
-    ran = subprocess.run([take, "library"], stdin=subprocess.DEVNULL, stdout=subprocess.PIPE, stderr=subprocess.DEVNULL, text=True)
+    ran = subprocess.run(
+        [take, "library"],
+        stdin=subprocess.DEVNULL,
+        stdout=subprocess.PIPE,
+        stderr=subprocess.DEVNULL,
+        text=True,
+    )
     return ran.stdout.rstrip("\n") if ran.returncode == 0 else None
 
 
@@ -101,25 +118,38 @@ def _is_older(path: str, root: str) -> bool:
     """Whether a source, or a folder of sources, has changed since the library was put there."""
     put, crates = os.stat(path).st_mtime_ns, os.path.join(root, "crates")
     places = [os.path.join(root, name) for name in ("crates.txt", "tools/library", "tools/dmf.map")]
-    places += [os.path.join(crates, crate, part) for crate in os.listdir(crates) for part in ("src", "specs", "proofs")]
+    places += [
+        os.path.join(crates, crate, part)
+        for crate in os.listdir(crates)
+        for part in ("src", "specs", "proofs")
+    ]
     there = filter(os.path.exists, places)
-    return any(os.stat(place).st_mtime_ns > put or os.path.isdir(place) and _has_newer(place, put) for place in there)
+    return any(
+        os.stat(place).st_mtime_ns > put or os.path.isdir(place) and _has_newer(place, put)
+        for place in there
+    )
 
 
 def _has_newer(folder: str, than: int) -> bool:
     """Whether something in a folder has changed since a time."""
     with os.scandir(folder) as entries:
-        return any(it.stat().st_mtime_ns > than or it.is_dir() and _has_newer(it.path, than) for it in entries)
+        return any(
+            it.stat().st_mtime_ns > than or it.is_dir() and _has_newer(it.path, than)
+            for it in entries
+        )
 
 
 class Startable(Protocol):
-    """What a session is begun for: a first problem, and the commands after which it has a value. At most `most` changes can be undone."""
+    """What a session is begun for: a first problem, and the commands after which it has a value. At
+    most `most` changes can be undone."""
 
     @property
-    def value(self) -> int: ...
+    def value(self) -> int:
+        ...
 
     @property
-    def most(self) -> int: ...
+    def most(self) -> int:
+        ...
 
     def problem(self) -> ProblemColumns:
         """Return the first problem."""
@@ -138,9 +168,9 @@ def problem_file(kept: Startable) -> Iterator[str]:
 
 
 def start(kept: Startable, way: Way, path: str | None = None) -> Session:
-    """A session that is in the state of what is kept, whose first problem is in the file at this path, if that is given. Raises a
-    `Refused` if the problem has a fault, `NoProgram` if the program cannot be used, and `SessionEnded` if it fails, or comes to another
-    value."""
+    """A session that is in the state of what is kept, whose first problem is in the file at this
+    path, if that is given. Raises a `Refused` if the problem has a fault, `NoProgram` if the
+    program cannot be used, and `SessionEnded` if it fails, or comes to another value."""
     session: Session
     if isinstance(way, PROGRAM):
         from .process import session_words, start_program
@@ -151,13 +181,17 @@ def start(kept: Startable, way: Way, path: str | None = None) -> Session:
         session = way.begin(kept.problem(), kept.most)
     value = session.carry_out(kept.commands())
     if value != kept.value:
-        session.kill(f"the session was ended: begun anew, it came to the value {value}, and not to {kept.value}")
+        session.kill(
+            f"the session was ended: begun anew, it came to the value {value}, and not to "
+            f"{kept.value}"
+        )
         raise session.ended()
     return session
 
 
 def started_on(text: bytes, way: Way, most: int) -> Session:
-    """A session on the text of a problem, in which so many changes can be undone. Raises what `start` raises."""
+    """A session on the text of a problem, in which so many changes can be undone. Raises what
+    `start` raises."""
     if not isinstance(way, PROGRAM):
         return way.begin_text(text, most)
     from .process import session_words, start_program

@@ -9,7 +9,8 @@ ABI = 0
 
 
 def fits(version: str) -> bool:
-    """Return whether a program or library of this version has all that this package asks of it: one of the same minor version."""
+    """Return whether a program or library of this version has all that this package asks of it: one
+    of the same minor version."""
     from .. import __version__
 
     return version.split(".")[:2] == __version__.split(".")[:2]

@@ -17,8 +17,9 @@ Given = TypeVar("Given")
 
 
 class Handle:
-    """The address of a session of the library, which is freed when nothing refers to this any more. A call at it does, so that it is never
-    freed while a call goes on; no lock is needed, in whose middle Ctrl-C might come."""
+    """The address of a session of the library, which is freed when nothing refers to this any more.
+    A call at it does, so that it is never freed while a call goes on; no lock is needed, in whose
+    middle Ctrl-C might come."""
 
     def __init__(self, free: Callable[[int], int], address: int) -> None:
         self.address = address
@@ -33,14 +34,16 @@ def _free(free: Callable[[int], int], address: int, owner: int) -> None:
 
 
 class Threads:
-    """The threads that run calls beside those of their callers. Each takes one call after another."""
+    """The threads that run calls beside those of their callers. Each takes one call after
+    another."""
 
     def __init__(self) -> None:
         # Only large networks need it.
         from queue import SimpleQueue
 
         self._jobs: SimpleQueue[Job[Any]] = SimpleQueue()
-        # One entry for each thread that waits for a job, or is about to. Ctrl-C may leave one too few, and then one thread more begins.
+        # One entry for each thread that waits for a job, or is about to. Ctrl-C may leave one too
+        # few, and then one thread more begins.
         self._waiting: list[None] = []
 
     def begin(self, job: Job[Any]) -> None:
@@ -79,7 +82,8 @@ os.register_at_fork(after_in_child=threads.cache_clear)
 
 
 class Job(Generic[Given]):
-    """Calls at a session in a thread beside that of their caller, which waits for what they give, and may cease to wait."""
+    """Calls at a session in a thread beside that of their caller, which waits for what they give,
+    and may cease to wait."""
 
     def __init__(self, work: Callable[..., Given], held: Handle, words: tuple[Any, ...]) -> None:
         self._work = work
@@ -92,7 +96,8 @@ class Job(Generic[Given]):
         self._is_going_on.acquire()
 
     def wait(self) -> None:
-        """Begins the work, and waits until it is done, or until `leave` is called. Ctrl-C breaks off the waiting alone."""
+        """Begins the work, and waits until it is done, or until `leave` is called. Ctrl-C breaks
+        off the waiting alone."""
         threads().begin(self)
         self._is_going_on.acquire()
 

@@ -34,9 +34,10 @@ COMMANDS = {"cap": 2, "close": 1, "open": 1, "shut": 1, "add": 3}
 
 @dataclass(frozen=True)
 class SweepResult(Generic[Node]):
-    """The result of a case: the greatest value after it, and its difference to the network's value before the sweep; and the arcs of
-    the smallest minimum cut, if they were wanted. If the case was refused, `refusal` is the error, and the others are None. An arc of
-    the cut that the case added has a handle that no network knows."""
+    """The result of a case: the greatest value after it, and its difference to the network's value
+    before the sweep; and the arcs of the smallest minimum cut, if they were wanted. If the case was
+    refused, `refusal` is the error, and the others are None. An arc of the cut that the case added
+    has a handle that no network knows."""
 
     __module__ = "dmf"
 
@@ -48,7 +49,8 @@ class SweepResult(Generic[Node]):
 
 
 class _Each(Iterator[Case]):
-    """A case for each of these things, made when it is needed. The number of cases left is known if that of the things is."""
+    """A case for each of these things, made when it is needed. The number of cases left is known if
+    that of the things is."""
 
     def __init__(self, make: Callable[[Any], Case], things: Iterable[Any]) -> None:
         self._cases = map(make, things)
@@ -63,41 +65,59 @@ class _Each(Iterator[Case]):
         return self._left
 
 
-def each_arc_closed(arcs: Iterable[Hashable] | None = None) -> Callable[[Network[Any]], Iterator[Case]]:
+def each_arc_closed(
+    arcs: Iterable[Hashable] | None = None,
+) -> Callable[[Network[Any]], Iterator[Case]]:
     """For each open arc, or for each of these, the case in which it is closed."""
-    return lambda network: _Each(lambda arc: [("close", arc)], network.arcs if arcs is None else arcs)
+    return lambda network: _Each(
+        lambda arc: [("close", arc)], network.arcs if arcs is None else arcs
+    )
 
 
-def each_node_shut(nodes: Iterable[Hashable] | None = None) -> Callable[[Network[Any]], Iterator[Case]]:
-    """For each node but the source and the sink, or for each of these, the case in which it is shut."""
+def each_node_shut(
+    nodes: Iterable[Hashable] | None = None,
+) -> Callable[[Network[Any]], Iterator[Case]]:
+    """For each node but the source and the sink, or for each of these, the case in which it is
+    shut."""
 
     def cases(network: Network[Any]) -> Iterator[Case]:
         ends = network._ends()
-        return _Each(lambda node: [("shut", node)], [node for node in network.nodes if node not in ends] if nodes is None else nodes)
+        return _Each(
+            lambda node: [("shut", node)],
+            [node for node in network.nodes if node not in ends] if nodes is None else nodes,
+        )
 
     return cases
 
 
-def each_capacity_raised(by: Whole, arcs: Iterable[Hashable] | None = None) -> Callable[[Network[Any]], Iterator[Case]]:
-    """For each open arc, or for each of these, the case in which its capacity is raised by so much."""
+def each_capacity_raised(
+    by: Whole, arcs: Iterable[Hashable] | None = None
+) -> Callable[[Network[Any]], Iterator[Case]]:
+    """For each open arc, or for each of these, the case in which its capacity is raised by so
+    much."""
 
     def cases(network: Network[Any]) -> Iterator[Case]:
         more = network._whole(by, "each_capacity_raised")
         # The network as it is now, whatever becomes of it while the cases are taken.
         kept, measure = network._kept.copy(), network._measure
         quantity: Any = int if measure is None else measure.quantity
-        return _Each(lambda arc: [("cap", arc, quantity(kept.capacity(kept.arc(arc)) + more))], network.arcs if arcs is None else arcs)
+        return _Each(
+            lambda arc: [("cap", arc, quantity(kept.capacity(kept.arc(arc)) + more))],
+            network.arcs if arcs is None else arcs,
+        )
 
     return cases
 
 
-def each_pair_added(pairs: Iterable[tuple[Hashable, Hashable]], capacity: Whole) -> Callable[[Network[Any]], Iterator[Case]]:
-    """For each of these pairs of nodes the case that adds an arc of this capacity from the first to the second. The sweep raises
-    `NotAnArc` for a pair without an order, such as a set."""
+def each_pair_added(
+    pairs: Iterable[tuple[Hashable, Hashable]], capacity: Whole
+) -> Callable[[Network[Any]], Iterator[Case]]:
+    """For each of these pairs of nodes the case that adds an arc of this capacity from the first to
+    the second. The sweep raises `NotAnArc` for a pair without an order, such as a set."""
 
     def case(pair: tuple[Hashable, Hashable]) -> Case:
         if is_unordered(pair):
-            raise NotAnArc(f"not an arc: {shown_value(pair)}: wanted is (tail, head)")
+            raise NotAnArc(f"not an arc: {shown_value(pair)}: expected (tail, head)")
         return [("add", *pair, capacity)]
 
     return lambda network: _Each(case, pairs)
@@ -113,24 +133,28 @@ def sweep(
     progress: bool = False,
     anew: bool = False,
 ) -> Generator[SweepResult[Node], None, None]:
-    """Yields the result of each case in order, as it comes. Tries each case on a solved copy of the network as it is now, and undoes
-    it there; the network itself does not change, and can be used meanwhile. Cases are taken when they are needed, so there may be any
-    number.
+    """Yields the result of each case in order, as it comes. Tries each case on a solved copy of the
+    network as it is now, and undoes it there; the network itself does not change, and can be used
+    meanwhile. Cases are taken when they are needed, so there may be any number.
 
-    A case is a list of commands, as in `[("close", "canal"), ("add", "lake", "sea", 7)]`, or a function that gets a network and
-    changes it. If a case is refused, or its function raises an error of this package, its result says so.
+    A case is a list of commands, as in `[("close", "canal"), ("add", "lake", "sea", 7)]`, or a
+    function that gets a network and changes it. If a case is refused, or its function raises an
+    error of this package, its result says so.
 
-    Any other error ends the sweep. An error in making the cases comes after the results of the cases before it. If a program is
-    killed, another takes its place, and tries its case once more.
+    Any other error ends the sweep. An error in making the cases comes after the results of the
+    cases before it. If a program is killed, another takes its place, and tries its case once more.
 
-    Without an `executor` each of so many `jobs` (as many as there are processors) has a session here. Raises `JobsOutOfRange` if that is
-    no whole number from 1 on. An `executor` is anything of the form of `concurrent.futures`, as `Client.get_executor()` of
-    dask.distributed: each of its processes is sent the network, and begins sessions of its own: by the program that the network was made
-    with, if that was named, or else by what it finds itself. There functions are pickled, and name arcs by their keys or ends. `progress`
-    shows a bar of tqdm, where that is there.
+    Without an `executor` each of so many `jobs` (as many as there are processors) has a session
+    here. Raises `JobsOutOfRange` if that is not a whole number of at least 1. An `executor` is
+    anything of the form of `concurrent.futures`, as `Client.get_executor()` of dask.distributed:
+    each of its processes is sent the network, and begins sessions of its own: by the program that
+    the network was made with, if that was named, or else by what it finds itself. There functions
+    are pickled, and name arcs by their keys or ends. `progress` shows a bar of tqdm, where that is
+    there.
 
-    With `anew` each case is a network of its own, which `dmf solve --brief` solves from nothing: sooner where paths are long, or where a
-    case changes much, and the results are the same. A function then learns values and cuts, and no flows.
+    With `anew` each case is a network of its own, which `dmf solve --brief` solves from nothing:
+    sooner where paths are long, or where a case changes much, and the results are the same. A
+    function then learns values and cuts, and no flows.
 
     >>> with Network([("a", "b", 3, "x"), ("a", "b", 4, "y")], source="a", sink="b") as network:
     ...     value = network.solve().value
@@ -144,10 +168,19 @@ def sweep(
     named = network._session.program
     solver = program_of(named) if anew and executor is None else None
     begin: Callable[[], Tries] = functools.partial(
-        LocalPool, swept.kept, network._session.way, want_cut, programs, None if count < 0 else count, solver, swept.kind
+        LocalPool,
+        swept.kept,
+        network._session.way,
+        want_cut,
+        programs,
+        None if count < 0 else count,
+        solver,
+        swept.kind,
     )
     if executor is not None:
-        begin = functools.partial(ExecutorPool, RemoteCopy.of(swept.kept, named, anew, swept.kind), executor, want_cut)
+        begin = functools.partial(
+            ExecutorPool, RemoteCopy.of(swept.kept, named, anew, swept.kind), executor, want_cut
+        )
     results = _results(swept, iter(made), begin)
     return _shown(results, count if count > 0 else None) if progress else results
 
@@ -161,13 +194,15 @@ def _programs(jobs: int | None) -> int:
     except TypeError:
         programs = 0
     if programs < 1:
-        raise JobsOutOfRange(f"jobs out of range: {shown_value(jobs)} is no whole number from 1 on")
+        raise JobsOutOfRange(
+            f"jobs out of range: {shown_value(jobs)} is not a whole number of at least 1"
+        )
     return programs
 
 
 class _Swept(Generic[Node]):
-    """A network as it is at the start of a sweep, whatever becomes of it meanwhile. In the copies any number of changes can be
-    undone."""
+    """A network as it is at the start of a sweep, whatever becomes of it meanwhile. In the copies
+    any number of changes can be undone."""
 
     def __init__(self, network: Network[Node]) -> None:
         self.opened = network._kept.opened()
@@ -196,7 +231,11 @@ class _Swept(Generic[Node]):
 
     def _plain_command(self, command: Command) -> Command:
         """A command, with its arc by number."""
-        if not isinstance(command, (tuple, list)) or not command or COMMANDS.get(command[0]) != len(command) - 1:
+        if (
+            not isinstance(command, (tuple, list))
+            or not command
+            or COMMANDS.get(command[0]) != len(command) - 1
+        ):
             raise UnknownCommand(f"{shown_value(command)} in a sweep")
         word, *rest = command
         if word in ("cap", "close", "open"):
@@ -241,7 +280,8 @@ def _results(
 
 
 def _piece(cases: Iterator[Case], size: int) -> tuple[list[Case], Exception | None]:
-    """The next cases, so many, and the error that came in place of one: the results of the cases before it come first."""
+    """The next cases, so many, and the error that came in place of one: the results of the cases
+    before it come first."""
     piece: list[Case] = []
     try:
         piece.extend(islice(cases, size))
@@ -250,8 +290,11 @@ def _piece(cases: Iterator[Case], size: int) -> tuple[list[Case], Exception | No
     return piece, None
 
 
-def _shown(results: Generator[SweepResult[Node], None, None], total: int | None) -> Generator[SweepResult[Node], None, None]:
-    """The results, with a bar that shows how many there are, of how many where that is known, where tqdm is there."""
+def _shown(
+    results: Generator[SweepResult[Node], None, None], total: int | None
+) -> Generator[SweepResult[Node], None, None]:
+    """The results, with a bar that shows how many there are, of how many where that is known, where
+    tqdm is there."""
     with contextlib.closing(results):
         try:
             bar = import_package("tqdm", "a bar")

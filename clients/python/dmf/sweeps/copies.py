@@ -18,7 +18,8 @@ from ..session.fresh import FreshSession
 from ..state import NetworkState
 from ..text.lexical import LARGEST, MOST_ARCS
 
-# A command of a case: ("cap", arc, capacity), ("close", arc), ("open", arc), ("shut", node) or ("add", tail, head, capacity).
+# A command of a case: ("cap", arc, capacity), ("close", arc), ("open", arc), ("shut", node) or
+# ("add", tail, head, capacity).
 Command = Tuple[Any, ...]
 # A case as a copy takes it: commands with the numbers of arcs, or a function.
 Plain = Union["list[Command]", Callable[[Network[Any]], object]]
@@ -27,7 +28,8 @@ TRIES = 2
 
 
 class CaseAnswer(NamedTuple):
-    """What a copy tells of a case: its value and the arcs of its cut, by their numbers or, where they were added, as they are."""
+    """What a copy tells of a case: its value and the arcs of its cut, by their numbers or, where
+    they were added, as they are."""
 
     value: int = 0
     cut: tuple[int | Arc[Any], ...] | None = None
@@ -53,10 +55,15 @@ def _try(network: Network[Any], case: Plain, want_cut: bool) -> CaseAnswer:
         value = network._kept.value
         if not want_cut:
             return CaseAnswer(value)
-        return CaseAnswer(value, tuple(arc.number if arc.number <= known else arc for arc in network._leaving_cut()))
+        return CaseAnswer(
+            value,
+            tuple(arc.number if arc.number <= known else arc for arc in network._leaving_cut()),
+        )
 
 
-def _try_together(network: Network[Any], cases: list[list[Numbered]], answers: list[CaseAnswer]) -> None:
+def _try_together(
+    network: Network[Any], cases: list[list[Numbered]], answers: list[CaseAnswer]
+) -> None:
     """Tries cases at once, and adds what comes of each. Raises `SessionEnded` if one is refused."""
     values: list[int] = []
     try:
@@ -66,8 +73,10 @@ def _try_together(network: Network[Any], cases: list[list[Numbered]], answers: l
 
 
 class SolvedCopy:
-    """A solved copy of a network, which is begun when a case comes, and anew where its session ends. Its problem may be in a file that
-    several programs read. With `anew` it is not solved, and each case is, from nothing, by this program."""
+    """A solved copy of a network, which is begun when a case comes, and anew where its session
+    ends. Its problem may be in a file that several programs read. With `anew` it is not solved, and
+    each case is, from nothing, by this program.
+    """
 
     def __init__(
         self,
@@ -92,8 +101,8 @@ class SolvedCopy:
         self.used = time.monotonic()
 
     def answers(self, cases: list[Plain | Error], want_cut: bool) -> list[CaseAnswer]:
-        """What comes of cases. Sends those together that no session refuses, so that a program need not wait for the next one. If
-        it ends at one of these, tries that once more."""
+        """What comes of cases. Sends those together that no session refuses, so that a program need
+        not wait for the next one. If it ends at one of these, tries that once more."""
         answers: list[CaseAnswer] = []
         while len(answers) < len(cases):
             together: list[list[Numbered]] = []
@@ -128,13 +137,16 @@ class SolvedCopy:
         raise AssertionError
 
     def _commands(self, case: Plain | Error) -> list[Numbered]:
-        """The commands of a case that a session can refuse for want of memory alone, and none for another case."""
+        """The commands of a case that a session can refuse for want of memory alone, and none for
+        another case."""
         if not isinstance(case, list) or len(case) > MOST_COMMANDS:
             return []
         changed: set[int] = set()
         amount = added = 0
         try:
-            commands = [command if command[0] == "close" else self._in_numbers(*command) for command in case]
+            commands = [
+                command if command[0] == "close" else self._in_numbers(*command) for command in case
+            ]
         except Error:
             return []
         for word, number, *rest in commands:
@@ -147,13 +159,21 @@ class SolvedCopy:
             else:
                 added += word == "add"
             amount += rest[-1] if rest else 0
-        return commands if amount <= self._room and self._kept.arc_count + added <= MOST_ARCS else []
+        return (
+            commands if amount <= self._room and self._kept.arc_count + added <= MOST_ARCS else []
+        )
 
     def _in_numbers(self, word: str, *rest: Any) -> Numbered:
-        """A command with its nodes by number, too. Raises a `Refused` if something in it is no node or no capacity."""
+        """A command with its nodes by number, too. Raises a `Refused` if something in it is no node
+        or no capacity."""
         if word == "add":
             tail, head, capacity = rest
-            return word, self._kept.columns.outlet(tail), self._kept.number(head), whole(capacity, rest)
+            return (
+                word,
+                self._kept.columns.outlet(tail),
+                self._kept.number(head),
+                whole(capacity, rest),
+            )
         if word == "cap":
             return word, rest[0], whole(rest[1], rest)
         return word, self._kept.number(rest[0]) if word == "shut" else rest[0]

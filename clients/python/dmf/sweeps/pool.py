@@ -1,4 +1,5 @@
-"""How the cases of a sweep are tried: by sessions of this process, or in the processes of an executor, which may be elsewhere."""
+"""How the cases of a sweep are tried: by sessions of this process, or in the processes of an
+executor, which may be elsewhere."""
 
 from __future__ import annotations
 
@@ -23,17 +24,21 @@ from .copies import CaseAnswer, Plain, SolvedCopy
 if TYPE_CHECKING:
     from concurrent.futures import Executor, Future
 
-# How many cases an executor is given at first, and how many such pieces wait for each of its workers.
+# How many cases an executor is given at first, and how many such pieces wait for each of its
+# workers.
 PIECE, WAITING = 16, 2
 # Later as many cases are given at once as are tried in so many seconds, but no more than this.
 SOON, MOST_AT_ONCE = 0.1, 256
-# How long a copy waits in the process of an executor for the next cases before it is ended, in seconds.
+# How long a copy waits in the process of an executor for the next cases before it is ended, in
+# seconds.
 PATIENCE = 30.0
 
 
 class Tries:
-    """How cases are tried: `size` of them at once, and `most` such pieces before the first is waited for. The size begins with `first`,
-    and follows the time that cases take. After these, the pieces that wait never have more cases than were answered before."""
+    """How cases are tried: `size` of them at once, and `most` such pieces before the first is
+    waited for. The size begins with `first`, and follows the time that cases take. After these, the
+    pieces that wait never have more cases than were answered before.
+    """
 
     first = 1
 
@@ -61,10 +66,11 @@ Pending = Callable[[], "list[CaseAnswer]"]
 
 
 class LocalPool(Tries):
-    """Sessions of this process, each with a thread that waits for it. Programs read one file. The first tries the cases alone, and another one
-    begins when those that are there have tried cases for as long as it took them to begin, and will for as long again, if it is known
-    how many cases there are. So all sessions together take about half as long again as one would, at most. The first cases of a session
-    count to its beginning, since it makes then what all cases use."""
+    """Sessions of this process, each with a thread that waits for it. Programs read one file. The
+    first tries the cases alone, and another one begins when those that are there have tried cases
+    for as long as it took them to begin, and will for as long again, if it is known how many cases
+    there are. So all sessions together take about half as long again as one would, at most. The
+    first cases of a session count to its beginning, since it makes then what all cases use."""
 
     def __init__(
         self,
@@ -76,8 +82,8 @@ class LocalPool(Tries):
         anew: FilePath | None = None,
         kind: type[Network[Any]] = Network,
     ) -> None:
-        """`count` is how many cases there are, if that is known. `anew` is the program that solves each from nothing, if one does. `kind` is
-        the class of the copies."""
+        """`count` is how many cases there are, if that is known. `anew` is the program that solves
+        each from nothing, if one does. `kind` is the class of the copies."""
         # It takes 1 MB, and nothing else needs it.
         from concurrent.futures import ThreadPoolExecutor
 
@@ -87,13 +93,15 @@ class LocalPool(Tries):
         self._want_cut = want_cut
         self._jobs = jobs
         self._stack = contextlib.ExitStack()
-        self._file = problem_file(kept) if isinstance(way, PROGRAM) else contextlib.nullcontext(None)
+        self._file = (
+            problem_file(kept) if isinstance(way, PROGRAM) else contextlib.nullcontext(None)
+        )
         self._path: str | None = None
         self._copies: list[SolvedCopy] = []
         # The copies that no thread has. Whoever waits for a copy waits for a change.
         self._free: list[SolvedCopy] = []
-        # How many copies have begun, and in how many seconds; how many cases were tried so far, and in how many seconds; and how long each
-        # of the last ones took.
+        # How many copies have begun, and in how many seconds; how many cases were tried so far, and
+        # in how many seconds; and how long each of the last ones took.
         self._begun_count, self._begun = 0, 0.0
         self._tried_count, self._tried = 0, 0.0
         self._pace = 0.0
@@ -126,7 +134,8 @@ class LocalPool(Tries):
         self._pace = seconds / count
 
     def _take(self) -> SolvedCopy:
-        """A copy that no other thread has: one that has begun, or another one if that is worth it."""
+        """A copy that no other thread has: one that has begun, or another one if that is worth
+        it."""
         with self._changed:
             self._changed.wait_for(lambda: self._free or self._is_worth_another())
             if self._free:
@@ -141,7 +150,11 @@ class LocalPool(Tries):
     def _is_worth_another(self) -> bool:
         if self._is_over or not self._copies:
             return True
-        if len(self._copies) >= self._jobs or self._begun_count < len(self._copies) or self._tried < self._begun:
+        if (
+            len(self._copies) >= self._jobs
+            or self._begun_count < len(self._copies)
+            or self._tried < self._begun
+        ):
             return False
         return self._count is None or (self._count - self._tried_count) * self._pace >= self._begun
 
@@ -158,7 +171,8 @@ class LocalPool(Tries):
 
 
 def _workers(executor: Any) -> int:
-    """How many processes or threads an executor has, as far as it says; the client of dask.distributed says it."""
+    """How many processes or threads an executor has, as far as it says; the client of
+    dask.distributed says it."""
     workers = getattr(executor, "_max_workers", None)
     if isinstance(workers, int):
         return workers
@@ -168,7 +182,8 @@ def _workers(executor: Any) -> int:
 
 @dataclass(eq=False)
 class _Batch:
-    """Cases that an executor was given, what it promises of them, and the error for which it takes them no more."""
+    """Cases that an executor was given, what it promises of them, and the error for which it takes
+    them no more."""
 
     asked: Any
     future: Future[Any]
@@ -196,14 +211,18 @@ class ExecutorPool(Tries):
         self._first: list[_Batch] = []
 
     def begin(self, cases: list[Plain | Error]) -> Pending:
-        asked = pickle.dumps((cases, self._want_cut)) if not any(map(callable, cases)) else (cases, self._want_cut)
+        asked = (
+            pickle.dumps((cases, self._want_cut))
+            if not any(map(callable, cases))
+            else (cases, self._want_cut)
+        )
         piece = _Batch(asked, self._submit(None, asked))
         self._first.append(piece)
         return lambda: self._answers(piece)
 
     def _answers(self, piece: _Batch) -> list[CaseAnswer]:
-        """The answers of a piece. While it waits for them, it sends the network with every piece whose process lacks it, so that all
-        processes begin at once."""
+        """The answers of a piece. While it waits for them, it sends the network with every piece
+        whose process lacks it, so that all processes begin at once."""
         from concurrent.futures import FIRST_COMPLETED, wait
 
         while piece in self._first:
@@ -243,12 +262,18 @@ class ExecutorPool(Tries):
 
 def _is_lost(error: BaseException) -> bool:
     """Whether an executor says that the process of a task died, and no error of the task's own."""
-    return type(error).__name__ in ("KilledWorker", "BrokenProcessPool", "CommClosedError", "BrokenExecutor")
+    return type(error).__name__ in (
+        "KilledWorker",
+        "BrokenProcessPool",
+        "CommClosedError",
+        "BrokenExecutor",
+    )
 
 
 @dataclass
 class RemoteCopy:
-    """A network as it is sent to another process, the program, where the caller named it, and whether its cases are solved anew."""
+    """A network as it is sent to another process, the program, where the caller named it, and
+    whether its cases are solved anew."""
 
     columns: Any
     capacities: Any
@@ -260,10 +285,23 @@ class RemoteCopy:
     kind: type[Network[Any]]
 
     @staticmethod
-    def of(kept: NetworkState[Any], program: Program, is_anew: bool, kind: type[Network[Any]]) -> RemoteCopy:
+    def of(
+        kept: NetworkState[Any], program: Program, is_anew: bool, kind: type[Network[Any]]
+    ) -> RemoteCopy:
         rows = zip(kept.added, kept.replaced)
-        added: list[tuple[Any, ...]] = [((arc.number, arc.tail, arc.head, arc.given_key), replaced) for arc, replaced in rows]
-        return RemoteCopy(kept.columns, kept.capacities, added, kept.closed, (kept.source, kept.sink), program, is_anew, kind)
+        added: list[tuple[Any, ...]] = [
+            ((arc.number, arc.tail, arc.head, arc.given_key), replaced) for arc, replaced in rows
+        ]
+        return RemoteCopy(
+            kept.columns,
+            kept.capacities,
+            added,
+            kept.closed,
+            (kept.source, kept.sink),
+            program,
+            is_anew,
+            kind,
+        )
 
     def kept(self) -> NetworkState[Any]:
         kept = NetworkState(self.columns, self.capacities, *self.ends, MOST_KEPT)
@@ -274,7 +312,8 @@ class RemoteCopy:
         return kept
 
 
-# The copies in this process that no case uses now, and how another one is made, by the name of what was sent.
+# The copies in this process that no case uses now, and how another one is made, by the name of what
+# was sent.
 _free: dict[str, list[SolvedCopy]] = {}
 _known: dict[str, Callable[[], SolvedCopy]] = {}
 _free_lock = threading.Lock()
@@ -290,8 +329,11 @@ def _forget_copies() -> None:
 os.register_at_fork(after_in_child=_forget_copies)
 
 
-def _answers_there(name: str, sent: bytes | None, asked: Any) -> tuple[list[CaseAnswer], float] | None:
-    """What comes of cases in the process of an executor, and how many seconds that takes; None if it needs the network first."""
+def _answers_there(
+    name: str, sent: bytes | None, asked: Any
+) -> tuple[list[CaseAnswer], float] | None:
+    """What comes of cases in the process of an executor, and how many seconds that takes; None if
+    it needs the network first."""
     with _free_lock:
         copies = _free.get(name, [])
         copy = copies.pop() if copies else None
@@ -302,7 +344,9 @@ def _answers_there(name: str, sent: bytes | None, asked: Any) -> tuple[list[Case
             return None
         network: RemoteCopy = pickle.loads(sent)
         anew = program_of(network.program) if network.is_anew else None
-        another = functools.partial(SolvedCopy, network.kept(), chosen(network.program), anew=anew, kind=network.kind)
+        another = functools.partial(
+            SolvedCopy, network.kept(), chosen(network.program), anew=anew, kind=network.kind
+        )
         with _free_lock:
             _known.clear()
             _known[name] = another

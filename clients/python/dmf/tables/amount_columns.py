@@ -1,5 +1,6 @@
-"""A column of numbers as people write them: `47,3`, `1.200,5`, `1 200`, `1e3`, `12 l/s`. How they are read is settled for the whole
-column: the decimal sign is the one that every cell admits, and the unit the one that every cell has.
+"""A column of numbers as people write them: `47,3`, `1.200,5`, `1 200`, `1e3`, `12 l/s`. How they
+are read is settled for the whole column: the decimal sign is the one that every cell admits, and
+the unit the one that every cell has.
 """
 
 from __future__ import annotations
@@ -7,15 +8,26 @@ from __future__ import annotations
 import re
 import unicodedata
 from array import array
-from collections.abc import Callable, Iterator, Sequence
+from collections.abc import Callable, Iterable, Iterator, Sequence
 from dataclasses import dataclass
 from decimal import Decimal
 from itertools import repeat
 from math import gcd
 from operator import mul
-from typing import Optional
+from typing import Optional, Union
 
-from ..quantity import COMMA, EXACT, LARGEST, LONGEST_NUMBER, POINT, SIGNS, Measure, decimals, plain_text, readings
+from ..quantity import (
+    COMMA,
+    EXACT,
+    LARGEST,
+    LONGEST_NUMBER,
+    POINT,
+    SIGNS,
+    Measure,
+    decimals,
+    plain_text,
+    readings,
+)
 from ..text.lexical import AMOUNTS
 from ..text.spelling import quoted_name
 from .sheet import PIECE, Exact, Faults
@@ -25,27 +37,61 @@ PLAIN_LENGTH = 18
 # Up to where floats have each whole number and a bit more.
 LARGEST_EXACT = 1 << 50
 # A cell of digits and one kind of sign in which that sign does not stand between thousands.
-_UNGROUPED = {sign: re.compile(rf"^(?![1-9][0-9]{{0,2}}(?:{re.escape(sign)}[0-9]{{3}})+$)[0-9{sign}]*{re.escape(sign)}", re.MULTILINE) for sign in SIGNS}
+_UNGROUPED = {
+    sign: re.compile(
+        rf"^(?![1-9][0-9]{{0,2}}(?:{re.escape(sign)}[0-9]{{3}})+$)[0-9{sign}]*{re.escape(sign)}",
+        re.MULTILINE,
+    )
+    for sign in SIGNS
+}
 _WITH_UNIT = re.compile(r"(.*?[0-9.,])\s+([^\s\d.,'+-][^\d]*(?:[23\xb2\xb3][^\d]*)?)", re.DOTALL)
-_DATE = re.compile(r"[0-9]{1,4}[./-](?:[0-9]{1,2}|[^\W\d]{3,9})[./-][0-9]{2,4}(?:[ T][0-9:.]+)?|[0-9]{4}-[0-9]{2}-[0-9]{2}.*|[0-9]{1,2}\.? [^\W\d]{3,9}\.?,? [0-9]{2,4}")
-_ENDLESS = re.compile(r"[+-]?(?:nan|inf(?:inity)?|\u221e|unlimited|unendlich|unbegrenzt)", re.IGNORECASE)
+_DATE = re.compile(
+    r"[0-9]{1,4}[./-](?:[0-9]{1,2}|[^\W\d]{3,9})[./-][0-9]{2,4}(?:[ T][0-9:.]+)?"
+    r"|[0-9]{4}-[0-9]{2}-[0-9]{2}.*"
+    r"|[0-9]{1,2}\.? [^\W\d]{3,9}\.?,? [0-9]{2,4}"
+)
+_ENDLESS = re.compile(
+    r"[+-]?(?:nan|inf(?:inity)?|\u221e|unlimited|unendlich|unbegrenzt)", re.IGNORECASE
+)
 # Cells without a digit, or with two signs, among cells of digits and signs.
-_NO_NUMBER = {sign: re.compile(rf"^{re.escape(sign)}?$|{re.escape(sign)}[0-9]*{re.escape(sign)}", re.MULTILINE) for sign in SIGNS}
+_NO_NUMBER = {
+    sign: re.compile(
+        rf"^{re.escape(sign)}?$|{re.escape(sign)}[0-9]*{re.escape(sign)}", re.MULTILINE
+    )
+    for sign in SIGNS
+}
 # Cells of at least 1 decimal, 2 and so on.
-_DECIMALS = {sign: [re.compile(rf"{re.escape(sign)}[0-9]{{{count}}}") for count in range(1, PLAIN_LENGTH + 1)] for sign in SIGNS}
+_DECIMALS = {
+    sign: [
+        re.compile(rf"{re.escape(sign)}[0-9]{{{count}}}") for count in range(1, PLAIN_LENGTH + 1)
+    ]
+    for sign in SIGNS
+}
 OTHER = {POINT: COMMA, COMMA: POINT}
 NAMES = {POINT: "point", COMMA: "comma"}
 
 
 def no_number(text: str) -> str:
-    """Why a text is no number, and what would do."""
+    """Why a text is not a number, and what would do."""
     if _DATE.fullmatch(text):
-        return "is a date, and no number"
+        return "is a date, not a number"
     if _ENDLESS.fullmatch(text):
-        return "is no number; where there is no limit, write a number that is large enough"
+        return "is not a number; where there is no limit, write a number that is large enough"
     if text[:1] == "=" or text[:1] == "#" and text[1:2].isalpha():
-        return "is no number, but a formula or its fault"
-    return "is no number; a number is digits, perhaps with a decimal sign, as 47.3 or 47,3"
+        return "is a formula or its error, not a number"
+    return "is not a number; write one as 47.3 or 47,3"
+
+
+# What stands in a cell that has no number.
+MISSING = set(
+    "|-|--|\u2013|\u2014|?|n/a|na|#n/a|nan|null|none|k.a.|k. a.|k.\u00a0a.|nc|n.c.|s/d|sd|tbd|.|..|"
+    "keine angabe|unbekannt|unknown|not known|missing|fehlt|inconnu".split("|")
+)
+
+
+def is_missing(cell: str) -> bool:
+    """Whether a cell says that there is no number, or has nothing."""
+    return not isinstance(cell, Exact) and " ".join(cell.split()).casefold() in MISSING
 
 
 def read_cell(cell: str) -> tuple[dict[str, Decimal], str]:
@@ -62,8 +108,10 @@ def read_cell(cell: str) -> tuple[dict[str, Decimal], str]:
 
 @dataclass
 class Plain:
-    """Cells with nothing but digits and at most one decimal sign, which is the same in all: their numbers, over ten to the power of
-    `decimals`. `telling` is one of those with the sign, and its place: one that admits no other, if there is one."""
+    """Cells with nothing but digits and at most one decimal sign, which is the same in all: their
+    numbers, over ten to the power of `decimals`. `telling` is one of those with the sign, and its
+    place: one that admits no other, if there is one.
+    """
 
     numbers: Sequence[int]
     decimals: int = 0
@@ -73,7 +121,8 @@ class Plain:
 
 @dataclass
 class _CellPiece:
-    """Some cells of a column, and what they are if they are plain. `first` is the place of the first one in the column."""
+    """Some cells of a column, and what they are if they are plain. `first` is the place of the
+    first one in the column."""
 
     first: int
     cells: Callable[[], list[str]]
@@ -81,10 +130,13 @@ class _CellPiece:
 
 
 class Amounts:
-    """A column of numbers. `what` is what messages call one, and `column` its number, from 1 on. `unit` is that of the title, and `named` says
-    that the title names it as one, and is not just a word for what is counted."""
+    """A column of numbers. `what` is what messages call one, and `column` its number, from 1 on.
+    `unit` is that of the title, and `named` says that the title names it as one, and is not just a
+    word for what is counted."""
 
-    def __init__(self, what: str, column: int = 0, path: str = "", unit: str = "", *, named: bool = True) -> None:
+    def __init__(
+        self, what: str, column: int = 0, path: str = "", unit: str = "", *, named: bool = True
+    ) -> None:
         self.what = what
         self.column = column
         self.path = path
@@ -93,9 +145,12 @@ class Amounts:
         self._word = "" if named else unit
         self.sign = ""
         self.lines: Sequence[int] = []
+        # The places of cells that say that there is no number, or have nothing, with these cells.
+        self.missing: dict[int, str] = {}
+        self.notes: list[str] = []
         # The numbers, over ten to the power of this.
         self.decimals = 0
-        self.numbers: Sequence[int] = []
+        self.numbers: Union[list[int], array[int]] = []
         self._count = 0
         self._pieces: list[_CellPiece] = []
         self._read: dict[str, tuple[dict[str, Decimal], str]] = {}
@@ -122,7 +177,12 @@ class Amounts:
         """Sees to it that this column has no other unit than another one."""
         mine, theirs = self.named_unit, other.named_unit
         if self.lines and mine and theirs and _folded(mine) != _folded(theirs):
-            faults.add(f"the {self.what} has the unit {quoted_name(mine)}, and the {other.what} has {quoted_name(theirs)}", self.lines[0], self.column)
+            faults.add(
+                f"the {self.what} has the unit {quoted_name(mine)}, and the {other.what} has "
+                f"{quoted_name(theirs)}",
+                self.lines[0],
+                self.column,
+            )
 
     def reading(self, cell: str) -> tuple[dict[str, Decimal], str]:
         found = self._read.get(cell)
@@ -132,9 +192,24 @@ class Amounts:
                 self._read[cell] = found
         return found
 
-    def settle(self, lines: Sequence[int], faults: Faults, given: str = "", usual: str = "") -> None:
-        """Reads all cells, which stand in these lines: with the decimal sign that was given, or else the one that all admit; where both
-        are left, with the usual one of the table, if it has one. What cannot be read goes to the faults."""
+    def put(self, places: Iterable[int], number: int) -> None:
+        """Gives the cells at these places another number."""
+        for place in places:
+            self.numbers[place] = number
+
+    def arrange(self, places: Iterable[int], lines: Sequence[int]) -> None:
+        """Takes the numbers of these places, one by one, as those of the cells in these lines."""
+        taken = [self.numbers[place] for place in places]
+        self.numbers = array(AMOUNTS, taken) if isinstance(self.numbers, array) else taken
+        self.lines = lines
+
+    def settle(
+        self, lines: Sequence[int], faults: Faults, given: str = "", usual: str = ""
+    ) -> None:
+        """Reads all cells, which stand in these lines: with the decimal sign that was given, or
+        else the one that all admit; where both are left, with the usual one of the table, if it has
+        one. What cannot be read goes to the faults.
+        """
         self.lines = lines
         self.sign = given or self._settled_sign(faults, usual)
         self._judge_units(faults)
@@ -158,7 +233,8 @@ class Amounts:
 
     def _settled_sign(self, faults: Faults, usual: str) -> str:
         """The sign that all cells admit; none if the sign makes no difference."""
-        # For each sign the first cell that admits no other, and the first that is another number with it.
+        # For each sign the first cell that admits no other, and the first that is another number
+        # with it.
         only: dict[str, tuple[int, str]] = {}
         open_cell: tuple[int, str] | None = None
         for place, cell, found in self._telling():
@@ -169,17 +245,57 @@ class Amounts:
                 open_cell = place, cell
         if len(only) == 2:
             (first, one), (second, other) = sorted(only.values())
-            told = f"the {self.what} {quoted_name(other)} has another decimal sign than {quoted_name(one)} in line {self.lines[first]}"
-            faults.add(f"{told}; change one, or name the sign: --decimal . or --decimal ,", self.lines[second], self.column)
+            told = (
+                f"{quoted_name(other)} has another decimal sign than {quoted_name(one)} in line "
+                f"{self.lines[first]}"
+            )
+            faults.add(
+                f"{told}; change one, or name the sign: --decimal . or --decimal ,",
+                self.lines[second],
+                self.column,
+            )
             return ""
         if only:
             return next(iter(only))
+        if open_cell and not usual and (mark := self._thousands_mark()):
+            told = f"the {NAMES[mark]} in {quoted_name(open_cell[1].strip())}"
+            self.notes.append(f"{told} stands between thousands, as in all cells that have one")
+            return OTHER[mark]
         if open_cell and not usual:
             place, cell = open_cell
             found, unit = self.reading(cell)
-            both = " or ".join(f"{plain_text(found[sign])} with a decimal {NAMES[sign]}" for sign in SIGNS)
-            faults.add(f"the {self.what} {quoted_name(cell.strip())} may be {both}: --decimal . or --decimal ,", self.lines[place], self.column)
+            both = " or ".join(
+                f"{plain_text(found[sign])} with a decimal {NAMES[sign]}" for sign in SIGNS
+            )
+            faults.add(
+                f"{quoted_name(cell.strip())} may be {both}: --decimal . or --decimal ,",
+                self.lines[place],
+                self.column,
+            )
         return usual if open_cell else ""
+
+    def _thousands_mark(self) -> str:
+        """The sign that stands between thousands, where no cell tells it alone; none if it may be
+        the decimal sign. Numbers with three decimals each have the sign in all cells, and numbers
+        with as many decimals as they need have none that ends in 0. So it stands between thousands
+        if a cell has it and ends in 0, and cells below 1000 have none."""
+        marks, has_zero, has_small = set(), False, False
+        for piece in self._pieces:
+            for cell in piece.cells():
+                found, unit = self.reading(cell)
+                text = cell.strip().removesuffix(unit).rstrip()
+                is_exact = isinstance(cell, Exact)
+                if not is_exact and text.strip(f"0123456789{COMMA}{POINT}"):
+                    if found:
+                        return ""
+                    continue
+                mark = set() if is_exact else set(text) & {*SIGNS}
+                marks |= mark
+                if not mark and found and found[POINT] >= 1000:
+                    return ""
+                has_zero = has_zero or bool(mark) and text.endswith("0")
+                has_small = has_small or not mark and bool(found)
+        return marks.pop() if len(marks) == 1 and has_zero and has_small else ""
 
     def _telling(self) -> Iterator[tuple[int, str, dict[str, Decimal]]]:
         """The cells that tell something of the sign, with their readings: enough of them."""
@@ -212,17 +328,29 @@ class Amounts:
         for unit, place in named.items():
             if _folded(unit) != _folded(wanted):
                 where = "the title" if of_title else f"line {self.lines[named[wanted]]}"
-                faults.add(f"a {self.what} has the unit {quoted_name(unit)}, and {where} has {quoted_name(wanted)}", self.lines[place], self.column)
+                faults.add(
+                    f"a {self.what} has the unit {quoted_name(unit)}, and {where} has "
+                    f"{quoted_name(wanted)}",
+                    self.lines[place],
+                    self.column,
+                )
         if named and "" in units and not of_title:
-            told = f"a {self.what} has no unit, and line {self.lines[named[wanted]]} has {quoted_name(wanted)}"
+            told = (
+                f"a {self.what} has no unit, and line {self.lines[named[wanted]]} has "
+                f"{quoted_name(wanted)}"
+            )
             faults.add(told, self.lines[units[""]], self.column)
         self.unit = wanted
 
     def _read_piece(self, piece: _CellPiece, faults: Faults) -> Plain:
-        """The numbers of a piece with the sign that was settled. If that is another one, or cells are not plain, each is read by itself."""
+        """The numbers of a piece with the sign that was settled. If that is another one, or cells
+        are not plain, each is read by itself."""
         if piece.plain and piece.plain.sign in ("", self.sign):
             return piece.plain
-        numbers = [self._number(place, cell, faults) for place, cell in enumerate(piece.cells(), piece.first)]
+        numbers = [
+            self._number(place, cell, faults)
+            for place, cell in enumerate(piece.cells(), piece.first)
+        ]
         most = max(map(decimals, numbers))
         return Plain([int(EXACT.scaleb(number, most)) for number in numbers], most)
 
@@ -232,25 +360,31 @@ class Amounts:
             # Without a sign it makes no difference, or a fault was told.
             return found[self.sign or next(iter(found))]
         text = cell.strip()
-        if not text:
-            reason = f"no {self.what}"
-        elif len(text) > LONGEST_NUMBER and text.isdigit():
-            reason = f"the {self.what} {quoted_name(text)} is past {LARGEST}"
+        if is_missing(cell):
+            self.missing[place] = text
+            return Decimal(0)
+        if len(text) > LONGEST_NUMBER and text.isdigit():
+            reason = f"is past {LARGEST}"
         elif found:
-            reason = f"the {self.what} {quoted_name(text)} is no number with a decimal {NAMES[self.sign]}"
+            reason = f"is not a number with a decimal {NAMES[self.sign]}"
         else:
-            reason = f"the {self.what} {quoted_name(text)} {no_number(text)}"
-        faults.add(reason, self.lines[place], self.column)
+            reason = no_number(text)
+        faults.add(f"{quoted_name(text)} {reason}", self.lines[place], self.column)
         return Decimal(0)
 
     def _judge_negative(self, faults: Faults) -> None:
         if isinstance(self.numbers, list) and min(self.numbers) < 0:
             for place, number in enumerate(self.numbers):
                 if number < 0:
-                    faults.add(f"the {self.what} {self._shown(place)} is below 0", self.lines[place], self.column)
+                    faults.add(
+                        f"{self._shown(place)} is below 0",
+                        self.lines[place],
+                        self.column,
+                    )
 
     def wholes(self, measure: Measure, faults: Faults) -> Sequence[int]:
-        """The whole numbers by which these numbers stand in a problem. One past 64 bits, or no whole number, goes to the faults."""
+        """The whole numbers by which these numbers stand in a problem. One past 64 bits, or no
+        whole number, goes to the faults."""
         scale, over = measure.scale.as_integer_ratio()
         over *= 10**self.decimals
         common = gcd(scale, over)
@@ -262,15 +396,23 @@ class Amounts:
         if isinstance(wholes, list) and max(wholes, default=0) > LARGEST:
             for place, number in enumerate(wholes):
                 if number > LARGEST:
-                    faults.add(f"the {self.what} {self._shown(place)} is past {measure.text(LARGEST)}", self.lines[place], self.column)
+                    faults.add(
+                        f"{self._shown(place)} is past {measure.text(LARGEST)}",
+                        self.lines[place],
+                        self.column,
+                    )
         return wholes
 
-    def _judge_whole(self, numbers: Sequence[int], over: int, measure: Measure, faults: Faults) -> None:
+    def _judge_whole(
+        self, numbers: Sequence[int], over: int, measure: Measure, faults: Faults
+    ) -> None:
         for place, number in enumerate(numbers):
             if number % over:
                 quantity = self.quantity(place)
                 hint = f"; --scale {10 ** decimals(quantity)}?"
-                told = f"the {self.what} {self._shown(place)} times {measure.scale:f} is no whole number{hint}"
+                told = (
+                    f"{self._shown(place)} times {measure.scale:f} is not a whole " f"number{hint}"
+                )
                 faults.add(told, self.lines[place], self.column)
 
     def _shown(self, place: int) -> str:
@@ -283,13 +425,17 @@ class Amounts:
 
 
 def _folded(unit: str) -> str:
-    """A unit without what is only another way to write it: `m3/h` for `m\xb3 / h` and for `m^3/h`."""
+    """A unit without what is only another way to write it: `m3/h` for `m\xb3 / h` and for
+    `m^3/h`."""
     return "".join(unicodedata.normalize("NFKC", unit).replace("^", "").split())
 
 
 def _plain(cells: list[str]) -> Plain | None:
     """These cells, if they are plain and not too long."""
-    if set(map(type, cells)) != {str} or not 0 < min(map(len, cells)) <= max(map(len, cells)) <= PLAIN_LENGTH:
+    if (
+        set(map(type, cells)) != {str}
+        or not 0 < min(map(len, cells)) <= max(map(len, cells)) <= PLAIN_LENGTH
+    ):
         return None
     text = "\n".join(cells)
     digits = "".join(cells)

@@ -1,7 +1,8 @@
-"""From the bytes of a file to rows of cells: tables of comma-separated values in any usual encoding.
+"""From the bytes of a file to rows of cells: tables of comma-separated values in any usual
+encoding.
 
-Commas, semicolons, tabs or bars separate columns, whichever fits the first rows best. A row with quoted ends of lines goes by its first
-line. A file of another kind is named for what it is.
+Commas, semicolons, tabs or bars separate columns, whichever fits the first rows best. A row with
+quoted ends of lines goes by its first line. A file of another kind is named for what it is.
 """
 
 from __future__ import annotations
@@ -29,8 +30,8 @@ if TYPE_CHECKING:
 
 # Of how many bytes the search for the delimiter reads rows.
 SAMPLE_BYTES = 1 << 18
-# The same in bytes where rows have no quotes; and encodings in which the byte of an end of a line is nothing else, with
-# what they are after the first bytes.
+# The same in bytes where rows have no quotes; and encodings in which the byte of an end of a line
+# is nothing else, with what they are after the first bytes.
 PIECE_BYTES = 1 << 16
 BARE_ENCODINGS = {"utf-8": "utf-8", "utf-8-sig": "utf-8", "cp1252": "cp1252"}
 # The same where numpy reads them, and of how many lines a table is worth it.
@@ -60,9 +61,28 @@ KINDS = {
     b"{\\rtf": "a document (RTF)",
     b"\xd0\xcf\x11\xe0": "an Excel workbook of before 2007, or one with a password",
 }
-PROBLEMS = {b"max": "a max-flow problem", b"min": "a min-cost problem", b"sp": "a shortest-path problem", b"asn": "an assignment problem"}
+# What both parts of a shapefile begin with, and what they are by their endings.
+SHAPES = b"\0\0\x27\x0a"
+SHAPE_FILES = {
+    ".shx": "the index of a shapefile (.shx); give the .shp",
+    ".shp": "a shapefile (.shp), which holds lines alone; export its table as CSV",
+}
+PROBLEMS = {
+    b"max": "a max-flow problem",
+    b"min": "a min-cost problem",
+    b"sp": "a shortest-path problem",
+    b"asn": "an assignment problem",
+}
 WANTED = "a table is a CSV file, or a workbook (.xlsx or .ods)"
 _MARKUP = re.compile(rb"\s*(?:<\?xml|<!doctype|<html|\{\s*\"|\[\s*[\[{])", re.IGNORECASE)
+# Kinds of these that networks come in, by what is in the first bytes.
+MARKUPS = {
+    b'"FeatureCollection"': "a GeoJSON file",
+    b"<graphml": "a GraphML file",
+    b"<gexf": "a GEXF file",
+    b"<kml": "a KML file",
+}
+_EPANET = re.compile(rb"(?:\s|;[^\n]*\n)*\[(?:TITLE|JUNCTIONS|RESERVOIRS|PIPES)\]", re.IGNORECASE)
 _SEPARATOR = re.compile(rb"(?:\xef\xbb\xbf)?sep=([,;\t|])\r?\n", re.IGNORECASE)
 # The names of files that Excel and LibreOffice put beside one that is open in them.
 _LOCK = re.compile(r"~\$(.+)|\.~lock\.(.+)#")
@@ -72,25 +92,39 @@ _LINE_END = re.compile("\r\n|\r|\n")
 def csv_sheet(data: bytes, path: str, encoding: Optional[str], width: int) -> Sheet:
     """The table of at least so many columns in the bytes of a CSV file. Raises a `TableFault`."""
     if mark := _LOCK.fullmatch(os.path.basename(path)):
-        raise TableFault(f"it only marks that a program has {quoted_name(mark[1] or mark[2])} open: name that file")
-    what = _other_kind(data)
+        raise TableFault(
+            f"it only marks that a program has {quoted_name(mark[1] or mark[2])} open: name that "
+            "file"
+        )
+    what = _other_kind(data, path)
     if what:
         raise TableFault(f"it is {what}; {WANTED}")
     found, note = (encoding, "") if encoding else _encoding_of(data)
     skipped = _SEPARATOR.match(data)
     body = data[skipped.end() :] if skipped else data
     delimiter = skipped[1].decode() if skipped else _delimiter_of(data[:SAMPLE_BYTES], found, width)
-    return Sheet(path, _reader(body, found, delimiter, 2 if skipped else 1), (note,) if note else ())
+    return Sheet(
+        path, _reader(body, found, delimiter, 2 if skipped else 1), (note,) if note else ()
+    )
 
 
-def _other_kind(data: bytes) -> str:
+def _other_kind(data: bytes, path: str) -> str:
     """What a file of another kind is."""
+    if data.startswith(SHAPES):
+        return SHAPE_FILES.get(os.path.splitext(path)[1].lower(), SHAPE_FILES[".shp"])
     what = next((what for mark, what in KINDS.items() if data.startswith(mark)), "")
     if what or not data:
         return what
     if data.startswith(b"PK\x03\x04"):
         return "a zip file"
+    if _EPANET.match(data):
+        return "a network of EPANET (.inp)"
+    if os.path.splitext(path)[1].lower() == ".dbf" and b"\0" in data[:32]:
+        return "a dBASE table (.dbf)"
     if _MARKUP.match(data):
+        for mark, what in MARKUPS.items():
+            if mark in data[:4096]:
+                return what
         return "a page of HTML or XML" if data.lstrip()[:1] == b"<" else "a JSON file"
     head = (fields(line) for line in data[:4096].split(b"\n"))
     first: list[bytes] = next((found for found in head if found and found[0] != b"c"), [])
@@ -102,7 +136,8 @@ def _other_kind(data: bytes) -> str:
 
 
 def _encoding_of(data: bytes) -> tuple[str, str]:
-    """The encoding of bytes, and a note if it was taken for granted. Raises a `TableFault` if there is none for certain."""
+    """The encoding of bytes, and a note if it was taken for granted. Raises a `TableFault` if there
+    is none for certain."""
     for mark, name in BYTE_ORDER_MARKS.items():
         if data.startswith(mark):
             _judge_bytes(data, name)
@@ -121,26 +156,42 @@ def _encoding_of(data: bytes) -> tuple[str, str]:
 
 
 def _western(data: bytes, fault: UnicodeDecodeError) -> tuple[str, str]:
-    """Windows-1252, which has all letters of Latin-1 at the same places, if the bytes can be that."""
+    """Windows-1252, which has all letters of Latin-1 at the same places, if the bytes can be
+    that."""
     begin = data.rfind(b"\n", 0, fault.start) + 1
     line = data.count(b"\n", 0, fault.start) + 1
     try:
-        shown = re.split(r"[,;\t|\r\n\"]", data[begin : fault.start + 200].decode("cp1252", "replace"))
+        shown = re.split(
+            r"[,;\t|\r\n\"]", data[begin : fault.start + 200].decode("cp1252", "replace")
+        )
         data.decode("cp1252")
     except UnicodeDecodeError as other:
         at = data.count(b"\n", 0, other.start) + 1
         hint = _likely(data)
-        raise TableFault(f"the byte 0x{data[other.start]:02x} is neither UTF-8 nor Windows-1252; --encoding {hint}?", at) from None
+        raise TableFault(
+            f"the byte 0x{data[other.start]:02x} is neither UTF-8 nor Windows-1252; --encoding "
+            f"{hint}?",
+            at,
+        ) from None
     seen, place = 0, fault.start - begin
     for piece in shown:
         seen += len(piece) + 1
         if seen > place:
-            return "cp1252", f"the file is not UTF-8: line {line} is read as Windows-1252, as in {piece.strip()[:40]!r}; --encoding names another"
-    return "cp1252", f"the file is not UTF-8, and is read as Windows-1252 (line {line}); --encoding names another"
+            return (
+                "cp1252",
+                f"the file is not UTF-8: line {line} is read as Windows-1252, as in "
+                f"{piece.strip()[:40]!r}; --encoding names another",
+            )
+    return (
+        "cp1252",
+        f"the file is not UTF-8, and is read as Windows-1252 (line {line}); --encoding names "
+        "another",
+    )
 
 
 def _likely(data: bytes) -> str:
-    """The encoding that bytes look like. charset-normalizer takes French and Spanish for other languages, so this only advises."""
+    """The encoding that bytes look like. charset-normalizer takes French and Spanish for other
+    languages, so this only advises."""
     try:
         import charset_normalizer
     except ImportError:
@@ -162,7 +213,8 @@ def _judge_bytes(data: bytes, encoding: str) -> None:
 
 
 def _rows_of(data: bytes, encoding: str, delimiter: str, line: int = 1) -> Iterator[Rows]:
-    """The rows of a table, some thousands at once, blank ones too. Raises a `TableFault` if a quote is wrong, or a byte."""
+    """The rows of a table, some thousands at once, blank ones too. Raises a `TableFault` if a quote
+    is wrong, or a byte."""
     return _reader(data, encoding, delimiter, line)()
 
 
@@ -178,7 +230,9 @@ def _reader(data: bytes, encoding: str, delimiter: str, line: int) -> Callable[[
 def _quoted_rows(data: bytes, encoding: str, delimiter: str, line: int) -> Iterator[Rows]:
     """The rows of a table that has quotes, or other odd bytes."""
     csv.field_size_limit(max(csv.field_size_limit(), len(data) + 1))
-    reader = csv.reader(io.TextIOWrapper(io.BytesIO(data), encoding, newline=""), delimiter=delimiter, strict=True)
+    reader = csv.reader(
+        io.TextIOWrapper(io.BytesIO(data), encoding, newline=""), delimiter=delimiter, strict=True
+    )
     cells: list[list[str]] = [[]]
     while cells:
         cells, before, fault = [], reader.line_num, None
@@ -203,24 +257,43 @@ def _quoted_rows(data: bytes, encoding: str, delimiter: str, line: int) -> Itera
 
 def _is_bare(data: bytes) -> bool:
     """Whether no quote, no other end of a line and no NUL is in a table."""
-    return b'"' not in data and b"\0" not in data and (b"\r" not in data or data.count(b"\r") == data.count(b"\r\n"))
+    return (
+        b'"' not in data
+        and b"\0" not in data
+        and (b"\r" not in data or data.count(b"\r") == data.count(b"\r\n"))
+    )
 
 
 def _bare_rows(data: bytes, encoding: str, delimiter: str, line: int, np: Any) -> Iterator[Rows]:
-    """The same of a table without quotes, in which each line is a row, and each delimiter is between two cells: by numpy where it is there and
-    the table is long. The first rows come alone, since a table is looked at before it is read."""
+    """The same of a table without quotes, in which each line is a row, and each delimiter is
+    between two cells: by numpy where it is there and the table is long. The first rows come alone,
+    since a table is looked at before it is read."""
     begin, size = 0, PIECE_BYTES if np is not None else len(data)
     while begin < len(data):
         end = data.find(b"\n", begin + size) + 1 or len(data)
-        spans = None if begin == 0 else _spans(np, Block(data, begin, end, BARE_ENCODINGS[encoding], delimiter, line))
-        for rows in [spans] if spans else small_rows(data[begin:end], encoding if begin == 0 else BARE_ENCODINGS[encoding], delimiter, line):
+        spans = (
+            None
+            if begin == 0
+            else _spans(np, Block(data, begin, end, BARE_ENCODINGS[encoding], delimiter, line))
+        )
+        for rows in (
+            [spans]
+            if spans
+            else small_rows(
+                data[begin:end],
+                encoding if begin == 0 else BARE_ENCODINGS[encoding],
+                delimiter,
+                line,
+            )
+        ):
             line += len(rows)
             yield rows
         begin, size = end, LARGE_PIECE_BYTES
 
 
 class Block(NamedTuple):
-    """Whole lines of a table without quotes, from one byte of its file to another, of which the first is this line."""
+    """Whole lines of a table without quotes, from one byte of its file to another, of which the
+    first is this line."""
 
     file: bytes
     begin: int
@@ -258,9 +331,11 @@ def _spans(np: Any, block: Block) -> Optional[Spans]:
 
 
 def small_rows(data: bytes, encoding: str, delimiter: str, line: int) -> Iterator[Rows]:
-    """The rows of a table without quotes, some thousands at once: column by column where all lines have as many, which is twice as fast as a
-    reader of CSV."""
-    begin = len(codecs.BOM_UTF8) if encoding == "utf-8-sig" and data.startswith(codecs.BOM_UTF8) else 0
+    """The rows of a table without quotes, some thousands at once: column by column where all lines
+    have as many, which is twice as fast as a reader of CSV."""
+    begin = (
+        len(codecs.BOM_UTF8) if encoding == "utf-8-sig" and data.startswith(codecs.BOM_UTF8) else 0
+    )
     while begin < len(data):
         end = data.find(b"\n", begin + PIECE_BYTES) + 1 or len(data)
         try:
@@ -288,18 +363,26 @@ def _line_count(row: list[str]) -> int:
 def _quote_fault(said: str) -> str:
     if "NUL" in said:
         return "a cell has the character U+0000, which no cell may have"
-    return "a quote is not closed" if "end of data" in said else "a quote inside quotes is not written twice"
+    return (
+        "a quote is not closed"
+        if "end of data" in said
+        else "a quote inside quotes is not written twice"
+    )
 
 
 def _delimiter_of(data: bytes, encoding: str, width: int) -> str:
-    """The delimiter of a table of at least so many columns: the one with which most of its first rows have them, and among several the
-    one with which most of their cells are numbers."""
+    """The delimiter of a table of at least so many columns: the one with which most of its first
+    rows have them, and among several the one with which most of their cells are numbers."""
     # A letter may be cut at the end of these bytes.
     text = data.decode(encoding, "replace").encode("utf-8", "replace")
 
     def score(delimiter: str) -> tuple[int, int, int]:
         sample = Sheet("", lambda: _rows_of(text, "utf-8", delimiter)).sample().cells
         cells = [cell for row in sample for cell in row]
-        return sum(len(row) >= width for row in sample), sum(bool(readings(cell)) for cell in cells), len(cells)
+        return (
+            sum(len(row) >= width for row in sample),
+            sum(bool(readings(cell)) for cell in cells),
+            len(cells),
+        )
 
     return max(DELIMITERS, key=score)

@@ -1,16 +1,17 @@
-"""The tables that options name, read to a problem: the table of arcs, in a CSV file or in a sheet of a workbook, and tables of its places."""
+"""The tables that options name, read to a problem: the table of arcs, in a CSV file or in a sheet
+of a workbook, and tables of its places."""
 
 from __future__ import annotations
 
 import argparse
 import os
 from collections.abc import Callable, Iterator, Mapping, Sequence
-from dataclasses import dataclass, field, replace
+from dataclasses import dataclass, field
 from decimal import Decimal
-from functools import cached_property, partial
-from typing import Any, Optional
+from functools import cached_property
+from typing import Any, Optional, TypeVar
 
-from ..errors import TableFault, ToolFault
+from ..errors import OptionFault, TableFault
 from ..files import read_file, standard_input
 from ..quantity import Measure
 from ..text.lexical import display, fields, lines
@@ -18,23 +19,33 @@ from ..text.problem_text import problem_in
 from ..text.spelling import MOST_TOLD, quoted_name
 from ..text.table_comments import TableComments, described
 from .arcs_and_places import Term, read_arcs, read_places, terms_of
+from .column_question import ColumnQuestion
 from .csv_file import csv_sheet
-from .headings import ARCS, CAPACITY, DEMAND, HEAD, LIMIT, NAME, PLACE, PLACE_COLUMNS, SUPPLY, TAIL, USUAL, Form, layout_of, spoken
+from .headings import ARCS, PLACE_COLUMNS, STATES, Form, spoken
 from .other_columns import Extra, extra_in, extra_of, left_out
 from .problem_builder import KINDS, NetworkTables, ends_alone, net_of, problem_text, term_of
 from .readers import ReadOptions, Table
+from .row_states import lead
 from .sheet import Faults, Sheet, naming
+from .title_row import fits
+from .titles import CAPACITY, DEMAND, HEAD, LIMIT, NAME, PLACE, SUPPLY, TAIL
 from .warnings import warnings
 from .workbook import is_workbook, workbook_sheets
 
 # By the option of a table of places, what it says.
-PLACE_TABLES: dict[str, Sequence[str]] = {"sources": [SUPPLY], "sinks": [DEMAND], "node_limits": [LIMIT], "place_table": PLACE_COLUMNS}
+PLACE_TABLES: dict[str, Sequence[str]] = {
+    "sources": [SUPPLY],
+    "sinks": [DEMAND],
+    "node_limits": [LIMIT],
+    "place_table": PLACE_COLUMNS,
+}
 
 
 @dataclass(frozen=True)
 class TableOptions:
-    """What is said of the tables: how they are read and encoded, the scale, whether rows go both ways, words that name sources and
-    sinks, the files of tables of places, by the option, and what reads these."""
+    """What is said of the tables: how they are read and encoded, the scale, whether rows go both
+    ways, words that name sources and sinks, the files of tables of places, by the option, and what
+    reads these."""
 
     reading: ReadOptions = ReadOptions()
     encoding: Optional[str] = None
@@ -52,13 +63,14 @@ def split_path(path: str) -> tuple[str, str]:
     return (file, sheet) if mark and file and not os.path.exists(path) else (path, "")
 
 
-def data_of(path: Optional[str], status: int = 1) -> bytes:
+def data_of(path: Optional[str]) -> bytes:
     """The bytes of a table's file, or of standard input if there is no path."""
-    return standard_input(status).read() if path is None else read_file(split_path(path)[0], status)
+    return standard_input().read() if path is None else read_file(split_path(path)[0])
 
 
 def load_tables(wanted: TableOptions, path: Optional[str], data: bytes) -> NetworkTables:
-    """The plan of the table of arcs in these bytes. Raises a `TableFault`, and a `ToolFault` if another file cannot be read."""
+    """The plan of the table of arcs in these bytes. Raises a `TableFault`, and a `FileFault` if
+    another file cannot be read."""
     told, name = split_path(path or "")
     with naming(told):
         sheet, others = _arcs_sheet(data, told, name, wanted.encoding)
@@ -66,11 +78,12 @@ def load_tables(wanted: TableOptions, path: Optional[str], data: bytes) -> Netwo
 
 
 def plan_of_sheet(wanted: TableOptions, sheet: Sheet, others: Sequence[Sheet]) -> NetworkTables:
-    """The plan of the table of arcs in a sheet, beside which other sheets may be of its places. Raises what `load_tables` raises."""
+    """The plan of the table of arcs in a sheet, beside which other sheets may be of its places.
+    Raises what `load_tables` raises."""
     with naming(sheet.path):
         table = read_arcs(sheet, wanted.reading)
-    plan = NetworkTables(table, [], wanted.both_ways, wanted.scale)
-    plan.notes += [*sheet.notes, *_told(table)]
+    plan = NetworkTables(table, [], lead(table, both_ways=wanted.both_ways), wanted.scale)
+    plan.notes += [*_told(table), *table.sheet.notes]
     for kind, words, option in (SUPPLY, wanted.source, "sources"), (DEMAND, wanted.sink, "sinks"):
         plan.terms += [term_of(kind, word, table) for word in words]
         if option in wanted.tables:
@@ -82,20 +95,23 @@ def plan_of_sheet(wanted: TableOptions, sheet: Sheet, others: Sequence[Sheet]) -
     plan.terms += terms_of(table.said, table.layout, faults, wanted.reading.sign, table.amounts)
     faults.judge()
     for other in [] if wanted.tables else others:
-        plan.notes.append(f"the sheet {quoted_name(other.path.rpartition('#')[2])} says what places give, take or let through")
+        plan.notes.append(
+            f"the sheet {quoted_name(other.path.rpartition('#')[2])} says what places give, take "
+            "or "
+            "let through"
+        )
         _add_places(plan, other, PLACE_COLUMNS, wanted)
     return plan
 
 
 def _told(table: Table) -> Iterator[str]:
-    """What was taken for what, if it was not as usual."""
-    sign = table.amounts.sign
-    if not table.layout.is_usual:
-        yield table.layout.told() + (f"; the decimal sign is {sign}" if sign == "," else "")
-    elif sign == ",":
-        yield "the decimal sign is a comma"
-    if table.others:
-        yield f"there are no titles; kept, without any: {', '.join(f'column {place + 1}' for place in sorted(table.others))}"
+    """What was taken for what, and what else was taken for granted."""
+    amounts = table.amounts
+    unit = amounts.unit if amounts.unit == amounts.named_unit else ""
+    dropped = () if table.said else PLACE_COLUMNS
+    told = table.sheet.taken or table.layout.told(unit, table.others, dropped)
+    yield told + ("; the decimal sign is a comma" if amounts.sign == "," else "")
+    yield from table.layout.notes
     yield from table.notes
 
 
@@ -113,19 +129,27 @@ def _add_file(plan: NetworkTables, wanted: TableOptions, option: str) -> None:
     _add_places(plan, sheet, PLACE_TABLES[option], wanted)
 
 
-def _add_places(plan: NetworkTables, sheet: Sheet, kinds: Sequence[str], wanted: TableOptions) -> None:
+def _add_places(
+    plan: NetworkTables, sheet: Sheet, kinds: Sequence[str], wanted: TableOptions
+) -> None:
     with naming(sheet.path):
         terms, headings = read_places(sheet, kinds, wanted.reading, plan.arcs.amounts)
     plan.terms += terms
     plan.headings += headings
 
 
-def _arcs_sheet(data: bytes, path: str, name: str, encoding: Optional[str]) -> tuple[Sheet, list[Sheet]]:
+def _arcs_sheet(
+    data: bytes, path: str, name: str, encoding: Optional[str]
+) -> tuple[Sheet, list[Sheet]]:
     """The sheet of arcs, and those of places beside it in a workbook."""
     if not is_workbook(data):
         return _csv(data, path, name, encoding, 3), []
     sheets = workbook_sheets(data, path)
-    places = [sheet for sheet in sheets if _fits(sheet, Form((PLACE,), PLACE_COLUMNS)) and not _fits(sheet, ARCS)]
+    places = [
+        sheet
+        for sheet in sheets
+        if _fits(sheet, Form((PLACE,), PLACE_COLUMNS)) and not _fits(sheet, ARCS)
+    ]
     if name:
         chosen = _of_name(sheets, name)
     else:
@@ -138,22 +162,17 @@ def _csv(data: bytes, path: str, name: str, encoding: Optional[str], width: int)
     """The table in a CSV file, which has no sheet of a name."""
     sheet = csv_sheet(data, path, encoding, width)
     if name:
-        raise TableFault(f"a CSV file has no sheets, and so none that is called {quoted_name(name)}; name the file alone")
+        raise TableFault(
+            f"a CSV file has no sheets, and so none that is called {quoted_name(name)}; name the "
+            "file alone"
+        )
     return sheet
 
 
 def _fits(sheet: Sheet, form: Form) -> bool:
     """Whether the titles of a sheet tell all columns of a form that it needs."""
     sample = sheet.sample()
-    if not sample.cells:
-        return False
-    try:
-        layout = layout_of(sample, form, {})
-    except TableFault:
-        return False
-    return bool(layout.line) and all(layout.title(column).word in USUAL[column] for column in form.places) and any(
-        layout.title(column).word in USUAL[column] for column in form.amounts
-    )
+    return bool(sample.cells) and fits(sample, form)
 
 
 def _of_name(sheets: Sequence[Sheet], name: str) -> Sheet:
@@ -168,7 +187,10 @@ def _only(sheets: Sequence[Sheet], name: str) -> Sheet:
     if not sheets:
         raise TableFault("no sheet of the workbook has a cell")
     if len(sheets) > 1:
-        raise TableFault(f"which sheet is it? Name one after the file, as in {sheets[0].path}; the sheets are {_names(sheets)}")
+        raise TableFault(
+            f"which sheet is it? Name one after the file, as in {sheets[0].path}; the sheets are "
+            f"{_names(sheets)}"
+        )
     return sheets[0]
 
 
@@ -187,19 +209,59 @@ def names_terminals(words: argparse.Namespace) -> bool:
 def says_table(words: argparse.Namespace) -> bool:
     """Whether the arguments say something of a table."""
     given = [words.scale, words.node_limits, words.place_table, words.encoding]
-    return names_terminals(words) or bool(words.titles or words.both_ways or words.decimal) or any(it is not None for it in given)
+    return (
+        names_terminals(words)
+        or bool(words.titles or words.both_ways or words.decimal)
+        or bool(words.ignore or words.missing or words.matrix)
+        or any(it is not None for it in given)
+    )
 
 
 def wanted_of(words: argparse.Namespace) -> TableOptions:
     """What the arguments say of the tables."""
-    tables = {option: getattr(words, option) for option in PLACE_TABLES if getattr(words, option) is not None}
-    reading = ReadOptions(words.titles, words.decimal, words.raw_names)
-    return TableOptions(reading, words.encoding, words.scale, words.both_ways, tuple(words.source), tuple(words.sink), tables)
+    tables = {
+        option: getattr(words, option)
+        for option in PLACE_TABLES
+        if getattr(words, option) is not None
+    }
+    reading = ReadOptions(
+        words.titles,
+        words.decimal,
+        words.raw_names,
+        words.missing,
+        tuple(words.ignore),
+        words.matrix,
+    )
+    return TableOptions(
+        reading,
+        words.encoding,
+        words.scale,
+        words.both_ways,
+        tuple(words.source),
+        tuple(words.sink),
+        tables,
+    )
+
+
+Read = TypeVar("Read")
+
+
+def answered(words: argparse.Namespace, read: Callable[[], Read]) -> Read:
+    """What is read with these arguments. Where somebody is there to answer, they are asked for a
+    column that cannot be settled, and the answer is one of the arguments from then on."""
+    while True:
+        try:
+            return read()
+        except ColumnQuestion as question:
+            question.name_path(words.path or "")
+            answer = words.ask(question) if words.ask and question.is_arcs else None
+            if answer is None:
+                raise
+            words.titles = {**words.titles, question.sought: answer}
 
 
 # In how many of its first lines the problem line of a file is looked for.
 MOST_HEAD_LINES = 100_000
-FAULT, UNREADABLE = 3, 4
 # How the name of a table's file ends, and what its first line has.
 ENDINGS = (".csv", ".tsv", ".xlsx", ".ods")
 MARKS = b",;|"
@@ -207,9 +269,12 @@ MARKS = b",;|"
 
 @dataclass(frozen=True)
 class LoadedProblem:
-    """A problem with comments, as `dmf-problem` writes it. `noun` is the table's word for an arc, if its titles have one. `notes` say
-    what looks like a mistake, and what was assumed. `raw_names` says that names stand in a table as they are. `plan` is what the problem
-    was made of, if it was made here, and `found` are the options that say what was found then: titles of columns, the source, the sink."""
+    """A problem with comments, as `dmf-problem` writes it. `noun` is the table's word for an arc,
+    if its titles have one. `notes` say what looks like a mistake, and what was assumed. `raw_names`
+    says that names stand in a table as they are. `plan` is what the problem was made of, if it was
+    made here, and `found` are the options that say what was found then: titles of columns, the
+    source, the sink.
+    """
 
     path: str
     text: bytes
@@ -232,66 +297,95 @@ class LoadedProblem:
     @cached_property
     def extra(self) -> Extra:
         """The columns of the table that were read for nothing."""
-        return extra_of(self.plan.arcs, 1 + self.plan.both_ways) if self.plan else extra_in(self.text)
+        return (
+            extra_of(self.plan.arcs, 1 + self.plan.both_ways) if self.plan else extra_in(self.text)
+        )
 
 
-def read_subject(words: argparse.Namespace, *, unreadable: int = UNREADABLE, in_doubt: bool = False) -> LoadedProblem:
-    """The problem that the words name. Where nothing tells whether a file has a problem, it has one if `in_doubt`. Raises a `ToolFault`,
-    with the status `unreadable` for a file that cannot be read."""
+def read_subject(words: argparse.Namespace, *, in_doubt: bool = False) -> LoadedProblem:
+    """The problem that the words name. Where nothing tells whether a file has a problem, it has one
+    if `in_doubt`. Raises a `TableFault`, a `FileFault` for a file that cannot be read, and an
+    `OptionFault`."""
     try:
-        data = problem_in(data_of(words.path, unreadable))
+        data = problem_in(data_of(words.path))
         if is_problem(words.path, data, in_doubt=in_doubt and not says_table(words)):
             if says_table(words):
-                raise ToolFault(f"{words.path} has a problem, which names its own source and sink: the options are for tables", 2)
-            return LoadedProblem(words.path, data, notes=tuple(left_out(data)), raw_names=words.raw_names)
-        return subject_of(replace(wanted_of(words), read=partial(read_file, status=unreadable)), words.path, data)
+                raise OptionFault(
+                    f"{words.path} has a problem, which names its own source and sink: the options "
+                    "are for tables"
+                )
+            return LoadedProblem(
+                words.path, data, notes=tuple(left_out(data)), raw_names=words.raw_names
+            )
+        return answered(words, lambda: subject_of(wanted_of(words), words.path, data))
     except TableFault as fault:
         fault.name_path(words.path)
-        first, *more = fault.lines()
-        raise ToolFault(first, FAULT, more) from None
+        raise
 
 
 def is_problem(path: str, data: bytes, *, in_doubt: bool = False) -> bool:
-    """Whether a file has a problem, by its first line that is no comment, or by its name. If neither says so, a workbook has none, nor has
-    a file with the name of a table or with a comma, a semicolon or a bar in that line; any other has one if `in_doubt`."""
+    """Whether a file has a problem, by its first line that is no comment, or by its name. If
+    neither says so, a workbook has none, nor has a file with the name of a table or with a comma, a
+    semicolon or a bar in that line; any other has one if `in_doubt`.
+    """
     head = lines(b"\n".join(data.split(b"\n", MOST_HEAD_LINES)[:MOST_HEAD_LINES]))
     first = next((line for line in head if (found := fields(line)) and found[0] != b"c"), b"")
     if fields(first)[:2] == [b"p", b"max"] or path.endswith(".max"):
         return True
-    is_table = is_workbook(data) or split_path(path)[0].endswith(ENDINGS) or any(mark in first for mark in MARKS)
+    is_table = (
+        is_workbook(data)
+        or split_path(path)[0].endswith(ENDINGS)
+        or any(mark in first for mark in MARKS)
+    )
     return in_doubt and not is_table
 
 
 def subject_of(wanted: TableOptions, path: str, data: bytes) -> LoadedProblem:
-    """The problem of a table in these bytes. Raises a `TableFault`, and a `ToolFault` if a table of places cannot be read."""
+    """The problem of a table in these bytes. Raises a `TableFault`, and a `FileFault` if a table of
+    places cannot be read."""
     plan = load_tables(wanted, path, data)
     said = [term.kind for term in plan.terms]
     notes = complete(plan)
     net = net_of(plan)
     noun = spoken(plan.arcs.layout.title(NAME).text)
     told = (*plan.notes, *notes, *warnings(plan, net))
-    found: dict[str, Any] = {KINDS[term.kind]: [term.place] for term in plan.terms if term.kind in KINDS and term.kind not in said}
+    found: dict[str, Any] = {
+        KINDS[term.kind]: [term.place]
+        for term in plan.terms
+        if term.kind in KINDS and term.kind not in said
+    }
     layout = plan.arcs.layout
-    titles = {column: layout.title(column).text for column in layout.at}
+    titles = {column: layout.title(column).text for column in layout.at if column not in STATES}
     texts = [title.text for title in layout.titles]
-    if layout.line and not titles.keys() & PLACE_COLUMNS and all(texts.count(title) == 1 for title in titles.values()):
+    if (
+        layout.line
+        and not plan.arcs.sheet.taken
+        and not titles.keys() & PLACE_COLUMNS
+        and all(texts.count(title) == 1 for title in titles.values())
+    ):
         found.update(titles)
-    return LoadedProblem(path, problem_text(net).encode(), noun, told, wanted.reading.raw_names, plan, found)
+    return LoadedProblem(
+        path, problem_text(net).encode(), noun, told, wanted.reading.raw_names, plan, found
+    )
 
 
 def complete(plan: NetworkTables) -> list[str]:
-    """Adds the source or the sink if the plan has none and just one place can be meant, and says so. Raises a `TableFault` otherwise."""
+    """Adds the source or the sink if the plan has none and just one place can be meant, and says
+    so. Raises a `TableFault` otherwise."""
     notes = []
     for kind, way in (SUPPLY, "leads to"), (DEMAND, "leads away from"):
         if not plan.of_kind(kind):
             place = _only_place(plan, kind, way)
             plan.terms.append(Term(kind, place, None))
-            notes.append(f"the {KINDS[kind]} is {quoted_name(place)}, the one place that nothing {way}")
+            notes.append(
+                f"the {KINDS[kind]} is {quoted_name(place)}, the one place that nothing {way}"
+            )
     return notes
 
 
 def _only_place(plan: NetworkTables, kind: str, way: str) -> str:
-    """The only place that arcs leave and none enters, or the other way round. Raises a `TableFault` if there is not exactly one."""
+    """The only place that arcs leave and none enters, or the other way round. Raises a `TableFault`
+    if there is not exactly one."""
     table = plan.arcs
     # Of two ways, each place is left and entered.
     alone = ([], []) if plan.both_ways else ends_alone(table.tails, table.heads)
@@ -302,7 +396,13 @@ def _only_place(plan: NetworkTables, kind: str, way: str) -> str:
         return found[0]
     where = "does it flow from" if kind == SUPPLY else "does it flow to"
     choice = found or names
-    listed = ", ".join(map(quoted_name, choice[:MOST_TOLD])) + (", .." if len(choice) > MOST_TOLD else "")
-    why = f"nothing {way} any of these: {listed}" if found else f"there is no place that nothing {way}; the places are {listed}"
+    listed = ", ".join(map(quoted_name, choice[:MOST_TOLD])) + (
+        ", .." if len(choice) > MOST_TOLD else ""
+    )
+    why = (
+        f"nothing {way} any of these: {listed}"
+        if found
+        else f"each place has something that {way} it; the places are {listed}"
+    )
     many = ", as often as there are such places" if len(found) > 1 else ""
     raise TableFault(f'where {where}? {why}; say --{KINDS[kind]} "{display(choice[0])}"{many}')

@@ -13,8 +13,7 @@ from ..quantity import number_in
 from ..session.base import Program, bound
 from ..session.runners import chosen
 from ..state import NetworkState
-from .arcs_and_places import Term
-from .headings import DEMAND, LIMIT, SUPPLY
+from .arcs_and_places import UNLIMITED_WORD, Term
 from .loader import TableOptions, complete, load_tables, plan_of_sheet, split_path
 from .other_columns import extra_of
 from .problem_builder import NetworkTables, net_of
@@ -22,6 +21,7 @@ from .readers import ReadOptions
 from .sheet import Rows, Sheet, naming
 from .table_answers import FoldedColumns, InnerNode, with_room
 from .table_network import TableNetwork
+from .titles import DEMAND, LIMIT, SUPPLY
 from .warnings import warnings
 from .workbook import cell_text
 
@@ -36,13 +36,28 @@ def network_of_plan(plan: NetworkTables, program: Program, history: Optional[int
     net = net_of(plan)
     notes += warnings(plan, net)
     numbers: dict[Any, int] = dict(plan.arcs.places)
-    numbers.update((InnerNode(number, net.node_names[number - 1]), number) for number in range(len(numbers) + 1, len(net.node_names) + 1))
-    columns = FoldedColumns(numbers, net.tails, net.heads, net.row_names, net.described, net.inner_names)
+    numbers.update(
+        (InnerNode(number, net.node_names[number - 1]), number)
+        for number in range(len(numbers) + 1, len(net.node_names) + 1)
+    )
+    columns = FoldedColumns(
+        numbers, net.tails, net.heads, net.row_names, net.described, net.inner_names
+    )
     nodes = list(numbers)
-    kept: NetworkState[Any] = NetworkState(columns, with_room(net.capacities, net.described), nodes[net.source - 1], nodes[net.sink - 1], bound(history))
+    kept: NetworkState[Any] = NetworkState(
+        columns,
+        with_room(net.capacities, net.described),
+        nodes[net.source - 1],
+        nodes[net.sink - 1],
+        bound(history),
+    )
     made = cast(TableNetwork, TableNetwork._of(kept, chosen(program)))
     made._session.program = program
-    made.notes, made._load, made._rows = notes, lambda: extra_of(plan.arcs, net.ways), range(1, net.row_count + 1, net.ways)
+    made.notes, made._load, made._rows = (
+        notes,
+        lambda: extra_of(plan.arcs, net.ways),
+        range(1, net.row_count + 1, net.ways),
+    )
     return made
 
 
@@ -62,24 +77,45 @@ def read_table(
     both_ways: bool = False,
     encoding: Optional[str] = None,
     raw_names: bool = False,
+    missing: Union[str, int] = "",
+    ignore: Iterable[str] = (),
+    matrix: bool = False,
     program: Program = None,
     history: Optional[int] = None,
 ) -> TableNetwork:
-    """The network of a table: of a CSV file or a workbook by its path, with a sheet as in `net.xlsx#Rohre`, or of a frame of pandas or
-    anything else that gives columns by their names. The file is read as `tools/dmf-problem` reads it (`man dmf-problem`).
+    """The network of a table: of a CSV file or a workbook by its path, with a sheet as in
+    `net.xlsx#Rohre`, or of a frame of pandas or anything else that gives columns by their names.
+    The file is read as `tools/dmf-problem` reads it (`man dmf-problem`).
 
-    `source` and `sink` are a place, several, or a mapping to what each gives or takes at most, with None for no limit. Without them they
-    are those of the table, or the only place that nothing leads to, or leads away from. `limits` has the most that may pass through
-    places. `sources`, `sinks`, `node_limits` and `places` are paths of tables that say so. `columns` has titles by `tail`, `head`,
-    `capacity` and `name`, if they are not usual ones. `decimal` is the decimal sign, if the table leaves it open, and `scale` what
-    numbers are multiplied by, if not the least power of ten that makes them whole. The other arguments are those of `Network`.
+    `source` and `sink` are a place, several, or a mapping to what each gives or takes at most, with
+    None for no limit. Without them they are those of the table, or the only place that nothing
+    leads to, or leads away from. `limits` has the most that may pass through places. `sources`,
+    `sinks`, `node_limits` and `places` are paths of tables that say so. `columns` has titles by
+    `tail`, `head`, `capacity` and `name`, if they are not usual ones. `decimal` is the decimal
+    sign, if the table leaves it open, and `scale` what numbers are multiplied by, if not the least
+    power of ten that makes them whole. `missing` is what a capacity that is not there is read as, 0
+    or "unlimited". `ignore` has the titles of columns that are read for nothing. `matrix` says that
+    rows are the tails, and the titles of the other columns the heads. The other arguments are those
+    of `Network`.
 
-    Raises a `TableFault` that names all rows that cannot be read; an OSError if a file cannot be; and what `Network` raises.
+    Raises a `TableFault` that names all rows that cannot be read; an OSError if a file cannot be;
+    and what `Network` raises.
     """
     given = {"sources": sources, "sinks": sinks, "node_limits": node_limits, "place_table": places}
     paths = {option: _path(option, path) for option, path in given.items() if path is not None}
-    reading = ReadOptions(dict(columns), decimal, raw_names)
-    wanted = TableOptions(reading, encoding, None if scale is None else Decimal(scale), both_ways, (), (), paths, _read)
+    if str(missing) not in ("", "0", UNLIMITED_WORD):
+        raise ValueError(f"a missing capacity is read as 0 or as {UNLIMITED_WORD!r}: {missing!r}")
+    reading = ReadOptions(dict(columns), decimal, raw_names, str(missing), tuple(ignore), matrix)
+    wanted = TableOptions(
+        reading,
+        encoding,
+        None if scale is None else Decimal(scale),
+        both_ways,
+        (),
+        (),
+        paths,
+        _read,
+    )
     if isinstance(table, (str, os.PathLike)):
         path = os.fspath(table)
         plan = load_tables(wanted, path, _read(split_path(path)[0]))
@@ -94,8 +130,13 @@ def read_table(
 
 def _path(option: str, given: Any) -> str:
     if not isinstance(given, (str, os.PathLike)):
-        instead = {"sources": "source", "sinks": "sink", "node_limits": "limits"}.get(option, "limits")
-        raise TypeError(f"the path of a table of places is wanted, and not {given!r}: `{instead}` takes the places themselves")
+        instead = {"sources": "source", "sinks": "sink", "node_limits": "limits"}.get(
+            option, "limits"
+        )
+        raise TypeError(
+            f"expected the path of a table of places, not {given!r}: `{instead}` takes the "
+            "places themselves"
+        )
     return os.fspath(given)
 
 
@@ -122,9 +163,15 @@ def _sheet_of_frame(frame: Any) -> Sheet:
     """A frame as a sheet whose first row has the titles."""
     titles = list(frame.keys()) if hasattr(frame, "keys") else list(frame.columns)
     columns = [frame[title] for title in titles]
-    cells = [[cell_text(value) for value in (column.tolist() if hasattr(column, "tolist") else column)] for column in columns]
+    cells = [
+        [cell_text(value) for value in (column.tolist() if hasattr(column, "tolist") else column)]
+        for column in columns
+    ]
     if len({len(column) for column in cells}) > 1:
-        raise TableFault(f"the columns have several lengths: {', '.join(sorted({str(len(column)) for column in cells}))}")
+        raise TableFault(
+            "the columns have several lengths: "
+            f"{', '.join(sorted({str(len(column)) for column in cells}))}"
+        )
     rows = [list(map(str, titles)), *map(list, zip(*cells))]
     return Sheet("", partial(_rows, rows))
 

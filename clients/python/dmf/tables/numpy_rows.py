@@ -1,5 +1,6 @@
-"""Many rows of a table without quotes at once, by numpy: where each cell begins and ends, the places that cells name, and the numbers in a column.
-No object is made for a cell that is not asked for, which takes a third of the time of lists of cells."""
+"""Many rows of a table without quotes at once, by numpy: where each cell begins and ends, the
+places that cells name, and the numbers in a column. No object is made for a cell that is not asked
+for, which takes a third of the time of lists of cells."""
 
 from __future__ import annotations
 
@@ -14,28 +15,35 @@ from ..text.lexical import AMOUNTS, NODES
 from .amount_columns import PLAIN_LENGTH, Plain
 from .sheet import AmountSink, PlaceSink, Rows
 
-# The longest name that is compared as numbers, in bytes; and how often names are looked up in the table of their hashes.
+# The longest name that is compared as numbers, in bytes; and how often names are looked up in the
+# table of their hashes.
 LONGEST, MOST_ROUNDS = 64, 100
 _ODD = 0x9E3779B97F4A7C15
 
 
 class ByteBlock(Protocol):
-    """Whole lines of a table without quotes, from one byte of its file on, of which the first is `line`."""
+    """Whole lines of a table without quotes, from one byte of its file on, of which the first is
+    `line`."""
 
     @property
-    def data(self) -> bytes: ...
+    def data(self) -> bytes:
+        ...
 
     @property
-    def begin(self) -> int: ...
+    def begin(self) -> int:
+        ...
 
     @property
-    def line(self) -> int: ...
+    def line(self) -> int:
+        ...
 
     @property
-    def encoding(self) -> str: ...
+    def encoding(self) -> str:
+        ...
 
     @property
-    def delimiter(self) -> str: ...
+    def delimiter(self) -> str:
+        ...
 
     def rows(self) -> Iterator[Rows]:
         """Return the rows without numpy."""
@@ -48,8 +56,8 @@ class ByteBlock(Protocol):
 
 
 class Spans(Rows):
-    """Rows of one width. `arrays` are the bytes of their lines, with more after the last one, and the place and the size of each cell, row
-    by row."""
+    """Rows of one width. `arrays` are the bytes of their lines, with more after the last one, and
+    the place and the size of each cell, row by row."""
 
     def __init__(self, np: Any, block: ByteBlock, arrays: tuple[Any, Any, Any]) -> None:
         self._letters, self._starts, self._sizes = arrays
@@ -63,7 +71,11 @@ class Spans(Rows):
 
     def columns(self) -> Sequence[Sequence[str]]:
         if not self._whole:
-            text = self._block.data.decode(self._block.encoding).replace("\r\n", "\n").removesuffix("\n")
+            text = (
+                self._block.data.decode(self._block.encoding)
+                .replace("\r\n", "\n")
+                .removesuffix("\n")
+            )
             (width,) = self.widths()
             cells = text.replace("\n", self._block.delimiter).split(self._block.delimiter)
             self._whole = [cells[place::width] for place in range(width)]
@@ -101,7 +113,8 @@ class Spans(Rows):
     def _text(self, starts: Any, sizes: Any) -> str:
         """These cells, one below the other."""
         np, sizes = self._np, sizes + 1
-        # From a byte to the next it is one on, but from the end of a cell to the beginning of the next one.
+        # From a byte to the next it is one on, but from the end of a cell to the beginning of the
+        # next one.
         ends = np.cumsum(sizes)
         steps = np.ones(int(ends[-1]), np.int32)
         steps[0] = starts[0]
@@ -126,7 +139,8 @@ class Spans(Rows):
         if not 0 < int(sizes.min()) <= int(sizes.max()) <= PLAIN_LENGTH:
             return None
         numbers = np.zeros(len(self), np.uint64)
-        # The sign of each cell, which is 0 as long as there is none, as is a letter past the end of a cell.
+        # The sign of each cell, which is 0 as long as there is none, as is a letter past the end of
+        # a cell.
         signs, decimals = np.zeros(len(self), np.uint8), np.zeros(len(self), np.uint8)
         for at in range(int(sizes.max())):
             letters = np.where(sizes > at, self._letters[starts + at], np.uint8(0))
@@ -140,23 +154,37 @@ class Spans(Rows):
             decimals += is_digit & (signs > 0)
             numbers = np.where(is_digit, numbers * np.uint64(10) + digits, numbers)
         sign = chr(signs.max()) if signs.any() else ""
-        if sign not in ("", *SIGNS) or (signs[signs > 0] != signs.max()).any() or (sizes == (signs > 0)).any():
+        if (
+            sign not in ("", *SIGNS)
+            or (signs[signs > 0] != signs.max()).any()
+            or (sizes == (signs > 0)).any()
+        ):
             return None
         most = int(decimals.max())
         more = np.array([10**count for count in range(most + 1)], np.uint64)[most - decimals]
         if (numbers > np.uint64(LARGEST) // more).any():
             return None
-        return Plain(array(AMOUNTS, (numbers * more).tobytes()), most, sign, self._telling(place, signs > 0, decimals) if sign else (0, ""))
+        return Plain(
+            array(AMOUNTS, (numbers * more).tobytes()),
+            most,
+            sign,
+            self._telling(place, signs > 0, decimals) if sign else (0, ""),
+        )
 
     def _telling(self, place: int, is_signed: Any, decimals: Any) -> tuple[int, str]:
-        """Of the cells of a column that have a sign the first in which it does not stand between thousands, if there is one; else the first."""
+        """Of the cells of a column that have a sign the first in which it does not stand between
+        thousands, if there is one; else the first."""
         starts, sizes = self._starts[:, place], self._sizes[:, place]
-        is_grouped = (decimals == 3) & (sizes > 4) & (sizes < 8) & (self._letters[starts] != ord("0"))
+        is_grouped = (
+            (decimals == 3) & (sizes > 4) & (sizes < 8) & (self._letters[starts] != ord("0"))
+        )
         is_telling = is_signed & ~is_grouped
         row = int((is_telling if is_telling.any() else is_signed).argmax())
         return row, self._text(starts[row : row + 1], sizes[row : row + 1])
 
-    def numbered(self, places: tuple[int, int], numbers: PlaceSink) -> Optional[tuple[array[int], array[int]]]:
+    def numbered(
+        self, places: tuple[int, int], numbers: PlaceSink
+    ) -> Optional[tuple[array[int], array[int]]]:
         np = self._np
         starts, sizes = self._starts[:, places].ravel(), self._sizes[:, places].ravel()
         if int(sizes.max()) > LONGEST:
@@ -185,11 +213,15 @@ class Spans(Rows):
         # Each place of the text is the beginning of a number here.
         numbers = np.ndarray((len(self._letters) - 7,), "<u8", self._letters.data, 0, (1,))
         masks = np.array([(1 << 8 * size) - 1 for size in range(9)], np.uint64)
-        return [numbers[starts + 8 * word] & masks[np.clip(sizes - 8 * word, 0, 8)] for word in range(count)]
+        return [
+            numbers[starts + 8 * word] & masks[np.clip(sizes - 8 * word, 0, 8)]
+            for word in range(count)
+        ]
 
 
 class Seen(NamedTuple):
-    """The different cells so far: their bytes, as columns of numbers of eight bytes each, and the numbers of the places that they name."""
+    """The different cells so far: their bytes, as columns of numbers of eight bytes each, and the
+    numbers of the places that they name."""
 
     words: list[Any]
     numbers: Any
@@ -198,31 +230,45 @@ class Seen(NamedTuple):
         """The bytes of these cells and of others after them."""
         none = [np.zeros(len(column), np.uint64) for column in (self.numbers, words[0])]
         both = zip_longest(self.words, words)
-        return [np.concatenate([none[0] if mine is None else mine, none[1] if theirs is None else theirs]) for mine, theirs in both]
+        return [
+            np.concatenate(
+                [none[0] if mine is None else mine, none[1] if theirs is None else theirs]
+            )
+            for mine, theirs in both
+        ]
 
 
 def first_alike(np: Any, columns: list[Any]) -> Any:
-    """For each row of these columns of numbers the first row that is the same, by a table of hashes; None if too many rows come to one
-    place in it."""
+    """For each row of these columns of numbers the first row that is the same, by a table of
+    hashes; None if too many rows come to one place in it."""
     hashes = np.zeros(len(columns[0]), np.uint64)
     for column in columns:
         hashes = (hashes ^ column) * np.uint64(_ODD)
         hashes ^= hashes >> np.uint64(32)
     bits = (2 * len(hashes)).bit_length()
-    places, steps = (hashes & np.uint64((1 << bits) - 1)).astype(np.int32), (hashes >> np.uint64(32)).astype(np.int32) | 1
+    places, steps = (hashes & np.uint64((1 << bits) - 1)).astype(np.int32), (
+        hashes >> np.uint64(32)
+    ).astype(np.int32) | 1
     table = np.full(1 << bits, -1, np.int32)
     rows = np.arange(len(hashes), dtype=np.int32)
     firsts, left = rows.copy(), rows
     for _ in range(MOST_ROUNDS):
-        # Rows of one hash go on together. Of those that come to a free place the first gets it, as the last that writes.
+        # Rows of one hash go on together. Of those that come to a free place the first gets it, as
+        # the last that writes.
         is_free = table[places] < 0
         table[places[is_free][::-1]] = left[is_free][::-1]
         found = table[places]
         is_same = hashes[found] == hashes[left]
         firsts[left[is_same]] = found[is_same]
-        left, places, steps = left[~is_same], (places + steps)[~is_same] & ((1 << bits) - 1), steps[~is_same]
+        left, places, steps = (
+            left[~is_same],
+            (places + steps)[~is_same] & ((1 << bits) - 1),
+            steps[~is_same],
+        )
         if not len(left):
-            is_right = (firsts <= rows).all() and all((column[firsts] == column).all() for column in columns)
+            is_right = (firsts <= rows).all() and all(
+                (column[firsts] == column).all() for column in columns
+            )
             return firsts if is_right else None
     return None
 
@@ -237,13 +283,19 @@ def spans_of(np: Any, block: ByteBlock) -> Spans | None:
     ends = np.flatnonzero((told == ord(block.delimiter)) | (told == ord("\n"))).astype(np.int32)
     is_line = letters[ends] == ord("\n")
     width = int(np.argmax(is_line)) + 1
-    if width == 1 or len(ends) % width or int(is_line.sum()) * width != len(ends) or not is_line[width - 1 :: width].all():
+    if (
+        width == 1
+        or len(ends) % width
+        or int(is_line.sum()) * width != len(ends)
+        or not is_line[width - 1 :: width].all()
+    ):
         return None
     starts = np.empty(len(ends), np.int32)
     starts[0] = 0
     starts[1:] = ends[:-1] + 1
     starts, sizes = starts.reshape(-1, width), (ends - starts).reshape(-1, width)
     if b"\r" in data:
-        # A carriage return stands before each end of a line, and nowhere else; the last line may lack both.
+        # A carriage return stands before each end of a line, and nowhere else; the last line may
+        # lack both.
         sizes[:, -1] -= letters[starts[:, -1] + sizes[:, -1] - 1] == ord("\r")
     return Spans(np, block, (letters, starts, sizes))

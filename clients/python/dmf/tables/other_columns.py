@@ -1,14 +1,16 @@
-"""The columns of a table that are read for nothing, such as cost, length or remark: they are kept, and stand again in what is exported. A
-problem text has them in comments, the number of the arc and then that of the column before each cell that is not empty:
+"""The columns of a table that are read for nothing, such as cost, length or remark: they are kept,
+and stand again in what is exported. A problem text has them in comments, the number of the arc and
+then that of the column before each cell that is not empty:
 
     c column 1 length (m)
     c column 2 remark
     c cell 5 1 120
     c cell 5 2 by the school
 
-A text that cannot stand there as it is, is one of JSON: `"two\\nlines"`. Where there are more than `MOST_COLUMNS`, or `MOST_CELLS` of their
-cells, or these take more than `MOST_TOLD` bytes, none is there, and a comment says so: `c columns left out: length (m), remark`. A text that has
-more all the same is read without them.
+A text that cannot stand there as it is, is one of JSON: `"two\\nlines"`. Where there are more than
+`MOST_COLUMNS`, or `MOST_CELLS` of their cells, or these take more than `MOST_TOLD` bytes, none is
+there, and a comment says so: `c columns left out: length (m), remark`. A text that has more all the
+same is read without them.
 """
 
 from __future__ import annotations
@@ -35,8 +37,8 @@ _CELL = re.compile(rb"^c cell ([1-9][0-9]{0,8}) ([1-9][0-9]{0,8}) ([^\n]*)", re.
 
 @dataclass(frozen=True)
 class Extra:
-    """The titles of these columns, and for each its cells by row, as texts, perhaps only those that are not empty. Each row of the table is so
-    many arcs: `ways`."""
+    """The titles of these columns, and for each its cells by row, as texts, perhaps only those that
+    are not empty. Each row of the table is so many arcs: `ways`."""
 
     titles: Sequence[str] = ()
     columns: Sequence[Sequence[str] | Mapping[int, str]] = ()
@@ -53,7 +55,8 @@ class Extra:
         return column[row] if row < len(column) else ""
 
     def by_title(self, numbers: Sequence[int]) -> dict[str, list[str]]:
-        """The cells of these arcs by the titles; of two columns with one title the second gets a number."""
+        """The cells of these arcs by the titles; of two columns with one title the second gets a
+        number."""
         found: dict[str, list[str]] = {}
         counts: Counter[str] = Counter()
         for title, column in zip(self.titles, self.columns):
@@ -65,10 +68,13 @@ class Extra:
         return found
 
     def comments(self, numbers: Iterable[int]) -> str:
-        """The comments that tell the columns in the text of a problem whose arcs have these numbers here."""
+        """The comments that tell the columns in the text of a problem whose arcs have these numbers
+        here."""
         if not self.titles:
             return ""
-        titles = [f"c column {column} {_said(title)}\n" for column, title in enumerate(self.titles, 1)]
+        titles = [
+            f"c column {column} {_said(title)}\n" for column, title in enumerate(self.titles, 1)
+        ]
         cells: list[str] = []
         size = 0
         for line in self._cell_lines(numbers):
@@ -116,16 +122,27 @@ def left_out(text: bytes) -> list[str]:
     """What there is to say of the columns that a problem's text leaves out, or `extra_in`."""
     notes = []
     if _is_too_much(text):
-        notes.append(f"comments tell more than {MOST_COLUMNS} other columns, or {MOST_CELLS} cells of these: none is kept")
+        notes.append(
+            f"comments tell more than {MOST_COLUMNS} other columns, or {MOST_CELLS} cells of "
+            "these: "
+            "none is kept"
+        )
     begin = 0 if text.startswith(LEFT_OUT.encode()) else text.find(b"\n" + LEFT_OUT.encode()) + 1
     if begin or text.startswith(LEFT_OUT.encode()):
-        titles = text[begin + len(LEFT_OUT) : begin + len(LEFT_OUT) + LONGEST_NOTE].partition(b"\n")[0].decode(errors="replace")
-        notes.append(f"other columns of the table were left out when this problem was written: {titles}")
+        titles = (
+            text[begin + len(LEFT_OUT) : begin + len(LEFT_OUT) + LONGEST_NOTE]
+            .partition(b"\n")[0]
+            .decode(errors="replace")
+        )
+        notes.append(
+            f"other columns of the table were left out when this problem was written: {titles}"
+        )
     return notes
 
 
 def extra_in(text: bytes) -> Extra:
-    """The columns that the comments of a problem's text tell. Of two that say the same thing the first counts. Raises nothing."""
+    """The columns that the comments of a problem's text tell. Of two that say the same thing the
+    first counts. Raises nothing."""
     if _is_too_much(text):
         return Extra()
     titles: dict[int, str] = {}
@@ -139,13 +156,24 @@ def extra_in(text: bytes) -> Extra:
 
 
 def extra_of(table: Table, ways: int = 1) -> Extra:
-    """The columns of a table of arcs that are read for nothing, also where one has a usual title of places and arcs have something in it. A
-    table that the desk wrote has some that it writes again; they are none of these. Reads the table once more. Raises a `TableFault` if a
-    quote or a byte in it is wrong."""
+    """The columns of a table of arcs that are read for nothing, also where one has a usual title of
+    places and arcs have something in it. A table that the desk wrote has some that it writes again;
+    they are none of these. Reads the table once more. Raises a `TableFault` if a quote or a byte in
+    it is wrong."""
     layout, is_raw = table.layout, table.is_raw
     # A column without a title, or with one of places, counts if it has something.
-    doubtful = [*_of_places(layout), *(place for place, title in enumerate(layout.titles) if not title.text and place not in layout.at.values())]
-    titles = {place: text_in(layout.titles[place].text, is_raw=is_raw) for place in (*layout.others(), *doubtful)} | dict.fromkeys(table.others, "")
+    doubtful = [
+        *_of_places(layout),
+        *(
+            place
+            for place, title in enumerate(layout.titles)
+            if not title.text and place not in layout.at.values()
+        ),
+    ]
+    titles = {
+        place: text_in(layout.titles[place].text, is_raw=is_raw)
+        for place in (*layout.others(), *doubtful)
+    } | dict.fromkeys(table.others, "")
     for place in _written(layout):
         del titles[place]
     columns: dict[int, list[str]] = {place: [] for place in sorted(titles)}
@@ -153,7 +181,7 @@ def extra_of(table: Table, ways: int = 1) -> Extra:
     next_line = next(wanted, 0)
     for rows in table.sheet.read() if titles else ():
         for line, row in zip(*rows):
-            if line == next_line:
+            while line == next_line:
                 next_line = next(wanted, 0)
                 for place, column in columns.items():
                     column.append(text_in(row[place], is_raw=is_raw) if place < len(row) else "")

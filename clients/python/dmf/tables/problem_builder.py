@@ -1,12 +1,15 @@
-"""From tables to a network: nodes by the names of places, several sources and sinks, and limits of places.
+"""From tables to a network: nodes by the names of places, several sources and sinks, and limits of
+places.
 
-Nodes are numbered in the order in which their places come in the table, and arcs in the order of their rows. After them stand inner
-nodes and arcs, which are not of the table:
+Nodes are numbered in the order in which their places come in the table, and arcs in the order of
+their rows. After them stand inner nodes and arcs, which are not of the table:
 
-- the second half of each place with a limit, which has the same name. Arcs into the place enter its first half, arcs out of it leave
-its second half, and the arc between them, `limit of Depot`, carries the limit;
-- a node before several sources, `all sources`, with an arc to each, `supply of Mill`; one after several sinks, `all sinks`,
-  with an arc from each, `demand of Town`. These carry as much as the arcs at the place, or the limit of the source or the sink.
+- the second half of each place with a limit, which has the same name. Arcs into the place enter its
+  first half, arcs out of it leave its second half, and the arc between them, `limit of Depot`,
+  carries the limit;
+- a node before several sources, `all sources`, with an arc to each, `supply of Mill`; one after
+  several sinks, `all sinks`, with an arc from each, `demand of Town`. These carry as much as the
+  arcs at the place, or the limit of the source or the sink.
 """
 
 from __future__ import annotations
@@ -26,15 +29,16 @@ from ..text.lexical import AMOUNTS, NODES
 from ..text.spelling import cleaned, near, quoted_name
 from ..text.table_comments import SINKS, SOURCES, Role, TableComments, table_comments
 from .arcs_and_places import Heading, Term
-from .headings import ARCS, DEMAND, LIMIT, PLACE_COLUMNS, SUPPLY
+from .headings import ARCS, PLACE_COLUMNS
 from .other_columns import Extra
 from .readers import Table
-from .sheet import Faults
+from .sheet import MOST_FAULTS, Faults
+from .titles import DEMAND, LIMIT, SUPPLY
 
 
 def ends_alone(tails: Sequence[int], heads: Sequence[int]) -> tuple[list[int], list[int]]:
-    """The places that arcs leave and none enters, and those that arcs enter and none leaves, in the order of the arcs. Arcs from a place to
-    itself do not count."""
+    """The places that arcs leave and none enters, and those that arcs enter and none leaves, in the
+    order of the arcs. Arcs from a place to itself do not count."""
     np = numpy_for(len(tails))
     if np is not None and isinstance(tails, array) and isinstance(heads, array):
         left, entered = (np.frombuffer(column, column.typecode) for column in (tails, heads))
@@ -44,7 +48,9 @@ def ends_alone(tails: Sequence[int], heads: Sequence[int]) -> tuple[list[int], l
     if any(map(eq, tails, heads)):
         tails, heads = (list(compress(column, map(ne, tails, heads))) for column in (tails, heads))
     first, last = dict.fromkeys(tails), dict.fromkeys(heads)
-    return [place for place in first if place not in last], [place for place in last if place not in first]
+    return [place for place in first if place not in last], [
+        place for place in last if place not in first
+    ]
 
 
 def _without(np: Any, places: Any, others: Any) -> list[int]:
@@ -63,10 +69,10 @@ KINDS = {SUPPLY: "source", DEMAND: "sink"}
 
 @dataclass
 class NetworkTables:
-    """What a network is made of: the arcs of a table, and what is said of its places. `both_ways` makes two opposite arcs of each row.
-    `scale` is what numbers are multiplied by; without one it is the least power of ten that makes all of them whole. `headings` are the
-    first rows of tables of places that were read as titles. `notes` say what was taken for
-    granted."""
+    """What a network is made of: the arcs of a table, and what is said of its places. `both_ways`
+    makes two opposite arcs of each row. `scale` is what numbers are multiplied by; without one it
+    is the least power of ten that makes all of them whole. `headings` are the first rows of tables
+    of places that were read as titles. `notes` say what was taken for granted."""
 
     arcs: Table
     terms: list[Term] = field(default_factory=list)
@@ -90,7 +96,12 @@ class NetworkTables:
     def measure(self) -> Measure:
         """How whole numbers stand for the table's."""
         amounts = self.arcs.amounts
-        most = max([amounts.decimals, *(decimals(term.quantity) for term in self.terms if term.quantity is not None)])
+        most = max(
+            [
+                amounts.decimals,
+                *(decimals(term.quantity) for term in self.terms if term.quantity is not None),
+            ]
+        )
         scale = Decimal(10) ** most if self.scale is None else self.scale
         table = "" if self.arcs.path.startswith("/dev/") else self.arcs.path.rpartition("/")[2]
         return Measure(scale, amounts.unit, table, amounts.sign if amounts.sign == COMMA else "")
@@ -98,9 +109,9 @@ class NetworkTables:
 
 @dataclass
 class BuiltProblem:
-    """A network of a table, by numbers from 1 on: the names of the nodes, of which `place_count` are places; the ends and capacities of
-    the arcs, of which `row_count` are of rows, `ways` of each; the names of the rows, if they have any, and of the other arcs; and what is
-    said of it."""
+    """A network of a table, by numbers from 1 on: the names of the nodes, of which `place_count`
+    are places; the ends and capacities of the arcs, of which `row_count` are of rows, `ways` of
+    each; the names of the rows, if they have any, and of the other arcs; and what is said of it."""
 
     node_names: list[str]
     tails: array[int]
@@ -118,7 +129,12 @@ class BuiltProblem:
     def row_names(self) -> dict[int, str]:
         """The names of the arcs of rows that have one, by number."""
         ways = range(1, self.ways + 1)
-        return {self.ways * row + way: name for row, name in enumerate(self.labels) if name for way in ways}
+        return {
+            self.ways * row + way: name
+            for row, name in enumerate(self.labels)
+            if name
+            for way in ways
+        }
 
 
 def too_much(measure: Measure) -> str:
@@ -126,8 +142,8 @@ def too_much(measure: Measure) -> str:
 
 
 def check(plan: NetworkTables) -> None:
-    """Raises a `TableFault` with all that is said of what is no place, twice, or of a source that is a sink too; and if a first row that
-    was read as titles has the name of a place."""
+    """Raises a `TableFault` with all that is said of what is no place, twice, or of a source that
+    is a sink too; and if a first row that was read as titles has the name of a place."""
     _refuse_dropped(plan)
     places = plan.arcs.places
     faults: list[TableFault] = []
@@ -136,17 +152,31 @@ def check(plan: NetworkTables) -> None:
         kind = KINDS.get(term.kind, "")
         said = f"the {kind} {quoted_name(term.place)}"
         if term.place not in places:
-            told = f"{said} is in no row of arcs" if kind else f"no arc has the place {quoted_name(term.place)}"
+            told = (
+                f"{said} is in no row of arcs"
+                if kind
+                else f"no arc has the place {quoted_name(term.place)}"
+            )
             faults.append(TableFault(told + near(term.place, places), term.line, term.path))
         elif first := known.get((term.kind, term.place)):
-            told = f"{said} is named twice" if kind else f"{quoted_name(term.place)} has a limit in line {first.line} already"
+            told = (
+                f"{said} is named twice"
+                if kind
+                else f"{quoted_name(term.place)} has a limit in line {first.line} already"
+            )
             faults.append(TableFault(told, term.line, term.path))
         elif term.kind == DEMAND and (SUPPLY, term.place) in known:
-            faults.append(TableFault(f"source and sink are the same: {quoted_name(term.place)}", term.line, term.path))
+            faults.append(
+                TableFault(
+                    f"source and sink are the same: {quoted_name(term.place)}", term.line, term.path
+                )
+            )
         known.setdefault((term.kind, term.place), term)
     if faults:
         first_fault, *others = faults
-        first_fault.others, first_fault.untold = others[:19], max(0, len(others) - 19)
+        first_fault.others, first_fault.untold = others[: MOST_FAULTS - 1], max(
+            0, len(others) - MOST_FAULTS + 1
+        )
         raise first_fault
 
 
@@ -154,12 +184,18 @@ def _refuse_dropped(plan: NetworkTables) -> None:
     """Refuses a first row that was read as titles, if it has the name of a place."""
     table = plan.arcs
     at = table.layout.at
-    if table.heading and any(table.heading[at[column]] in table.places for column in ("tail", "head")):
+    if table.heading and any(
+        table.heading[at[column]] in table.places for column in ("tail", "head")
+    ):
         cell = table.heading[at["capacity"]]
-        raise table.fault(f"the capacity {quoted_name(cell)} is no number{ARCS.hint}", table.layout.line)
+        raise table.fault(f"{quoted_name(cell)} is not a number{ARCS.hint}", table.layout.line)
     for heading in plan.headings:
         if heading.place in table.places:
-            raise TableFault(f"the {heading.kind} {quoted_name(heading.amount)} is no number", heading.line, heading.path)
+            raise TableFault(
+                f"{quoted_name(heading.amount)} is not a number",
+                heading.line,
+                heading.path,
+            )
 
 
 class _Maker:
@@ -199,9 +235,17 @@ class _Maker:
 
     def whole(self, term: Term, quantity: Decimal) -> int:
         try:
-            return self.measure.whole(quantity) if self.plan.scale is None else _whole(quantity, self.plan.scale)
+            return (
+                self.measure.whole(quantity)
+                if self.plan.scale is None
+                else _whole(quantity, self.plan.scale)
+            )
         except QuantityFault as fault:
-            raise TableFault(f"the {term.kind} {plain_text(quantity)!r} of {quoted_name(term.place)} {fault}", term.line, term.path) from None
+            raise TableFault(
+                f"the {term.kind} {plain_text(quantity)!r} of {quoted_name(term.place)} {fault}",
+                term.line,
+                term.path,
+            ) from None
 
     def split(self) -> None:
         """Splits the nodes of the places with limits."""
@@ -213,7 +257,7 @@ class _Maker:
     def add_rows(self) -> None:
         """Adds the arcs of the rows."""
         table = self.plan.arcs
-        faults = Faults(table.path)
+        faults = Faults(table.path, [title.text for title in table.layout.titles])
         wholes = table.amounts.wholes(self.measure, faults)
         faults.judge()
         tails: Sequence[int] = table.tails
@@ -241,22 +285,33 @@ class _Maker:
         for term in self.plan.of_kind(LIMIT):
             first = self.place(term)
             limit = self.whole(term, term.quantity or Decimal(0))
-            self.add_arc(first, self.exits[first], limit, f"limit of {term.place}", Role(LIMIT, first))
+            self.add_arc(
+                first, self.exits[first], limit, f"limit of {term.place}", Role(LIMIT, first)
+            )
             if self.total > LARGEST:
                 raise TableFault(too_much(self.measure), term.line, term.path)
 
     def unused_name(self, name: str) -> str:
         """A name for a node that no other has."""
         names = set(self.node_names)
-        return next(it for it in (name, *(f"{name} {count}" for count in range(2, len(names) + 3))) if it not in names)
+        return next(
+            it
+            for it in (name, *(f"{name} {count}" for count in range(2, len(names) + 3)))
+            if it not in names
+        )
 
     def join(self, kind: str) -> int:
-        """The source of the problem, or its sink: its only node, or a node that is joined to each of several."""
+        """The source of the problem, or its sink: its only node, or a node that is joined to each
+        of several."""
         terms, is_source = self.plan.of_kind(kind), kind == SUPPLY
         if len(terms) == 1 and terms[0].quantity is None:
             place = self.place(terms[0])
             return place if is_source else self.exit(place)
-        unlimited = {self.exit(self.place(term)) if is_source else self.place(term): 0 for term in terms if term.quantity is None}
+        unlimited = {
+            self.exit(self.place(term)) if is_source else self.place(term): 0
+            for term in terms
+            if term.quantity is None
+        }
         if unlimited:
             for end, capacity in zip(self.tails if is_source else self.heads, self.capacities):
                 if end in unlimited:
@@ -268,7 +323,9 @@ class _Maker:
             inner, outer = (self.exit(place), place) if is_source else (place, self.exit(place))
             most = unlimited[inner] if term.quantity is None else self.whole(term, term.quantity)
             ends = (joint, outer) if is_source else (outer, joint)
-            self.add_arc(*ends, most, f"{kind} of {term.place}", Role(kind, place, term.quantity is None))
+            self.add_arc(
+                *ends, most, f"{kind} of {term.place}", Role(kind, place, term.quantity is None)
+            )
         return joint
 
     def net(self) -> BuiltProblem:
@@ -279,14 +336,19 @@ class _Maker:
         self.add_limits()
         source, sink = self.join(SUPPLY), self.join(DEMAND)
         if self.total > LARGEST:
-            raise TableFault(f"with the arcs at the sources and the sinks {too_much(self.measure)}; --source NAME=LIMIT limits one")
+            raise TableFault(
+                f"with the arcs at the sources and the sinks {too_much(self.measure)}; --source "
+                "NAME=LIMIT limits one"
+            )
         if len(self.node_names) > MOST_NODES or len(self.tails) > MOST_ARCS:
             raise TableFault(f"more than {MOST_NODES} nodes or {MOST_ARCS} arcs")
         described = TableComments(self.measure, self.joints, self.halves, self.roles)
         place_count = len(self.plan.arcs.places)
         columns = self.tails, self.heads, self.capacities
         names = self.plan.arcs.labels, 1 + self.plan.both_ways, self.inner_names
-        return BuiltProblem(self.node_names, *columns, *names, described, source, sink, place_count, row_count)
+        return BuiltProblem(
+            self.node_names, *columns, *names, described, source, sink, place_count, row_count
+        )
 
 
 def _whole(quantity: Decimal, scale: Decimal) -> int:
@@ -294,7 +356,9 @@ def _whole(quantity: Decimal, scale: Decimal) -> int:
     (number, over), (scaled, under) = quantity.as_integer_ratio(), scale.as_integer_ratio()
     whole, rest = divmod(number * scaled, over * under)
     if rest:
-        raise QuantityFault(f"times {scale:f} is no whole number; --scale {10 ** decimals(quantity)}?")
+        raise QuantityFault(
+            f"times {scale:f} is not a whole number; --scale {10 ** decimals(quantity)}?"
+        )
     if whole > LARGEST:
         raise QuantityFault(f"times {scale:f} is past {LARGEST}")
     return whole
@@ -303,11 +367,35 @@ def _whole(quantity: Decimal, scale: Decimal) -> int:
 def net_of(plan: NetworkTables) -> BuiltProblem:
     """The network of a plan. Raises a `TableFault`."""
     check(plan)
-    return _Maker(plan, plan.measure).net()
+    net = _Maker(plan, plan.measure).net()
+    if plan.arcs.unlimited:
+        _judge_unlimited(plan, net)
+    return net
+
+
+def _judge_unlimited(plan: NetworkTables, net: BuiltProblem) -> None:
+    """Raises a `TableFault` if a way leads from the source to the sink over arcs alone whose
+    capacity is missing and was read as unlimited: then nothing limits what can be sent."""
+    ways = range(1, net.ways + 1)
+    numbers = [net.ways * row + way for row in plan.arcs.unlimited for way in ways]
+    numbers += [number for number, role in net.described.roles.items() if role.is_unlimited]
+    heads: dict[int, list[int]] = {}
+    for number in numbers:
+        heads.setdefault(net.tails[number - 1], []).append(net.heads[number - 1])
+    seen, left = {net.source}, [net.source]
+    while left:
+        new = {*heads.get(left.pop(), ())} - seen
+        seen |= new
+        left += new
+    if net.sink in seen:
+        ends = " to ".join(quoted_name(net.node_names[end - 1]) for end in (net.source, net.sink))
+        why = "all capacities of a way are missing, and are read as unlimited"
+        raise plan.arcs.fault(f"nothing limits what can be sent from {ends}: {why}")
 
 
 def term_of(kind: str, word: str, table: Table) -> Term:
-    """The source or the sink that a word names: a place, or a place, `=` and its limit. Raises a `TableFault`."""
+    """The source or the sink that a word names: a place, or a place, `=` and its limit. Raises a
+    `TableFault`."""
     name = cleaned(word)
     place, equals, limit = name.rpartition("=")
     if name in table.places or not equals or place.rstrip() not in table.places:
@@ -318,7 +406,9 @@ def term_of(kind: str, word: str, table: Table) -> Term:
             raise QuantityFault("is below 0")
         return Term(kind, place.rstrip(), quantity)
     except QuantityFault as fault:
-        raise TableFault(f"the limit {quoted_name(limit.strip())} of {quoted_name(place.rstrip())} {fault}") from None
+        raise TableFault(
+            f"the limit {quoted_name(limit.strip())} of {quoted_name(place.rstrip())} {fault}"
+        ) from None
 
 
 # How many lines are made at once.
@@ -328,14 +418,28 @@ PIECE = 1 << 11
 def problem_text(net: BuiltProblem, extra: Extra = Extra()) -> str:
     """The problem, with what it is, its names and these columns in comments."""
     names = (f"c node {number} {name}\n" for number, name in enumerate(net.node_names, 1))
-    arc_names = (f"c arc {number} {name}\n" for named in (net.row_names(), net.inner_names) for number, name in named.items())
+    arc_names = (
+        f"c arc {number} {name}\n"
+        for named in (net.row_names(), net.inner_names)
+        for number, name in named.items()
+    )
     head = f"p max {len(net.node_names)} {len(net.tails)}\nn {net.source} s\nn {net.sink} t\n"
-    return "".join(chain([table_comments(net.described)], names, arc_names, [extra.comments(range(1, net.row_count + 1)), head], _arc_lines(net)))
+    return "".join(
+        chain(
+            [table_comments(net.described)],
+            names,
+            arc_names,
+            [extra.comments(range(1, net.row_count + 1)), head],
+            _arc_lines(net),
+        )
+    )
 
 
 def _arc_lines(net: BuiltProblem) -> Iterator[str]:
     for begin in range(0, len(net.tails), PIECE):
-        columns = [column[begin : begin + PIECE] for column in (net.tails, net.heads, net.capacities)]
+        columns = [
+            column[begin : begin + PIECE] for column in (net.tails, net.heads, net.capacities)
+        ]
         count = len(columns[0])
         numbers = [0] * (3 * count)
         for place, column in enumerate(columns):

@@ -1,4 +1,5 @@
-"""Networks of problems in files: read in the numbers of the problem, or of the table that it tells of."""
+"""Networks of problems in files: read in the numbers of the problem, or of the table that it tells
+of."""
 
 from __future__ import annotations
 
@@ -24,16 +25,22 @@ if TYPE_CHECKING:
     from .table_network import TableNetwork
 
 
-def read(path: FilePath, *, program: Program = None, history: int | None = None) -> Network[int | str]:
-    """The network of a problem's file in the DIMACS format, which is read once. Its nodes are the numbers from 1 on. A comment
-    `c node 3 Reservoir` gives a node its name, if no other node has the same. A comment `c arc 5 Mill Street` gives the key of an arc.
-    `program` and `history` are those of `Network`. If comments say what the numbers stand for in the table that the problem was made of, or
-    which nodes and arcs are not of that table, it is a `TableNetwork`, in the table's numbers, of its places alone.
+def read(
+    path: FilePath, *, program: Program = None, history: int | None = None
+) -> Network[int | str]:
+    """The network of a problem's file in the DIMACS format, which is read once. Its nodes are the
+    numbers from 1 on. A comment `c node 3 Reservoir` gives a node its name, if no other node has
+    the same. A comment `c arc 5 Mill Street` gives the key of an arc. `program` and `history` are
+    those of `Network`. If comments say what the numbers stand for in the table that the problem was
+    made of, or which nodes and arcs are not of that table, it is a `TableNetwork`, in the table's
+    numbers, of its places alone.
 
-    A picture or a report that dmf-plan or dmf-board wrote carries such a problem, and is read as it.
+    A picture or a report that dmf-plan or dmf-board wrote carries such a problem, and is read as
+    it.
 
-    Raises a `Refused` with the number of the line if the file has a fault, a `TableFault` if only a part is left of what a picture carries, an
-    OSError if it cannot be read, and what `Network` raises.
+    Raises a `Refused` with the number of the line if the file has a fault, a `TableFault` if only a
+    part is left of what a picture carries, an OSError if it cannot be read, and what `Network`
+    raises.
     """
     most = bound(history)
     with open(os.fspath(path), "rb") as file:
@@ -46,14 +53,17 @@ def read(path: FilePath, *, program: Program = None, history: int | None = None)
 
 
 def whole_network(text: bytes, *, program: Program = None) -> Network[int | str]:
-    """The network of a problem's text as the program has it, with all its nodes and arcs and in its whole numbers, whatever comments say of
-    a table. The two nodes of a place with a limit have one name, so they keep their numbers. Raises what `read` raises."""
+    """The network of a problem's text as the program has it, with all its nodes and arcs and in its
+    whole numbers, whatever comments say of a table. The two nodes of a place with a limit have one
+    name, so they keep their numbers. Raises what `read` raises.
+    """
     return _whole(_opened(text, program, bound(None)))
 
 
 @dataclass
 class Opened:
-    """A problem that a session has read: the session, the text, its nodes and arcs, and the most changes that can be undone."""
+    """A problem that a session has read: the session, the text, its nodes and arcs, and the most
+    changes that can be undone."""
 
     session: Session
     text: bytes
@@ -69,13 +79,15 @@ class Opened:
         return _of(self.node_count, names_in(naming_pieces(self.text, NODE), NODE))
 
     def arc_names(self) -> Callable[[], dict[int, Hashable]]:
-        """What reads the names that comments give to arcs, by number. It keeps of the text what has them."""
+        """What reads the names that comments give to arcs, by number. It keeps of the text what has
+        them."""
         count, pieces = len(self.tails), naming_pieces(self.text, ARC)
         return lambda: {**_of(count, names_in(pieces, ARC))}
 
 
 def _opened(text: bytes, program: Program, most: int) -> Opened:
-    # The session has this text: a pipe is empty by now, a file may have changed, and /dev/stdin is another file to a program.
+    # The session has this text: a pipe is empty by now, a file may have changed, and /dev/stdin is
+    # another file to a program.
     session = started_on(text, chosen(program), most)
     session.program = program
     head, *ends, arcs = session.problem().split(b"\n", 3)
@@ -83,7 +95,9 @@ def _opened(text: bytes, program: Program, most: int) -> Opened:
     source, sink = (int(line.split()[1]) for line in ends)
     tails, heads, capacities = array(NODES), array(NODES), array(AMOUNTS)
     for piece in pieces_of(arcs):
-        for column, more in zip((tails, heads, capacities), read_lines(piece, numpy_for(arc_count))):
+        for column, more in zip(
+            (tails, heads, capacities), read_lines(piece, numpy_for(arc_count))
+        ):
             column.extend(more)
     return Opened(session, text, node_count, (source, sink), tails, heads, capacities, most)
 
@@ -91,11 +105,15 @@ def _opened(text: bytes, program: Program, most: int) -> Opened:
 def _whole(problem: Opened) -> Network[int | str]:
     """The network of a problem. The names of its arcs are read when one is first needed."""
     named = unique(problem.node_names())
-    nodes: dict[int | str, int] = {named.get(number, number): number for number in range(1, problem.node_count + 1)}
+    nodes: dict[int | str, int] = {
+        named.get(number, number): number for number in range(1, problem.node_count + 1)
+    }
     names = list(nodes)
     source, sink = problem.ends
     columns = Columns(nodes, problem.tails, problem.heads, problem.arc_names())
-    kept = NetworkState(columns, problem.capacities, names[source - 1], names[sink - 1], problem.most)
+    kept = NetworkState(
+        columns, problem.capacities, names[source - 1], names[sink - 1], problem.most
+    )
     kept.described = described(problem.text)
     network: Network[int | str] = Network.__new__(Network)
     network._begin(problem.session, kept)
@@ -119,14 +137,25 @@ def _of(count: int, names: dict[int, str]) -> dict[int, str]:
 
 
 def network_of_problem(problem: Opened, said: TableComments) -> TableNetwork:
-    """The network of a problem of whose table its comments say this. Which arcs are of the table is told by their ends, as in all tools."""
+    """The network of a problem of whose table its comments say this. Which arcs are of the table is
+    told by their ends, as in all tools."""
     from ..session.runners import start
     from .other_columns import extra_in, left_out
     from .table_network import TableNetwork
 
-    said = renumbered(said, zip(problem.tails, problem.heads)) if said.joints or said.halves else replace(said, roles={})
+    said = (
+        renumbered(said, zip(problem.tails, problem.heads))
+        if said.joints or said.halves
+        else replace(said, roles={})
+    )
     given = problem.node_names()
-    named = unique({number: name for number, name in given.items() if number not in said.joints and number not in said.halves})
+    named = unique(
+        {
+            number: name
+            for number, name in given.items()
+            if number not in said.joints and number not in said.halves
+        }
+    )
     numbers: dict[Any, int] = {}
     for number in range(1, problem.node_count + 1):
         is_inner = number in said.joints or number in said.halves
@@ -136,11 +165,17 @@ def network_of_problem(problem: Opened, said: TableComments) -> TableNetwork:
     read = problem.arc_names()
     arc_names = read() if said.roles else {}
     inner = {number: str(arc_names[number]) for number in said.roles if number in arc_names}
-    keys = {number: name for number, name in arc_names.items() if number not in inner} if said.roles else read
+    keys = (
+        {number: name for number, name in arc_names.items() if number not in inner}
+        if said.roles
+        else read
+    )
     columns = FoldedColumns(numbers, problem.tails, problem.heads, keys, said, inner)
     capacities = with_room(problem.capacities, said)
     source, sink = problem.ends
-    kept: NetworkState[Any] = NetworkState(columns, capacities, names[source - 1], names[sink - 1], problem.most)
+    kept: NetworkState[Any] = NetworkState(
+        columns, capacities, names[source - 1], names[sink - 1], problem.most
+    )
     session = problem.session
     if capacities is not problem.capacities:
         session.end()

@@ -2,6 +2,7 @@
 
 from __future__ import annotations
 
+import sys
 import unicodedata
 from array import array
 from collections import defaultdict
@@ -14,15 +15,17 @@ from ..errors import TableFault
 from ..text.lexical import NODES
 from ..text.spelling import cleaned, quoted_name
 from .amount_columns import Amounts
+from .column_finder import layout_of
 from .headings import Form, Layout, unit_of
-from .sheet import Faults, Rows, Sheet, is_blank, name_in
+from .sheet import SAMPLE, Faults, Rows, Sheet, is_blank, name_in
 
 # The most characters of a cell. A longer one mostly has a quote that is not closed.
 LONGEST_CELL = 131_072
 
 
 def name_of(cell: str, *, is_raw: bool = False) -> str:
-    """The name in a cell. Raises a ValueError if it has a control character, or half a character."""
+    """The name in a cell. Raises a ValueError if it has a control character, or half a
+    character."""
     name = cleaned(name_in(cell.strip(), is_raw=is_raw))
     for letter in name if not name.isprintable() else "":
         if unicodedata.category(letter) in ("Cc", "Cs"):
@@ -31,7 +34,8 @@ def name_of(cell: str, *, is_raw: bool = False) -> str:
 
 
 def are_plain(text: str, count: int) -> bool:
-    """Whether each of so many cells, which a text has one below the other, is a name as it stands, or empty."""
+    """Whether each of so many cells, which a text has one below the other, is a name as it stands,
+    or empty."""
     lines = f"\n{text}\n"
     if lines.count("\n") != count + 1 or any(odd in lines for odd in ("  ", "\n ", " \n", "\n'")):
         return False
@@ -39,12 +43,17 @@ def are_plain(text: str, count: int) -> bool:
 
 
 def _has_long(lines: str) -> bool:
-    """Whether one of the lines between the ends of lines is longer than a cell may be. Each such line goes past one of these places."""
-    return any(lines.find("\n", at) - lines.rfind("\n", 0, at) > LONGEST_CELL + 1 for at in range(LONGEST_CELL, len(lines), LONGEST_CELL))
+    """Whether one of the lines between the ends of lines is longer than a cell may be. Each such
+    line goes past one of these places."""
+    return any(
+        lines.find("\n", at) - lines.rfind("\n", 0, at) > LONGEST_CELL + 1
+        for at in range(LONGEST_CELL, len(lines), LONGEST_CELL)
+    )
 
 
 class Numbers:
-    """The number of the place that each cell names; 0 if it names none. A new place gets the next number."""
+    """The number of the place that each cell names; 0 if it names none. A new place gets the next
+    number."""
 
     def __init__(self, is_raw: bool) -> None:
         self.is_raw = is_raw
@@ -52,7 +61,8 @@ class Numbers:
         self._places: defaultdict[str, int] = defaultdict(count(1).__next__)
         # The numbers of cells that are not the name of a place as it stands.
         self._odd: dict[str, int] = {}
-        # For each name the first cell that writes it, where cells differ; and the first that does so in another way (see `Table`).
+        # For each name the first cell that writes it, where cells differ; and the first that does
+        # so in another way (see `Table`).
         self.spellings: dict[str, str] = {}
         self.respelled: dict[str, str] = {}
         # What `numpy_rows` knows of the cells that were looked up.
@@ -65,7 +75,11 @@ class Numbers:
 
     def of(self, cells: list[str]) -> list[int] | None:
         """The numbers of these cells; None, and nothing is noted, if one names no place."""
-        if are_plain("\n".join(cells), len(cells)) and "" not in cells and self.spellings.keys().isdisjoint(cells):
+        if (
+            are_plain("\n".join(cells), len(cells))
+            and "" not in cells
+            and self.spellings.keys().isdisjoint(cells)
+        ):
             return list(map(self._places.__getitem__, cells))
         noted: list[dict[str, Any]] = [self._places, self._odd, self.spellings, self.respelled]
         sizes = list(map(len, noted))
@@ -109,12 +123,18 @@ class Numbers:
 
 @dataclass(frozen=True)
 class ReadOptions:
-    """How a table is read: `titles` has the title of each column that was named, by the column; `sign` is the decimal sign, if it was
-    given; `raw_names` says that no apostrophe protects a name."""
+    """How a table is read: `titles` has the title of each column that was named, by the column;
+    `sign` is the decimal sign, if it was given; `raw_names` says that no apostrophe protects a
+    name; `missing` is what a capacity that is not there is read as: `0` or `unlimited`;
+    `ignored` has the titles of columns that are read for nothing; and `is_matrix` says that rows
+    are the places where arcs begin, and columns those where they end."""
 
     titles: Mapping[str, str] = field(default_factory=dict)
     sign: str = ""
     raw_names: bool = False
+    missing: str = ""
+    ignored: Sequence[str] = ()
+    is_matrix: bool = False
 
 
 class Said(NamedTuple):
@@ -127,11 +147,14 @@ class Said(NamedTuple):
 
 @dataclass
 class Table:
-    """The rows of a table of arcs: `places` has the number of each place, from 1 on, `tails` and `heads` those of each row, `labels`
-    the names of the rows, if there are any, and `lines` the lines in which they begin. `said` has the rows of places. `heading` is the
-    first row if it was read as titles although nobody named any, and `begins_bare` says that it was not. `respelled` has for each name
-    that the table also writes with other spaces one of these other ways. `is_raw` says that no apostrophe protects a name. `others` are
-    the columns that are read for nothing and have something, if there are no titles."""
+    """The rows of a table of arcs: `places` has the number of each place, from 1 on, `tails` and
+    `heads` those of each row, `labels` the names of the rows, if there are any, and `lines` the
+    lines in which they begin. `said` has the rows of places. `heading` is the first row if it was
+    read as titles although nobody named any, and `begins_bare` says that it was not. `respelled`
+    has for each name that the table also writes with other spaces one of these other ways. `is_raw`
+    says that no apostrophe protects a name. `others` are the columns that are read for nothing and
+    have something, if there are no titles. `states` has what each row is, by the column that says
+    it; `unlimited` are the rows whose capacity is missing and was read as without a limit."""
 
     sheet: Sheet
     layout: Layout
@@ -148,13 +171,16 @@ class Table:
     is_raw: bool = False
     others: set[int] = field(default_factory=set)
     notes: list[str] = field(default_factory=list)
+    states: dict[str, list[str]] = field(default_factory=dict)
+    unlimited: Sequence[int] = ()
 
     @property
     def path(self) -> str:
         return self.sheet.path
 
     def add_lines(self, lines: range) -> None:
-        """Takes in the lines of more rows. As long as no line is left out, a range has all of them."""
+        """Takes in the lines of more rows. As long as no line is left out, a range has all of
+        them."""
         if isinstance(self.lines, range) and (not self.lines or self.lines.stop == lines.start):
             self.lines = range(self.lines.start if self.lines else lines.start, lines.stop)
             return
@@ -173,7 +199,7 @@ class Reader:
         self.form = form
         self.layout = layout
         self.reading = reading
-        self.faults = Faults(sheet.path)
+        self.faults = Faults(sheet.path, [title.text for title in layout.titles])
         self.width = len(layout.titles) if layout.line else None
         self.heading = [title.text for title in layout.titles]
 
@@ -182,11 +208,13 @@ class Reader:
         raise NotImplementedError
 
     def column(self, place: int) -> str:
-        return next((f"the {column}" for column, at in self.layout.at.items() if at == place), "a cell")
+        return next(
+            (f"the {column}" for column, at in self.layout.at.items() if at == place), "a cell"
+        )
 
     def is_passed_over(self, line: int, row: list[str]) -> bool:
         """Whether a row is blank, the row of titles, or that row once more."""
-        if line == self.layout.line or is_blank(row):
+        if line < self.layout.begin or is_blank(row):
             return True
         return bool(self.heading) and [cleaned(cell) for cell in row] == self.heading
 
@@ -195,7 +223,10 @@ class Reader:
         before = self.faults.count
         for place, cell in enumerate(row):
             if len(cell) > LONGEST_CELL:
-                long = f"{self.column(place)} has {len(cell)} characters, and {LONGEST_CELL} are the most; is a quote not closed?"
+                long = (
+                    f"{self.column(place)} has {len(cell)} characters, and {LONGEST_CELL} are the "
+                    "most; is a quote not closed?"
+                )
                 self.faults.add(long, line, place + 1)
             elif self.width is not None and place >= self.width and cell.strip():
                 self.faults.add(f"{len(row)} columns, and {self.width} have titles", line)
@@ -207,7 +238,11 @@ class Reader:
         place = self.layout.at[column]
         cell = row[place] if place < len(row) else ""
         if not cleaned(cell):
-            count = f": the row has {len(row)} column{'s' * (len(row) != 1)}" if place >= len(row) else ""
+            count = (
+                f": the row has {len(row)} column{'s' * (len(row) != 1)}"
+                if place >= len(row)
+                else ""
+            )
             self.faults.add(f"no {column}{count}", line, place + 1)
             return ""
         try:
@@ -224,12 +259,25 @@ class Reader:
 def amounts_of(column: str, layout: Layout, path: str) -> Amounts:
     """An empty column of amounts, as a layout has it."""
     title = layout.title(column)
-    return Amounts(column, layout.at.get(column, -1) + 1, path, unit_of(title), named=bool(title.unit))
+    return Amounts(
+        column, layout.at.get(column, -1) + 1, path, unit_of(title), named=bool(title.unit)
+    )
 
 
-def first_rows(sheet: Sheet) -> Rows:
+def layout_of_sheet(
+    sheet: Sheet, form: Form, named: Mapping[str, str], ignored: Sequence[str] = ()
+) -> Layout:
+    """Where the columns of a sheet are. Raises a `TableFault`."""
+    layout = layout_of(first_rows(sheet), form, named, ignored)
+    if layout.is_by_numbers:
+        # A column without a cell so far may have numbers too.
+        layout = layout_of(first_rows(sheet, sys.maxsize), form, named, ignored)
+    return layout
+
+
+def first_rows(sheet: Sheet, most: int = SAMPLE) -> Rows:
     """The first rows of a sheet. Raises a `TableFault` if there is none."""
-    sample = sheet.sample()
+    sample = sheet.sample(most)
     if not sample.cells:
         for _ in sheet.read():
             # What is wrong with a quote or a byte is told here.

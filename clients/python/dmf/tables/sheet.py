@@ -1,12 +1,15 @@
-"""Tables of comma-separated values for spreadsheets: how names stand in their cells, and the table of the arcs of a plan.
+"""Tables of comma-separated values for spreadsheets: how names stand in their cells, and the table
+of the arcs of a plan.
 
-A spreadsheet runs a cell that begins with one of = + - @, a tab or an end of a line as a formula. So a name stands there with an
-apostrophe before it if such a character is its first, or the first after apostrophes. A reader takes one apostrophe off where one or
-more stand before such a character. So each name comes back as it was: `=a` is written `'=a`, `'=a` is written `''=a`, and `'a` stays.
-Names, and cells of other columns that are no numbers, are written and read in this way, so numbers stay numbers.
+A spreadsheet runs a cell that begins with one of = + - @, a tab or an end of a line as a formula.
+So a name stands there with an apostrophe before it if such a character is its first, or the first
+after apostrophes. A reader takes one apostrophe off where one or more stand before such a
+character. So each name comes back as it was: `=a` is written `'=a`, `'=a` is written `''=a`, and
+`'a` stays. Names, and cells of other columns that are no numbers, are written and read in this way,
+so numbers stay numbers.
 
-Numbers are those of the table that a problem was made of, and have its decimal sign. Where that is a comma, semicolons stand between
-cells, as spreadsheets write it then.
+Numbers are those of the table that a problem was made of, and have its decimal sign. Where that is
+a comma, semicolons stand between cells, as spreadsheets write it then.
 """
 
 from __future__ import annotations
@@ -25,23 +28,29 @@ from typing import Any, Optional, Protocol
 from ..errors import TableFault
 from ..quantity import COMMA, POINT, Measure, Quantity, plain_text, readings
 from ..text.lexical import NODES
+from ..text.spelling import quoted_name
 
-# How many faults are told.
-MOST_FAULTS = 20
+# How many faults are told in full; the others are counted.
+MOST_FAULTS = 5
 
 
 class Faults:
-    """The faults that were found in a table so far."""
+    """The faults that were found so far in a table, whose columns have these titles."""
 
-    def __init__(self, path: str) -> None:
+    def __init__(self, path: str, titles: Sequence[str] = ()) -> None:
         self.path = path
+        self.titles = titles
         self.count = 0
         self._first: list[TableFault] = []
 
-    def add(self, reason: str, line: int, column: int = 0) -> None:
+    def add(self, reason: str, line: int, column: int = 0, more_lines: Sequence[int] = ()) -> None:
         """Takes a fault in."""
         self.count += 1
-        self._first.append(TableFault(reason, line, self.path, column))
+        fault = TableFault(reason, line, self.path, column)
+        title = self.titles[column - 1] if 0 < column <= len(self.titles) else ""
+        fault.column_name = quoted_name(title) if title else ""
+        fault.more_lines = more_lines
+        self._first.append(fault)
         if len(self._first) > 2 * MOST_FAULTS:
             self._sort()
 
@@ -121,7 +130,8 @@ def number_cell(number: Quantity, measure: Measure) -> str:
 def lines(rows: Iterable[Sequence[object]], measure: Measure = Measure()) -> str:
     """The lines of a table with these cells."""
     written = _Lines()
-    # With this end of a line, a carriage return in a name is quoted; without quotes it would be read as the end of a line.
+    # With this end of a line, a carriage return in a name is quoted; without quotes it would be
+    # read as the end of a line.
     csv.writer(written, delimiter=delimiter(measure), lineterminator=_Lines.END).writerows(rows)
     return "".join(written.lines)
 
@@ -137,9 +147,10 @@ UNLIMITED = "x"
 PLAN_TITLES = {"number", "flow", "full", "in cut"}
 OPEN_NUMBER = re.compile("[1-9][0-9]{0,2}[.,][0-9]{3}")
 
-# What may stand between cells; how many rows are looked at before a table is read, and how many are read at once.
+# What may stand between cells; how many rows are looked at before a table is read, and how many are
+# read at once.
 DELIMITERS = ",;\t|"
-SAMPLE, PIECE = 20, 1 << 10
+SAMPLE, PIECE = 40, 1 << 10
 _SHOWN = Context(prec=15)
 
 
@@ -150,7 +161,8 @@ class Exact(str):
 
 
 def shown_number(text: str) -> str:
-    """The cell of a number with the 15 digits that a workbook shows. What is no number stays a text."""
+    """The cell of a number with the 15 digits that a workbook shows. What is not a number stays a
+    text."""
     number = _SHOWN.create_decimal(text)
     return Exact(plain_text(number)) if number.is_finite() else text
 
@@ -176,9 +188,15 @@ class AmountSink(Protocol):
 
 
 class Rows:
-    """Rows one below the other: the line in which each begins, and its cells as texts. Iterated over it is these two."""
+    """Rows one below the other: the line in which each begins, and its cells as texts. Iterated
+    over it is these two."""
 
-    def __init__(self, lines: Sequence[int], cells: Optional[list[list[str]]] = None, columns: Sequence[Sequence[str]] = ()) -> None:
+    def __init__(
+        self,
+        lines: Sequence[int],
+        cells: Optional[list[list[str]]] = None,
+        columns: Sequence[Sequence[str]] = (),
+    ) -> None:
         """Either the cells are given, or all columns, in which no cell is missing."""
         self.lines = lines
         self._cells = cells
@@ -199,7 +217,9 @@ class Rows:
         """The columns; where a row has no cell, that is empty."""
         if self._cells is None:
             return self._columns
-        return list(zip_longest(*self._cells, fillvalue="") if len(self.widths()) > 1 else zip(*self._cells))
+        return list(
+            zip_longest(*self._cells, fillvalue="") if len(self.widths()) > 1 else zip(*self._cells)
+        )
 
     def column(self, place: int) -> list[str]:
         """The cells of a column."""
@@ -218,8 +238,11 @@ class Rows:
         """The cells of a column, one below the other."""
         return "\n".join(self.column(place))
 
-    def numbered(self, places: tuple[int, int], numbers: PlaceSink) -> Optional[tuple[array[int], array[int]]]:
-        """The numbers of the places that the cells of these two columns name; None, and nothing is noted, if one names none."""
+    def numbered(
+        self, places: tuple[int, int], numbers: PlaceSink
+    ) -> Optional[tuple[array[int], array[int]]]:
+        """The numbers of the places that the cells of these two columns name; None, and nothing is
+        noted, if one names none."""
         columns = self.columns()
         cells = [""] * (2 * len(self))
         cells[0::2], cells[1::2] = (columns[place] for place in places)
@@ -249,12 +272,14 @@ class Rows:
 
 @dataclass(frozen=True)
 class Sheet:
-    """A table whose rows can be read again and again. `path` names it, with its sheet if it has one, and `notes` say what was taken for
-    granted."""
+    """A table whose rows can be read again and again. `path` names it, with its sheet if it has
+    one, `notes` say what was taken for granted, and `taken` says what was taken for what, if its
+    titles do not say it."""
 
     path: str
     read: Callable[[], Iterator[Rows]]
     notes: tuple[str, ...] = ()
+    taken: str = ""
 
     def sample(self, most: int = SAMPLE) -> Rows:
         """The first rows that are not blank. What is wrong with a quote is left for later."""
@@ -274,12 +299,14 @@ class Sheet:
 
 
 def is_blank(row: list[str]) -> bool:
-    """Whether a row has only white space or delimiters, since another delimiter may have been guessed."""
+    """Whether a row has only white space or delimiters, since another delimiter may have been
+    guessed."""
     return not any(cell and cell.strip(DELIMITERS + " ") and not cell.isspace() for cell in row)
 
 
 class Cells(Sequence[str]):
-    """Cells below each other, each of one line. They are a few texts until one is asked for, with no object for each."""
+    """Cells below each other, each of one line. They are a few texts until one is asked for, with
+    no object for each."""
 
     def __init__(self) -> None:
         self._texts: list[str] = []

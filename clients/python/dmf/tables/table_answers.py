@@ -1,4 +1,5 @@
-"""What the network of a table answers, in the numbers of the table, and its columns, in which some nodes and arcs are not of the table."""
+"""What the network of a table answers, in the numbers of the table, and its columns, in which some
+nodes and arcs are not of the table."""
 
 from __future__ import annotations
 
@@ -34,13 +35,20 @@ class InnerNode:
 
 
 class FoldedColumns(Columns[Any]):
-    """The arcs of a network of a table. A place with a limit has a node that arcs into it enter, which its name is the name of, and one
-    that arcs out of it leave. `inner_names` has the names of the arcs that are not of the table."""
+    """The arcs of a network of a table. A place with a limit has a node that arcs into it enter,
+    which its name is the name of, and one that arcs out of it leave. `inner_names` has the names of
+    the arcs that are not of the table."""
 
     described: TableComments
 
     def __init__(
-        self, numbers: Mapping[Any, int], tails: array[int], heads: array[int], keys: Any, described: TableComments, inner_names: Mapping[int, str]
+        self,
+        numbers: Mapping[Any, int],
+        tails: array[int],
+        heads: array[int],
+        keys: Any,
+        described: TableComments,
+        inner_names: Mapping[int, str],
     ) -> None:
         super().__init__(numbers, tails, heads, keys)
         self.described = described
@@ -48,15 +56,25 @@ class FoldedColumns(Columns[Any]):
         self.outlets = {first: second for second, first in described.halves.items()}
 
     def __reduce__(self) -> tuple[Any, ...]:
-        return FoldedColumns, (self.numbers, self.tails, self.heads, self.keys, self.described, self.inner_names)
+        return FoldedColumns, (
+            self.numbers,
+            self.tails,
+            self.heads,
+            self.keys,
+            self.described,
+            self.inner_names,
+        )
 
     def with_node(self, node: Any) -> FoldedColumns:
         numbers = {**self.numbers, node: len(self.numbers) + 1}
-        return FoldedColumns(numbers, self.tails, self.heads, lambda: self.keys, self.described, self.inner_names)
+        return FoldedColumns(
+            numbers, self.tails, self.heads, lambda: self.keys, self.described, self.inner_names
+        )
 
     @cached_property
     def names(self) -> list[Any]:
-        """The names of the nodes, in the order of their numbers; both nodes of a place have its name."""
+        """The names of the nodes, in the order of their numbers; both nodes of a place have its
+        name."""
         names = list(self.numbers)
         for second, first in self.described.halves.items():
             names[second - 1] = names[first - 1]
@@ -79,13 +97,21 @@ class FoldedColumns(Columns[Any]):
 
     def beside(self, role: Role) -> Iterable[int]:
         """The numbers of the arcs of the table that an unlimited source or sink is for."""
-        ends, node = (self.tails, self.outlets.get(role.node, role.node)) if role.kind == SUPPLY else (self.heads, role.node)
-        return (number for number in self.at(node) if ends[number - 1] == node and number not in self.described.roles)
+        ends, node = (
+            (self.tails, self.outlets.get(role.node, role.node))
+            if role.kind == SUPPLY
+            else (self.heads, role.node)
+        )
+        return (
+            number
+            for number in self.at(node)
+            if ends[number - 1] == node and number not in self.described.roles
+        )
 
 
 def with_room(capacities: array[int], described: TableComments) -> array[int]:
-    """The capacities where each source and each sink without a limit can carry what the arcs there may come to carry: as much more as
-    can be added to all capacities together."""
+    """The capacities where each source and each sink without a limit can carry what the arcs there
+    may come to carry: as much more as can be added to all capacities together."""
     unlimited = [number for number, role in described.roles.items() if role.is_unlimited]
     if not unlimited:
         return capacities
@@ -97,20 +123,32 @@ def with_room(capacities: array[int], described: TableComments) -> array[int]:
 
 
 class TableCut(Cut[str]):
-    """The smallest minimum cut of a table's network: beside the arcs, `terms` are the places whose supply, demand or limit is in it,
-    with how much that is. All numbers are the table's. A place is on the side of the source if what enters it is."""
+    """The smallest minimum cut of a table's network: beside the arcs, `terms` are the places whose
+    supply, demand or limit is in it, with how much that is. All numbers are the table's. A place is
+    on the side of the source if what enters it is.
+    """
 
-    def __init__(self, capacity: Any, side: frozenset[str], arcs: tuple[Arc[str], ...], nodes: list[str], terms: tuple[Term, ...]) -> None:
+    def __init__(
+        self,
+        capacity: Any,
+        side: frozenset[str],
+        arcs: tuple[Arc[str], ...],
+        nodes: list[str],
+        terms: tuple[Term, ...],
+    ) -> None:
         super().__init__(capacity, side, arcs, nodes)
         self.terms = terms
 
     def __repr__(self) -> str:
-        return f"TableCut(capacity={self.capacity!r}, side={self.side!r}, arcs={self.arcs!r}, terms={self.terms!r})"
+        return (
+            f"TableCut(capacity={self.capacity!r}, side={self.side!r}, arcs={self.arcs!r}, "
+            f"terms={self.terms!r})"
+        )
 
 
 def whole_of(measure: Measure, quantity: Any, at: object) -> int:
-    """The whole number of a quantity, which may be a number of any kind, or a text as a table has it. Raises `NotANumber`, whose message
-    says that it stands in `at`, and why it is none."""
+    """The whole number of a quantity, which may be a number of any kind, or a text as a table has
+    it. Raises `NotANumber`, whose message says that it stands in `at`, and why it is none."""
     try:
         if isinstance(quantity, str):
             return measure.whole(number_in(quantity, measure.sign))
@@ -122,7 +160,8 @@ def whole_of(measure: Measure, quantity: Any, at: object) -> int:
 
 
 class TableSolution(Solution[str]):
-    """A flow of a table's network, in the numbers of the table: ints if its measure has no decimals, else Decimals."""
+    """A flow of a table's network, in the numbers of the table: ints if its measure has no
+    decimals, else Decimals."""
 
     def __init__(self, flows: Any, measure: Measure, inner: Collection[int]) -> None:
         super().__init__(flows)
@@ -142,7 +181,11 @@ class TableSolution(Solution[str]):
         return ((number, flow) for number, flow in pairs if number not in self._inner)
 
     def __iter__(self) -> Iterator[Arc[str]]:
-        return (self._flows.arcs.handle(number) for number in self._flows.arcs.numbers() if number not in self._inner)
+        return (
+            self._flows.arcs.handle(number)
+            for number in self._flows.arcs.numbers()
+            if number not in self._inner
+        )
 
     def __len__(self) -> int:
         return sum(number not in self._inner for number in self._flows.arcs.numbers())
@@ -153,7 +196,10 @@ class TableSolution(Solution[str]):
 
     def items(self) -> Any:
         """Each arc with its flow."""
-        return [(self._flows.arcs.handle(number), self._measure.quantity(flow)) for number, flow in self._pairs()]
+        return [
+            (self._flows.arcs.handle(number), self._measure.quantity(flow))
+            for number, flow in self._pairs()
+        ]
 
     def between(self, tail: str, head: str) -> Any:
         """The flow on all arcs from one place to another together."""
@@ -161,17 +207,23 @@ class TableSolution(Solution[str]):
 
     def array(self) -> Any:
         """The flows as an array of numpy: whole numbers, or floats if the table has decimals."""
-        return self._numbers(import_package("numpy", "an array of flows").array([flow for _, flow in self._pairs()], "uint64"))
+        return self._numbers(
+            import_package("numpy", "an array of flows").array(
+                [flow for _, flow in self._pairs()], "uint64"
+            )
+        )
 
     def _numbers(self, whole: Any) -> Any:
-        """Return whole numbers of the session as numbers of the table: whole ones, or floats if the table has decimals."""
+        """Return whole numbers of the session as numbers of the table: whole ones, or floats if the
+        table has decimals."""
         if self._measure.divisor == 1:
             return whole.astype(kind_for(whole))
         numbers = [float(self._measure.quantity(number)) for number in whole.tolist()]
         return import_package("numpy", "an array of flows").array(numbers, "float64")
 
     def frame(self) -> Any:
-        """A frame of pandas with a row for each open arc: its number, tail, head, name, flow and capacity."""
+        """A frame of pandas with a row for each open arc: its number, tail, head, name, flow and
+        capacity."""
         pd = import_package("pandas", "a frame of flows")
         rows = [(arc.number, arc.tail, arc.head, arc.given_key, flow) for arc, flow in self.items()]
         made = pd.DataFrame(rows, columns=["arc", "tail", "head", "key", "flow"]).set_index("arc")
@@ -187,15 +239,19 @@ class TableSolution(Solution[str]):
         return found
 
     def flow_matrix(self) -> Any:
-        """A sparse matrix of scipy: row i and column j have the flow from place i to place j on all arcs together. Places are counted from
-        0 in the order of `TableNetwork.nodes`. The numbers are those of `array`. Raises an ImportError if scipy or numpy is not installed."""
+        """A sparse matrix of scipy: row i and column j have the flow from place i to place j on all
+        arcs together. Places are counted from 0 in the order of `TableNetwork.nodes`. The numbers
+        are those of `array`. Raises an ImportError if scipy or numpy is not installed.
+        """
         np = import_package("numpy", "a matrix of flows")
         places = {place: number for number, place in enumerate(self._columns.places(), 1)}
         ends = [(places[arc.tail], places[arc.head]) for arc in self]
         tails, heads = (array(NODES, column) for column in (zip(*ends) if ends else ((), ())))
         flow = np.array([flow for _, flow in self._pairs()], "uint64")
         matrix = arrays.matrix_of(flow, tails, heads, len(places))
-        return type(matrix)((self._numbers(matrix.data), matrix.indices, matrix.indptr), shape=matrix.shape)
+        return type(matrix)(
+            (self._numbers(matrix.data), matrix.indices, matrix.indptr), shape=matrix.shape
+        )
 
     @property
     def _columns(self) -> FoldedColumns:

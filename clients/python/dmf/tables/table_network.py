@@ -20,22 +20,25 @@ from ..text.lexical import ARC, NODE
 from ..text.spelling import written
 from ..text.table_comments import Role, table_comments
 from .arcs_and_places import Term
-from .headings import DEMAND, LIMIT, SUPPLY
 from .other_columns import Extra
 from .table_answers import FoldedColumns, InnerNode, TableCut, TableSolution, whole_of
+from .titles import DEMAND, LIMIT, SUPPLY
 
 
 class TableNetwork(Network[str]):
-    """A network of a table. `read_table` makes it. It is a `Network` of the table's places, whose numbers are those of the table: ints if
-    all are whole, else Decimals. Calls take numbers of any kind, and texts as the table has them (`cap("Main", "47,3")`), with no more
-    decimals than the table's.
+    """A network of a table. `read_table` makes it. It is a `Network` of the table's places, whose
+    numbers are those of the table: ints if all are whole, else Decimals. Calls take numbers of any
+    kind, and texts as the table has them (`cap("Main", "47,3")`), with no more decimals than the
+    table's.
 
-    `unit` is the unit of the numbers, `notes` what was taken for granted and what looks like a mistake, `extra` has the other columns of
-    the table, by their titles. `sources` and `sinks` have what each gives or takes at most, `limits` what places let through; None stands
-    for no limit. A place with a limit is shut by shutting what enters it."""
+    `unit` is the unit of the numbers, `notes` what was taken for granted and what looks like a
+    mistake, `extra` has the other columns of the table, by their titles. `sources` and `sinks` have
+    what each gives or takes at most, `limits` what places let through; None stands for no limit. A
+    place with a limit is shut by shutting what enters it."""
 
     notes: list[str] = []
-    # What reads the other columns, when somebody asks for them; and the first arc of each row of the table.
+    # What reads the other columns, when somebody asks for them; and the first arc of each row of
+    # the table.
     _load: Callable[[], Extra] = Extra
     _rows: Sequence[int] = ()
 
@@ -81,9 +84,12 @@ class TableNetwork(Network[str]):
         """The places that give, take or let through, each with how much that is at most."""
         named, capacities = self._columns.names, self._kept.capacities
         found: dict[str, Optional[Quantity]] = {
-            named[role.node - 1]: None if role.is_unlimited else self._quantity(capacities[number - 1])
-            for number, role in self._roles.items() if role.kind == kind
-        }  # fmt: skip
+            named[role.node - 1]: None
+            if role.is_unlimited
+            else self._quantity(capacities[number - 1])
+            for number, role in self._roles.items()
+            if role.kind == kind
+        }
         end = self._kept.source if kind == SUPPLY else self._kept.sink
         if kind != LIMIT and not found:
             found[named[self._kept.number(end) - 1]] = None
@@ -138,7 +144,8 @@ class TableNetwork(Network[str]):
 
     @cached_property
     def extra(self) -> dict[str, list[str]]:
-        """The columns of the table that were read for nothing: by their titles a cell for each row of an arc."""
+        """The columns of the table that were read for nothing: by their titles a cell for each row
+        of an arc."""
         return self._extra.by_title(self._rows)
 
     def capacity(self, arc: Any) -> Any:
@@ -155,10 +162,14 @@ class TableNetwork(Network[str]):
         """As `Network.cap`, in the table's numbers."""
         found = self.arc(arc)
         if found.number not in self._kept.closed:
-            self._judge_room(found.tail, found.head, self._whole(capacity, found) - self._kept.capacity(found))
+            self._judge_room(
+                found.tail, found.head, self._whole(capacity, found) - self._kept.capacity(found)
+            )
         return self._quantity(super().cap(found, capacity))
 
-    def _add(self, tail: str, head: str, room: int, key: Hashable, replaced: int | None) -> Arc[str]:
+    def _add(
+        self, tail: str, head: str, room: int, key: Hashable, replaced: int | None
+    ) -> Arc[str]:
         self._judge_room(tail, head, room)
         return super()._add(tail, head, room, key, replaced)
 
@@ -193,34 +204,51 @@ class TableNetwork(Network[str]):
 
     @exclusive
     def cut(self) -> TableCut:
-        """As `Network.cut`, in the table's numbers, with the places whose supply, demand or limit is in it."""
+        """As `Network.cut`, in the table's numbers, with the places whose supply, demand or limit
+        is in it."""
         capacity, side = self._session.cut()
         names, is_place = self._columns.names, self._columns.is_place
         places = frozenset(names[node - 1] for node in side if is_place(node))
         crossing = self._kept.leaving(side)
         arcs = tuple(arc for arc in crossing if arc.number not in self._roles)
         roles = [(self._roles[arc.number], arc) for arc in crossing if arc.number in self._roles]
-        terms = tuple(Term(role.kind, names[role.node - 1], self._quantity(self._kept.capacity(arc))) for role, arc in roles)
+        terms = tuple(
+            Term(role.kind, names[role.node - 1], self._quantity(self._kept.capacity(arc)))
+            for role, arc in roles
+        )
         return TableCut(self._quantity(capacity), places, arcs, self.nodes, terms)
 
     @exclusive
     def problem(self, *, names: bool = True, escapes: bool = False) -> str:
-        """The problem as the program has it, with comments that say what its whole numbers stand for and what is not of the table. With
-        `names` they tell the other columns of the table too. A name that no comment can have is escaped."""
+        """The problem as the program has it, with comments that say what its whole numbers stand
+        for and what is not of the table. With `names` they tell the other columns of the table too.
+        A name that no comment can have is escaped.
+        """
         opened, columns = self._kept.opened(), self._columns
         places = {number: place for place, number in enumerate(opened.numbers(), 1)}
         roles = {places[number]: role for number, role in self._roles.items() if number in places}
         before = table_comments(replace(columns.described, roles=roles))
         if names:
-            labels = enumerate((node.name if isinstance(node, InnerNode) else node for node in columns.numbers), 1)
-            before += "".join(f"c node {number} {written(NODE, number, str(name))}\n" for number, name in labels if name != number)
+            labels = enumerate(
+                (node.name if isinstance(node, InnerNode) else node for node in columns.numbers), 1
+            )
+            before += "".join(
+                f"c node {number} {written(NODE, number, str(name))}\n"
+                for number, name in labels
+                if name != number
+            )
             keys = {place: self._name(number) for number, place in places.items()}
-            before += "".join(f"c arc {place} {written(ARC, place, key)}\n" for place, key in keys.items() if key.strip(" \t"))
+            before += "".join(
+                f"c arc {place} {written(ARC, place, key)}\n"
+                for place, key in keys.items()
+                if key.strip(" \t")
+            )
             before += self._extra.comments(map(self._row, places))
         return before + self._without_room(self._session.problem().decode(), places)
 
     def _row(self, number: int) -> int:
-        """The number that an arc had before it was closed and opened again, by which its row is found."""
+        """The number that an arc had before it was closed and opened again, by which its row is
+        found."""
         kept, at = self._kept, number - len(self._columns.tails) - 1
         while at >= 0 and (first := kept.replaced[at]):
             number, at = first, first - len(self._columns.tails) - 1
@@ -234,9 +262,14 @@ class TableNetwork(Network[str]):
         return "" if key is None else str(key)
 
     def _without_room(self, text: str, places: Mapping[int, int]) -> str:
-        """A problem in which a source or a sink without a limit carries as much as the arcs there, and no more: those of the program can
-        carry what they may come to carry. `places` has the places of the open arcs, by number."""
-        unlimited = {number: role for number, role in self._roles.items() if role.is_unlimited and number in places}
+        """A problem in which a source or a sink without a limit carries as much as the arcs there,
+        and no more: those of the program can carry what they may come to carry. `places` has the
+        places of the open arcs, by number."""
+        unlimited = {
+            number: role
+            for number, role in self._roles.items()
+            if role.is_unlimited and number in places
+        }
         lines = text.split("\n") if unlimited else []
         for number, role in unlimited.items():
             # The problem line and those of the source and the sink come first.
@@ -247,14 +280,26 @@ class TableNetwork(Network[str]):
     def _carried(self, role: Role) -> int:
         """What the open arcs of a source or a sink carry together."""
         kept, place = self._kept, self._columns.names[role.node - 1]
-        numbers = [*self._columns.beside(role), *(arc.number for arc in kept.added if (arc.tail if role.kind == SUPPLY else arc.head) == place)]
+        numbers = [
+            *self._columns.beside(role),
+            *(
+                arc.number
+                for arc in kept.added
+                if (arc.tail if role.kind == SUPPLY else arc.head) == place
+            ),
+        ]
         return sum(kept.capacities[number - 1] for number in numbers if number not in kept.closed)
 
     def _judge_room(self, tail: str, head: str, more: int) -> None:
-        """Raises `CapacitiesPast64Bits` if a source or a sink without a limit cannot carry so much more on an arc."""
+        """Raises `CapacitiesPast64Bits` if a source or a sink without a limit cannot carry so much
+        more on an arc."""
         for number, role in self._roles.items():
             end = tail if role.kind == SUPPLY else head
-            if role.is_unlimited and end == self._columns.names[role.node - 1] and self._carried(role) + more > self._kept.capacities[number - 1]:
+            if (
+                role.is_unlimited
+                and end == self._columns.names[role.node - 1]
+                and self._carried(role) + more > self._kept.capacities[number - 1]
+            ):
                 raise CapacitiesPast64Bits(shown_value((tail, head)))
 
     def to_networkx(self) -> Any:
@@ -263,7 +308,14 @@ class TableNetwork(Network[str]):
         made.add_nodes_from(self.nodes)
         for arc, carried in self.flow().items():
             given = {} if arc.given_key is None else {"name": arc.given_key}
-            made.add_edge(arc.tail, arc.head, key=arc.number, capacity=self.capacity(arc), flow=carried, **given)
+            made.add_edge(
+                arc.tail,
+                arc.head,
+                key=arc.number,
+                capacity=self.capacity(arc),
+                flow=carried,
+                **given,
+            )
         return made
 
     def copy(self) -> TableNetwork:
@@ -276,12 +328,20 @@ class TableNetwork(Network[str]):
         return self
 
     def __repr__(self) -> str:
-        return f"<Network of {len(self.nodes)} places and {len(self.arcs)} arcs, with a flow of {self.measure.told(self._kept.value)}>"
+        return (
+            f"<Network of {len(self.nodes)} places and {len(self.arcs)} arcs, with a flow of "
+            f"{self.measure.told(self._kept.value)}>"
+        )
 
     def _repr_html_(self) -> str:
         rows = [(*row, self.capacity(row[0])) for row in self.flow().items()]
-        cells = ((arc.key if arc.given_key is not None else arc.number, arc.tail, arc.head, flow, most) for arc, flow, most in rows)
-        return html_table(repr(self)[1:-1], ("arc", "tail", "head", "flow", "capacity"), len(rows), cells)
+        cells = (
+            (arc.key if arc.given_key is not None else arc.number, arc.tail, arc.head, flow, most)
+            for arc, flow, most in rows
+        )
+        return html_table(
+            repr(self)[1:-1], ("arc", "tail", "head", "flow", "capacity"), len(rows), cells
+        )
 
 
 def _one(terms: Mapping[str, object]) -> Any:

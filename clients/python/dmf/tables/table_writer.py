@@ -1,7 +1,7 @@
 """The network of a table, written as a table.
 
-It has a row for each arc of the table that the network was made of, and below them one for what each place gives, takes or lets through, as
-the readers of tables read it."""
+It has a row for each arc of the table that the network was made of, and below them one for what
+each place gives, takes or lets through, as the readers of tables read it."""
 
 from __future__ import annotations
 
@@ -19,8 +19,9 @@ from .sheet import OPEN_NUMBER, UNLIMITED, cell_of, lines, number_cell, text_cel
 
 
 class ArcRow(NamedTuple):
-    """An arc of a plan: its number, its name, which may be empty, its ends, its flow, its capacity, and whether it is in the cut,
-    which is None if that is not known; and the cells of the other columns."""
+    """An arc of a plan: its number, its name, which may be empty, its ends, its flow, its capacity,
+    and whether it is in the cut, which is None if that is not known; and the cells of the other
+    columns."""
 
     number: int
     name: str
@@ -33,8 +34,10 @@ class ArcRow(NamedTuple):
 
 
 class PlaceRow(NamedTuple):
-    """What a place of a plan gives, takes or lets through: `kind` is `supply`, `demand` or `limit`, and `most` how much that is, or None if it
-    has no limit. An arc that stands for it has a number, a flow, and may be in the cut, as in `ArcRow`."""
+    """What a place of a plan gives, takes or lets through: `kind` is `supply`, `demand` or `limit`,
+    and `most` how much that is, or None if it has no limit. An arc that stands for it has a number,
+    a flow, and may be in the cut, as in `ArcRow`.
+    """
 
     place: str
     kind: str
@@ -45,17 +48,33 @@ class PlaceRow(NamedTuple):
 
 
 def plan_table(
-    rows: Iterable[ArcRow], measure: Measure, *, raw_names: bool, places: Sequence[PlaceRow] = (), others: Sequence[str] = ()
+    rows: Iterable[ArcRow],
+    measure: Measure,
+    *,
+    raw_names: bool,
+    places: Sequence[PlaceRow] = (),
+    others: Sequence[str] = (),
 ) -> str:
-    """The table of a plan, whose titles tell its unit: the arcs, and below them the places with what each gives, takes or lets through, for
-    which there are further columns then. `others` are the titles of the other columns. `raw_names` says that names stand in it as they are."""
-    kinds = [kind for kind in ("supply", "demand", "limit") if any(row.kind == kind for row in places)]
+    """The table of a plan, whose titles tell its unit: the arcs, and below them the places with
+    what each gives, takes or lets through, for which there are further columns then. `others` are
+    the titles of the other columns. `raw_names` says that names stand in it as they are.
+    """
+    kinds = [
+        kind for kind in ("supply", "demand", "limit") if any(row.kind == kind for row in places)
+    ]
 
     def cells(row: ArcRow) -> list[object]:
         names = [cell_of(name, is_raw=raw_names) for name in (row.name, row.tail, row.head)]
         amounts = [number_cell(row.flow, measure), amount_cell(row.capacity, measure)]
         told = [_yes(row.flow == row.capacity), _yes(row.is_in_cut)]
-        return [row.number, *names, *amounts, *told, *[""] * len(kinds), *(text_cell(text, is_raw=raw_names) for text in row.others)]
+        return [
+            row.number,
+            *names,
+            *amounts,
+            *told,
+            *[""] * len(kinds),
+            *(text_cell(text, is_raw=raw_names) for text in row.others),
+        ]
 
     def place_cells(row: PlaceRow) -> list[object]:
         flow = "" if row.flow is None else number_cell(row.flow, measure)
@@ -63,16 +82,43 @@ def plan_table(
         full = None if row.flow is None else row.flow == row.most
         mosts = [most if kind == row.kind else "" for kind in kinds]
         place = cell_of(row.place, is_raw=raw_names)
-        return [row.number or "", "", place, "", flow, "", _yes(full), _yes(row.is_in_cut), *mosts, *[""] * len(others)]
+        return [
+            row.number or "",
+            "",
+            place,
+            "",
+            flow,
+            "",
+            _yes(full),
+            _yes(row.is_in_cut),
+            *mosts,
+            *[""] * len(others),
+        ]
 
-    titles = ["number", "name", "from", "to", measure.title("flow"), measure.title("capacity"), "full", "in cut"]
-    titles += [*map(measure.title, kinds), *(text_cell(title, is_raw=raw_names) for title in others)]
-    return lines([titles], measure) + lines(map(cells, rows), measure) + lines(map(place_cells, places), measure)
+    titles = [
+        "number",
+        "name",
+        "from",
+        "to",
+        measure.title("flow"),
+        measure.title("capacity"),
+        "full",
+        "in cut",
+    ]
+    titles += [
+        *map(measure.title, kinds),
+        *(text_cell(title, is_raw=raw_names) for title in others),
+    ]
+    return (
+        lines([titles], measure)
+        + lines(map(cells, rows), measure)
+        + lines(map(place_cells, places), measure)
+    )
 
 
 def amount_cell(number: Quantity, measure: Measure) -> str:
-    """The cell of a quantity that a reader takes for no other, also where it finds no other cell: of `1.125`, which may be 1125 where a
-    point stands between thousands, `1.1250`."""
+    """The cell of a quantity that a reader takes for no other, also where it finds no other cell:
+    of `1.125`, which may be 1125 where a point stands between thousands, `1.1250`."""
     cell = number_cell(number, measure)
     return f"{cell}0" if OPEN_NUMBER.fullmatch(cell) else cell
 
@@ -82,8 +128,8 @@ def _yes(is_so: bool | None) -> str:
 
 
 class WriterRow(NamedTuple):
-    """An open arc: its number, the nodes of its ends, its capacity, its flow, and whether it is in the cut, which is None if that is not
-    known."""
+    """An open arc: its number, the nodes of its ends, its capacity, its flow, and whether it is in
+    the cut, which is None if that is not known."""
 
     number: int
     tail: int
@@ -95,8 +141,9 @@ class WriterRow(NamedTuple):
 
 @dataclass(frozen=True)
 class Told:
-    """How a network is told: what is folded, the names of a node and of an arc, the nodes of its source and its sink, the row that an arc
-    is of, the other columns, and the places to which a limit was given that had none."""
+    """How a network is told: what is folded, the names of a node and of an arc, the nodes of its
+    source and its sink, the row that an arc is of, the other columns, and the places to which a
+    limit was given that had none."""
 
     folding: TableRoles
     node: Callable[[int], str]
@@ -108,17 +155,22 @@ class Told:
 
 
 def plan_text(arcs: Sequence[WriterRow], told: Told, measure: Measure, *, raw_names: bool) -> str:
-    """The table of the open arcs of a plan. Where these alone tell which places are the source and the sink, and no place has more to
-    be told, there are no rows of places."""
+    """The table of the open arcs of a plan. Where these alone tell which places are the source and
+    the sink, and no place has more to be told, there are no rows of places."""
     told = replace(told, node=_told_apart(arcs, told))
     rows, places = _arc_rows(arcs, told), _place_rows(arcs, told)
     return plan_table(rows, measure, raw_names=raw_names, places=places, others=told.extra.titles)
 
 
 def _told_apart(arcs: Sequence[WriterRow], told: Told) -> Callable[[int], str]:
-    """The names of nodes in a table, in which a place is known by its name alone: of several places with one name each gets its number, as in
-    `Mill (node 4)`."""
-    nodes = {told.folding.place(node) for arc in arcs for node in (arc.tail, arc.head) if not told.folding.is_joint(node)}
+    """The names of nodes in a table, in which a place is known by its name alone: of several places
+    with one name each gets its number, as in `Mill (node 4)`."""
+    nodes = {
+        told.folding.place(node)
+        for arc in arcs
+        for node in (arc.tail, arc.head)
+        if not told.folding.is_joint(node)
+    }
     names = {node: told.node(node) for node in sorted(nodes)}
     used = Counter(map(cleaned, names.values()))
     if len(used) == len(names):
@@ -137,12 +189,22 @@ def _arc_rows(arcs: Sequence[WriterRow], told: Told) -> Iterator[ArcRow]:
         if not told.folding.role(arc.tail, arc.head):
             ends = told.node(arc.tail), told.node(arc.head)
             others = told.extra.of(told.row(arc.number))
-            yield ArcRow(arc.number, told.arc(arc.number), *ends, arc.flow, arc.capacity, arc.is_in_cut, others)
+            yield ArcRow(
+                arc.number,
+                told.arc(arc.number),
+                *ends,
+                arc.flow,
+                arc.capacity,
+                arc.is_in_cut,
+                others,
+            )
 
 
 def _place_rows(arcs: Sequence[WriterRow], told: Told) -> list[PlaceRow]:
     folding = told.folding
-    of_roles: dict[tuple[str, int], list[WriterRow]] = {known: [] for known in folding.known_roles()}
+    of_roles: dict[tuple[str, int], list[WriterRow]] = {
+        known: [] for known in folding.known_roles()
+    }
     tails: list[int] = []
     heads: list[int] = []
     carried: dict[tuple[str, int], Quantity] = defaultdict(int)
@@ -155,22 +217,44 @@ def _place_rows(arcs: Sequence[WriterRow], told: Told) -> list[PlaceRow]:
         if folding.has_unlimited:
             carried[SUPPLY, tails[-1]] += arc.capacity
             carried[DEMAND, heads[-1]] += arc.capacity
-    plain = {kind: folding.place(end) for kind, end in zip((SUPPLY, DEMAND), told.ends) if not folding.is_joint(end)}
+    plain = {
+        kind: folding.place(end)
+        for kind, end in zip((SUPPLY, DEMAND), told.ends)
+        if not folding.is_joint(end)
+    }
     if not of_roles and ends_alone(tails, heads) == ([plain[SUPPLY]], [plain[DEMAND]]):
         return []
     rows = [(node, PlaceRow(told.node(node), kind, None)) for kind, node in plain.items()]
-    rows += ((node, _row_of(kind, node, found, carried, told)) for (kind, node), found in of_roles.items())
+    rows += (
+        (node, _row_of(kind, node, found, carried, told))
+        for (kind, node), found in of_roles.items()
+    )
     there = {*tails, *heads}
-    # A place without an arc gives, takes and lets through nothing; but one that is all that gives, or takes, is told.
+    # A place without an arc gives, takes and lets through nothing; but one that is all that gives,
+    # or takes, is told.
     kinds = [row.kind for node, row in rows if node in there]
-    kept = [row for node, row in rows if node in there or row.kind != LIMIT and row.kind not in kinds]
+    kept = [
+        row for node, row in rows if node in there or row.kind != LIMIT and row.kind not in kinds
+    ]
     return sorted(kept, key=lambda row: (SUPPLY, DEMAND, LIMIT).index(row.kind))
 
 
-def _row_of(kind: str, node: int, arcs: list[WriterRow], carried: dict[tuple[str, int], Quantity], told: Told) -> PlaceRow:
-    """What the arcs say of a role that stand for it. Without one the place gives, takes or lets through nothing."""
+def _row_of(
+    kind: str,
+    node: int,
+    arcs: list[WriterRow],
+    carried: dict[tuple[str, int], Quantity],
+    told: Told,
+) -> PlaceRow:
+    """What the arcs say of a role that stand for it. Without one the place gives, takes or lets
+    through nothing."""
     most: Quantity = sum(arc.capacity for arc in arcs)
-    is_unlimited = bool(arcs) and told.folding.is_unlimited(kind, node) and node not in told.limited and carried[kind, node] <= most
+    is_unlimited = (
+        bool(arcs)
+        and told.folding.is_unlimited(kind, node)
+        and node not in told.limited
+        and carried[kind, node] <= most
+    )
     flow: Quantity | None = sum(arc.flow for arc in arcs) if arcs else None
     in_cut = [arc.is_in_cut for arc in arcs]
     is_in_cut = None if None in in_cut or not arcs else any(in_cut)

@@ -14,8 +14,9 @@ from typing import Any
 
 from ..session.base import numpy_for
 from ..text.spelling import MOST_TOLD, cleaned, near, quoted_name
-from .headings import ARCS, DEMAND, SUPPLY
+from .headings import ARCS
 from .problem_builder import BuiltProblem, NetworkTables, ends_alone
+from .titles import DEMAND, SUPPLY
 
 # Among how many places a near name is looked for, and among how many arcs a way.
 MOST_PLACES, MOST_WALKED = 2_000, 200_000
@@ -30,10 +31,15 @@ def warnings(plan: NetworkTables, net: BuiltProblem) -> Iterator[str]:
     spaced = {name: other for name, other in table.respelled.items() if name not in protected}
     for why, respelled in ("spaces", spaced), ("the apostrophe that protects = + - @", protected):
         if respelled:
-            told = [f"{quoted_name(other)} is {quoted_name(name)}" for name, other in respelled.items()]
+            told = [
+                f"{quoted_name(other)} is {quoted_name(name)}" for name, other in respelled.items()
+            ]
             yield f"names that differ only in {why} are one place: {', '.join(told[:MOST_TOLD])}"
     for names in islice(_look_alike(table.places), MOST_TOLD):
-        yield f"names that differ only in case, or in what is not seen, are several places: {_listed(list(map(quoted_name, names)))}"
+        yield (
+            "names that differ only in case, or in what is not seen, are several places: "
+            f"{_listed(list(map(quoted_name, names)))}"
+        )
     yield from _rows(plan)
     yield from _lonely(plan)
     if len(net.tails) <= MOST_WALKED and not _reaches(net):
@@ -51,7 +57,8 @@ def _lines(lines: Sequence[int]) -> str:
 
 
 def _seen(name: str) -> str:
-    """A name without what readers hardly see: case, how letters are composed, and characters that show nothing."""
+    """A name without what readers hardly see: case, how letters are composed, and characters that
+    show nothing."""
     if name.isascii():
         return name.casefold()
     letters = unicodedata.normalize("NFKC", name).casefold()
@@ -79,8 +86,13 @@ def _lone_first_row(plan: NetworkTables) -> Iterator[str]:
         return
     first = {table.tails[0], table.heads[0]}
     named = {table.places.get(term.place) for term in plan.terms}
-    if not first & named and not any(end in first for ends in (table.tails, table.heads) for end in islice(ends, 1, None)):
-        yield f"line {table.lines[0]} is taken for an arc, though no other row has its ends{ARCS.hint}"
+    if not first & named and not any(
+        end in first for ends in (table.tails, table.heads) for end in islice(ends, 1, None)
+    ):
+        yield (
+            f"line {table.lines[0]} is taken for an arc, though no other row has its "
+            f"ends{ARCS.hint}"
+        )
 
 
 def _rows(plan: NetworkTables) -> Iterator[str]:
@@ -89,7 +101,10 @@ def _rows(plan: NetworkTables) -> Iterator[str]:
     if loops := _equal(table.tails, table.heads):
         yield f"tail and head are the same place: {_lines([table.lines[place] for place in loops])}"
     if 0 in table.amounts.numbers:
-        yield f"the capacity is 0: {_lines([*compress(table.lines, map(not_, table.amounts.numbers))])}"
+        yield (
+            "the capacity is 0: "
+            f"{_lines([*compress(table.lines, map(not_, table.amounts.numbers))])}"
+        )
     yield from _same_rows(plan)
 
 
@@ -98,7 +113,9 @@ def _equal(column: array[int], other: array[int]) -> list[int]:
     np = numpy_for(len(column))
     if np is None:
         return [*compress(count(), map(eq, column, other))]
-    found: list[int] = np.flatnonzero(np.equal(*(np.frombuffer(it, it.typecode) for it in (column, other)))).tolist()
+    found: list[int] = np.flatnonzero(
+        np.equal(*(np.frombuffer(it, it.typecode) for it in (column, other)))
+    ).tolist()
     return found
 
 
@@ -108,7 +125,12 @@ def _same_rows(plan: NetworkTables) -> Iterator[str]:
     first: dict[tuple[object, ...], int] = {}
     same = []
     for place in _alike(table.tails, table.heads, table.amounts.numbers):
-        row = table.tails[place], table.heads[place], table.amounts.numbers[place], table.labels[place] if table.labels else ""
+        row = (
+            table.tails[place],
+            table.heads[place],
+            table.amounts.numbers[place],
+            table.labels[place] if table.labels else "",
+        )
         line = table.lines[place]
         if first.setdefault(row, line) != line:
             same.append(f"line {line} as {first[row]}")
@@ -117,13 +139,21 @@ def _same_rows(plan: NetworkTables) -> Iterator[str]:
 
 
 def _alike(tails: array[int], heads: array[int], numbers: Sequence[int]) -> Iterable[int]:
-    """The places of rows that may be the same as another: those that are, and perhaps a few more."""
+    """The places of rows that may be the same as another: those that are, and perhaps a few
+    more."""
     np = numpy_for(len(tails))
     if np is not None and isinstance(numbers, array):
-        columns = (np.frombuffer(column, column.typecode).astype(np.uint64) for column in (tails, heads, numbers))
-        rows = functools.reduce(lambda mixed, column: mixed * np.uint64(0x9E3779B97F4A7C15) + column, columns)
+        columns = (
+            np.frombuffer(column, column.typecode).astype(np.uint64)
+            for column in (tails, heads, numbers)
+        )
+        rows = functools.reduce(
+            lambda mixed, column: mixed * np.uint64(0x9E3779B97F4A7C15) + column, columns
+        )
         ordered = np.sort(rows)
-        found: Iterable[int] = np.flatnonzero(np.isin(rows, ordered[1:][ordered[1:] == ordered[:-1]])).tolist()
+        found: Iterable[int] = np.flatnonzero(
+            np.isin(rows, ordered[1:][ordered[1:] == ordered[:-1]])
+        ).tolist()
         return found
     hashes = list(map(hash, zip(tails, heads, numbers)))
     if len(set(hashes)) == len(hashes):
@@ -137,18 +167,29 @@ def _lonely(plan: NetworkTables) -> Iterator[str]:
     table = plan.arcs
     if plan.both_ways:
         return
-    sources, sinks = ({table.places[term.place] for term in plan.of_kind(kind)} for kind in (SUPPLY, DEMAND))
+    sources, sinks = (
+        {table.places[term.place] for term in plan.of_kind(kind)} for kind in (SUPPLY, DEMAND)
+    )
     left, entered = ends_alone(table.tails, table.heads)
     for lonely, ends, reason in (
-        (set(left) - sources, table.tails, "arcs leave, and none enter, a place that is no source"),
-        (set(entered) - sinks, table.heads, "arcs enter, and none leave, a place that is no sink"),
+        (
+            set(left) - sources,
+            table.tails,
+            "arcs leave, and none enter, a place that is not a source",
+        ),
+        (
+            set(entered) - sinks,
+            table.heads,
+            "arcs enter, and none leave, a place that is not a sink",
+        ),
     ):
         if lonely:
             yield f"{reason}: {_listed(_LonelyPlaces(plan, sorted(lonely), ends))}"
 
 
 class _LonelyPlaces(Sequence[str]):
-    """Places as they are told: with the line of the first row that has one, and a name that may have been meant."""
+    """Places as they are told: with the line of the first row that has one, and a name that may
+    have been meant."""
 
     def __init__(self, plan: NetworkTables, numbers: list[int], ends: array[int]) -> None:
         self.table = plan.arcs
@@ -160,14 +201,25 @@ class _LonelyPlaces(Sequence[str]):
         return len(self.numbers)
 
     def __getitem__(self, place: int | slice) -> Any:
-        return list(map(self.told, self.numbers[place])) if isinstance(place, slice) else self.told(self.numbers[place])
+        return (
+            list(map(self.told, self.numbers[place]))
+            if isinstance(place, slice)
+            else self.told(self.numbers[place])
+        )
 
     def told(self, number: int) -> str:
         name = self.names[number - 1]
         line = f" (line {self.table.lines[self.ends.index(number)]})"
-        if len(self.names) > MOST_PLACES or self.table.tails.count(number) + self.table.heads.count(number) > 1:
+        if (
+            len(self.names) > MOST_PLACES
+            or self.table.tails.count(number) + self.table.heads.count(number) > 1
+        ):
             return quoted_name(name) + line
-        return quoted_name(name) + line + near(name, [it for it in self.names if _DIGITS.sub("", it) != _DIGITS.sub("", name)])
+        return (
+            quoted_name(name)
+            + line
+            + near(name, [it for it in self.names if _DIGITS.sub("", it) != _DIGITS.sub("", name)])
+        )
 
 
 def _reaches(net: BuiltProblem) -> bool:

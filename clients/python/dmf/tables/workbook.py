@@ -1,5 +1,6 @@
-"""Sheets of workbooks: `.xlsx` by `xlsx`, and `.ods` by odfpy. A cell that has a number is a number, with the 15 digits that a workbook
-shows; a formula counts as what it gave when the workbook was saved."""
+"""Sheets of workbooks: `.xlsx` by `xlsx`, and `.ods` by odfpy. A cell that has a number is a
+number, with the 15 digits that a workbook shows; a formula counts as what it gave when the workbook
+was saved."""
 
 from __future__ import annotations
 
@@ -29,14 +30,20 @@ def is_workbook(data: bytes) -> bool:
 
 
 def workbook_sheets(data: bytes, path: str) -> list[Sheet]:
-    """The sheets of a workbook that have cells; the path of each ends with its name. Raises a `TableFault`."""
+    """The sheets of a workbook that have cells; the path of each ends with its name. Raises a
+    `TableFault`."""
     kind = _kind(data)
     try:
         with _judging(kind):
             sheets = _xlsx(data, path) if kind == XLSX else _ods(data, path)
     except ImportError:
         how = "pip install odfpy, or apt install python3-odf"
-        raise TableFault(f"a workbook (.{kind}) needs the package odfpy, which is not there ({how}); or save the sheet as CSV") from None
+        raise TableFault(
+            f"a workbook (.{kind}) needs the package odfpy, which is not installed ({how}); or "
+            "save "
+            "the "
+            "sheet as CSV"
+        ) from None
     return [sheet for sheet in sheets if _has_cells(sheet)]
 
 
@@ -63,7 +70,13 @@ def _kind(data: bytes) -> str:
         return ODS
     if "xl/workbook.xml" in names:
         return XLSX
-    what = "a binary workbook (.xlsb)" if "xl/workbook.bin" in names else "a text document" if "word/document.xml" in names or kind else "a zip file"
+    what = (
+        "a binary workbook (.xlsb)"
+        if "xl/workbook.bin" in names
+        else "a text document"
+        if "word/document.xml" in names or kind
+        else "a zip file"
+    )
     raise TableFault(f"it is {what}; a table is a CSV file, or a workbook (.xlsx or .ods)")
 
 
@@ -74,11 +87,17 @@ def cell_text(value: Any) -> str:
     if isinstance(value, bool):
         return str(value).upper()
     if isinstance(value, (int, Decimal)):
-        return Exact(format(value, "f" if isinstance(value, Decimal) else "d")) if value - value == 0 else str(value)
+        return (
+            Exact(format(value, "f" if isinstance(value, Decimal) else "d"))
+            if value - value == 0
+            else str(value)
+        )
     if isinstance(value, float):
         if value != value:
             return ""
-        return Exact(f"{_SHOWN.create_decimal(repr(value)):f}") if value - value == 0 else str(value)
+        return (
+            Exact(f"{_SHOWN.create_decimal(repr(value)):f}") if value - value == 0 else str(value)
+        )
     if isinstance(value, datetime.datetime) and value.time() == datetime.time():
         return value.date().isoformat()
     return "" if str(value) in ("<NA>", "NaT") else str(value)
@@ -86,7 +105,10 @@ def cell_text(value: Any) -> str:
 
 def _xlsx(data: bytes, path: str) -> list[Sheet]:
     book = Workbook.opened(zipfile.ZipFile(io.BytesIO(data)))
-    return [Sheet(f"{path}#{name}", partial(_whole, XLSX, partial(book.rows, name))) for name in book.sheets]
+    return [
+        Sheet(f"{path}#{name}", partial(_whole, XLSX, partial(book.rows, name)))
+        for name in book.sheets
+    ]
 
 
 def _whole(kind: str, read: Callable[[], Iterator[Rows]]) -> Iterator[Rows]:
@@ -106,11 +128,18 @@ def _judging(kind: str) -> Iterator[None]:
 
 
 def _ods(data: bytes, path: str) -> list[Sheet]:
-    opendocument, table = importlib.import_module("odf.opendocument"), importlib.import_module("odf.table")
+    opendocument, table = importlib.import_module("odf.opendocument"), importlib.import_module(
+        "odf.table"
+    )
     book = opendocument.load(io.BytesIO(data))
     sheets = []
     for sheet in book.spreadsheet.getElementsByType(table.Table):
-        sheets.append(Sheet(f"{path}#{sheet.getAttribute('name')}", partial(_whole, ODS, partial(_ods_rows, sheet, table))))
+        sheets.append(
+            Sheet(
+                f"{path}#{sheet.getAttribute('name')}",
+                partial(_whole, ODS, partial(_ods_rows, sheet, table)),
+            )
+        )
     return sheets
 
 
@@ -127,7 +156,9 @@ def _ods_rows(sheet: Any, table: Any) -> Iterator[Rows]:
             cells.pop()
         count = int(row.getAttribute("numberrowsrepeated") or 1)
         if cells:
-            yield Rows(range(line, line + count), [list(cells) for _ in range(min(count, PIECE * 256))])
+            yield Rows(
+                range(line, line + count), [list(cells) for _ in range(min(count, PIECE * 256))]
+            )
         line += count
 
 

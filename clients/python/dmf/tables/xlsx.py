@@ -1,8 +1,9 @@
-"""The sheets of a workbook of Excel (`.xlsx`), row by row as its XML comes, by the parser of Python. It takes a third of the time of openpyxl. A
-workbook with a document type, in which entities could be defined, is refused.
+"""The sheets of a workbook of Excel (`.xlsx`), row by row as its XML comes, by the parser of
+Python. It takes a third of the time of openpyxl. A workbook with a document type, in which entities
+could be defined, is refused.
 
-The parts of the archive that are read: the workbook with its sheets, what says where these are, the styles, which tell dates from other
-numbers, and the texts that cells share.
+The parts of the archive that are read: the workbook with its sheets, what says where these are, the
+styles, which tell dates from other numbers, and the texts that cells share.
 """
 
 from __future__ import annotations
@@ -28,7 +29,8 @@ MOST_COLUMNS = 16_384
 WORKBOOK = "xl/workbook.xml"
 # The numbers of formats of dates that each workbook has.
 DATE_FORMATS = {*range(14, 23), *range(27, 37), 45, 46, 47, *range(50, 59)}
-# What in a format is no letter of a date: a text in quotes, what is in brackets but hours, minutes and seconds that count on, and an escaped letter.
+# What in a format is no letter of a date: a text in quotes, what is in brackets but hours, minutes
+# and seconds that count on, and an escaped letter.
 _NO_LETTERS = re.compile(r'"[^"]*"|\[(?!hh?\]|mm?\]|ss?\])[^\]]*\]|\\.|_.|\*.', re.IGNORECASE)
 _ESCAPED = re.compile("_x([0-9A-Fa-f]{4})_")
 _REFERENCE = re.compile("([A-Z]{1,3})[0-9]+")
@@ -38,7 +40,8 @@ DAY = 86_400
 
 
 class _Parser:
-    """Tells the elements of a part as they begin and end, by their names without a namespace. `inside` says whether texts count now."""
+    """Tells the elements of a part as they begin and end, by their names without a namespace.
+    `inside` says whether texts count now."""
 
     def __init__(self) -> None:
         self.parser = expat.ParserCreate(namespace_separator=" ")
@@ -117,8 +120,8 @@ class _Strings(_Parser):
 
 
 class _SheetCells(_Parser):
-    """The rows of a sheet: `lines` and `rows` have those that are read and were not taken yet. A row ends with its last cell that has
-    something, or a formula."""
+    """The rows of a sheet: `lines` and `rows` have those that are read and were not taken yet. A
+    row ends with its last cell that has something, or a formula."""
 
     def __init__(self, book: Workbook) -> None:
         super().__init__()
@@ -138,7 +141,11 @@ class _SheetCells(_Parser):
             self.has_something = True
         elif name == "c":
             self.column = self._column(given["r"]) if "r" in given else self.column + 1
-            self.kind, self.style, self.has_something = given.get("t", "n"), given.get("s", "0"), False
+            self.kind, self.style, self.has_something = (
+                given.get("t", "n"),
+                given.get("s", "0"),
+                False,
+            )
             self.texts.clear()
         elif name == "f":
             self.has_something = True
@@ -152,7 +159,9 @@ class _SheetCells(_Parser):
         if name == "c":
             if self.has_something:
                 self.row += [""] * (self.column - 1 - len(self.row))
-                self.row[self.column - 1 :] = [self._cell("".join(self.texts)) if self.texts else ""]
+                self.row[self.column - 1 :] = [
+                    self._cell("".join(self.texts)) if self.texts else ""
+                ]
         elif name == "v" or name == "t":
             self.inside = False
         elif name == "row":
@@ -187,8 +196,14 @@ class _SheetCells(_Parser):
         """The rows that were read, so many at once as stand one below the other."""
         begin = 0
         for at in range(1, len(self.lines) + 1):
-            if at == len(self.lines) or self.lines[at] != self.lines[at - 1] + 1 or at - begin == PIECE:
-                yield Rows(range(self.lines[begin], self.lines[begin] + at - begin), self.rows[begin:at])
+            if (
+                at == len(self.lines)
+                or self.lines[at] != self.lines[at - 1] + 1
+                or at - begin == PIECE
+            ):
+                yield Rows(
+                    range(self.lines[begin], self.lines[begin] + at - begin), self.rows[begin:at]
+                )
                 begin = at
         self.lines, self.rows = [], []
 
@@ -207,12 +222,26 @@ class Workbook:
     def opened(cls, archive: zipfile.ZipFile) -> Workbook:
         """The workbook in an archive."""
         elements = _elements(archive, WORKBOOK)
-        related = [given for name, given in _elements(archive, "xl/_rels/workbook.xml.rels") if name == "Relationship"]
+        related = [
+            given
+            for name, given in _elements(archive, "xl/_rels/workbook.xml.rels")
+            if name == "Relationship"
+        ]
         kinds = {given["Id"]: given["Type"].rpartition("/")[2] for given in related}
-        paths = {given["Id"]: posixpath.normpath(posixpath.join("/xl", given["Target"])).lstrip("/") for given in related}
-        sheets = {given["name"]: paths[given["id"]] for name, given in elements if name == "sheet" and kinds.get(given.get("id", "")) == "worksheet"}
+        paths = {
+            given["Id"]: posixpath.normpath(posixpath.join("/xl", given["Target"])).lstrip("/")
+            for given in related
+        }
+        sheets = {
+            given["name"]: paths[given["id"]]
+            for name, given in elements
+            if name == "sheet" and kinds.get(given.get("id", "")) == "worksheet"
+        }
         parts = {kinds[number]: path for number, path in paths.items()}
-        begins_1904 = any(name == "workbookPr" and given.get("date1904") in ("1", "true") for name, given in elements)
+        begins_1904 = any(
+            name == "workbookPr" and given.get("date1904") in ("1", "true")
+            for name, given in elements
+        )
         return cls(archive, sheets, parts, begins_1904)
 
     @cached_property
@@ -228,12 +257,18 @@ class Workbook:
     def dates(self) -> set[str]:
         """The numbers of the styles whose numbers are dates."""
         elements = _elements(self.archive, self.parts["styles"]) if "styles" in self.parts else []
-        own = {given["numFmtId"]: is_date(given.get("formatCode", "")) for name, given in elements if name == "numFmt"}
+        own = {
+            given["numFmtId"]: is_date(given.get("formatCode", ""))
+            for name, given in elements
+            if name == "numFmt"
+        }
         # Before these stand formats of the same form that no cell names.
         cells = dropwhile(lambda element: element[0] != "cellXfs", elements)
         formats = [given.get("numFmtId", "0") for name, given in cells if name == "xf"]
         usual = {str(number) for number in DATE_FORMATS}
-        return {str(style) for style, number in enumerate(formats) if own.get(number, number in usual)}
+        return {
+            str(style) for style, number in enumerate(formats) if own.get(number, number in usual)
+        }
 
     def rows(self, sheet: str) -> Iterator[Rows]:
         """The rows of a sheet, some thousands at once."""
@@ -246,7 +281,8 @@ class Workbook:
         yield from cells.taken()
 
     def number(self, text: str, style: str) -> str:
-        """The cell of a number: of a date its day, and of any other number the 15 digits that a workbook shows."""
+        """The cell of a number: of a date its day, and of any other number the 15 digits that a
+        workbook shows."""
         found = self._numbers.get((text, style))
         if found is None:
             found = self._number(text.strip(), style)
@@ -273,7 +309,11 @@ def is_date(code: str) -> bool:
 def _date(number: float, *, begins_1904: bool) -> str:
     """A date, with its time if it has one; and the time alone of a number below 1."""
     # In the calendar of Excel there is a 29 February 1900, so days before it count one less.
-    first = datetime.datetime(1904, 1, 1) if begins_1904 else datetime.datetime(1899, 12, 31 if number < 60 else 30)
+    first = (
+        datetime.datetime(1904, 1, 1)
+        if begins_1904
+        else datetime.datetime(1899, 12, 31 if number < 60 else 30)
+    )
     try:
         found = first + datetime.timedelta(seconds=round(number * DAY))
     except OverflowError:

@@ -1,4 +1,5 @@
-"""A network, its flow and its cut as a text for Graphviz, and the picture that Graphviz makes of it."""
+"""A network, its flow and its cut as a text for Graphviz, and the picture that Graphviz makes of
+it."""
 
 from __future__ import annotations
 
@@ -18,9 +19,11 @@ FULL, UNUSED, CUT, SIDE = "2.5", "#8f8f8f", "#c62828", "#d3e4f5"
 
 @dataclass
 class Drawing:
-    """The contents of a picture: the arcs as they are, the flow on each if it is known, the nodes on the source's side of the cut
-    (none if there is no cut), the nodes that are shut, and notes. Arcs have the problem's whole numbers, unless `has_quantities` says
-    that capacities and flows are quantities. What is not of the problem's table is drawn at the places that it is about."""
+    """The contents of a picture: the arcs as they are, the flow on each if it is known, the nodes
+    on the source's side of the cut (none if there is no cut), the nodes that are shut, and notes.
+    Arcs have the problem's whole numbers, unless `has_quantities` says that capacities and flows
+    are quantities. What is not of the problem's table is drawn at the places that it is about.
+    """
 
     problem: Problem
     arcs: Sequence[ArcRecord]
@@ -44,11 +47,16 @@ class Drawing:
     def drawn(self) -> list[int]:
         """The places of the arcs that are drawn as arcs."""
         every = range(len(self.arcs))
-        return [place for place in every if not self.folding.role(*self.arcs[place][:2])] if self.folding.has_roles else list(every)
+        return (
+            [place for place in every if not self.folding.role(*self.arcs[place][:2])]
+            if self.folding.has_roles
+            else list(every)
+        )
 
     @cached_property
     def roles(self) -> dict[int, list[int]]:
-        """By the node of a place: the places of the arcs that stand for what it gives, takes or lets through."""
+        """By the node of a place: the places of the arcs that stand for what it gives, takes or
+        lets through."""
         found: dict[int, list[int]] = defaultdict(list)
         for place, arc in enumerate(self.arcs) if self.folding.has_roles else ():
             if role := self.folding.role(*arc[:2]):
@@ -58,8 +66,16 @@ class Drawing:
     @cached_property
     def unlimited(self) -> set[int]:
         """The places of the arcs that are unlimited sources or sinks."""
-        roles = ((place, self.folding.role(*self.arcs[place][:2])) for places in self.roles.values() for place in places)
-        return {place for place, role in roles if role and role.is_unlimited and role.node not in self.limited}
+        roles = (
+            (place, self.folding.role(*self.arcs[place][:2]))
+            for places in self.roles.values()
+            for place in places
+        )
+        return {
+            place
+            for place, role in roles
+            if role and role.is_unlimited and role.node not in self.limited
+        }
 
     def ends(self, place: int) -> tuple[int, int]:
         """The nodes between which an arc is drawn."""
@@ -78,34 +94,54 @@ class Drawing:
         return self.folding.places(range(1, self.problem.node_count + 1))
 
     def amount(self, place: int, before: str = "") -> str:
-        """What flows on an arc, and its capacity: `14.7/20`, or the capacity alone if the flow is not known."""
+        """What flows on an arc, and its capacity: `14.7/20`, or the capacity alone if the flow is
+        not known."""
         arc, flow = self.arcs[place], self.flows[place]
         if arc.is_closed:
             return "closed"
         if flow is not None and place in self.unlimited:
             return self._text(flow)
-        return f"{before}{self._text(arc.capacity)}" if flow is None else f"{self._text(flow)}/{self._text(arc.capacity)}"
+        return (
+            f"{before}{self._text(arc.capacity)}"
+            if flow is None
+            else f"{self._text(flow)}/{self._text(arc.capacity)}"
+        )
 
     def _text(self, number: Quantity) -> str:
-        return plain_text(number) if self.has_quantities else self.problem.described.measure.text(int(number))
+        return (
+            plain_text(number)
+            if self.has_quantities
+            else self.problem.described.measure.text(int(number))
+        )
 
 
 def nearest(drawing: Drawing, most: int) -> list[int]:
-    """The places of the nearest arcs: those of the cut first, and then those that are fewest steps away from them."""
+    """The places of the nearest arcs: those of the cut first, and then those that are fewest steps
+    away from them."""
     at_node: dict[int, list[int]] = defaultdict(list)
     for place in drawing.drawn:
         for node in drawing.ends(place):
             at_node[node].append(place)
     chosen = [place for place in drawing.drawn if drawing.is_cut(drawing.arcs[place])]
-    # A limit that is at a place is nearest to the arcs there, and a cut without arcs to those at its ends.
-    at_places = {node for node, roles in drawing.roles.items() if any(drawing.is_cut(drawing.arcs[place]) for place in roles)}
+    # A limit that is at a place is nearest to the arcs there, and a cut without arcs to those at
+    # its ends.
+    at_places = {
+        node
+        for node, roles in drawing.roles.items()
+        if any(drawing.is_cut(drawing.arcs[place]) for place in roles)
+    }
     if at_places or not chosen:
         beside = {place for node in at_places or drawing.terminals() for place in at_node[node]}
         chosen += sorted(beside.difference(chosen))
     return spread(chosen, most, drawing.ends, lambda node: at_node[node])
 
 
-def spread(first: Iterable[int], most: int, ends: Callable[[int], tuple[int, int]], at_node: Callable[[int], Iterable[int]]) -> list[int]:
+def spread(
+    first: Iterable[int],
+    most: int,
+    ends: Callable[[int], tuple[int, int]],
+    at_node: Callable[[int], Iterable[int]],
+) -> list[int]:
     """These arcs, and then those that are fewest steps away from them, in their order."""
     chosen = list(first)
     known = set(chosen)
@@ -120,8 +156,12 @@ def spread(first: Iterable[int], most: int, ends: Callable[[int], tuple[int, int
 
 
 def quoted(*parts: str) -> str:
-    """A label of these lines, shown as they are: Graphviz would read entities, backslashes and quotation marks otherwise."""
-    shown = (display(part).replace("\\", "\\\\").replace('"', '\\"').replace("&", "&amp;") for part in parts)
+    """A label of these lines, shown as they are: Graphviz would read entities, backslashes and
+    quotation marks otherwise."""
+    shown = (
+        display(part).replace("\\", "\\\\").replace('"', '\\"').replace("&", "&amp;")
+        for part in parts
+    )
     # A line feed in a label is written as a backslash and an n.
     return '"' + "\\n".join(shown) + '"'
 
@@ -133,8 +173,13 @@ def drawn_line(what: str, looks: dict[str, str]) -> str:
 def node_line(drawing: Drawing, node: int, is_whole: bool) -> str:
     is_shut = node in drawing.shut
     roles = [] if is_shut else drawing.roles.get(node, [])
-    told = [f"{AT_PLACE[kind]} {amount}" for kind, amount in map(lambda place: _role_of(drawing, place), roles)]
-    looks = {"label": quoted(drawing.problem.node_names.get(node, str(node)), *told, *["shut"] * is_shut)}
+    told = [
+        f"{AT_PLACE[kind]} {amount}"
+        for kind, amount in map(lambda place: _role_of(drawing, place), roles)
+    ]
+    looks = {
+        "label": quoted(drawing.problem.node_names.get(node, str(node)), *told, *["shut"] * is_shut)
+    }
     if node in drawing.terminals():
         looks["peripheries"] = "2"
     styles = ["filled"] * (node in drawing.side) + ["dashed"] * (not is_whole)
@@ -173,7 +218,8 @@ def arc_line(drawing: Drawing, place: int) -> str:
 
 
 def picture(drawing: Drawing, most: int) -> Iterator[str]:
-    """The lines of the picture's text. If there are more arcs than `most`, it has those nearest the cut."""
+    """The lines of the picture's text. If there are more arcs than `most`, it has those nearest the
+    cut."""
     arcs = drawing.drawn
     is_whole = len(arcs) <= most
     places: Sequence[int] = arcs if is_whole else nearest(drawing, most)
@@ -183,12 +229,18 @@ def picture(drawing: Drawing, most: int) -> Iterator[str]:
     yield '  node [fontname="Helvetica"]\n  edge [fontname="Helvetica", fontsize=11]'
     legend = drawing.problem.described.measure.legend
     notes = [legend] * bool(legend)
-    notes += [f"{len(places)} of {len(arcs)} arcs: those nearest the cut"] * (not is_whole) + drawing.notes
+    notes += [f"{len(places)} of {len(arcs)} arcs: those nearest the cut"] * (
+        not is_whole
+    ) + drawing.notes
     if notes:
         yield f"  label={quoted(*notes)}"
     nodes: Iterable[int] = drawn
     if is_whole:
-        nodes = drawing.nodes() if drawing.problem.node_count <= most else {*drawn, *drawing.terminals()}
+        nodes = (
+            drawing.nodes()
+            if drawing.problem.node_count <= most
+            else {*drawn, *drawing.terminals()}
+        )
     for node in sorted(nodes):
         yield node_line(drawing, node, drawn[node] == all_of[node])
     for place in places:
@@ -197,20 +249,32 @@ def picture(drawing: Drawing, most: int) -> Iterator[str]:
 
 
 def graphviz(text: bytes, engine: str, *words: str, patience: int = 20) -> bytes:
-    """What an engine of Graphviz makes of a text with these words. Raises a FileNotFoundError where Graphviz is not there, an OSError
-    where it does not start, and a RuntimeError for what it says, or if it takes more than so many seconds."""
+    """What an engine of Graphviz makes of a text with these words. Raises a FileNotFoundError where
+    Graphviz is not there, an OSError where it does not start, and a RuntimeError for what it says,
+    or if it takes more than so many seconds.
+    """
     # A text for Graphviz needs neither.
     import shutil
     import subprocess
 
     program = shutil.which(engine)
     if not program:
-        raise FileNotFoundError(errno.ENOENT, "a picture needs Graphviz, whose program is not there", engine)
+        raise FileNotFoundError(
+            errno.ENOENT, "a picture needs Graphviz, which is not installed", engine
+        )
     try:
-        ran = subprocess.run([program, *words], input=text, capture_output=True, timeout=patience, start_new_session=True)
+        ran = subprocess.run(
+            [program, *words],
+            input=text,
+            capture_output=True,
+            timeout=patience,
+            start_new_session=True,
+        )
     except subprocess.TimeoutExpired:
         raise RuntimeError(f"Graphviz has drawn nothing in {patience} seconds") from None
     if ran.returncode:
         told = ran.stderr.decode(errors="replace").strip().splitlines()
-        raise RuntimeError(f"Graphviz did not draw it: {told[-1] if told else f'status {ran.returncode}'}")
+        raise RuntimeError(
+            f"Graphviz did not draw it: {told[-1] if told else f'status {ran.returncode}'}"
+        )
     return ran.stdout

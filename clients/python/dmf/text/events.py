@@ -1,5 +1,6 @@
-"""Answers of the tools in JSON, an object a line, whose schema is docs/events.schema.json. Amounts have the number of the table and the whole
-number that stands for it in the program: `{"told": "47.3", "raw": 473}`."""
+"""Answers of the tools in JSON, an object a line, whose schema is docs/events.schema.json. Amounts
+have the number of the table and the whole number that stands for it in the program: `{"told":
+"47.3", "raw": 473}`."""
 
 from __future__ import annotations
 
@@ -29,7 +30,8 @@ def event_number(amount: Quantity, measure: Measure) -> Json:
 
 
 def ends(role: Role | None, tail: int, head: int, node: Callable[[int], str]) -> Json:
-    """The ends of an arc, or what one stands for that is none of the table: who reads this knows no node that is none."""
+    """The ends of an arc, or what one stands for that is none of the table: who reads this knows no
+    node that is none."""
     if role:
         return {"from": None, "to": None, "role": {"kind": role.kind, "place": node(role.node)}}
     return {"from": node(tail), "to": node(head), "role": None}
@@ -42,9 +44,11 @@ class NameSource(Protocol):
     measure: Measure
     folding: TableRoles
 
-    def node(self, number: int) -> str: ...
+    def node(self, number: int) -> str:
+        ...
 
-    def cut(self, cut: CutReply, arcs: list[ArcRecord]) -> tuple[list[int], list[int]]: ...
+    def cut(self, cut: CutReply, arcs: list[ArcRecord]) -> tuple[list[int], list[int]]:
+        ...
 
 
 class JsonWriter:
@@ -64,19 +68,36 @@ class JsonWriter:
         scale = {"unit": measure.told_unit, "scale": plain_text(measure.divisor)}
         if isinstance(event, SolutionReply):
             arcs = [self._arc(*row) for row in zip(event.numbers, event.arcs, event.flows)]
-            return "solution", {"value": self._number(event.value), **scale, "arcs": arcs if event.is_told else None}
+            return "solution", {
+                "value": self._number(event.value),
+                **scale,
+                "arcs": arcs if event.is_told else None,
+            }
         if isinstance(event, FlowReply):
             role = self.names.folding.role(event.tail, event.head)
-            return "flows", {**ends(role, event.tail, event.head, self.names.node), "flow": self._number(event.flow), **scale}
+            return "flows", {
+                **ends(role, event.tail, event.head, self.names.node),
+                "flow": self._number(event.flow),
+                **scale,
+            }
         if isinstance(event, CutReply):
             side, numbers = self.names.cut(event, self.follower.timeline.arcs)
             told = [*map(self.names.node, self.names.folding.places(side))]
             arcs = [self._arc(it, self.follower.timeline.arcs[it - 1]) for it in numbers]
-            return "cut", {"capacity": self._number(event.capacity), **scale, "side": told, "arcs": None if event.arcs is None else arcs}
+            return "cut", {
+                "capacity": self._number(event.capacity),
+                **scale,
+                "side": told,
+                "arcs": None if event.arcs is None else arcs,
+            }
         if isinstance(event, PrintedReply):
             return "problem", {"lines": [line.decode(errors="replace") for line in event.lines]}
         value = self._number(event.value) if isinstance(event, ChangedReply) else None
-        return "reply", {"text": display(event.line.decode(errors="replace")), "value": value, **scale}
+        return "reply", {
+            "text": display(event.line.decode(errors="replace")),
+            "value": value,
+            **scale,
+        }
 
     def _number(self, whole: int) -> Json:
         return {"told": self.names.measure.text(whole), "raw": whole}
@@ -84,16 +105,26 @@ class JsonWriter:
     def _arc(self, at: int, arc: ArcRecord, flow: int | None = None) -> Json:
         role = self.names.folding.role(arc.tail, arc.head)
         is_numbered = self.follower.is_numbered
-        name = role_words(role, self.names.node) if role else self.names.arcs.get(at, "") if is_numbered else ""
+        name = (
+            role_words(role, self.names.node)
+            if role
+            else self.names.arcs.get(at, "")
+            if is_numbered
+            else ""
+        )
         return {
-            "number": at if is_numbered else None, "name": name, **ends(role, arc.tail, arc.head, self.names.node),
-            "capacity": self._number(arc.capacity), "flow": None if flow is None else self._number(flow),
+            "number": at if is_numbered else None,
+            "name": name,
+            **ends(role, arc.tail, arc.head, self.names.node),
+            "capacity": self._number(arc.capacity),
+            "flow": None if flow is None else self._number(flow),
             "unlimited": bool(role and role.is_unlimited),
-        }  # fmt: skip
+        }
 
 
 def case_line(row: Sequence[str], measure: Measure) -> str:
-    """A row of a sweep as a line: its number, its commands, the name of its first arc, the value, the difference and why it was refused."""
+    """A row of a sweep as a line: its number, its commands, the name of its first arc, the value,
+    the difference and why it was refused."""
 
     def amount(cell: str) -> Json | None:
         if not cell:
@@ -106,7 +137,13 @@ def case_line(row: Sequence[str], measure: Measure) -> str:
     return event_line(
         "case",
         {
-            "case": int(at), "commands": commands, "name": name, "value": amount(value), "difference": amount(difference), "refused": refused,
-            "unit": measure.told_unit, "scale": plain_text(measure.divisor),
+            "case": int(at),
+            "commands": commands,
+            "name": name,
+            "value": amount(value),
+            "difference": amount(difference),
+            "refused": refused,
+            "unit": measure.told_unit,
+            "scale": plain_text(measure.divisor),
         },
-    )  # fmt: skip
+    )

@@ -1,7 +1,8 @@
-"""Lines, fields and numbers of texts, the bounds of what a problem may have, and how a text is shown.
+"""Lines, fields and numbers of texts, the bounds of what a problem may have, and how a text is
+shown.
 
-A text is bytes. Its lines end at line feeds alone, and its fields at spaces and tabs alone, whatever else Unicode or a terminal takes for an
-end or a space."""
+A text is bytes. Its lines end at line feeds alone, and its fields at spaces and tabs alone,
+whatever else Unicode or a terminal takes for an end or a space."""
 
 from __future__ import annotations
 
@@ -10,7 +11,8 @@ import re
 
 # The types of the columns: numbers of nodes, and capacities and flows.
 NODES, AMOUNTS = "I", "Q"
-# The type of a column whose entry may be the number that stands for no node, which no column of nodes accepts.
+# The type of a column whose entry may be the number that stands for no node, which no column of
+# nodes accepts.
 NUMBERS, NO_NODE = "i", -1
 
 LARGEST = 2**64 - 1
@@ -18,19 +20,23 @@ LONGEST = len(str(LARGEST))
 MOST_NODES = 16_777_216
 MOST_ARCS = 134_217_728
 NODE, ARC = "node", "arc"
-# A network with more arcs than these is shown as a table, since nobody would find an arc in a picture of it.
+# A network with more arcs than these is shown as a table, since nobody would find an arc in a
+# picture of it.
 MOST_DRAWN = 300
 
 
 @functools.cache
 def _unshown() -> re.Pattern[str]:
-    """Control characters of a terminal, ends of lines, and marks that turn the direction in which text is shown; halves of characters."""
-    return re.compile("[\x00-\x1f\x7f-\x9f\u061c\u200e\u200f\u2028-\u202e\u2066-\u2069\ud800-\udfff]")
+    """Control characters of a terminal, ends of lines, and marks that turn the direction in which
+    text is shown; halves of characters."""
+    return re.compile(
+        "[\x00-\x1f\x7f-\x9f\u061c\u200e\u200f\u2028-\u202e\u2066-\u2069\ud800-\udfff]"
+    )
 
 
 def display(name: str) -> str:
-    """A text in a form that can be shown: a character that would steer a terminal, end a line or turn the direction of the text is
-    written as `\x1b`, and so on."""
+    """A text in a form that can be shown: a character that would steer a terminal, end a line or
+    turn the direction of the text is written as `\x1b`, and so on."""
     return name if name.isascii() and name.isprintable() else _unshown().sub(_escaped, name)
 
 
@@ -43,7 +49,8 @@ FIELD = re.compile(rb"[^ \t]+")
 
 
 class Fault(Exception):
-    """Why a field or a line is refused: `reason` is the text that `dmf` has for it, and `field` the faulty field, if there is one."""
+    """Why a field or a line is refused: `reason` is the text that `dmf` has for it, and `field` the
+    faulty field, if there is one."""
 
     def __init__(self, reason: str, about: bytes = b"") -> None:
         super().__init__(reason)
@@ -66,8 +73,8 @@ class TextFault(Fault):
 
 
 def lines(text: bytes) -> list[bytes]:
-    """The lines of a text, without their line feeds and without one carriage return directly before a line feed. What follows the
-    last line feed is a line unless it is empty."""
+    """The lines of a text, without their line feeds and without one carriage return directly before
+    a line feed. What follows the last line feed is a line unless it is empty."""
     pieces = text.split(b"\n")
     rest = pieces.pop()
     if b"\r" in text:
@@ -81,7 +88,8 @@ def fields(line: bytes) -> list[bytes]:
 
 
 def read_number(digits: bytes) -> int:
-    """The number in a field, from 0 to 2^64 - 1. Raises a `Fault` that says `not a number` or `number too large`."""
+    """The number in a field, from 0 to 2^64 - 1. Raises a `Fault` that says `not a number` or
+    `number too large`."""
     if not digits.isdigit():
         raise Fault("not a number", digits)
     if len(digits) < LONGEST:

@@ -22,8 +22,8 @@ LONGEST = 1 << 30
 MARK = b"dmf-problem:"
 _SAID = MARK + rb"([A-Za-z0-9+/=]+);"
 _PNG, _HEADER = b"\x89PNG\r\n\x1a\n", 33
-# Where each form carries it, by how a file of that form begins. Names and notes of the network's owner may look like it, but cannot
-# stand there.
+# Where each form carries it, by how a file of that form begins. Names and notes of the network's
+# owner may look like it, but cannot stand there.
 _PLACES = {
     _PNG: re.compile(rb"tEXtComment\0" + _SAID),
     b"// " + MARK: re.compile(rb"\A// " + _SAID + rb"\r?\n"),
@@ -37,7 +37,13 @@ def carrying(data: bytes, problem: str) -> bytes:
     said = MARK + base64.b64encode(zlib.compress(problem.encode("utf-8", "surrogateescape"))) + b";"
     if data.startswith(_PNG):
         chunk = b"tEXtComment\0" + said
-        return data[:_HEADER] + struct.pack(">I", len(chunk) - 4) + chunk + struct.pack(">I", zlib.crc32(chunk)) + data[_HEADER:]
+        return (
+            data[:_HEADER]
+            + struct.pack(">I", len(chunk) - 4)
+            + chunk
+            + struct.pack(">I", zlib.crc32(chunk))
+            + data[_HEADER:]
+        )
     if data.startswith(b"digraph"):
         return b"// %b\n%b" % (said, data)
     if data.startswith(b"<!DOCTYPE html"):
@@ -46,18 +52,25 @@ def carrying(data: bytes, problem: str) -> bytes:
 
 
 def problem_in(data: bytes) -> bytes:
-    """The problem that the content of a picture's or a page's file carries. Any other content is given back. Raises a `TableFault` if only a
-    part of the problem is there."""
+    """The problem that the content of a picture's or a page's file carries. Any other content is
+    given back. Raises a `TableFault` if only a part of the problem is there."""
     place = next((place for begin, place in _PLACES.items() if data.startswith(begin)), None)
     if place is None or MARK not in data:
         return data
     found, unpacked = list(place.finditer(data))[-1:], zlib.decompressobj()
     try:
-        text = unpacked.decompress(base64.b64decode(found[0][1], validate=True), LONGEST) if found else b""
+        text = (
+            unpacked.decompress(base64.b64decode(found[0][1], validate=True), LONGEST)
+            if found
+            else b""
+        )
     except (binascii.Error, zlib.error):
         text = b""
     if not unpacked.eof:
-        raise TableFault(f"only a part is left of the problem that it carries, or it has more than {LONGEST} bytes")
+        raise TableFault(
+            f"only a part is left of the problem that it carries, or it has more than {LONGEST} "
+            "bytes"
+        )
     return text
 
 
@@ -66,9 +79,10 @@ FIELD_COUNTS = {b"p": 4, b"n": 3, b"a": 4}
 
 @dataclass
 class Problem:
-    """A problem as its text has it. Arc number j is `arcs[j - 1]`: its tail, its head and its capacity. Nodes are counted from 1
-    too. A node or an arc that no comment names is not in the names, nor is a name of one that is not there. `described` is what
-    comments say of the table that the problem was made of."""
+    """A problem as its text has it. Arc number j is `arcs[j - 1]`: its tail, its head and its
+    capacity. Nodes are counted from 1 too. A node or an arc that no comment names is not in the
+    names, nor is a name of one that is not there. `described` is what comments say of the table
+    that the problem was made of."""
 
     node_count: int
     source: int
@@ -85,10 +99,12 @@ def told_scale(described: TableComments) -> str:
 
 
 def read_problem(text: bytes) -> Problem:
-    """The problem that a text stands for, with its names. Raises a `TextFault` for its first fault, the one that `dmf` reports."""
+    """The problem that a text stands for, with its names. Raises a `TextFault` for its first fault,
+    the one that `dmf` reports."""
     reading = _ProblemReader()
     read = lines(text)
-    # If none of these bytes is in the text, fields stand between what `split` takes for white space, which is faster.
+    # If none of these bytes is in the text, fields stand between what `split` takes for white
+    # space, which is faster.
     is_plain = not any(odd in text for odd in (b"\r", b"\x0b", b"\x0c"))
     line = 0
     try:
@@ -102,8 +118,12 @@ def read_problem(text: bytes) -> Problem:
         raise TextFault(line, fault.reason, fault.field) from None
     node_names, arc_names = read_names(text)
     problem.described = described(text).within(problem.node_count, len(problem.arcs))
-    problem.node_names = {number: name for number, name in node_names.items() if 1 <= number <= problem.node_count}
-    problem.arc_names = {number: name for number, name in arc_names.items() if 1 <= number <= len(problem.arcs)}
+    problem.node_names = {
+        number: name for number, name in node_names.items() if 1 <= number <= problem.node_count
+    }
+    problem.arc_names = {
+        number: name for number, name in arc_names.items() if 1 <= number <= len(problem.arcs)
+    }
     return problem
 
 

@@ -1,6 +1,7 @@
-"""The command lines of a session: what each asks for, or why its form alone gets it refused; and a network tracked through them.
+"""The command lines of a session: what each asks for, or why its form alone gets it refused; and a
+network tracked through them.
 
-docs/FORMATS.md has the commands. Flows are not kept, only the value of each."""
+docs/SESSION.md has the commands. Flows are not kept, only the value of each."""
 
 from __future__ import annotations
 
@@ -14,7 +15,9 @@ from .problem_text import ArcRecord, Problem
 LONGEST_LINE = 4_096
 SOLVE, ADD, UNDO, REDO = "solve", "add", "undo", "redo"
 PRINT_PROBLEM, PRINT_FLOW, PRINT_CUT = "print problem", "print flow", "print cut"
-# tests/commands.py has the commands: /usr/bin/python3 -m pytest --write tests/test_commands.py makes these lists.
+# tests/commands.py has the commands:
+# /usr/bin/python3 -m pytest --write tests/test_commands.py makes these lists.
+
 # How many fields may stand after each command's word.
 FIELD_COUNTS = {
     b"cap": (2,),
@@ -33,7 +36,8 @@ CHANGES = (b"cap", b"add", b"close", b"shut", b"undo", b"redo")
 
 
 class Command(NamedTuple):
-    """What a line asks for: the command's word, or two words of `print`, and its numbers. `undo` alone has the number 1."""
+    """What a line asks for: the command's word, or two words of `print`, and its numbers. `undo`
+    alone has the number 1."""
 
     word: str
     numbers: tuple[int, ...] = ()
@@ -48,8 +52,8 @@ def ended_line(line: bytes) -> bytes:
 
 
 def read_command(line: bytes) -> Command | None:
-    """What a line asks for; it may still have its line feed. None for a blank line and a comment. Raises the `Fault` for which a
-    session refuses it whatever its network is."""
+    """What a line asks for; it may still have its line feed. None for a blank line and a comment.
+    Raises the `Fault` for which a session refuses it whatever its network is."""
     if len(line.removesuffix(b"\n")) > LONGEST_LINE:
         raise Fault("line too long")
     found = fields(ended_line(line))
@@ -70,8 +74,8 @@ def read_command(line: bytes) -> Command | None:
 
 
 class TrackedNetwork(History):
-    """A network, and the changes that led to it or were undone. `begins_known` says whether the first of them is the first of all: if not,
-    more can be undone than is known here."""
+    """A network, and the changes that led to it or were undone. `begins_known` says whether the
+    first of them is the first of all: if not, more can be undone than is known here."""
 
     def __init__(self, problem: Problem, value: int = 0, begins_known: bool = True) -> None:
         super().__init__(sys.maxsize)
@@ -83,14 +87,17 @@ class TrackedNetwork(History):
 
     @property
     def serial(self) -> object:
-        """What tells the present state from others: that of the change that led to it. It comes back after an undo and a redo."""
+        """What tells the present state from others: that of the change that led to it. It comes
+        back after an undo and a redo."""
         return self._changes[self.place - 1] if self.place else self._start
 
     def shut_nodes(self) -> set[int]:
         """The nodes that are shut and that no open arc leaves or enters."""
         shut = {numbers[0] for word, *numbers in self.commands()[: self.place] if word == "shut"}
         if shut:
-            shut -= {node for arc in self.arcs if not arc.is_closed for node in (arc.tail, arc.head)}
+            shut -= {
+                node for arc in self.arcs if not arc.is_closed for node in (arc.tail, arc.head)
+            }
         return shut
 
     def begin_anew(self, value: int) -> None:
@@ -99,17 +106,23 @@ class TrackedNetwork(History):
         self.begins_known = False
 
     def refusal(self, command: Command) -> str | None:
-        """Why this network refuses a command, if it does; if earlier changes are unknown, an undo or a redo may be accepted."""
+        """Why this network refuses a command, if it does; if earlier changes are unknown, an undo
+        or a redo may be accepted."""
         word, numbers = command
         if word in ("cap", "close") and not 1 <= numbers[0] <= len(self.arcs):
             return "no such arc"
         if word in ("cap", "close") and self.arcs[numbers[0] - 1].is_closed:
             return "arc is closed"
-        if word in (ADD, "shut") and not all(1 <= node <= self.problem.node_count for node in numbers[:2]):
+        if word in (ADD, "shut") and not all(
+            1 <= node <= self.problem.node_count for node in numbers[:2]
+        ):
             return "no such node"
         if word == ADD and len(self.arcs) == MOST_ARCS:
             return "too many arcs"
-        if word in (ADD, "cap") and self.capacity_sum - self._freed(command) + numbers[-1] > LARGEST:
+        if (
+            word in (ADD, "cap")
+            and self.capacity_sum - self._freed(command) + numbers[-1] > LARGEST
+        ):
             return "capacities past 64 bits"
         if word in (UNDO, REDO) and self.begins_known and not self.knows(command):
             return f"nothing to {word}"
@@ -119,12 +132,14 @@ class TrackedNetwork(History):
         return self.arcs[command.numbers[0] - 1].capacity if command.word == "cap" else 0
 
     def knows(self, command: Command) -> bool:
-        """Whether the changes that an undo or a redo steps over are known; any other command needs none."""
+        """Whether the changes that an undo or a redo steps over are known; any other command needs
+        none."""
         known = {UNDO: self.place, REDO: len(self._changes) - self.place}.get(command.word)
         return known is None or command.numbers[0] <= known
 
     def carry_out(self, command: Command, value: int) -> None:
-        """Makes a change that is not refused, or steps, after which the flow has this value. Raises a `Fault` if it cannot."""
+        """Makes a change that is not refused, or steps, after which the flow has this value. Raises
+        a `Fault` if it cannot."""
         word, numbers = command
         if word in (UNDO, REDO):
             step, by = (self.undo, -numbers[0]) if word == UNDO else (self.redo, numbers[0])
@@ -133,7 +148,9 @@ class TrackedNetwork(History):
                 raise Fault(f"value differs: it was {before} there")
             step(numbers[0], value)
         else:
-            is_possible = {ADD: value == self.value, SOLVE: value >= self.value}.get(word, value <= self.value)
+            is_possible = {ADD: value == self.value, SOLVE: value >= self.value}.get(
+                word, value <= self.value
+            )
             if not is_possible:
                 raise Fault(f"value differs: {command} does not make {value} of {self.value}")
             self.note(self._change(command), value)
@@ -146,11 +163,18 @@ class TrackedNetwork(History):
             return Change((word, *numbers), added=(ArcRecord(tail, head, capacity), capacity, None))
         if word == "shut":
             node = numbers[0]
-            changed = [number for number, arc in enumerate(self.arcs, 1) if node in (arc.tail, arc.head) and not arc.is_closed]
+            changed = [
+                number
+                for number, arc in enumerate(self.arcs, 1)
+                if node in (arc.tail, arc.head) and not arc.is_closed
+            ]
         else:
             changed = [*numbers[:1]]
         after = numbers[1] if word == "cap" else None
-        return Change((word, *numbers), [(number, self.arcs[number - 1].capacity, after) for number in changed])
+        return Change(
+            (word, *numbers),
+            [(number, self.arcs[number - 1].capacity, after) for number in changed],
+        )
 
     def _make(self, change: Change) -> None:
         if change.added:

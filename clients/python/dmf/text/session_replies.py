@@ -15,7 +15,13 @@ from .session_commands import CHANGES, FIELD_COUNTS, Command, ended_line, read_c
 # The kinds of a line, by its form alone.
 Kind = Enum("Kind", "VALUE FLOW CUT SIDE PROBLEM TERMINAL ARC CHANGED SOLVED REFUSED COMMAND OTHER")
 
-_BY_FIRST_FIELD = {b"s": Kind.VALUE, b"f": Kind.FLOW, b"p": Kind.PROBLEM, b"n": Kind.TERMINAL, b"a": Kind.ARC}
+_BY_FIRST_FIELD = {
+    b"s": Kind.VALUE,
+    b"f": Kind.FLOW,
+    b"p": Kind.PROBLEM,
+    b"n": Kind.TERMINAL,
+    b"a": Kind.ARC,
+}
 
 
 def kind_of(found: list[bytes]) -> Kind:
@@ -34,8 +40,14 @@ def kind_of(found: list[bytes]) -> Kind:
         return Kind.REFUSED
     if found[1:3] == [b"solve", b"value"] and len(found) == 4 and found[3].isdigit():
         return Kind.SOLVED
-    is_change = found[1] in CHANGES and len(found) == 4 + (found[1] == b"add") and found[-2] == b"value"
-    return Kind.CHANGED if is_change and found[2 if found[1] == b"add" else -1].isdigit() else Kind.OTHER
+    is_change = (
+        found[1] in CHANGES and len(found) == 4 + (found[1] == b"add") and found[-2] == b"value"
+    )
+    return (
+        Kind.CHANGED
+        if is_change and found[2 if found[1] == b"add" else -1].isdigit()
+        else Kind.OTHER
+    )
 
 
 @dataclass(frozen=True)
@@ -70,9 +82,10 @@ class RefusedReply(OneLine):
 
 @dataclass(frozen=True)
 class SolutionReply:
-    """The flows on the open arcs, in their order: the arcs' numbers, the arcs as they were, and the flows. If the lines of the flows
-    were left out, as in the brief reply to a solve, or have not come yet, of a network that is not known, the three are empty and
-    `is_told` is false. `serial` tells the state with this flow from others."""
+    """The flows on the open arcs, in their order: the arcs' numbers, the arcs as they were, and the
+    flows. If the lines of the flows were left out, as in the brief reply to a solve, or have not
+    come yet, of a network that is not known, the three are empty and `is_told` is false. `serial`
+    tells the state with this flow from others."""
 
     value: int
     is_told: bool
@@ -93,8 +106,10 @@ class FlowReply:
 
 @dataclass(frozen=True)
 class CutReply:
-    """The smallest minimum cut: its capacity, the nodes on the source's side, and its arcs by their numbers, which are None if the
-    network is not known. `line` is its first line, and `serial` tells the state with this cut from others."""
+    """The smallest minimum cut: its capacity, the nodes on the source's side, and its arcs by their
+    numbers, which are None if the network is not known. `line` is its first line, and `serial`
+    tells the state with this cut from others.
+    """
 
     capacity: int
     side: list[int]
@@ -105,14 +120,17 @@ class CutReply:
 
 @dataclass(frozen=True)
 class PrintedReply:
-    """A printed problem: the lines, and the number that each of its arcs has in the session; None if these are not known."""
+    """A printed problem: the lines, and the number that each of its arcs has in the session; None
+    if these are not known."""
 
     lines: list[bytes]
     problem: Problem
     numbers: list[int] | None
 
 
-Event = Union[Other, Asked, ChangedReply, RefusedReply, SolutionReply, FlowReply, CutReply, PrintedReply]
+Event = Union[
+    Other, Asked, ChangedReply, RefusedReply, SolutionReply, FlowReply, CutReply, PrintedReply
+]
 
 
 class SolutionReading:
@@ -135,19 +153,26 @@ class SolutionReading:
         return self.is_whole_with(0)
 
     def take(self, found: list[bytes]) -> None:
-        """Takes in a line of a flow. Raises a `Fault` if it does not belong to the next open arc."""
+        """Takes in a line of a flow. Raises a `Fault` if it does not belong to the next open
+        arc."""
         tail, head, flow = flow_of(found)
         number, arc = self.numbers[len(self.flows)], self.arcs[len(self.flows)]
         if (tail, head) != (arc.tail, arc.head):
             if not any((tail, head) == (other.tail, other.head) for other in self.arcs):
                 raise Fault(f"no such arc: {tail} to {head}")
-            raise Fault(f"arc {number} leads from {arc.tail} to {arc.head}, and not from {tail} to {head}")
+            raise Fault(
+                f"arc {number} leads from {arc.tail} to {arc.head}, and not from {tail} to {head}"
+            )
         if flow > arc.capacity:
-            raise Fault(f"over capacity: arc {number}, from {tail} to {head}, carries at most {arc.capacity}, and not {flow}")
+            raise Fault(
+                f"over capacity: arc {number}, from {tail} to {head}, carries at most "
+                f"{arc.capacity}, and not {flow}"
+            )
         self.flows.append(flow)
 
     def judge(self, source: int, sink: int) -> None:
-        """Raises a `Fault` if the flows are not a flow of this value from the source to the sink."""
+        """Raises a `Fault` if the flows are not a flow of this value from the source to the
+        sink."""
         excesses: Counter[int] = Counter()
         for arc, flow in zip(self.arcs, self.flows):
             if flow:
@@ -157,16 +182,20 @@ class SolutionReading:
         if unbalanced:
             raise Fault(f"flow not conserved at node {min(unbalanced)}")
         if excesses[source] != self.value:
-            raise Fault(f"value differs: {excesses[source]} flows out of the source, and not {self.value}")
+            raise Fault(
+                f"value differs: {excesses[source]} flows out of the source, and not {self.value}"
+            )
 
 
 class CutReading:
-    """The lines of a cut. In a known network the end of its side is known at once: the smallest minimum cut has no smaller minimum
-    cut inside it."""
+    """The lines of a cut. In a known network the end of its side is known at once: the smallest
+    minimum cut has no smaller minimum cut inside it."""
 
     GOES_ON = (Kind.SIDE,)
 
-    def __init__(self, capacity: int, line: int, problem: Problem, arcs: list[ArcRecord] | None) -> None:
+    def __init__(
+        self, capacity: int, line: int, problem: Problem, arcs: list[ArcRecord] | None
+    ) -> None:
         self.capacity = capacity
         self.line = line
         self.problem = problem
@@ -207,7 +236,8 @@ class CutReading:
                 self.carried -= capacity
 
     def judge(self) -> None:
-        """Raises a `Fault` if the side is not that of a cut, or if the capacity of its arcs differs from the one in the reply."""
+        """Raises a `Fault` if the side is not that of a cut, or if the capacity of its arcs differs
+        from the one in the reply."""
         if self.problem.source not in self.side or self.problem.sink in self.side:
             raise Fault("the side of this cut has not the source, or has the sink")
         if self.arcs is not None and self.carried != self.capacity:
@@ -255,7 +285,8 @@ def flow_of(found: list[bytes]) -> tuple[int, int, int]:
 
 
 class TranscriptFault(TextFault):
-    """Commands and replies, or a reply and the network, do not fit together. Names the text, `answer` or `commands`, and the line."""
+    """Commands and replies, or a reply and the network, do not fit together. Names the text,
+    `answer` or `commands`, and the line."""
 
     def __init__(self, text: str, line: int, reason: str, about: bytes = b"") -> None:
         super().__init__(line, reason, about)
@@ -264,8 +295,8 @@ class TranscriptFault(TextFault):
 
 @dataclass(frozen=True)
 class Pending:
-    """A command without a reply so far: the text that it stands in, its line there, that line's content, and what it asks for, or why
-    its form gets it refused."""
+    """A command without a reply so far: the text that it stands in, its line there, that line's
+    content, and what it asks for, or why its form gets it refused."""
 
     text: str
     line: int

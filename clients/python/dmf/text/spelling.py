@@ -1,4 +1,5 @@
-"""How names are spelled: in comments of a problem text, as people type them, and which are near to one that does not exist."""
+"""How names are spelled: in comments of a problem text, as people type them, and which are near to
+one that does not exist."""
 
 from __future__ import annotations
 
@@ -14,20 +15,22 @@ from typing import Any, NamedTuple
 from ..errors import NameNotWritable, NoSuchArc, NoSuchNode, shown_value
 from .lexical import ARC, LONGEST, NODE, display
 
-# How many names a message names; among how many a near one is looked for, and how long a name is for which one is.
+# How many names a message names; among how many a near one is looked for, and how long a name is
+# for which one is.
 MOST_TOLD = 10
 MOST_COMPARED = 20_000
 LONGEST_COMPARED = 200
 
 
 def cleaned(text: str) -> str:
-    """A text without white space around it, and with one space for each run of white space in it. A byte order mark, which each of
-    several joined files may have, is white space too."""
+    """A text without white space around it, and with one space for each run of white space in it. A
+    byte order mark, which each of several joined files may have, is white space too."""
     return " ".join(text.replace("\ufeff", " ").split())
 
 
 def quoted_name(text: str) -> str:
-    """A text in quotes as messages show it: on one line, without control characters, and cut if it is long."""
+    """A text in quotes as messages show it: on one line, without control characters, and cut if it
+    is long."""
     return repr(text if len(text) <= 60 else text[:57] + "...")
 
 
@@ -35,7 +38,11 @@ def near(name: str, places: Iterable[str]) -> str:
     """The words of a message about the places whose names are near to one that no place has."""
     if len(name) > LONGEST_COMPARED:
         return ""
-    folded = {place.casefold(): place for place in islice(places, MOST_COMPARED) if len(place) <= LONGEST_COMPARED}
+    folded = {
+        place.casefold(): place
+        for place in islice(places, MOST_COMPARED)
+        if len(place) <= LONGEST_COMPARED
+    }
     found = difflib.get_close_matches(name.casefold(), folded, n=3)
     return f"; is it {' or '.join(quoted_name(folded[it]) for it in found)}?" if found else ""
 
@@ -44,10 +51,15 @@ def folded(text: str) -> str:
     """A text by which it is found: without case and accents."""
     if text.isascii():
         return text.casefold()
-    return "".join(sign for sign in unicodedata.normalize("NFKD", text.casefold()) if not unicodedata.combining(sign))
+    return "".join(
+        sign
+        for sign in unicodedata.normalize("NFKD", text.casefold())
+        if not unicodedata.combining(sign)
+    )
 
 
-# Among how many names a near one is looked for. Whoever asks for many nodes that are not there should not wait.
+# Among how many names a near one is looked for. Whoever asks for many nodes that are not there
+# should not wait.
 MOST_NAMES = 2_000
 
 
@@ -60,7 +72,9 @@ def no_such_node(node: Hashable, numbers: Mapping[Any, int]) -> NoSuchNode:
         return NoSuchNode(shown_value(node))
 
 
-def no_such_arc(key: Hashable, numbers: Mapping[Any, int], keys: Mapping[int, Hashable], is_arc: Any) -> NoSuchArc:
+def no_such_arc(
+    key: Hashable, numbers: Mapping[Any, int], keys: Mapping[int, Hashable], is_arc: Any
+) -> NoSuchArc:
     """The refusal of a key, or of a pair of ends, that no arc has."""
     try:
         return NoSuchArc(shown_value(key) + near_arc(key, numbers, keys, is_arc))
@@ -69,7 +83,8 @@ def no_such_arc(key: Hashable, numbers: Mapping[Any, int], keys: Mapping[int, Ha
 
 
 def near_node(node: Hashable, numbers: Mapping[Any, int]) -> str:
-    """The words about a node that is not there: the same one as a number or as a text, or those of near names."""
+    """The words about a node that is not there: the same one as a number or as a text, or those of
+    near names."""
     if isinstance(node, str):
         text = node.strip()
         if text.isascii() and text.isdigit() and len(text) < 20 and int(text) in numbers:
@@ -78,9 +93,12 @@ def near_node(node: Hashable, numbers: Mapping[Any, int]) -> str:
     return f"; is it {str(node)!r}?" if isinstance(node, int) and str(node) in numbers else ""
 
 
-def near_arc(key: Hashable, numbers: Mapping[Any, int], keys: Mapping[int, Hashable], is_arc: Any) -> str:
-    """The words about an arc that is not there: that between the same nodes in the other direction, if `is_arc` says of a pair that there
-    is one; or those of near keys, or of a near node at an end."""
+def near_arc(
+    key: Hashable, numbers: Mapping[Any, int], keys: Mapping[int, Hashable], is_arc: Any
+) -> str:
+    """The words about an arc that is not there: that between the same nodes in the other direction,
+    if `is_arc` says of a pair that there is one; or those of near keys, or of a near node at an
+    end."""
     if isinstance(key, str):
         return near(key, _texts(keys.values()))
     if isinstance(key, tuple) and len(key) == 2:
@@ -94,14 +112,22 @@ def near_arc(key: Hashable, numbers: Mapping[Any, int], keys: Mapping[int, Hasha
 
 def _texts(names: Any) -> list[str]:
     """The names that are texts, if there are not too many names."""
-    return [name for name in islice(names, MOST_NAMES) if isinstance(name, str)] if len(names) <= MOST_NAMES else []
+    return (
+        [name for name in islice(names, MOST_NAMES) if isinstance(name, str)]
+        if len(names) <= MOST_NAMES
+        else []
+    )
 
 
-# A line feed, and then a comment that names something: what, its number, and the rest of the line, which may be blank.
+# A line feed, and then a comment that names something: what, its number, and the rest of the line,
+# which may be blank.
 _NAMING = re.compile(rb"\n[ \t]*c[ \t]+(node|arc)[ \t]+([0-9]+)([ \t][^\n]*|\r?(?=\n)|\Z)")
 # The same for nodes or for arcs, in a text without carriage returns, if the name is not blank.
 _NAMED = {
-    kind: re.compile(rf"^[ \t]*c[ \t]+{kind}[ \t]+0*([0-9]{{1,19}})[ \t]+([^ \t\n](?:[^\n]*[^ \t\n])?)", re.MULTILINE)
+    kind: re.compile(
+        rf"^[ \t]*c[ \t]+{kind}[ \t]+0*([0-9]{{1,19}})[ \t]+([^ \t\n](?:[^\n]*[^ \t\n])?)",
+        re.MULTILINE,
+    )
     for kind in (NODE, ARC)
 }
 # The size of the pieces that are searched for names, in bytes.
@@ -109,8 +135,8 @@ PIECE = 1 << 16
 
 
 class Naming(NamedTuple):
-    """A comment that gives a name: to what, `node` or `arc`, by which number's field, and which. `start` is the place in the text at
-    which its line begins."""
+    """A comment that gives a name: to what, `node` or `arc`, by which number's field, and which.
+    `start` is the place in the text at which its line begins."""
 
     start: int
     kind: str
@@ -119,19 +145,21 @@ class Naming(NamedTuple):
 
 
 def namings(text: bytes) -> Iterator[Naming]:
-    """The comments of the form that names nodes and arcs, `c node 3 Reservoir` and `c arc 5 Mill Lane`, also those whose name is
-    blank or whose number is too large, in their order."""
+    """The comments of the form that names nodes and arcs, `c node 3 Reservoir` and `c arc 5 Mill
+    Lane`, also those whose name is blank or whose number is too large, in their order."""
     for found in _NAMING.finditer(b"\n" + text):
         kind, digits, rest = found.groups()
         if rest.endswith(b"\r") and found.end() <= len(text):
             rest = rest[:-1]
-        yield Naming(found.start(), kind.decode(), digits, rest.strip(b" \t").decode(errors="replace"))
+        yield Naming(
+            found.start(), kind.decode(), digits, rest.strip(b" \t").decode(errors="replace")
+        )
 
 
 def read_names(text: bytes) -> tuple[dict[int, str], dict[int, str]]:
-    """The names that the comments of a problem text give to nodes and to arcs. If one gets two names, the last counts. The rest of
-    the text is not judged. A comment of another form gives no name, nor does one whose number is past 10^19, since nothing has such a
-    number."""
+    """The names that the comments of a problem text give to nodes and to arcs. If one gets two
+    names, the last counts. The rest of the text is not judged. A comment of another form gives no
+    name, nor does one whose number is past 10^19, since nothing has such a number."""
     return names_in(naming_pieces(text, NODE), NODE), names_in(naming_pieces(text, ARC), ARC)
 
 
@@ -163,12 +191,22 @@ def names_in(pieces: Iterable[bytes], kind: str) -> dict[int, str]:
     return names
 
 
-def name_comments(nodes: Mapping[int, Hashable], arcs: Mapping[int, Hashable], *, escapes: bool = False) -> str:
-    """The comments that give nodes and arcs their names. The names come by number, and each is written by `str`. A node whose name is
-    its own number gets no comment, nor does a blank name. Raises `NameNotWritable` if a name would come back as another one; with
-    `escapes` such a name is written with `\\x0a` for what it cannot have there."""
-    node_names = {number: str(name) for number, name in nodes.items() if type(name) is not int or name != number}
-    names = {NODE: _not_blank(node_names), ARC: _not_blank({number: str(key) for number, key in arcs.items()})}
+def name_comments(
+    nodes: Mapping[int, Hashable], arcs: Mapping[int, Hashable], *, escapes: bool = False
+) -> str:
+    """The comments that give nodes and arcs their names. The names come by number, and each is
+    written by `str`. A node whose name is its own number gets no comment, nor does a blank name.
+    Raises `NameNotWritable` if a name would come back as another one; with `escapes` such a name is
+    written with `\\x0a` for what it cannot have there."""
+    node_names = {
+        number: str(name)
+        for number, name in nodes.items()
+        if type(name) is not int or name != number
+    }
+    names = {
+        NODE: _not_blank(node_names),
+        ARC: _not_blank({number: str(key) for number, key in arcs.items()}),
+    }
     for kind, named in names.items():
         for number, name in named.items():
             if escapes:
@@ -178,7 +216,11 @@ def name_comments(nodes: Mapping[int, Hashable], arcs: Mapping[int, Hashable], *
     twice = [name for name, count in Counter(names[NODE].values()).items() if count > 1]
     if twice:
         raise NameNotWritable(f"name not writable: two nodes are called {shown_value(twice[0])}")
-    return "".join(_comment(kind, number, name) for kind, named in names.items() for number, name in named.items())
+    return "".join(
+        _comment(kind, number, name)
+        for kind, named in names.items()
+        for number, name in named.items()
+    )
 
 
 def written(kind: str, number: int, name: str) -> str:
@@ -208,10 +250,20 @@ def _judge(kind: str, number: int, name: str) -> None:
     except UnicodeEncodeError:
         node_names, arc_names = {}, {}
     if (node_names if kind == NODE else arc_names) != {number: name}:
-        why = "a name in a comment has no line feed, no half of a character, and no blank or carriage return at an end"
-        raise NameNotWritable(f"name not writable: that of {kind} {number}, {shown_value(name)}: {why}")
+        why = (
+            "a name in a comment has no line feed, no half of a character, and no blank or "
+            "carriage "
+            "return at an end"
+        )
+        raise NameNotWritable(
+            f"name not writable: that of {kind} {number}, {shown_value(name)}: {why}"
+        )
 
 
-def picture_names(nodes: Iterable[Hashable], keys: Mapping[int, Hashable]) -> tuple[dict[int, str], dict[int, str]]:
+def picture_names(
+    nodes: Iterable[Hashable], keys: Mapping[int, Hashable]
+) -> tuple[dict[int, str], dict[int, str]]:
     """The names of nodes and of arcs by their numbers, as a picture shows them."""
-    return {number: str(name) for number, name in enumerate(nodes, 1)}, {place: str(key) for place, key in keys.items()}
+    return {number: str(name) for number, name in enumerate(nodes, 1)}, {
+        place: str(key) for place, key in keys.items()
+    }

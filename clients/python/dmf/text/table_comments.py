@@ -11,12 +11,14 @@
     c inner arc ARC demand PLACE unlimited
     c inner arc ARC limit PLACE
 
-An inner node or arc is not of the table. A node joins several sources, or sinks, or is the second half of a place with a limit. An arc carries
-what a source gives, what a sink takes, or what a place lets through. Each is named by its number, and a place by that of its node. An
-unlimited arc carries as much as those at the place.
+An inner node or arc is not of the table. A node joins several sources, or sinks, or is the second
+half of a place with a limit. An arc carries what a source gives, what a sink takes, or what a place
+lets through. Each is named by its number, and a place by that of its node. An unlimited arc carries
+as much as those at the place.
 
-Each stands before the problem line and begins its line, with one blank between its words; the scale may stand anywhere. Of two that say
-the same thing the first counts. `extra` has the comments of the table's other columns.
+Each stands before the problem line and begins its line, with one blank between its words; the scale
+may stand anywhere. Of two that say the same thing the first counts. `extra` has the comments of the
+table's other columns.
 """
 
 from __future__ import annotations
@@ -32,13 +34,21 @@ SOURCES, SINKS = "sources", "sinks"
 SUPPLY, DEMAND, LIMIT = "supply", "demand", "limit"
 # A comment that tells the scale of all numbers of a problem.
 SCALE_WORDS = "c capacities are those of the table times"
-UNIT_WORDS, TABLE_WORDS, SIGN_WORDS, INNER_WORDS = "c unit ", "c table ", "c decimal sign ", "c inner "
+UNIT_WORDS, TABLE_WORDS, SIGN_WORDS, INNER_WORDS = (
+    "c unit ",
+    "c table ",
+    "c decimal sign ",
+    "c inner ",
+)
 
 # How the comment begins that tells the title of another column.
 COLUMN_WORDS = b"c column "
 
 _SCALE = re.compile(rf"[ \t]*{SCALE_WORDS} ([0-9]+(?:\.[0-9]+)?)[ \t]*\r?(?:\n|\Z)".encode())
-_SAID = {words: re.compile(rf"^{words}([^\n]*?)[ \t]*\r?$", re.MULTILINE) for words in (UNIT_WORDS, TABLE_WORDS, SIGN_WORDS)}
+_SAID = {
+    words: re.compile(rf"^{words}([^\n]*?)[ \t]*\r?$", re.MULTILINE)
+    for words in (UNIT_WORDS, TABLE_WORDS, SIGN_WORDS)
+}
 _INNER = re.compile(
     rf"^{INNER_WORDS}(?:node ([0-9]{{1,19}}) (?:({SOURCES}|{SINKS})|half ([0-9]{{1,19}}))"
     rf"|arc ([0-9]{{1,19}}) ({SUPPLY}|{DEMAND}|{LIMIT}) ([0-9]{{1,19}})( unlimited)?)[ \t]*\r?$",
@@ -48,9 +58,9 @@ _INNER = re.compile(
 
 @dataclass(frozen=True)
 class Role:
-    """What an arc that is not of the table carries: what a source gives (`supply`), a sink takes (`demand`) or a place lets through
-    (`limit`); and the node of the place, its first half if it has two. The capacity of an unlimited one is as much as the arcs at the
-    place carry."""
+    """What an arc that is not of the table carries: what a source gives (`supply`), a sink takes
+    (`demand`) or a place lets through (`limit`); and the node of the place, its first half if it
+    has two. The capacity of an unlimited one is as much as the arcs at the place carry."""
 
     kind: str
     node: int
@@ -59,8 +69,10 @@ class Role:
 
 @dataclass(frozen=True)
 class TableComments:
-    """How the whole numbers of a problem stand for quantities, and what is not of its table: by the node's number, what it joins,
-    `sources` or `sinks`; by the number of a second half, the first; by the arc's number, its role."""
+    """How the whole numbers of a problem stand for quantities, and what is not of its table: by the
+    node's number, what it joins, `sources` or `sinks`; by the number of a second half, the first;
+    by the arc's number, its role.
+    """
 
     measure: Measure = Measure()
     joints: Mapping[int, str] = field(default_factory=dict)
@@ -77,21 +89,30 @@ class TableComments:
             self.measure,
             {number: ends for number, ends in self.joints.items() if are_nodes(number)},
             {number: first for number, first in self.halves.items() if are_nodes(number, first)},
-            {number: role for number, role in self.roles.items() if 1 <= number <= arcs and are_nodes(role.node)},
+            {
+                number: role
+                for number, role in self.roles.items()
+                if 1 <= number <= arcs and are_nodes(role.node)
+            },
         )
 
 
 def described(text: bytes) -> TableComments:
-    """What the comments of a problem text say of its table; the rest is not judged. Raises nothing."""
+    """What the comments of a problem text say of its table; the rest is not judged. Raises
+    nothing."""
     problem_line = 0 if text.startswith(b"p") else text.find(b"\np")
     head = text[:problem_line] if problem_line >= 0 else text
     said = {words: _said(head, words) for words in _SAID}
     sign = said[SIGN_WORDS]
-    measure = Measure(_scale(text), said[UNIT_WORDS], said[TABLE_WORDS], sign if sign in SIGNS else "")
+    measure = Measure(
+        _scale(text), said[UNIT_WORDS], said[TABLE_WORDS], sign if sign in SIGNS else ""
+    )
     joints: dict[int, str] = {}
     halves: dict[int, int] = {}
     roles: dict[int, Role] = {}
-    for node, joined, first, arc, kind, place, unlimited in _INNER.findall(between(head, INNER_WORDS.encode()).decode(errors="replace")):
+    for node, joined, first, arc, kind, place, unlimited in _INNER.findall(
+        between(head, INNER_WORDS.encode()).decode(errors="replace")
+    ):
         if joined:
             joints.setdefault(int(node), joined)
         elif node:
@@ -102,12 +123,14 @@ def described(text: bytes) -> TableComments:
 
 
 def tells_columns(text: bytes) -> bool:
-    """Whether a problem's text may have comments of other columns of its table, as `extra` reads them."""
+    """Whether a problem's text may have comments of other columns of its table, as `extra` reads
+    them."""
     return text.startswith(COLUMN_WORDS) or b"\n" + COLUMN_WORDS in text
 
 
 def between(text: bytes, words: bytes) -> bytes:
-    """The lines of a text from the first of these words to the last: to look for words is many times as fast as to look for a pattern."""
+    """The lines of a text from the first of these words to the last: to look for words is many
+    times as fast as to look for a pattern."""
     begin = text.find(words)
     if begin < 0:
         return b""
@@ -139,18 +162,28 @@ def _lines(described: TableComments) -> Iterable[str]:
     measure = described.measure
     if measure.scale != 1:
         yield f"{SCALE_WORDS} {measure.scale:f}"
-    for words, said in (UNIT_WORDS, measure.unit), (TABLE_WORDS, measure.table), (SIGN_WORDS, measure.sign):
+    for words, said in (
+        (UNIT_WORDS, measure.unit),
+        (TABLE_WORDS, measure.table),
+        (SIGN_WORDS, measure.sign),
+    ):
         if written := _written(said):
             yield f"{words}{written}"
     yield from (f"{INNER_WORDS}node {number} {ends}" for number, ends in described.joints.items())
-    yield from (f"{INNER_WORDS}node {number} half {first}" for number, first in described.halves.items())
+    yield from (
+        f"{INNER_WORDS}node {number} half {first}" for number, first in described.halves.items()
+    )
     for number, role in described.roles.items():
         yield f"{INNER_WORDS}arc {number} {role.kind} {role.node}{' unlimited' * role.is_unlimited}"
 
 
 def _written(text: str) -> str:
-    """A text as a comment has it: without blanks around it, and with `\\x0a` for what no line has."""
-    return "".join(letter if letter.isprintable() else letter.encode("unicode_escape").decode() for letter in text.strip(" \t"))
+    """A text as a comment has it: without blanks around it, and with `\\x0a` for what no line
+    has."""
+    return "".join(
+        letter if letter.isprintable() else letter.encode("unicode_escape").decode()
+        for letter in text.strip(" \t")
+    )
 
 
 # What a place does in a role, and in short beside its numbers.
@@ -167,7 +200,9 @@ class TableRoles:
         self._first = described.halves
         self._second = {first: second for second, first in described.halves.items()}
         self._at_joints: dict[int, list[int]] = {joint: [] for joint in described.joints}
-        self._unlimited = {(role.kind, role.node) for role in described.roles.values() if role.is_unlimited}
+        self._unlimited = {
+            (role.kind, role.node) for role in described.roles.values() if role.is_unlimited
+        }
         for role in described.roles.values():
             for joint, ends in described.joints.items():
                 if role.kind == (SUPPLY if ends == SOURCES else DEMAND):
@@ -190,7 +225,9 @@ class TableRoles:
     def known_roles(self) -> Iterator[tuple[str, int]]:
         """What places give, take and let through: the kinds, with the nodes of the places."""
         for joint, nodes in self._at_joints.items():
-            yield from ((SUPPLY if self._joints[joint] == SOURCES else DEMAND, node) for node in nodes)
+            yield from (
+                (SUPPLY if self._joints[joint] == SOURCES else DEMAND, node) for node in nodes
+            )
         yield from ((LIMIT, node) for node in self._second)
 
     def is_joint(self, node: int) -> bool:
@@ -215,7 +252,9 @@ class TableRoles:
     def role(self, tail: int, head: int) -> Role | None:
         """What an arc with these ends stands for, if it is none of a table."""
         if tail in self._joints or head in self._joints:
-            kind, node = (SUPPLY, self.place(head)) if tail in self._joints else (DEMAND, self.place(tail))
+            kind, node = (
+                (SUPPLY, self.place(head)) if tail in self._joints else (DEMAND, self.place(tail))
+            )
             return Role(kind, node, (kind, node) in self._unlimited)
         return Role(LIMIT, tail) if self._first.get(head) == tail and tail != head else None
 
@@ -225,27 +264,46 @@ class TableRoles:
             return False
         return tail == self.second(role.node) if role.kind == SUPPLY else head == role.node
 
-    def told_side(self, side: set[int], arcs: Iterable[tuple[int, int, Quantity]], limited: Collection[int] = ()) -> set[int]:
-        """The side of a minimum cut in which no arc of an unlimited source or sink is, by a side of the smallest one and the open arcs
-        with their capacities. An unlimited source that the side lacks comes to it, and an unlimited sink in it goes, since the arcs
-        there carry no more than was counted for the place. Where such an arc carries less than the arcs of its place, it stays, and so does
-        that of a place that has got a limit."""
+    def told_side(
+        self,
+        side: set[int],
+        arcs: Iterable[tuple[int, int, Quantity]],
+        limited: Collection[int] = (),
+    ) -> set[int]:
+        """The side of a minimum cut in which no arc of an unlimited source or sink is, by a side of
+        the smallest one and the open arcs with their capacities. An unlimited source that the side
+        lacks comes to it, and an unlimited sink in it goes, since the arcs there carry no more than
+        was counted for the place. Where such an arc carries less than the arcs of its place, it
+        stays, and so does that of a place that has got a limit."""
         crossing: dict[Role, Quantity] = {}
         opened = list(arcs) if self._unlimited else []
         for tail, head, capacity in opened:
             role = self.role(tail, head)
-            if role and role.is_unlimited and role.node not in limited and tail in side and head not in side:
+            if (
+                role
+                and role.is_unlimited
+                and role.node not in limited
+                and tail in side
+                and head not in side
+            ):
                 crossing[role] = capacity
         told = set(side)
         for role, capacity in crossing.items():
             nodes = {role.node, self.second(role.node)}
-            if sum(more for tail, head, more in opened if self.at_role(role, tail, head)) <= capacity:
+            if (
+                sum(more for tail, head, more in opened if self.at_role(role, tail, head))
+                <= capacity
+            ):
                 told = told | nodes if role.kind == SUPPLY else told - nodes
         return told
 
     def roles(self, ends: Iterable[tuple[int, int]]) -> Iterator[tuple[int, Role]]:
         """The roles of arcs with these ends, by their numbers from 1 on."""
-        return ((number, role) for number, (tail, head) in enumerate(ends, 1) if (role := self.role(tail, head)))
+        return (
+            (number, role)
+            for number, (tail, head) in enumerate(ends, 1)
+            if (role := self.role(tail, head))
+        )
 
 
 def role_words(role: Role, label: Callable[[int], str]) -> str:
@@ -258,12 +316,16 @@ def role_phrase(role: Role, label: Callable[[int], str]) -> str:
     return f"{label(role.node)} {DOES[role.kind]}"
 
 
-def renumbered(described: TableComments, ends: Iterable[tuple[int, int]], limited: Collection[int] = ()) -> TableComments:
-    """The same of a problem with other arcs, which have these ends, and where sources and sinks of these places have got limits."""
+def renumbered(
+    described: TableComments, ends: Iterable[tuple[int, int]], limited: Collection[int] = ()
+) -> TableComments:
+    """The same of a problem with other arcs, which have these ends, and where sources and sinks of
+    these places have got limits."""
     if not described.joints and not described.halves:
         return described
     roles = {
-        number: replace(role, is_unlimited=role.is_unlimited and role.node not in limited) for number, role in TableRoles(described).roles(ends)
+        number: replace(role, is_unlimited=role.is_unlimited and role.node not in limited)
+        for number, role in TableRoles(described).roles(ends)
     }
     return TableComments(described.measure, described.joints, described.halves, roles)
 

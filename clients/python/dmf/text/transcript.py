@@ -1,7 +1,9 @@
-"""Follows a session by its commands and its replies: the network after each reply, and the contents of each reply.
+"""Follows a session by its commands and its replies: the network after each reply, and the contents
+of each reply.
 
-The commands come beside the replies, or stand among them, as a terminal shows a session. An answer of `dmf solve` is a session
-without commands. If commands and replies do not fit together, a `TranscriptFault` says where: nothing is guessed.
+The commands come beside the replies, or stand among them, as a terminal shows a session. An answer
+of `dmf solve` is a session without commands. If commands and replies do not fit together, a
+`TranscriptFault` says where: nothing is guessed.
 """
 
 from __future__ import annotations
@@ -12,7 +14,17 @@ from typing import Union
 
 from .lexical import Fault, TextFault, fields, read_number
 from .problem_text import Problem
-from .session_commands import ADD, PRINT_CUT, PRINT_FLOW, PRINT_PROBLEM, SOLVE, UNDO, Command, TrackedNetwork, ended_line
+from .session_commands import (
+    ADD,
+    PRINT_CUT,
+    PRINT_FLOW,
+    PRINT_PROBLEM,
+    SOLVE,
+    UNDO,
+    Command,
+    TrackedNetwork,
+    ended_line,
+)
 from .session_replies import (
     Asked,
     ChangedReply,
@@ -34,17 +46,19 @@ from .session_replies import (
 )
 
 ANSWER, COMMANDS = "answer", "commands"
-# Why a command may be refused whatever is known about the network: by what the history forgot, and by what no text shows.
+# Why a command may be refused whatever is known about the network: by what the history forgot, and
+# by what no text shows.
 UNFORESEEN = {UNDO: {"nothing to undo"}, PRINT_CUT: {"flow is not greatest"}}
 Reading = Union[SolutionReading, CutReading, ProblemReading]
 
 
 class TranscriptReader:
-    """Takes the lines of an answer one after the other. `timeline` has the present network, unless `is_known` is false: then unknown
-    commands changed it. `is_numbered` is false if only a printed problem is known of the network, in which the arcs may have other
-    numbers. `solution` and `cut` are the last ones. The solution is None if its flows are not known, as after the brief reply to a
-    solve, or do not belong to a known network. `solves_are_brief` says whether the reply to a solve is only its value (`--brief`),
-    and is None if that is not known."""
+    """Takes the lines of an answer one after the other. `timeline` has the present network, unless
+    `is_known` is false: then unknown commands changed it. `is_numbered` is false if only a printed
+    problem is known of the network, in which the arcs may have other numbers. `solution` and `cut`
+    are the last ones. The solution is None if its flows are not known, as after the brief reply to
+    a solve, or do not belong to a known network. `solves_are_brief` says whether the reply to a
+    solve is only its value (`--brief`), and is None if that is not known."""
 
     def __init__(self, problem: Problem, commands: Iterator[bytes] | None = None) -> None:
         self.timeline = TrackedNetwork(problem)
@@ -57,17 +71,23 @@ class TranscriptReader:
         self._command_line = 0
         self._waiting: deque[Pending] = deque()
         self._reading: Reading | None = None
-        # Whether a cut comes with each solve (`--cut`), if that is known; whether the last reply was that of a `solve`, so that its
-        # cut may follow; and whether a cut was read as that of a solve although it may be the reply to `print cut`.
+        # Whether a cut comes with each solve (`--cut`), if that is known; whether the last reply
+        # was that of a `solve`, so that its cut may follow; and whether a cut was read as that of a
+        # solve although it may be the reply to `print cut`.
         self._solves_have_cuts: bool | None = None
         self._awaits_cut = self._is_in_doubt = False
 
     def take(self, line: bytes) -> list[Event]:
-        """The contents of a line, which may still have its line feed. Raises a `TranscriptFault`."""
+        """The contents of a line, which may still have its line feed. Raises a
+        `TranscriptFault`."""
         self.line += 1
         reading = self._reading
         try:
-            if isinstance(reading, SolutionReading) and line.startswith(b"f ") and not reading.is_whole_with(1):
+            if (
+                isinstance(reading, SolutionReading)
+                and line.startswith(b"f ")
+                and not reading.is_whole_with(1)
+            ):
                 # Most lines of a large answer.
                 reading.take(fields(ended_line(line)))
                 return []
@@ -76,7 +96,8 @@ class TranscriptReader:
             raise self._located(fault) from None
 
     def end(self) -> list[Event]:
-        """What the end of the answer completes. Raises a `TranscriptFault` if something is missing."""
+        """What the end of the answer completes. Raises a `TranscriptFault` if something is
+        missing."""
         self.line += 1
         try:
             return list(self._end())
@@ -86,7 +107,12 @@ class TranscriptReader:
     def _located(self, fault: Fault) -> TranscriptFault:
         if isinstance(fault, TranscriptFault):
             return fault
-        return TranscriptFault(ANSWER, fault.line if isinstance(fault, TextFault) else self.line, fault.reason, fault.field)
+        return TranscriptFault(
+            ANSWER,
+            fault.line if isinstance(fault, TextFault) else self.line,
+            fault.reason,
+            fault.field,
+        )
 
     def _take(self, content: bytes, line: bytes) -> Iterator[Event]:
         found = fields(content)
@@ -101,7 +127,9 @@ class TranscriptReader:
             yield from self._break_off()
             yield from self._begin(kind, content, found, line)
 
-    def _begin(self, kind: Kind, content: bytes, found: list[bytes], line: bytes) -> Iterator[Event]:
+    def _begin(
+        self, kind: Kind, content: bytes, found: list[bytes], line: bytes
+    ) -> Iterator[Event]:
         """Begins the reply, or the command, that stands in a line of this kind."""
         if kind is Kind.COMMAND:
             pending = Pending.of(ANSWER, self.line, line)
@@ -142,15 +170,21 @@ class TranscriptReader:
         return self._waiting[0] if self._waiting else None
 
     def _settle(self, is_answered: Callable[[Pending], bool]) -> Pending | None:
-        """The oldest command without a reply, when another reply than a cut has come. It is then known whether solves have cuts: a
-        cut in doubt was the reply to `print cut` if one still waits that this reply does not answer."""
+        """The oldest command without a reply, when another reply than a cut has come. It is then
+        known whether solves have cuts: a cut in doubt was the reply to `print cut` if one still
+        waits that this reply does not answer.
+        """
         if self._awaits_cut and self._solves_have_cuts:
             raise Fault("the cut of this solve is missing")
         if self._awaits_cut:
             self._solves_have_cuts = False
-        head = self._head() if self._is_in_doubt or self._given is not None or self._waiting else None
+        head = (
+            self._head() if self._is_in_doubt or self._given is not None or self._waiting else None
+        )
         if self._is_in_doubt:
-            waits = head is not None and head.command == Command(PRINT_CUT) and not is_answered(head)
+            waits = (
+                head is not None and head.command == Command(PRINT_CUT) and not is_answered(head)
+            )
             self._solves_have_cuts = not waits
             if waits:
                 self._waiting.popleft()
@@ -159,8 +193,9 @@ class TranscriptReader:
         return head
 
     def _asked(self, *words: str) -> Command | None:
-        """The command that a reply answers, one of these words, or None if no commands are known. Raises a `Fault` if the oldest
-        command without a reply is another one, or should be refused."""
+        """The command that a reply answers, one of these words, or None if no commands are known.
+        Raises a `Fault` if the oldest command without a reply is another one, or should be refused.
+        """
         head = self._settle(lambda head: False) if words != (PRINT_CUT,) else self._head()
         if head is None:
             if self._given is not None:
@@ -175,7 +210,8 @@ class TranscriptReader:
         return head.command
 
     def _refuse(self, line: int, reason: str) -> None:
-        """Takes a refusal of the command line with this number as the reply to the oldest command without one."""
+        """Takes a refusal of the command line with this number as the reply to the oldest command
+        without one."""
         head = self._settle(lambda head: self._may_refuse(head, line, reason))
         if head is None:
             if self._given is not None:
@@ -187,7 +223,8 @@ class TranscriptReader:
             raise Fault(f"this does not answer {head}")
 
     def _may_refuse(self, head: Pending, line: int, reason: str) -> bool:
-        """Whether this may be the refusal of a command. A transcript may lack lines, so their numbers are uncertain."""
+        """Whether this may be the refusal of a command. A transcript may lack lines, so their
+        numbers are uncertain."""
         if self._given is not None and line != head.line:
             return False
         if head.command is None:
@@ -195,7 +232,11 @@ class TranscriptReader:
         if not self._is_sure():
             return True
         foreseen = self.timeline.refusal(head.command)
-        return reason == foreseen if foreseen else reason in {"no memory", *UNFORESEEN.get(head.command.word, ())}
+        return (
+            reason == foreseen
+            if foreseen
+            else reason in {"no memory", *UNFORESEEN.get(head.command.word, ())}
+        )
 
     def _is_sure(self) -> bool:
         """Whether the network is known as the commands speak of it."""
@@ -215,7 +256,8 @@ class TranscriptReader:
     # Solutions, cuts and printed problems.
 
     def _answers_solve(self, is_brief: bool) -> None:
-        """Notes the form of the reply to a solve. Raises a `Fault` if an earlier one had the other form."""
+        """Notes the form of the reply to a solve. Raises a `Fault` if an earlier one had the other
+        form."""
         if self.solves_are_brief not in (None, is_brief):
             raise Fault("brief and whole replies to solve in one answer")
         self.solves_are_brief = is_brief
@@ -273,11 +315,15 @@ class TranscriptReader:
             yield self._printed(reading)
 
     def _break_off(self) -> Iterator[Event]:
-        """Ends what is being read before a line that does not belong to it. The flows of a solution may have been left out."""
+        """Ends what is being read before a line that does not belong to it. The flows of a solution
+        may have been left out."""
         reading = self._reading
         if isinstance(reading, SolutionReading):
             if reading.flows:
-                raise Fault(f"the solution has {len(reading.flows)} flows, and the network {len(reading.arcs)} arcs")
+                raise Fault(
+                    f"the solution has {len(reading.flows)} flows, and the network "
+                    f"{len(reading.arcs)} arcs"
+                )
             yield self._solution(reading)
         elif isinstance(reading, CutReading):
             yield self._cut(reading)
@@ -309,19 +355,31 @@ class TranscriptReader:
         except Fault as fault:
             raise TranscriptFault(ANSWER, reading.line, fault.reason) from None
         self._reading = None
-        self.cut = CutReply(reading.capacity, list(reading.side), reading.crossing(), reading.line, self.timeline.serial)
+        self.cut = CutReply(
+            reading.capacity,
+            list(reading.side),
+            reading.crossing(),
+            reading.line,
+            self.timeline.serial,
+        )
         return self.cut
 
     def _printed(self, reading: ProblemReading) -> PrintedReply:
         printed, timeline = reading.read(), self.timeline
         known = timeline.problem
-        if (printed.node_count, printed.source, printed.sink) != (known.node_count, known.source, known.sink):
+        if (printed.node_count, printed.source, printed.sink) != (
+            known.node_count,
+            known.source,
+            known.sink,
+        ):
             raise TranscriptFault(ANSWER, reading.first_line, "this is a problem with other nodes")
         numbers = None
         if self.is_known:
             numbers = [at for at, arc in enumerate(timeline.arcs, 1) if not arc.is_closed]
             if printed.arcs != [timeline.arcs[at - 1][:3] for at in numbers]:
-                raise TranscriptFault(ANSWER, reading.first_line, "this is a problem with other arcs")
+                raise TranscriptFault(
+                    ANSWER, reading.first_line, "this is a problem with other arcs"
+                )
         else:
             self.timeline = TrackedNetwork(printed, timeline.value, begins_known=False)
             self.is_known, self.is_numbered = True, False

@@ -1,13 +1,15 @@
-"""Shows a network as a page in the browser: what can be sent, what the limit is, and what each change would bring.
+"""Shows a network as a page in the browser: what can be sent, what the limit is, and what each
+change would bring.
 
     dmf-board pipes.csv
     dmf-board pipes.csv Reservoir Harbour
     dmf-board problem.max
     dmf-board pipes.dmf.json
 
-FILE is a table of arcs, as `dmf-problem` takes it, a problem's file, or a project, which keeps what was done. If you name no source
-of a table, it is the one place that no arc enters; if you name no sink, the one that no arc leaves. The browser shows the page, and
-the board prints its address, which only this machine can reach. The board ends when the page is closed, or at Ctrl-C.
+FILE is a table of arcs, as `dmf-problem` takes it, a problem's file, or a project, which keeps what
+was done. If you name no source of a table, it is the one place that no arc enters; if you name no
+sink, the one that no arc leaves. The browser shows the page, and the board prints its address,
+which only this machine can reach. The board ends when the page is closed, or at Ctrl-C.
 """
 
 from __future__ import annotations
@@ -24,27 +26,25 @@ from ..desk.board.routes import Board
 from ..desk.board.server import Door, Server
 from ..desk.project.opener import beside, keep_project
 from ..desk.workspace import Desk
-from ..errors import TableFault, ToolFault
-from ..tables.loader import FAULT, UNREADABLE
-from .command import INTERRUPTED, warn, write
+from ..errors import TableFault
+from .command import Status, ToolFault, statuses, warn, write
 from .desk_options import add_project_words, close_desk, open_desk
 from .options import add_words, words_of
 
 NAME = "dmf-board"
-STATUSES = "Status: 0 all is well, 2 invalid arguments, 3 the table, the problem or the project has a fault, 4 it cannot be read, 130 Ctrl-C."
 # How long an answer is waited for that is being made when the board ends, in seconds.
 PATIENCE = 2
 
 
 def port(word: str) -> int:
     if not word.isascii() or not word.isdigit() or int(word) > 65_535:
-        raise argparse.ArgumentTypeError(f"no port: {word}")
+        raise argparse.ArgumentTypeError(f"not a port: {word}")
     return int(word)
 
 
 def host_name(word: str) -> str:
     if not re.fullmatch(r"([A-Za-z0-9._-]+|\[[0-9A-Fa-f:.]+\])(:[0-9]{1,5})?", word):
-        raise argparse.ArgumentTypeError(f"no name of a machine, nor one with a port: {word}")
+        raise argparse.ArgumentTypeError(f"not the name of a machine, alone or with a port: {word}")
     return word
 
 
@@ -54,13 +54,38 @@ def options() -> argparse.Namespace:
         usage="%(prog)s [OPTION..] FILE [SOURCE SINK]",
         description=__doc__,
         formatter_class=argparse.RawDescriptionHelpFormatter,
-        epilog=STATUSES,
+        epilog=statuses(),
     )
-    parser.add_argument("--no-browser", action="store_true", help="only print the address, and start no browser")
-    parser.add_argument("--port", metavar="NUMBER", type=port, default=0, help="the port; without it a free one")
-    name = "answer at this name too, as in localhost:9000, if a tunnel leads from there; may be given several times"
-    parser.add_argument("--host-name", metavar="NAME[:PORT]", type=host_name, action="append", default=[], help=name)
-    parser.add_argument("--map", metavar="FILE", help="a table of places with columns x and y, or lon and lat: where each lies in the picture")
+    parser.add_argument(
+        "--no-browser",
+        action="store_true",
+        help="only print the address, and start no browser",
+    )
+    parser.add_argument(
+        "--port",
+        metavar="NUMBER",
+        type=port,
+        default=0,
+        help="the port; without it a free one",
+    )
+    name = (
+        "answer at this name too, as in localhost:9000, if a tunnel leads from there; may be given "
+        "several times"
+    )
+    parser.add_argument(
+        "--host-name",
+        metavar="NAME[:PORT]",
+        type=host_name,
+        action="append",
+        default=[],
+        help=name,
+    )
+    parser.add_argument(
+        "--map",
+        metavar="FILE",
+        help="a table of places with columns x and y, or lon and lat: where each lies in the "
+        "picture",
+    )
     add_words(parser)
     add_project_words(parser)
     return words_of(parser, sys.argv[1:])
@@ -69,9 +94,8 @@ def options() -> argparse.Namespace:
 def opened(words: argparse.Namespace) -> Desk:
     """The desk for what the words name."""
     desk = open_desk(words, with_solve=True, may_follow=True)
-    for note in desk.news:
+    for note in desk.take_news():
         warn(NAME, note)
-    desk.news = []
     return desk
 
 
@@ -84,13 +108,17 @@ def spots_of(words: argparse.Namespace, desk: Desk) -> dict[int, Spot]:
         spots, notes = placed(desk, read_map(path, words.decimal, words.encoding))
     except TableFault as fault:
         fault.name_path(path)
-        first, *more = fault.lines()
         if words.map is None:
-            for line in [] if isinstance(fault, NoMap) else [f"{path} is taken for no map: {first}", *more]:
+            first, *more = fault.lines()
+            for line in (
+                []
+                if isinstance(fault, NoMap)
+                else [f"{path} is not taken as a map: {first}", *more]
+            ):
                 warn(NAME, line)
             return {}
         close_desk(NAME, desk)
-        raise ToolFault(first, FAULT, more) from None
+        raise
     for note in notes:
         warn(NAME, f"{path}: {note}")
     return spots
@@ -98,7 +126,11 @@ def spots_of(words: argparse.Namespace, desk: Desk) -> dict[int, Spot]:
 
 def show(server: Server) -> Door | None:
     """Starts the browser, where this machine has a screen."""
-    if sys.platform not in ("darwin", "win32") and not os.environ.get("DISPLAY") and not os.environ.get("WAYLAND_DISPLAY"):
+    if (
+        sys.platform not in ("darwin", "win32")
+        and not os.environ.get("DISPLAY")
+        and not os.environ.get("WAYLAND_DISPLAY")
+    ):
         return None
     # Most boards on a server need none.
     import webbrowser
@@ -119,16 +151,24 @@ def main() -> int:
     desk = opened(words)
     try:
         offer = beside(words.path) if os.path.isfile(words.path) and not words.keep else ""
-        board = Board(desk, spots_of(words, desk), keep=lambda path, made: keep_project(path, words, made), offer=offer)
+        board = Board(
+            desk,
+            spots_of(words, desk),
+            keep=lambda path, made: keep_project(path, words, made),
+            offer=offer,
+        )
         server = Server(board, words.port, words.host_name)
     except OSError as error:
         close_desk(NAME, desk)
-        raise ToolFault(f"cannot listen on port {words.port}: {error.strerror}", UNREADABLE) from None
+        raise ToolFault(
+            f"cannot listen on port {words.port}: {error.strerror}", Status.LOST
+        ) from None
     is_interrupted = Event()
 
     def interrupt(*_: object) -> None:
         is_interrupted.set()
-        # An error that is raised here could be taken for one of a request. The server's end waits for its loop, which runs here.
+        # An error that is raised here could be taken for one of a request. The server's end waits
+        # for its loop, which runs here.
         Thread(target=server.shutdown, daemon=True).start()
 
     for number in signal.SIGINT, signal.SIGTERM, signal.SIGHUP:
@@ -147,4 +187,4 @@ def main() -> int:
             close_desk(NAME, board.desk)
         else:
             board.desk.break_off("the board has ended")
-    return INTERRUPTED if is_interrupted.is_set() else 0
+    return Status.INTERRUPTED if is_interrupted.is_set() else Status.DONE

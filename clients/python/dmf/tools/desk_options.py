@@ -9,56 +9,77 @@ import sys
 
 from ..desk.project.opener import beside, is_project, keep_project, project_desk
 from ..desk.project.scenarios import Scenarios
-from ..desk.project.schema import ENDING, ProjectFault
+from ..desk.project.schema import ENDING
 from ..desk.project.storage import journal_of
 from ..desk.steps import DeskFault
 from ..desk.workspace import Desk
-from ..errors import Refused, SessionEnded, ToolFault
+from ..errors import Refused
 from ..files import cannot
-from ..tables.loader import FAULT, UNREADABLE, read_subject, says_table
-from .command import warn
+from ..tables.loader import read_subject, says_table
+from .command import Status, ToolFault, status_of, warn
 
 
 def add_project_words(parser: argparse.ArgumentParser) -> None:
     """Adds the options of the tools that open projects."""
-    parser.add_argument("--keep", action="store_true", help=f"keep what is done in a new project beside the table, FILE{ENDING}")
-    parser.add_argument("--table", metavar="FILE", help="where the table of a project is now, if it has moved")
+    parser.add_argument(
+        "--keep",
+        action="store_true",
+        help=f"keep what is done in a new project beside the table, FILE{ENDING}",
+    )
+    parser.add_argument(
+        "--table",
+        metavar="FILE",
+        help="where the table of a project is now, if it has moved",
+    )
 
 
 def open_desk(words: argparse.Namespace, *, with_solve: bool, may_follow: bool = False) -> Desk:
-    """The desk of the table, the problem or the project that the words name. Its `news` are what was taken for granted. The flows may
-    follow where no project keeps them. Raises a `ToolFault`."""
+    """The desk of the table, the problem or the project that the words name. Its `news` are what
+    was taken for granted. The flows may follow where no project keeps them. Raises a `ToolFault`.
+    """
     try:
         if is_project(words.path):
             if says_table(words) or words.raw_names or words.keep:
-                raise ToolFault(f"{words.path} is a project, which says itself what its table is: of the options --table alone fits", 2)
+                raise ToolFault(
+                    f"{words.path} is a project, which says itself what its table is: of the "
+                    "options --table alone fits",
+                    Status.USAGE,
+                )
             return project_desk(words.path, words.table or "")
         if words.table is not None:
-            raise ToolFault("--table says where the table of a project has gone, and FILE is no project", 2)
+            raise ToolFault(
+                "--table says where the table of a project is now, but FILE is not a project",
+                Status.USAGE,
+            )
         if words.keep and os.path.lexists(beside(words.path)):
             # What the options ask for may be another network than that of the project.
-            raise ToolFault(f"{beside(words.path)} already exists; {_how_to_open(beside(words.path))}", UNREADABLE)
+            raise ToolFault(
+                f"{beside(words.path)} already exists; {_how_to_open(beside(words.path))}",
+                Status.LOST,
+            )
         subject = read_subject(words)
         desk = Desk(subject, with_solve=with_solve, may_follow=may_follow and not words.keep)
-        desk.news += subject.notes
+        desk.tell(*subject.notes)
         if not words.keep:
             if os.path.isfile(beside(words.path)):
-                desk.news.append(f"a project of this table exists; {_how_to_open(beside(words.path))}")
+                desk.tell(f"a project of this table exists; {_how_to_open(beside(words.path))}")
             return desk
         try:
             kept = keep_project(beside(words.path), words, desk)
         finally:
             desk.end()
-        kept.news += subject.notes
+        kept.tell(*subject.notes)
         return kept
-    except (Refused, ProjectFault) as fault:
-        raise ToolFault(f"{words.path}: {fault}" if isinstance(fault, Refused) else str(fault), FAULT) from None
+    except Refused as fault:
+        raise ToolFault(f"{words.path}: {fault}", status_of(fault)) from None
     except DeskFault as fault:
-        raise ToolFault(str(fault), UNREADABLE) from None
+        raise ToolFault(str(fault), Status.LOST) from None
     except OSError as error:
-        raise (cannot("read", words.path, error, UNREADABLE) if is_project(words.path) else ToolFault(str(error), UNREADABLE)) from None
-    except SessionEnded as error:
-        raise ToolFault(str(error), UNREADABLE) from None
+        raise (
+            cannot("read", words.path, error)
+            if is_project(words.path)
+            else ToolFault(str(error), Status.LOST)
+        ) from None
 
 
 def _how_to_open(path: str) -> str:
@@ -68,11 +89,17 @@ def _how_to_open(path: str) -> str:
 
 
 def close_desk(name: str, desk: Desk) -> None:
-    """Ends the desk of a tool of this name. Raises a `ToolFault` if its project cannot be written."""
+    """Ends the desk of a tool of this name. Raises a `ToolFault` if its project cannot be
+    written."""
+    project = Scenarios.of(desk)
     try:
         desk.end()
-        for line in desk.file.news if isinstance(desk, Scenarios) else ():
+        for line in project.file.news if project else ():
             warn(name, line)
     except OSError as error:
-        where = journal_of(desk.file.path) if isinstance(desk, Scenarios) else ""
-        raise ToolFault(f"the project could not be written ({error.strerror}); {where} has what was done, and the next call takes it", UNREADABLE) from None
+        where = journal_of(project.file.path) if project else ""
+        raise ToolFault(
+            f"the project could not be written ({error.strerror}); {where} has what was done, and "
+            "the next call takes it",
+            Status.LOST,
+        ) from None

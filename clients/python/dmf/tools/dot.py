@@ -1,26 +1,31 @@
 """Draws a maximum-flow problem, its solution and its cut, as a text for Graphviz.
 
     dmf solve --cut <problem.max | tools/dmf-dot problem.max - | dot -Tsvg >picture.svg
-    dmf session problem.max <commands.txt | tools/dmf-dot problem.max --commands commands.txt - | dot -Tsvg >picture.svg
+    dmf session problem.max <commands.txt |
+        tools/dmf-dot problem.max --commands commands.txt - | dot -Tsvg >picture.svg
 
-PROBLEM is a problem text, and each ANSWER a text with the lines of a solution (`s`, `f`), of a cut (`c cut`, `c side`), or both;
-`-` is standard input. An arc shows what flows on it and its capacity. Full arcs are bold, those without flow are grey, and those
-of the cut are red; the nodes on the source's side of the cut are filled. Source and sink have two outlines. Numbers are those of the
-table that the problem was made of, and the title tells their unit. What a place gives, takes or lets through stands at the place.
+PROBLEM is a problem text, and each ANSWER a text with the lines of a solution (`s`, `f`), of a cut
+(`c cut`, `c side`), or both; `-` is standard input. An arc shows what flows on it and its capacity.
+Full arcs are bold, those without flow are grey, and those of the cut are red; the nodes on the
+source's side of the cut are filled. Source and sink have two outlines. Numbers are those of the
+table that the problem was made of, and the title tells their unit. What a place gives, takes or
+lets through stands at the place.
 
-An ANSWER may also be what a session wrote. --commands names the file with its commands, or they stand among its replies as a terminal
-shows them. Then the picture has the last solution and the last cut, on the network as it is at the end: closed arcs are dashed, and
-nodes that are shut are grey. If the network changed after that solution or that cut, the picture says so.
+An ANSWER may also be what a session wrote. --commands names the file with its commands, or they
+stand among its replies as a terminal shows them. Then the picture has the last solution and the
+last cut, on the network as it is at the end: closed arcs are dashed, and nodes that are shut are
+grey. If the network changed after that solution or that cut, the picture says so.
 
 Nodes and arcs have the names that comments of the problem give them, where they give any:
 
     c node 3 Reservoir
     c arc 5 Mill Street, 300 mm
 
-PROBLEM may also be a table of arcs, as `dmf-problem` takes it, with its options: `dmf-dot pipes.csv --source Lake --sink Sea`.
+PROBLEM may also be a table of arcs, as `dmf-problem` takes it, with its options: `dmf-dot pipes.csv
+--source Lake --sink Sea`.
 
-Of more arcs than --most the picture has those nearest the cut, and nodes of which arcs are left out have a dashed outline. Of more
-nodes than that it leaves out those without arcs.
+Of more arcs than --most the picture has those nearest the cut, and nodes of which arcs are left out
+have a dashed outline. Of more nodes than that it leaves out those without arcs.
 """
 
 from __future__ import annotations
@@ -30,7 +35,6 @@ import io
 import sys
 from collections import defaultdict
 
-from ..errors import ToolFault
 from ..files import read_file
 from ..tables.loader import read_subject
 from ..text.drawing import Drawing, picture
@@ -39,12 +43,10 @@ from ..text.problem_text import ArcRecord, Problem, read_problem
 from ..text.session_replies import Kind, TranscriptFault, flow_of, kind_of
 from ..text.spelling import namings
 from ..text.transcript import ANSWER, COMMANDS, TranscriptReader
-from .command import warn, write
+from .command import Status, ToolFault, statuses, warn, write
 from .options import add_words, words_of
 
 NAME = "dmf-dot"
-TEXT_FAULT, UNREADABLE = 3, 4
-STATUSES = "Status: 0 all is well, 2 invalid arguments, 3 a text or a table has a fault, 4 a file cannot be read or nothing can be written."
 MOST_DRAWN = 300
 LONGEST_TOLD = 60
 UNKNOWN = "commands that are not known changed the network; give them by --commands FILE"
@@ -55,11 +57,12 @@ def fault_in(path: str, fault: TextFault) -> ToolFault:
     name = "standard input" if path == "-" else path
     about = fault.field.decode(errors="replace")
     told = about if len(about) <= LONGEST_TOLD else about[:LONGEST_TOLD] + ".."
-    return ToolFault(f"{name}: {fault}{': ' if told else ''}{told}", TEXT_FAULT)
+    return ToolFault(f"{name}: {fault}{': ' if told else ''}{told}")
 
 
 def judge_names(text: bytes, problem: Problem) -> None:
-    """Raises a `TextFault` where a comment names nothing, or what has a name, or what is not there."""
+    """Raises a `TextFault` where a comment names nothing, or what has a name, or what is not
+    there."""
     line, counted = 1, 0
     named = set()
     for naming in namings(text):
@@ -92,7 +95,8 @@ def problem_of(words: argparse.Namespace) -> Problem:
 
 
 class ProblemAnswer:
-    """What the lines of solutions and cuts have said so far. Flows may be told in any order, and in parts."""
+    """What the lines of solutions and cuts have said so far. Flows may be told in any order, and in
+    parts."""
 
     def __init__(self, problem: Problem) -> None:
         self.problem = problem
@@ -171,15 +175,20 @@ class ProblemAnswer:
         capacity, line = self.cut
         if self.problem.source not in self.side or self.problem.sink in self.side:
             raise TextFault(line, "the side of this cut has not the source, or has the sink")
-        carried = sum(arc.capacity for arc in self.arcs if arc.tail in self.side and arc.head not in self.side)
+        carried = sum(
+            arc.capacity for arc in self.arcs if arc.tail in self.side and arc.head not in self.side
+        )
         if carried != capacity:
             raise TextFault(line, f"the arcs of this cut carry {carried}, and not {capacity}")
 
     def flows_of_arcs(self) -> list[int]:
-        """The flow of each arc: that of its line where there is a line for each arc in order; and else what its capacity allows of
-        what the lines say of all arcs with its ends, the arcs before it served first."""
+        """The flow of each arc: that of its line where there is a line for each arc in order; and
+        else what its capacity allows of what the lines say of all arcs with its ends, the arcs
+        before it served first."""
         told = self.told
-        if len(told) == len(self.arcs) and all(one[:2] == arc[:2] and one[2] <= arc[2] for one, arc in zip(told, self.arcs)):
+        if len(told) == len(self.arcs) and all(
+            one[:2] == arc[:2] and one[2] <= arc[2] for one, arc in zip(told, self.arcs)
+        ):
             return [flow for _, _, flow in told]
         flows = []
         for tail, head, capacity, _ in self.arcs:
@@ -195,12 +204,18 @@ class ProblemAnswer:
 
 def is_of_session(text: bytes) -> bool:
     """Whether a text has commands, or replies to changes, or brief replies to solves."""
-    return any(kind_of(fields(line)) in (Kind.COMMAND, Kind.CHANGED, Kind.SOLVED) for line in lines(text))
+    return any(
+        kind_of(fields(line)) in (Kind.COMMAND, Kind.CHANGED, Kind.SOLVED) for line in lines(text)
+    )
 
 
-def follow(problem: Problem, texts: list[tuple[str, bytes]], commands: str | None) -> TranscriptReader:
+def follow(
+    problem: Problem, texts: list[tuple[str, bytes]], commands: str | None
+) -> TranscriptReader:
     """Takes in what a session wrote, in these texts one after the other. Raises a `ToolFault`."""
-    follower = TranscriptReader(problem, None if commands is None else io.BytesIO(read_file(commands, UNREADABLE)))
+    follower = TranscriptReader(
+        problem, None if commands is None else io.BytesIO(read_file(commands))
+    )
     path = ""
     try:
         for path, text in texts:
@@ -211,7 +226,9 @@ def follow(problem: Problem, texts: list[tuple[str, bytes]], commands: str | Non
                     raise TranscriptFault(ANSWER, follower.line, UNKNOWN)
         follower.end()
     except TranscriptFault as fault:
-        raise fault_in(commands if fault.text == COMMANDS and commands is not None else path, fault) from None
+        raise fault_in(
+            commands if fault.text == COMMANDS and commands is not None else path, fault
+        ) from None
     return follower
 
 
@@ -225,7 +242,9 @@ def drawing_of_session(follower: TranscriptReader) -> Drawing:
             # An arc whose addition was undone is not there any more.
             if at <= len(flows) and not timeline.arcs[at - 1].is_closed:
                 flows[at - 1] = flow
-        notes += ["the network was changed after these flows"] * (solution.serial != timeline.serial)
+        notes += ["the network was changed after these flows"] * (
+            solution.serial != timeline.serial
+        )
     elif follower.solves_are_brief:
         notes += ["the flows of the last solve were not told; print flow tells them"]
     if cut:
@@ -236,7 +255,7 @@ def drawing_of_session(follower: TranscriptReader) -> Drawing:
 
 def drawing_of(problem: Problem, paths: list[str], commands: str | None) -> Drawing:
     """What is drawn of the answers in these files."""
-    texts = [(path, read_file(path, UNREADABLE)) for path in paths]
+    texts = [(path, read_file(path)) for path in paths]
     if commands is None and not any(is_of_session(text) for _, text in texts):
         answer = ProblemAnswer(problem)
         for path, text in texts:
@@ -254,11 +273,25 @@ def options() -> argparse.Namespace:
         usage="%(prog)s [OPTION..] PROBLEM [ANSWER..]",
         description=__doc__,
         formatter_class=argparse.RawDescriptionHelpFormatter,
-        epilog=STATUSES,
+        epilog=statuses(),
     )
-    parser.add_argument("--commands", metavar="FILE", help="the commands of the session that wrote the ANSWER")
-    parser.add_argument("--most", metavar="ARCS", type=int, default=MOST_DRAWN, help=f"draw at most so many arcs ({MOST_DRAWN})")
-    add_words(parser, "PROBLEM [ANSWER ..]", "a problem text or a table; then a solution, a cut, or both; or what a session wrote")
+    parser.add_argument(
+        "--commands",
+        metavar="FILE",
+        help="the commands of the session that wrote the ANSWER",
+    )
+    parser.add_argument(
+        "--most",
+        metavar="ARCS",
+        type=int,
+        default=MOST_DRAWN,
+        help=f"draw at most so many arcs ({MOST_DRAWN})",
+    )
+    add_words(
+        parser,
+        "PROBLEM [ANSWER ..]",
+        "a problem text or a table; then a solution, a cut, or both; or what a session wrote",
+    )
     words = words_of(parser, sys.argv[1:], ends_are_words=False)
     if words.most < 1:
         parser.error("--most is at least 1")
@@ -274,11 +307,18 @@ def main() -> int:
     drawing = drawing_of(problem_of(words), words.others, words.commands)
     count = len(drawing.drawn)
     if count > words.most and not drawing.side:
-        told = f"{count} arcs are too many to draw. With a cut, as of `dmf solve --cut`, those nearest it are drawn"
-        raise ToolFault(told, TEXT_FAULT)
+        told = (
+            f"{count} arcs are too many to draw. With a cut, as of `dmf solve --cut`, those "
+            "nearest "
+            "it are drawn"
+        )
+        raise ToolFault(told)
     for note in drawing.notes:
         warn(NAME, note)
     if count > words.most:
-        warn(NAME, f"of {count} arcs those nearest the cut are drawn, {words.most} of them")
+        warn(
+            NAME,
+            f"of {count} arcs those nearest the cut are drawn, {words.most} of them",
+        )
     write("".join(f"{line}\n" for line in picture(drawing, words.most)))
-    return 0
+    return Status.DONE

@@ -4,24 +4,28 @@
     dmf session PROBLEM <COMMANDS | dmf-names PROBLEM --commands COMMANDS
     dmf-names PROBLEM <TRANSCRIPT
 
-The names stand in comments of the file PROBLEM: 'c node 3 Reservoir', 'c arc 5 Mill Lane'. A node without a name has its number
-instead, and an arc its ends. Before each arc stands its number, by which commands name it:
+The names stand in comments of the file PROBLEM: 'c node 3 Reservoir', 'c arc 5 Mill Lane'. A node
+without a name has its number instead, and an arc its ends. Before each arc stands its number, by
+which commands name it:
 
     value 165
       10 Mill Lane, Mill -> Market: 45 of 45
 
-Numbers are those of the table that the problem was made of, with its unit, as far as comments tell them. A place with a limit is one, and
-what is not of the table goes by what it means: 'what Mill lets through', 'what Mill gives at most'.
+Numbers are those of the table that the problem was made of, with its unit, as far as comments tell
+them. A place with a limit is one, and what is not of the table goes by what it means: 'what Mill
+lets through', 'what Mill gives at most'.
 
 PROBLEM may also be the table itself, with the options by which dmf-problem made the problem of it:
 
     dmf-problem Lake Sea <pipes.csv | dmf solve --cut | dmf-names pipes.csv Lake Sea
 
-Standard input has the answer: a solution and a cut, or a session's replies. COMMANDS has the session's commands, and may be written
-while it runs, as by 'tee COMMANDS | dmf session PROBLEM | dmf-names PROBLEM --commands COMMANDS'. In a transcript the commands stand
-among the replies, as a terminal shows them. If a session has changed the network and dmf-names has no commands, it prints flows
-without capacities, and cuts without their arcs. It adds names to a printed problem. It refuses an answer that does not fit the
-problem or the commands, and prints all other lines as they are.
+Standard input has the answer: a solution and a cut, or a session's replies. COMMANDS has the
+session's commands, and may be written while it runs, as by 'tee COMMANDS | dmf session PROBLEM |
+dmf-names PROBLEM --commands COMMANDS'. In a transcript the commands stand among the replies, as a
+terminal shows them. If a session has changed the network and dmf-names has no commands, it prints
+flows without capacities, and cuts without their arcs. It adds names to a printed problem. It
+refuses an answer that does not fit the problem or the commands, and prints all other lines as they
+are.
 """
 
 from __future__ import annotations
@@ -30,7 +34,6 @@ import argparse
 import sys
 from collections.abc import Iterator
 
-from ..errors import ToolFault
 from ..files import cannot, standard_input
 from ..tables.loader import LoadedProblem, read_subject
 from ..tables.table_writer import Told, WriterRow, plan_text
@@ -52,19 +55,20 @@ from ..text.session_replies import (
 )
 from ..text.table_comments import TableRoles, renumbered, role_words, table_comments
 from ..text.transcript import TranscriptReader
-from .command import CommandLines, warn, write
+from .command import CommandLines, Status, ToolFault, statuses, warn, write
 from .options import add_words, words_of
 
 NAME = "dmf-names"
-STATUSES = "Status: 0 all is well, 1 a text has a fault or cannot be read, 2 invalid arguments, 3 a table has a fault, 4 nothing can be written."
 UNKNOWN = (
-    "commands that are not known changed the network, so capacities and the arcs of cuts are left out from here on; "
+    "commands that are not known changed the network, so capacities and the arcs of cuts are left "
+    "out from here on; "
     "give the commands by --commands FILE"
 )
 
 
 class AnswerNames:
-    """How the nodes and arcs of a problem are shown, and its numbers: as the table of the problem has them."""
+    """How the nodes and arcs of a problem are shown, and its numbers: as the table of the problem
+    has them."""
 
     def __init__(self, problem: Problem, subject: LoadedProblem) -> None:
         self.subject = subject
@@ -90,21 +94,26 @@ class AnswerNames:
         return ends if name is None or self.folding.role(arc.tail, arc.head) else f"{name}, {ends}"
 
     def cut(self, cut: CutReply, arcs: list[ArcRecord]) -> tuple[list[int], list[int]]:
-        """The side of a cut and the numbers of its arcs, none of which is an unlimited source or sink; no arcs if they are not known."""
+        """The side of a cut and the numbers of its arcs, none of which is an unlimited source or
+        sink; no arcs if they are not known."""
         if cut.arcs is None or not self.folding.has_unlimited:
             return cut.side, cut.arcs or []
         opened = [(number, arc) for number, arc in enumerate(arcs, 1) if not arc.is_closed]
         side = self.folding.told_side(set(cut.side), (arc[:3] for _, arc in opened))
-        return sorted(side), [number for number, arc in opened if arc.tail in side and arc.head not in side]
+        return sorted(side), [
+            number for number, arc in opened if arc.tail in side and arc.head not in side
+        ]
 
     def places(self, side: list[int]) -> str:
         """The places of a side."""
         return ", ".join(map(self.node, self.folding.places(side)))
 
     def comments(self, printed: PrintedReply) -> Iterator[str]:
-        """The comments that give a printed problem what is said of its table and its columns, and its names, by the numbers that its arcs
-        have there."""
-        yield from table_comments(renumbered(self.described, (arc[:2] for arc in printed.problem.arcs))).splitlines()
+        """The comments that give a printed problem what is said of its table and its columns, and
+        its names, by the numbers that its arcs have there."""
+        yield from table_comments(
+            renumbered(self.described, (arc[:2] for arc in printed.problem.arcs))
+        ).splitlines()
         for number, name in sorted(self.nodes.items()):
             if 1 <= number <= printed.problem.node_count:
                 yield f"c node {number} {name}"
@@ -135,7 +144,9 @@ class Telling:
         elif isinstance(event, CutReply):
             yield f"limit {told(event.capacity)}"
             side, numbers = self.names.cut(event, self.follower.timeline.arcs)
-            yield from [f"  source's side: {self.names.places(side)}"] * bool(self.names.places(side))
+            yield from [f"  source's side: {self.names.places(side)}"] * bool(
+                self.names.places(side)
+            )
             for number in numbers:
                 arc = self.follower.timeline.arcs[number - 1]
                 yield f"{self.arc(number, arc)}: {text(arc.capacity)}"
@@ -146,10 +157,21 @@ class Telling:
             yield display(event.line.decode(errors="replace")) + self.meaning(event)
 
     def meaning(self, event: Other | Asked | ChangedReply | RefusedReply) -> str:
-        """What the number of a reply to a change, or of a command, is in the table's terms, where that is another one."""
-        number = event.value if isinstance(event, ChangedReply) else self.amount(event.line) if isinstance(event, Asked) else None
+        """What the number of a reply to a change, or of a command, is in the table's terms, where
+        that is another one."""
+        number = (
+            event.value
+            if isinstance(event, ChangedReply)
+            else self.amount(event.line)
+            if isinstance(event, Asked)
+            else None
+        )
         measure = self.names.measure
-        return f" ({measure.told(number)})" if number is not None and measure.text(number) != str(number) else ""
+        return (
+            f" ({measure.told(number)})"
+            if number is not None and measure.text(number) != str(number)
+            else ""
+        )
 
     @staticmethod
     def amount(line: bytes) -> int | None:
@@ -169,23 +191,43 @@ class Telling:
 
 
 def table(names: AnswerNames, follower: TranscriptReader) -> str:
-    """The arcs of the last solution as a table for a spreadsheet. Where its cut was not told, nothing stands in its column."""
+    """The arcs of the last solution as a table for a spreadsheet. Where its cut was not told,
+    nothing stands in its column."""
     solution, cut = follower.solution, follower.cut
     if solution is None and follower.is_known:
         hint = "; `print flow` after the last solve tells them" if follower.solves_are_brief else ""
         raise ToolFault(f"the answer ends without a solution and its flows{hint}")
     if solution is None or not follower.is_numbered:
-        raise ToolFault("the arcs of the last solution are not known; give the commands by --commands FILE")
+        raise ToolFault(
+            "the arcs of the last solution are not known; give the commands by --commands FILE"
+        )
     # The arcs of a cut are None if the network was not known then.
     is_known = cut is not None and cut.arcs is not None and cut.serial == solution.serial
     is_same = is_known and cut is not None and cut.serial == follower.timeline.serial
-    crossing = set(names.cut(cut, follower.timeline.arcs)[1] if is_same else cut.arcs or ()) if cut and is_known else None
+    crossing = (
+        set(names.cut(cut, follower.timeline.arcs)[1] if is_same else cut.arcs or ())
+        if cut and is_known
+        else None
+    )
     quantity = names.measure.quantity
     arcs = [
-        WriterRow(number, arc.tail, arc.head, quantity(arc.capacity), quantity(flow), None if crossing is None else number in crossing)
+        WriterRow(
+            number,
+            arc.tail,
+            arc.head,
+            quantity(arc.capacity),
+            quantity(flow),
+            None if crossing is None else number in crossing,
+        )
         for number, arc, flow in zip(solution.numbers, solution.arcs, solution.flows)
     ]
-    told = Told(names.folding, names.node, lambda number: names.arcs.get(number, ""), names.ends_of_problem, names.subject.extra)
+    told = Told(
+        names.folding,
+        names.node,
+        lambda number: names.arcs.get(number, ""),
+        names.ends_of_problem,
+        names.subject.extra,
+    )
     return plan_text(arcs, told, names.measure, raw_names=names.subject.raw_names)
 
 
@@ -207,12 +249,28 @@ def options() -> argparse.Namespace:
         usage="%(prog)s [OPTION..] PROBLEM [SOURCE SINK] <ANSWER",
         description=__doc__,
         formatter_class=argparse.RawDescriptionHelpFormatter,
-        epilog=STATUSES,
+        epilog=statuses(),
     )
-    parser.add_argument("--commands", metavar="FILE", help="the commands that the session was given, read in step with its replies")
-    parser.add_argument("--csv", action="store_true", help="write the arcs of the last solution as a table for a spreadsheet")
-    parser.add_argument("--json", action="store_true", help="write the answer as objects in JSON, one a line")
-    add_words(parser, "PROBLEM [SOURCE SINK]", "the problem that the answer is one to, or the table that it was made of")
+    parser.add_argument(
+        "--commands",
+        metavar="FILE",
+        help="the commands that the session was given, read in step with its replies",
+    )
+    parser.add_argument(
+        "--csv",
+        action="store_true",
+        help="write the arcs of the last solution as a table for a spreadsheet",
+    )
+    parser.add_argument(
+        "--json",
+        action="store_true",
+        help="write the answer as objects in JSON, one a line",
+    )
+    add_words(
+        parser,
+        "PROBLEM [SOURCE SINK]",
+        "the problem that the answer is one to, or the table that it was made of",
+    )
     words = words_of(parser, sys.argv[1:])
     if words.csv and words.json:
         parser.error("--csv writes a table, and --json objects")
@@ -233,12 +291,14 @@ def problem_of(subject: LoadedProblem) -> Problem:
 
 def main() -> int:
     words = options()
-    subject = read_subject(words, unreadable=1, in_doubt=True)
+    subject = read_subject(words, in_doubt=True)
     problem = problem_of(subject)
     commands = CommandLines(words.commands) if words.commands is not None else None
     follower = TranscriptReader(problem, commands)
     names = AnswerNames(problem, subject)
-    telling: JsonWriter | Telling = JsonWriter(names, follower) if words.json else Telling(names, follower)
+    telling: JsonWriter | Telling = (
+        JsonWriter(names, follower) if words.json else Telling(names, follower)
+    )
     is_warned = False
     try:
         for event in events(follower, commands):
@@ -251,4 +311,4 @@ def main() -> int:
         raise ToolFault(f"line {fault.line} of the {fault.text}: {fault.reason}") from None
     if words.csv:
         write(table(names, follower))
-    return 0
+    return Status.DONE

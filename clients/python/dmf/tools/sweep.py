@@ -1,21 +1,25 @@
-"""Tries many cases on a problem, each on its solved network and taken back, and writes a table of what each costs.
+"""Tries many cases on a problem, each on its solved network and taken back, and writes a table of
+what each costs.
 
     tools/dmf-sweep problem.max --close-each --of cut --top 20 >table.csv
     tools/dmf-sweep pipes.csv Lake Sea --cases cases.txt >table.csv
 
-With --close-each each case closes one arc: one of the smallest minimum cut, or any arc. With --cases each line of FILE is a case:
-commands of a session, with a `;` between two, as in `close 5; add 1 4 7`. The table has a line for each case in order: its number, its
-commands, the name of its first arc or node if comments of the problem give one, the greatest value after it, the difference from the
-value before, and why it was refused, if it was. With --top N it has only the N cases with the greatest losses, the greatest first,
-once all are tried.
+With --close-each each case closes one arc: one of the smallest minimum cut, or any arc. With
+--cases each line of FILE is a case: commands of a session, with a `;` between two, as in `close 5;
+add 1 4 7`. The table has a line for each case in order: its number, its commands, the name of its
+first arc or node if comments of the problem give one, the greatest value after it, the difference
+from the value before, and why it was refused, if it was. With --top N it has only the N cases with
+the greatest losses, the greatest first, once all are tried.
 
-If --table FILE is there from a run that broke off, the sweep goes on after its last whole line. In FILE each line has one more field,
-`problem`, the same for all lines of one problem; the table of another problem is refused, and so is one without this field, which an older
-version wrote. Two sweeps cannot write one FILE at once. On a terminal a bar on standard error shows how far it is, if the package tqdm
-is installed.
+If --table FILE is there from a run that broke off, the sweep goes on after its last whole line. In
+FILE each line has one more field, `problem`, the same for all lines of one problem; the table of
+another problem is refused, and so is one without this field, which an older version wrote. Two
+sweeps cannot write one FILE at once. On a terminal a bar on standard error shows how far it is, if
+the package tqdm is installed.
 
-Values and differences are as the table of the problem has its numbers, and their titles tell the unit; commands have the whole numbers
-of the problem. A name that a spreadsheet would run as a formula has an apostrophe before it, unless --raw-names is given.
+Values and differences are as the table of the problem has its numbers, and their titles tell the
+unit; commands have the whole numbers of the problem. A name that a spreadsheet would run as a
+formula has an apostrophe before it, unless --raw-names is given.
 """
 
 from __future__ import annotations
@@ -27,38 +31,73 @@ import sys
 from pathlib import Path
 from typing import Any
 
-from ..errors import Error, Refused, ToolFault
+from ..errors import Refused
 from ..files import cannot, write_file
 from ..network import Network
 from ..session.fresh import FreshSession
 from ..session.runners import program_of
 from ..tables.loader import read_subject
 from ..tables.problem_networks import whole_network
-from .command import INTERRUPTED, raise_interrupts, warn, write
+from .command import Status, ToolFault, raise_interrupts, status_of, statuses, warn, write
 from .options import add_words, words_of
-from .sweep_run import NAME, PROBLEM_FAULT, UNREADABLE, JsonSweep, SweepRun
+from .sweep_run import NAME, JsonSweep, SweepRun
 from .sweep_table import ResultFile
-
-STATUSES = "Status: 0 all is well, 2 invalid arguments, 3 something that is read has a fault, 4 it cannot be read, or nothing be written, 130 Ctrl-C."
 
 
 def arguments() -> argparse.Namespace:
     parser = argparse.ArgumentParser(
         NAME,
         usage="%(prog)s [OPTION..] {--close-each | --cases FILE} PROBLEM [SOURCE SINK]",
-        description="Tries many cases on a problem, or on a table of arcs as dmf-problem takes it, and writes a table of what each costs.",
-        epilog=STATUSES, allow_abbrev=False,
+        description="Tries many cases on a problem, or on a table of arcs as dmf-problem takes it, "
+        "and writes a table of what each costs.",
+        epilog=statuses(),
+        allow_abbrev=False,
     )
     wanted = parser.add_mutually_exclusive_group(required=True)
     wanted.add_argument("--close-each", action="store_true", help="each case closes one arc")
-    wanted.add_argument("--cases", metavar="FILE", help="each line is a case: commands with a ; between two")
-    parser.add_argument("--of", choices=["cut", "all"], default="all", help="which arcs are closed: of the cut, or all (default)")
-    parser.add_argument("--anew", action="store_true", help="solve each case from nothing: sooner where paths are long; the table is the same")
-    parser.add_argument("--top", metavar="N", type=whole, help="write only the N cases with the greatest losses")
-    parser.add_argument("--jobs", metavar="N", type=whole, help="how many programs run at once; by default one a processor")
-    parser.add_argument("--table", metavar="FILE", help="write to FILE, and go on where it ends; by default standard output")
-    parser.add_argument("--json", action="store_true", help="write objects in JSON, one a line, in place of a table; not with --table")
-    parser.add_argument("--plot", metavar="FILE", help="draw the losses in order, where matplotlib is there")
+    wanted.add_argument(
+        "--cases",
+        metavar="FILE",
+        help="each line is a case: commands with a ; between two",
+    )
+    parser.add_argument(
+        "--of",
+        choices=["cut", "all"],
+        default="all",
+        help="which arcs are closed: of the cut, or all (default)",
+    )
+    parser.add_argument(
+        "--anew",
+        action="store_true",
+        help="solve each case from nothing: sooner where paths are long; the table is the same",
+    )
+    parser.add_argument(
+        "--top",
+        metavar="N",
+        type=whole,
+        help="write only the N cases with the greatest losses",
+    )
+    parser.add_argument(
+        "--jobs",
+        metavar="N",
+        type=whole,
+        help="how many programs run at once; by default one a processor",
+    )
+    parser.add_argument(
+        "--table",
+        metavar="FILE",
+        help="write to FILE, and go on where it ends; by default standard output",
+    )
+    parser.add_argument(
+        "--json",
+        action="store_true",
+        help="write objects in JSON, one a line, in place of a table; not with --table",
+    )
+    parser.add_argument(
+        "--plot",
+        metavar="FILE",
+        help="draw the losses in order, where matplotlib is there",
+    )
     add_words(parser, "PROBLEM [SOURCE SINK]", "a problem text, or a table of arcs")
     words = words_of(parser, sys.argv[1:])
     if words.json and words.table is not None:
@@ -68,7 +107,7 @@ def arguments() -> argparse.Namespace:
 
 def whole(text: str) -> int:
     if not text.isdecimal() or not 0 < int(text) < 10**9:
-        raise argparse.ArgumentTypeError(f"{text!r} is no whole number from 1 on")
+        raise argparse.ArgumentTypeError(f"{text!r} is not a whole number of at least 1")
     return int(text)
 
 
@@ -80,9 +119,15 @@ def plot(sweep: SweepRun, rows: list[list[str]], path: str) -> None:
         matplotlib.use("Agg")
         from matplotlib import pyplot
     except ImportError:
-        raise ToolFault("a plot needs the package matplotlib, which is not there") from None
+        raise ToolFault(
+            "a plot needs the package matplotlib, which is not installed", Status.LOST
+        ) from None
     figure, axes = pyplot.subplots()
-    axes.step(range(1, len(rows) + 1), [-float(sweep.difference(row)) for row in rows], where="mid")
+    axes.step(
+        range(1, len(rows) + 1),
+        [-float(sweep.difference(row)) for row in rows],
+        where="mid",
+    )
     axes.set_xlabel("cases, the greatest loss first")
     axes.set_ylabel(sweep.measure.title("loss"))
     drawn = io.BytesIO()
@@ -90,9 +135,9 @@ def plot(sweep: SweepRun, rows: list[list[str]], path: str) -> None:
         figure.savefig(drawn, format=Path(path).suffix[1:] or "png")
         write_file(path, drawn.getvalue())
     except OSError as error:
-        raise cannot("write", path, error, UNREADABLE) from None
+        raise cannot("write", path, error) from None
     except ValueError as error:
-        raise ToolFault(f"cannot write {path}: {error}", UNREADABLE) from None
+        raise ToolFault(f"cannot write {path}: {error}", Status.LOST) from None
 
 
 def carry_out(words: argparse.Namespace, network: Network[Any], text: bytes) -> int:
@@ -118,7 +163,7 @@ def carry_out(words: argparse.Namespace, network: Network[Any], text: bytes) -> 
         write("".join(map(sweep.line, [sweep.head, *sweep.losses(rows)[: words.top]])))
     if words.plot is not None:
         plot(sweep, sweep.losses(rows), words.plot)
-    return 0
+    return Status.DONE
 
 
 def network_of(words: argparse.Namespace) -> tuple[Network[Any], bytes]:
@@ -129,7 +174,7 @@ def network_of(words: argparse.Namespace) -> tuple[Network[Any], bytes]:
     try:
         return whole_network(subject.text), subject.text
     except Refused as refused:
-        raise ToolFault(f"{words.path}: {refused}", PROBLEM_FAULT) from None
+        raise ToolFault(f"{words.path}: {refused}", status_of(refused)) from None
 
 
 def main() -> int:
@@ -143,9 +188,4 @@ def main() -> int:
         with network:
             return carry_out(words, network, text)
     except KeyboardInterrupt:
-        return INTERRUPTED
-    except Error as error:
-        raise ToolFault(str(error)) from None
-    except OSError as error:
-        # The program is not there, or there is no room for the problem that it is given.
-        raise ToolFault(str(error), UNREADABLE) from None
+        return Status.INTERRUPTED

@@ -1,4 +1,5 @@
-"""A sweep of dmf-sweep: its cases, of which the commands have numbers, the names of what they speak of, and its rows."""
+"""A sweep of dmf-sweep: its cases, of which the commands have numbers, the names of what they speak
+of, and its rows."""
 
 from __future__ import annotations
 
@@ -9,7 +10,7 @@ from decimal import Decimal
 from typing import Any
 
 from ..arcs import Arc
-from ..errors import Refused, ToolFault
+from ..errors import Refused
 from ..files import read_file
 from ..network import Network
 from ..quantity import POINT
@@ -20,14 +21,15 @@ from ..text.lexical import NODE, Fault
 from ..text.session_commands import read_command
 from ..text.spelling import names_in, naming_pieces
 from ..text.table_comments import TableRoles, described, role_words
+from .command import ToolFault
 
 NAME = "dmf-sweep"
-PROBLEM_FAULT, UNREADABLE = 3, 4
 CHANGES = {"cap", "close", "shut", "add"}
 
 
 class CaseNames:
-    """Cases whose commands have numbers, as the client takes them, and the names of what they speak of."""
+    """Cases whose commands have numbers, as the client takes them, and the names of what they speak
+    of."""
 
     def __init__(self, network: Network[Any], text: bytes) -> None:
         """The names are those that comments of the problem's text give."""
@@ -54,7 +56,8 @@ class CaseNames:
         return self.nodes[number - 1] if 1 <= number <= len(self.nodes) else None
 
     def text(self, word: str, *numbers: int) -> str:
-        """A command, and what its capacity is in the table's terms, where that is another number."""
+        """A command, and what its capacity is in the table's terms, where that is another
+        number."""
         text = " ".join(map(str, (word, *numbers)))
         is_told = word in ("cap", "add") and self.measure.text(numbers[-1]) != str(numbers[-1])
         return f"{text} ({self.measure.told(numbers[-1])})" if is_told else text
@@ -65,16 +68,28 @@ class CaseNames:
             return ""
         word, *numbers = numbered[0]
         if word in ("cap", "close"):
-            return self.arc_name(self.arcs[numbers[0] - 1]) if 1 <= numbers[0] <= len(self.arcs) else ""
+            return (
+                self.arc_name(self.arcs[numbers[0] - 1])
+                if 1 <= numbers[0] <= len(self.arcs)
+                else ""
+            )
         nodes = numbers[: 2 if word == "add" else 1]
-        return " -> ".join(map(self.node_name, nodes)) if all(1 <= node <= len(self.nodes) for node in nodes) else ""
+        return (
+            " -> ".join(map(self.node_name, nodes))
+            if all(1 <= node <= len(self.nodes) for node in nodes)
+            else ""
+        )
 
     def arc_name(self, arc: Arc[Any]) -> str:
         tail, head = self._numbers[arc.tail], self._numbers[arc.head]
         role = self._folding.role(tail, head)
         if role:
             return role_words(role, self.node_name)
-        return f"{self.node_name(tail)} -> {self.node_name(head)}" if arc.given_key is None else str(arc.given_key)
+        return (
+            f"{self.node_name(tail)} -> {self.node_name(head)}"
+            if arc.given_key is None
+            else str(arc.given_key)
+        )
 
     def node_name(self, number: int) -> str:
         place = self._folding.place(number)
@@ -88,16 +103,22 @@ def case_of(line: bytes, number: int) -> list[tuple[Any, ...]]:
         try:
             command = read_command(part.strip())
         except Fault as fault:
-            raise ToolFault(f"line {number} of the cases: {fault}", PROBLEM_FAULT) from None
+            raise ToolFault(f"line {number} of the cases: {fault}") from None
         if command is None or command.word not in CHANGES:
-            raise ToolFault(f"line {number} of the cases: a case has cap, add, close and shut alone", PROBLEM_FAULT)
+            raise ToolFault(
+                f"line {number} of the cases: a case has cap, add, close and shut alone"
+            )
         commands.append((command.word, *command.numbers))
     return commands
 
 
 def cases_of_file(path: str) -> list[list[tuple[Any, ...]]]:
-    lines = read_file(path, UNREADABLE).splitlines()
-    return [case_of(line, at) for at, line in enumerate(lines, 1) if line.strip() and not line.strip().startswith(b"c ")]
+    lines = read_file(path).splitlines()
+    return [
+        case_of(line, at)
+        for at, line in enumerate(lines, 1)
+        if line.strip() and not line.strip().startswith(b"c ")
+    ]
 
 
 def cases_of_arcs(network: Network[Any], of: str) -> list[list[tuple[Any, ...]]]:
@@ -112,21 +133,41 @@ class SweepRun:
         self.network = network
         self._named = CaseNames(network, text)
         self.measure = self._named.measure
-        self.cases = cases_of_arcs(network, words.of) if words.cases is None else cases_of_file(words.cases)
+        self.cases = (
+            cases_of_arcs(network, words.of) if words.cases is None else cases_of_file(words.cases)
+        )
         self.jobs: int | None = words.jobs
         self.anew: bool = words.anew
-        self.head = ["case", "commands", "name", *map(self.measure.title, ("value", "difference")), "refused"]
+        self.head = [
+            "case",
+            "commands",
+            "name",
+            *map(self.measure.title, ("value", "difference")),
+            "refused",
+        ]
         self._raw_names: bool = words.raw_names
 
     def begin_of_row(self, at: int) -> list[str]:
         """What the row of a case has whatever comes of it."""
         numbered = self.cases[at - 1]
         commands = "; ".join(self._named.text(*command) for command in numbered)
-        return [str(at), commands, cell_of(self._named.name(numbered), is_raw=self._raw_names)]
+        return [
+            str(at),
+            commands,
+            cell_of(self._named.name(numbered), is_raw=self._raw_names),
+        ]
 
     def row(self, at: int, result: SweepResult[Any]) -> list[str]:
-        refused = result.refusal.text if isinstance(result.refusal, Refused) else str(result.refusal or "")
-        return [*self.begin_of_row(at), *map(self._cell, (result.value, result.difference)), refused]
+        refused = (
+            result.refusal.text
+            if isinstance(result.refusal, Refused)
+            else str(result.refusal or "")
+        )
+        return [
+            *self.begin_of_row(at),
+            *map(self._cell, (result.value, result.difference)),
+            refused,
+        ]
 
     def _cell(self, number: int | None) -> str:
         return "" if number is None else number_cell(self.measure.quantity(number), self.measure)
@@ -147,7 +188,10 @@ class SweepRun:
         """The rows of the cases after so many."""
         asked = [self._named.case(numbered) for numbered in self.cases[done:]]
         is_watched = sys.stderr is not None and sys.stderr.isatty()
-        for at, result in enumerate(sweep(self.network, asked, jobs=self.jobs, progress=is_watched, anew=self.anew), done + 1):
+        for at, result in enumerate(
+            sweep(self.network, asked, jobs=self.jobs, progress=is_watched, anew=self.anew),
+            done + 1,
+        ):
             yield self.row(at, result)
 
 

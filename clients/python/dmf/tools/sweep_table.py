@@ -11,24 +11,28 @@ import os
 import stat
 from pathlib import Path
 
-from ..errors import ToolFault
 from ..files import cannot
 from ..tables.sheet import delimiter
-from .command import warn
-from .sweep_run import NAME, PROBLEM_FAULT, UNREADABLE, SweepRun
+from .command import Status, ToolFault, warn
+from .sweep_run import NAME, SweepRun
 
 
 class ResultFile:
-    """The file of a table, which no other sweep writes meanwhile. Its rows have one field more: what the rows of one problem have in
-    common, a digest of the problem and its names."""
+    """The file of a table, which no other sweep writes meanwhile. Its rows have one field more:
+    what the rows of one problem have in common, a digest of the problem and its names.
+    """
 
     def __init__(self, path: str, sweep: SweepRun, problem: str) -> None:
-        """Takes what a run left. What is after its last whole row is cut off. Raises a `ToolFault` for what is no file, for a file
-        that another sweep writes, for another file, and for the table of another problem or of other cases."""
+        """Takes what a run left. What is after its last whole row is cut off. Raises a `ToolFault`
+        for what is no file, for a file that another sweep writes, for another file, and for the
+        table of another problem or of other cases.
+        """
         self.path = path
         self.sweep = sweep
         self.head = [*sweep.head, "problem"]
-        self.mark = hashlib.sha256(sweep.network.problem().encode(errors="replace")).hexdigest()[:16]
+        self.mark = hashlib.sha256(sweep.network.problem().encode(errors="replace")).hexdigest()[
+            :16
+        ]
         self._file = self._locked()
         try:
             with open(self._file, "rb", closefd=False) as file:
@@ -38,29 +42,41 @@ class ResultFile:
             self._size = len(kept.encode())
             os.ftruncate(self._file, self._size)
         except OSError as error:
-            raise cannot("write", path, error, UNREADABLE) from None
+            raise cannot("write", path, error) from None
         except (UnicodeDecodeError, csv.Error):
-            raise ToolFault(f"{path} is no table of {NAME}", PROBLEM_FAULT) from None
+            raise ToolFault(f"{path} is not a table of {NAME}") from None
 
     def _locked(self) -> int:
-        """The file, open and locked. The system takes the lock away when the process ends, however it does."""
+        """The file, open and locked. The system takes the lock away when the process ends, however
+        it does."""
         path = self.path
         try:
             if os.path.exists(path) and not stat.S_ISREG(os.stat(path).st_mode):
-                raise ToolFault(f"{path} is no file that a sweep can go on with; without --table the table goes to standard output", UNREADABLE)
+                raise ToolFault(
+                    f"{path} is not a file in which a sweep can go on; without --table the table "
+                    "goes to standard output",
+                    Status.LOST,
+                )
             file = os.open(path, os.O_RDWR | os.O_CREAT | os.O_APPEND, 0o666)
         except OSError as error:
-            raise cannot("write", path, error, UNREADABLE) from None
+            raise cannot("write", path, error) from None
         try:
             fcntl.flock(file, fcntl.LOCK_EX | fcntl.LOCK_NB)
         except BlockingIOError:
-            raise ToolFault(f"{path} is being written by {holder(file)}; two sweeps cannot write one table", UNREADABLE) from None
+            raise ToolFault(
+                f"{path} is being written by {holder(file)}; two sweeps cannot write one table",
+                Status.LOST,
+            ) from None
         except OSError as error:
-            warn(NAME, f"{path} cannot be locked: {error.strerror}. Let no other sweep write it meanwhile")
+            warn(
+                NAME,
+                f"{path} cannot be locked: {error.strerror}. Let no other sweep write it meanwhile",
+            )
         return file
 
     def _read(self, text: str, problem: str) -> tuple[list[list[str]], str]:
-        """The rows of the text that a run left, without their mark, and the part of the text that has them."""
+        """The rows of the text that a run left, without their mark, and the part of the text that
+        has them."""
         rows: list[list[str]] = []
         kept = ""
         whole_lines = io.StringIO(text[: text.rfind("\n") + 1], newline="")
@@ -68,24 +84,31 @@ class ResultFile:
             rows.append(cells)
             kept += self.sweep.line(cells)
         if rows[:1] == [self.head[:-1]]:
-            raise ToolFault(f"{self.path} does not say of which problem it is: an older {NAME} wrote it", PROBLEM_FAULT)
+            raise ToolFault(
+                f"{self.path} does not say of which problem it is: an older {NAME} wrote it"
+            )
         while rows and len(rows[-1]) != len(self.head):
             kept = kept[: -len(self.sweep.line(rows.pop()))]
         # In another unit the numbers have other titles.
         titles = [[title.partition(" (")[0] for title in head] for head in (self.head, *rows[:1])]
         is_begun = self.sweep.line(self.head).startswith(text) or titles[1:] == titles[:1]
         if not is_begun or not text.startswith(kept):
-            raise ToolFault(f"{self.path} is no table of {NAME}", PROBLEM_FAULT)
+            raise ToolFault(f"{self.path} is not a table of {NAME}")
         if rows and rows[0] != self.head or any(row[-1] != self.mark for row in rows[1:]):
-            raise ToolFault(f"{self.path} is the table of another problem than {problem}", PROBLEM_FAULT)
+            raise ToolFault(f"{self.path} is the table of another problem than {problem}")
         return [row[:-1] for row in rows[1:]], kept
 
     def _judge_cases(self, sweep: SweepRun) -> None:
-        begins = [sweep.begin_of_row(at) for at in range(1, min(len(self.rows), len(sweep.cases)) + 1)]
+        begins = [
+            sweep.begin_of_row(at) for at in range(1, min(len(self.rows), len(sweep.cases)) + 1)
+        ]
         if [row[:2] for row in self.rows] != [row[:2] for row in begins]:
-            raise ToolFault(f"{self.path} is the table of other cases", PROBLEM_FAULT)
+            raise ToolFault(f"{self.path} is the table of other cases")
         if [row[:3] for row in self.rows] != begins:
-            raise ToolFault(f"{self.path} has names of the other form: it was begun with --raw-names, or without", PROBLEM_FAULT)
+            raise ToolFault(
+                f"{self.path} has names of the other form: it was begun with --raw-names, or "
+                "without"
+            )
 
     def write(self, row: list[str]) -> None:
         """Adds a row, or where that fails nothing of it. Raises a `ToolFault`."""
@@ -106,7 +129,7 @@ class ResultFile:
         except OSError as error:
             with contextlib.suppress(OSError):
                 os.ftruncate(self._file, self._size)
-            raise cannot("write", self.path, error, UNREADABLE) from None
+            raise cannot("write", self.path, error) from None
         self._size += len(data)
 
 

@@ -5,7 +5,7 @@ use Rattle.dmf_node.specs.Node.{IsNode}
 use Rattle.dmf_links.specs.Links.{Links, AreLinks, AreFlags}
 use Rattle.dmf_links.proofs.tables.LinkPlaces.{lies-within}
 use Rattle.dmf_path.specs.declared.ball.Ball.{Ball}
-use Rattle.dmf_path.specs.Ball.{AreInside, AreNear, IsFit}
+use Rattle.dmf_path.specs.Ball.{AreListed, AreNear, AreNodes, IsFit}
 use Rattle.dmf_path.specs.Frontier.{AreSpread}
 use Rattle.dmf_path.specs.Labels.{no_label}
 use Rattle.dmf_path.specs.Residual.{ResidualLinks, roomed}
@@ -38,13 +38,6 @@ module _ {l : Links} {flags roots labels queue : List ℕ} {done radius : ℕ} (
   has-below v low most none = omega (arith, low, most, none)
 
   module _ (most : radius ≤ no_label) where
-    pub inside-spread : AreInside labels queue done radius
-    inside-spread v within low = elim (cases_eq v 0) [
-      | inl zero ↦ absurd (omega (arith, low, most, ap (λ u. get_or labels u 0) zero, so_far.zero))
-      | inr other ↦
-          looked-below v (record { from_one = omega (arith, other); to_last = omega (arith, within, so_far.one_each) }) low (has-below v low most)
-    ]
-
     pub near-spread : {rooms : List ℕ} {goal : ℕ} → AreLinks l → AreFlags l rooms flags → Contains roots goal → AreNear l rooms goal radius labels
     near-spread {rooms = rooms} {goal = goal} are flagged root = record {
       one_each = so_far.one_each;
@@ -57,6 +50,19 @@ module _ {l : Links} {flags roots labels queue : List ℕ} {done radius : ℕ} (
           let near = so_far.scanned at.0 (get_or l.partners p 0) at.1.0 (rw at.1.1 o.lies) o.flag in
           omega (arith, near, ap (λ u. get_or labels u 0) o.head, ap (λ u. get_or labels u 0) at.1.1);
     }
+
+-- The nodes with labels are those of the queue.
+pub listed-spread : {l : Links} {flags roots labels queue : List ℕ} {done : ℕ} → AreSpread l flags roots labels queue done → AreListed labels queue
+listed-spread {l = l} {labels = labels} so_far v within low = elim (cases_eq v 0) [
+  | inl zero ↦ absurd (omega (arith, low, ap (λ u. get_or labels u 0) zero, so_far.zero))
+  | inr other ↦
+      let node : IsNode l.nodes v = record { from_one = omega (arith, other); to_last = omega (arith, within, so_far.one_each) } in
+      let at = queued-at so_far v node (λ none. omega (arith, low, none)) in
+      (at.0, (at.1, at.2))
+]
+
+pub nodes-spread : {l : Links} {flags roots labels queue : List ℕ} {done : ℕ} → AreSpread l flags roots labels queue done → AreNodes l.nodes queue
+nodes-spread so_far i within = (so_far.queued i within).node
 
 -- What is known stays right where no link gets room that had none.
 pub fit-falls : (ball : Ball) (r : ResidualLinks) (rooms : List ℕ) → (r.takes_back ≡ false → NoneOpens r.rooms rooms) → IsFit ball r → IsFit ball (roomed r rooms)
@@ -72,5 +78,12 @@ fit-falls ball r rooms none is = record {
           goal_is = k.near.goal_is;
           near = λ v p node lies room. k.near.near v p node lies (none k.falls p room);
         };
+      };
+  windows = λ known.
+      let w = is.windows known in
+      record {
+        falls = w.falls;
+        ranges = w.ranges;
+        open_links = λ v p node lies room. w.open_links v p node lies (none w.falls (get_or r.links.partners p 0) room);
       };
 }

@@ -1,6 +1,6 @@
 -- One turn of a walk: it takes an admissible link of its node, or steps back if there is none to take.
 use Rattle.std.proofs.Common.{ℕ, ◌≡◌, ◌≢◌, ◌+◌, ◌-◌, ◌*◌, ◌<◌, ◌≤◌, List, [], ◌∷◌, ◌++◌, length, set, take, get_or, sum_by, ap, sym, subst, ◌∙◌}
-use Rattle.std.proofs.Common.{arith, inl, inr}
+use Rattle.std.proofs.Common.{arith, inl, inr, true}
 use Rattle.std.proofs.Math.Nat.{mul-le-mul_right}
 use Rattle.std.proofs.lemmas.Bool.{cases_lt}
 use Rattle.std.specs.List.{All}
@@ -10,13 +10,14 @@ use Rattle.std.proofs.lemmas.List.Sums.{sum_by-set}
 use Rattle.dmf_node.specs.Node.{IsNode}
 use Rattle.dmf_links.specs.Links.{Links, LiesAt, AreLinks, AreRooms, tail_of}
 use Rattle.dmf_path.specs.declared.ball.Ball.{Ball}
-use Rattle.dmf_path.specs.Astray.{IsAstray}
+use Rattle.dmf_path.specs.Astray.{IsOutside, LeadsAstray}
 use Rattle.dmf_path.specs.Ball.{AreNear}
+use Rattle.dmf_path.specs.Windows.{AreWindows}
 use Rattle.dmf_path.specs.Walk.{IsTrail, IsWalk, end_of}
 use Rattle.dmf_path.specs.Held.{Way, places_of, walked_slots, slot_at, stepped_back}
 use Rattle.dmf_path.specs.Residual.{ResidualLinks, put_once_on}
 use Rattle.dmf_path.specs.Searching.{AreNoted, IsNoted}
-use Rattle.dmf_links.proofs.tables.LinkPlaces.{lies-within}
+use Rattle.dmf_links.proofs.tables.LinkPlaces.{lies-partner, lies-within}
 use Rattle.dmf_path.proofs.labels.InBall.{near-path}
 use Rattle.dmf_path.proofs.paths.LeastTrail.{walk-path}
 use Rattle.dmf_path.proofs.paths.OpenPaths.{head-node}
@@ -63,6 +64,7 @@ pub record Turn : Type 0 where
   pub other : node ≢ w.joint
   pub end_read : end ≡ get_or r.links.first (node + 1) end
   pub near : 0 < ball.radius → AreNear aim.links aim.rooms w.goal ball.radius ball.around.labels
+  pub windows : ball.windows.known ≡ true → AreWindows ball.windows aim
   pub from : get_or current node 0 ≤ place
   pub skipped : get_or current node 0 ≤ skip
   pub order : skip ≤ place
@@ -71,7 +73,7 @@ pub record Turn : Type 0 where
       → get_or labels (get_or r.links.heads p 0) 0 + 1 ≢ get_or labels node 0
   pub only : get_or labels w.goal 0 < get_or labels node 0 → (p : ℕ) → get_or current node 0 ≤ p → p < place → 0 < get_or r.rooms p 0
       → get_or labels (get_or r.links.heads p 0) 0 + 1 ≡ get_or labels node 0
-      → IsAstray ball w.goal (get_or labels node 0 - get_or labels w.goal 0 - 1) (get_or r.links.heads p 0)
+      → LeadsAstray ball r.links w.goal (get_or labels node 0 - get_or labels w.goal 0 - 1) p
 
 -- the current links once that of the node has moved on
 abbrev pub moved : Turn → List ℕ
@@ -126,16 +128,27 @@ module _ (t : Turn) where
   near-told : 0 < t.ball.radius → AreNear t.r.links t.aim.rooms t.w.goal t.ball.radius t.ball.around.labels
   near-told some = subst (λ (x : ResidualLinks). AreNear x.links t.aim.rooms t.w.goal t.ball.radius t.ball.around.labels) (sym t.on.same) (t.near some)
 
+  -- A link outside the windows has no settled room.
+  outside-told : (p : ℕ) → LiesAt t.r.links t.node p → 0 < get_or t.aim.rooms p 0 → ¬ IsOutside t.ball t.r.links p
+  outside-told p lies room out =
+      let within : p < length t.r.links.heads = lies-within t.r.links t.node p t.links t.on.come.is_node lies in
+      let link = t.links.each p within in
+      let right = subst (AreWindows t.ball.windows) (sym t.on.same) (t.windows out.0) in
+      let settled = subst (λ (x : ResidualLinks). 0 < get_or x.rooms p 0) (sym t.on.same) room in
+      out.1 (right.open_links (get_or t.r.links.heads p 0) (get_or t.r.links.partners p 0) link.head (lies-partner t.r.links p t.links within)
+      (rw (sym link.partner_back) at settled))
+
   -- No walk begins with it: the goal is not so near.
   none-told : (p : ℕ) (ps : List ℕ) → get_or t.current t.node 0 ≤ p → p < t.place → ¬ IsWalk t.r.links t.labels t.aim.rooms t.w.goal t.node (p ∷ ps)
   none-told p ps later before walk =
       let path = walk-path t.r.links t.aim.rooms t.labels t.w.goal t.node (p ∷ ps) walk in
       let room : 0 < get_or t.r.rooms p 0 = omega (arith, walk.0.room, told-room (lies-before p later before) walk.0.falls) in
       elim (t.only (omega (arith, path.1)) p later before room walk.0.falls) [
-        | inl none ↦
+        | inr out ↦ outside-told p (lies-before p later before) walk.0.room out
+        | inl (inl none) ↦
             let last : ps ≡ [] = nil_from_length ps (omega (arith, path.1, none.0)) in
             none.1 (subst (λ qs. IsWalk t.r.links t.labels t.aim.rooms t.w.goal (get_or t.r.links.heads p 0) qs) last walk.1)
-        | inr far ↦
+        | inl (inr far) ↦
             let head_is = head-node t.r.links t.node p t.links t.on.come.is_node walk.0.lies in
             let long : length ps ≤ t.ball.radius = omega (arith, path.1, far.1) in
             let most = near-path t.links (near-told (omega (arith, far.0, far.1))) (get_or t.r.links.heads p 0) ps head_is path.0.2 long in

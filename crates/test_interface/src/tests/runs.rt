@@ -3,7 +3,7 @@ use dmf_net::Unwatched;
 use dmf_run::{
     EngineFault, Mode, SolveReply, Status, WordsFault, read_command, read_words, refusal_text,
     run_check, run_commands, run_session, run_session_bounded, run_session_watched, run_solve,
-    status_of,
+    run_vital, status_of,
 };
 use dmf_session::{Command, DeltaHistory, Refusal, Session};
 use dmf_text::{StdSink, StdSource, read_problem};
@@ -52,6 +52,16 @@ fn a_problem_is_solved(rt: HostRuntime) {
     let mut out = StdSink::new(Vec::new(rt.alloc()));
     let refused = run_solve(rt.alloc(), &mut faulty, &mut out, false).err();
     assert!(rt; refused.map(fault_number) == Some(3));
+}
+
+#[test]
+fn each_arc_is_valued(rt: HostRuntime) {
+    let mut written = Vec::new(rt.alloc());
+    let mut problem = StdSource::new(PROBLEM);
+    let mut out = StdSink::new(&mut written);
+    let outcome = run_vital(rt.alloc(), &mut problem, &mut out, &mut Unwatched);
+    assert!(rt; outcome == Ok(Status::Well));
+    assert!(rt; written.as_slice() == b"c value 7\nv 1 0\n".as_slice());
 }
 
 #[test]
@@ -142,6 +152,7 @@ fn number_of(asked: &Result<Mode, WordsFault>) -> u32 {
             },
         ) => 2,
         Ok(Mode::Check { problem: _ }) => 3,
+        Ok(Mode::Vital) => 4,
         Err(WordsFault::Help(_)) => 11,
         Err(WordsFault::Usage(_)) => 12,
         Err(WordsFault::NoMemory) => 13,
@@ -149,10 +160,11 @@ fn number_of(asked: &Result<Mode, WordsFault>) -> u32 {
 }
 
 /// Words, each with the number of what they ask for.
-const WORDS: [(&str, u32); 6] = [
+const WORDS: [(&str, u32); 7] = [
     ("", 1),
     ("session --cut P", 2),
     ("check P", 3),
+    ("vital", 4),
     ("--help", 11),
     ("--version", 11),
     ("wash", 12),

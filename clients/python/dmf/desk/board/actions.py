@@ -1,4 +1,5 @@
-"""What a request does to the desk: changes of one arc or of many, of scenarios, and sweeps, which are answered in portions."""
+"""What a request does to the desk: changes of one arc or of many, of scenarios, and sweeps, which
+are answered in portions."""
 
 from __future__ import annotations
 
@@ -7,21 +8,22 @@ import queue
 import threading
 import time
 from collections.abc import Callable, Generator
+from typing import NamedTuple
 
 from ...quantity import Quantity
 from ...text.spelling import cleaned
 from ...text.table_comments import listed
 from ..analysis import trials_of
 from ..expressions import amount
+from ..project.scenarios import project_of
 from ..steps import DeskFault, Trial
 from ..workspace import Desk
-from .responses import Json
-from .views import project_of
+from .responses import Fields, Json
 
 # How long a request may sweep before it answers with the results so far, in seconds.
 PORTION = 0.15
-# How long a sweep waits for the next such request before it ends its copies of the network, and how long its end is waited for, in
-# seconds.
+# How long a sweep waits for the next such request before it ends its copies of the network, and how
+# long its end is waited for, in seconds.
 PATIENCE, ENDING = 5.0, 0.5
 
 
@@ -46,7 +48,8 @@ class BackgroundSweep:
             self._found.put(error)
 
     def portion(self, most: int) -> list[Trial]:
-        """The next results, as many as come in the time of a portion. Raises what the sweep raises."""
+        """The next results, as many as come in the time of a portion. Raises what the sweep
+        raises."""
         until = time.monotonic() + PORTION
         trials: list[Trial] = []
         with contextlib.suppress(queue.Empty):
@@ -83,8 +86,10 @@ class Sweeps:
             self._sweep, self._left = None, []
 
     def portion(self, numbers: list[int]) -> list[Trial]:
-        """The results for the first arcs, as many as the time of a portion allows. The next portion goes on with the same copies of
-        the network, if it is asked for in time. Where no arc is left to try, as after a stop, they end at once."""
+        """The results for the first arcs, as many as the time of a portion allows. The next portion
+        goes on with the same copies of the network, if it is asked for in time. Where no arc is
+        left to try, as after a stop, they end at once.
+        """
         if not self._left or numbers[: len(self._left)] != self._left:
             self.end()
         if not numbers:
@@ -107,102 +112,95 @@ class Sweeps:
 MOST_NAMED = 3
 
 
-def change_many(desk: Desk, what: str, numbers: list[int], text: str) -> None:
-    """Closes arcs, opens them, gives each a capacity, or puts a second one beside each: in one step. Raises a `DeskFault` if one of them
-    does not allow it; then none is changed."""
+def _told(desk: Desk, numbers: list[int]) -> str:
+    """Arcs in the words of a step; nothing if it is one. Raises a `DeskFault` if there is none, or
+    one that is not there."""
     if not numbers:
         raise DeskFault("no arc is chosen")
     for number in numbers:
-        desk.line(number)
-    told = f"{len(numbers)} arcs ({listed(map(desk.names.short, numbers), MOST_NAMED)})" if len(numbers) > 1 else ""
-    if what == "close-all":
-        desk.close(*numbers, words=told)
-    elif what == "open-all":
-        desk.open(*numbers, words=told)
-    elif what == "double-all":
-        desk.double(*numbers, words=told)
-    else:
-        capacities = {number: _capacity(desk, number, text) for number in numbers}
-        desk.cap_each(capacities, f"{told}: {' '.join(text.split())}" if told else "")
+        desk.network.line(number)
+    if len(numbers) == 1:
+        return ""
+    return f"{len(numbers)} arcs ({listed(map(desk.network.names.short, numbers), MOST_NAMED)})"
+
+
+def _cap_all(desk: Desk, content: Json) -> None:
+    """Gives each of some arcs a capacity, in one step."""
+    numbers, text = content["arcs"], content["capacity"]
+    told = _told(desk, numbers)
+    capacities = {number: _capacity(desk, number, text) for number in numbers}
+    desk.cap_each(capacities, f"{told}: {' '.join(text.split())}" if told else "")
 
 
 def _capacity(desk: Desk, number: int, text: str) -> Quantity:
     """The capacity that a text gives an arc. Raises a `DeskFault` that names the arc."""
     try:
-        return amount(text, desk.measure, desk.line(number).capacity)
+        return amount(text, desk.network.measure, desk.network.line(number).capacity)
     except DeskFault as fault:
-        raise DeskFault(f"{desk.names.short(number)}: {fault}") from None
+        raise DeskFault(f"{desk.network.names.short(number)}: {fault}") from None
 
 
-# The requests that change scenarios, with the fields that each needs.
-SCENARIO_FORMS: dict[str, dict[str, type]] = {
-    "scenario-go": {"name": str},
-    "scenario-new": {"name": str, "from": str},
-    "scenario-copy": {"name": str},
-    "scenario-name": {"name": str},
-    "scenario-delete": {"name": str},
-    "scenario-note": {"text": str},
+def _cap(desk: Desk, content: Json) -> None:
+    network, number = desk.network, content["arc"]
+    present = network.line(number).capacity
+    desk.cap(number, amount(content["capacity"], network.measure, present))
+
+
+def _add(desk: Desk, content: Json) -> None:
+    network = desk.network
+    tail, head = network.names.place_of(content["tail"]), network.names.place(content["head"])
+    capacity = amount(content["capacity"], network.measure)
+    desk.add(tail, head, capacity, " ".join(content["name"].split()))
+
+
+class BoardAct(NamedTuple):
+    """What a page can ask to be done: the fields that it gives beside the turn, and what does it,
+    which raises a `DeskFault` where the desk refuses it."""
+
+    fields: Fields
+    make: Callable[[Desk, Json], object]
+
+
+ARC: Fields = {"arc": int}
+ARCS: Fields = {"arcs": list}
+NODE: Fields = {"node": int}
+NAME: Fields = {"name": str}
+CAPACITY: Fields = {"capacity": str}
+NEW_ARC: Fields = {"tail": int, "head": str, **CAPACITY, **NAME}
+ACTS = {
+    "close": BoardAct(ARC, lambda desk, it: desk.close(it["arc"])),
+    "open": BoardAct(ARC, lambda desk, it: desk.open(it["arc"])),
+    "double": BoardAct(ARC, lambda desk, it: desk.double(it["arc"])),
+    "cap": BoardAct({**ARC, **CAPACITY}, _cap),
+    "shut": BoardAct(NODE, lambda desk, it: desk.shut(desk.network.names.place_of(it["node"]))),
+    "open-place": BoardAct(
+        NODE, lambda desk, it: desk.open_place(desk.network.names.place_of(it["node"]))
+    ),
+    "add": BoardAct(NEW_ARC, _add),
+    "close-all": BoardAct(
+        ARCS, lambda desk, it: desk.close(*it["arcs"], words=_told(desk, it["arcs"]))
+    ),
+    "open-all": BoardAct(
+        ARCS, lambda desk, it: desk.open(*it["arcs"], words=_told(desk, it["arcs"]))
+    ),
+    "double-all": BoardAct(
+        ARCS, lambda desk, it: desk.double(*it["arcs"], words=_told(desk, it["arcs"]))
+    ),
+    "cap-all": BoardAct({**ARCS, **CAPACITY}, _cap_all),
+    # The first step is the solve that the board begins with.
+    "go": BoardAct({"step": int}, lambda desk, it: desk.go_to(it["step"] + 1)),
+    "again": BoardAct({}, lambda desk, it: desk.begin_again()),
 }
-
-
-def change_scenario(desk: Desk, what: str, content: Json) -> None:
-    """Goes to a scenario, begins one, or copies, names, deletes or notes one. Raises a `DeskFault`."""
-    desk = project_of(desk)
-    if what == "scenario-note":
-        desk.note(content["text"].strip())
-        return
-    name = cleaned(content["name"])
-    calls: dict[str, Callable[[str], object]] = {
-        "scenario-go": desk.go, "scenario-copy": desk.copy, "scenario-name": desk.rename, "scenario-delete": desk.delete,
-    }  # fmt: skip
-    if what == "scenario-new":
-        desk.new(name, content["from"])
-    else:
-        calls[what](content["name"] if what in ("scenario-go", "scenario-delete") else name)
-
-
-FORMS: dict[str, dict[str, type]] = {
-    "close": {"arc": int},
-    "open": {"arc": int},
-    "double": {"arc": int},
-    "cap": {"arc": int, "capacity": str},
-    "shut": {"node": int},
-    "open-place": {"node": int},
-    "add": {"tail": int, "head": str, "capacity": str, "name": str},
-    "close-all": {"arcs": list},
-    "open-all": {"arcs": list},
-    "double-all": {"arcs": list},
-    "cap-all": {"arcs": list, "capacity": str},
-    "go": {"step": int},
-    "again": {},
-    "keep": {},
-    **SCENARIO_FORMS,
+SCENARIO_ACTS = {
+    "scenario-go": BoardAct(NAME, lambda desk, it: project_of(desk).go(it["name"])),
+    "scenario-new": BoardAct(
+        {**NAME, "from": str},
+        lambda desk, it: project_of(desk).new(cleaned(it["name"]), it["from"]),
+    ),
+    "scenario-copy": BoardAct(NAME, lambda desk, it: project_of(desk).copy(cleaned(it["name"]))),
+    "scenario-name": BoardAct(NAME, lambda desk, it: project_of(desk).rename(cleaned(it["name"]))),
+    "scenario-delete": BoardAct(NAME, lambda desk, it: project_of(desk).delete(it["name"])),
+    "scenario-note": BoardAct(
+        {"text": str}, lambda desk, it: project_of(desk).note(it["text"].strip())
+    ),
 }
-MANY = ("close-all", "open-all", "double-all", "cap-all")
-
-
-def carry_out(desk: Desk, what: str, content: Json) -> None:
-    """Carries out a request, but for `keep`, which makes another desk. Raises a `DeskFault` where the desk refuses it."""
-    names = desk.names
-    # A person need not mind how names are written.
-    names.is_any_case = True
-    if what == "again":
-        desk.begin_again()
-    elif what in ("close", "open", "double"):
-        calls: dict[str, Callable[[int], object]] = {"close": desk.close, "open": desk.open, "double": desk.double}
-        calls[what](content["arc"])
-    elif what in SCENARIO_FORMS:
-        change_scenario(desk, what, content)
-    elif what in MANY:
-        change_many(desk, what, content["arcs"], content.get("capacity", ""))
-    elif what == "cap":
-        present = desk.line(content["arc"]).capacity
-        desk.cap(content["arc"], amount(content["capacity"], desk.measure, present))
-    elif what in ("shut", "open-place"):
-        {"shut": desk.shut, "open-place": desk.open_place}[what](names.place_of(content["node"]))
-    elif what == "add":
-        tail, head = names.place_of(content["tail"]), names.place(content["head"])
-        desk.add(tail, head, amount(content["capacity"], desk.measure), " ".join(content["name"].split()))
-    else:
-        # The first step is the solve that the board begins with.
-        desk.go_to(content["step"] + 1)

@@ -1,7 +1,7 @@
 """The connections of a board: the pages that it serves, and those that have not shown its token.
 
-By a connection that a page holds it is told of each newer state, and tells the other tabs of its browser. The board runs on for these
-connections."""
+By a connection that a page holds it is told of each newer state, and tells the other tabs of its
+browser. The board runs on for these connections."""
 
 from __future__ import annotations
 
@@ -13,9 +13,10 @@ import threading
 import time
 from collections.abc import Callable
 
-# How long a board runs on without a page, in seconds: after a request, longer than a reload takes to the next one; after one for the page
-# itself, whose scripts come and begin before it holds a connection, and on a busy machine that takes long; and after a connection that
-# broke, as where a machine sleeps or a tunnel is made anew, since its page has not said that it is left.
+# How long a board runs on without a page, in seconds: after a request, longer than a reload takes
+# to the next one; after one for the page itself, whose scripts come and begin before it holds a
+# connection, and on a busy machine that takes long; and after a connection that broke, as where a
+# machine sleeps or a tunnel is made anew, since its page has not said that it is left.
 AFTER_REQUEST, AFTER_PAGE, AFTER_BREAK = 10.0, 60.0, 300.0
 
 
@@ -29,7 +30,8 @@ class LivePages:
         self._held: dict[socket.socket, str] = {}
         # Those of them that said that they are left, but whose connections have not ended yet.
         self._left: set[str] = set()
-        # Until when the board runs on for a page whose connection broke, and under no name for those that may come.
+        # Until when the board runs on for a page whose connection broke, and under no name for
+        # those that may come.
         self._until = {"": clock()}
 
     def note_request(self, is_page: bool = False) -> None:
@@ -47,7 +49,8 @@ class LivePages:
             _tell(page, self._told)
 
     def leave(self, name: str) -> None:
-        """A page is left, as when it is closed or loaded again. Its connection has ended, or will."""
+        """A page is left, as when it is closed or loaded again. Its connection has ended, or
+        will."""
         with self._changed:
             if name in self._held.values():
                 self._left.add(name)
@@ -60,7 +63,13 @@ class LivePages:
         with self._changed:
             name = self._held.pop(page)
             if name not in self._held.values():
-                self._wait_for(*(("", AFTER_REQUEST) if not name or name in self._left else (name, AFTER_BREAK)))
+                self._wait_for(
+                    *(
+                        ("", AFTER_REQUEST)
+                        if not name or name in self._left
+                        else (name, AFTER_BREAK)
+                    )
+                )
                 self._left.discard(name)
 
     def rest(self) -> float:
@@ -68,7 +77,8 @@ class LivePages:
         return math.inf if self._held else max(self._until.values()) - self._clock()
 
     def is_last(self) -> bool:
-        """Waits while there is no page and the board runs on. Returns whether it need not any more."""
+        """Waits while there is no page and the board runs on. Returns whether it need not any
+        more."""
         with self._changed:
             while not self._held and (rest := self.rest()) > 0:
                 self._changed.wait(rest)
@@ -91,13 +101,16 @@ def _tell(page: socket.socket, turn: int) -> None:
         page.send(f"data: {turn}\n\n".encode(), socket.MSG_DONTWAIT)
 
 
-# How many connections may wait that have not shown the token, and how long each may take to show it, in seconds.
+# How many connections may wait that have not shown the token, and how long each may take to show
+# it, in seconds.
 MOST_STRANGERS, PATIENCE = 16, 5.0
 
 
 class UnknownConnections:
-    """The connections that have not shown the token. If there are too many, one of another user's goes first, and else the oldest. The end
-    of one is a reset, after which its user holds no port of this machine for it: else no page might find one."""
+    """The connections that have not shown the token. If there are too many, one of another user's
+    goes first, and else the oldest. The end of one is a reset, after which its user holds no port
+    of this machine for it: else no page might find one.
+    """
 
     def __init__(self) -> None:
         self._waiting: dict[socket.socket, tuple[bool, float]] = {}
@@ -132,7 +145,9 @@ class UnknownConnections:
         """Ends those that have waited for so long."""
         with self._lock:
             until = time.monotonic() - patience
-            for connection in [connection for connection, (_, since) in self._waiting.items() if since <= until]:
+            for connection in [
+                connection for connection, (_, since) in self._waiting.items() if since <= until
+            ]:
                 self._end(connection)
 
     def _end(self, connection: socket.socket) -> None:
@@ -149,8 +164,18 @@ def _reset_at_end(connection: socket.socket, is_so: bool) -> None:
 
 def user_of(client: tuple[str, int], server: tuple[str, int]) -> int | None:
     """The user who has the client's end of a connection on this machine, where Linux tells."""
-    ends = struct.pack("!HH4s12x4s12x", client[1], server[1], socket.inet_aton(client[0]), socket.inet_aton(server[0]))
-    asked = struct.pack("BBBxI", socket.AF_INET, socket.IPPROTO_TCP, 0, 0xFFFFFFFF) + ends + struct.pack("III", 0, 0xFFFFFFFF, 0xFFFFFFFF)
+    ends = struct.pack(
+        "!HH4s12x4s12x",
+        client[1],
+        server[1],
+        socket.inet_aton(client[0]),
+        socket.inet_aton(server[0]),
+    )
+    asked = (
+        struct.pack("BBBxI", socket.AF_INET, socket.IPPROTO_TCP, 0, 0xFFFFFFFF)
+        + ends
+        + struct.pack("III", 0, 0xFFFFFFFF, 0xFFFFFFFF)
+    )
     head = struct.pack("IHHII", 16 + len(asked), 20, 1, 0, 0)
     try:
         with socket.socket(socket.AF_NETLINK, socket.SOCK_DGRAM, 4) as kernel:

@@ -1,4 +1,5 @@
-"""Two scenarios beside each other: what differs, and a picture in which each arc is coloured by what is other in the second one."""
+"""Two scenarios beside each other: what differs, and a picture in which each arc is coloured by
+what is other in the second one."""
 
 from __future__ import annotations
 
@@ -13,12 +14,21 @@ from ...quantity import EXACT, Quantity, moved, plain_text
 from ...text.lexical import display
 from ...text.table_comments import AT_PLACE
 from ..export import MOST_DRAWN
-from ..project.comparison import OPEN, ArcDifference, ArcState, Comparison, Known, Standing, compare, known_arcs
+from ..project.comparison import (
+    OPEN,
+    ArcDifference,
+    ArcState,
+    Comparison,
+    Known,
+    Standing,
+    compare,
+    known_arcs,
+)
+from ..project.scenarios import project_of
 from ..workspace import Desk
 from .layout import NoPicture, Places
 from .picture import SVG, DrawnArc, DrawnNode, Picture, Shape, marked, written
 from .responses import Json, WrongForm
-from .views import project_of
 
 MORE, LESS, SAME = "#0b5394", "#a84300", "#767676"
 STYLE = f"""
@@ -26,20 +36,27 @@ text {{ font-family: Helvetica, Arial, sans-serif; }}
 .same path, .same polygon {{ stroke: {SAME}; }}
 .same polygon {{ fill: {SAME}; }}
 .more path, .more polygon, .come path, .come polygon {{ stroke: {MORE}; }}
-.more polygon, .come polygon, .arc.more text, .arc.come text, text.more, text.come {{ fill: {MORE}; }}
+.more polygon, .come polygon, .arc.more text, .arc.come text, text.more, text.come {{
+  fill: {MORE};
+}}
 .less path, .less polygon, .gone path, .gone polygon {{ stroke: {LESS}; }}
-.less polygon, .gone polygon, .arc.less text, .arc.gone text, text.less, text.gone {{ fill: {LESS}; }}
+.less polygon, .gone polygon, .arc.less text, .arc.gone text, text.less, text.gone {{
+  fill: {LESS};
+}}
 .more path, .less path, .else path {{ stroke-width: 2.5; }}
 .come path {{ stroke-width: 4; }}
 .gone path {{ stroke-width: 2.5; stroke-dasharray: 5 3; }}
 .arc text {{ paint-order: stroke; stroke: #ffffff; stroke-width: 3; }}
 """
-LEGEND = "30 → 45: flow in the first and in the second; blue: more, thick if only there; brown: less, dashed if gone; grey: the same"
+LEGEND = (
+    "30 → 45: flow in the first and in the second; blue: more, thick if only there; brown: less, "
+    "dashed if gone; grey: the same"
+)
 
 
 class _Found(NamedTuple):
-    """An arc of either scenario: its number in the picture, its ends and its name, by what it is known, and in what it differs, if it
-    does."""
+    """An arc of either scenario: its number in the picture, its ends and its name, by what it is
+    known, and in what it differs, if it does."""
 
     number: int
     tail: int
@@ -51,7 +68,8 @@ class _Found(NamedTuple):
 
 @dataclass(frozen=True)
 class _Drawn:
-    """What a picture of a comparison has: the arcs, and by their places the roles that differ; and how many arcs there are, and differ."""
+    """What a picture of a comparison has: the arcs, and by their places the roles that differ; and
+    how many arcs there are, and differ."""
 
     arcs: list[_Found]
     roles: dict[int, list[_Found]]
@@ -64,7 +82,11 @@ class _Drawn:
         shown = len(self.arcs)
         if shown == self.count:
             return ""
-        some = f"those of the {self.differing} that differ whose flow differs most" if self.differing > shown else "those that differ, and others beside them"
+        some = (
+            f"those of the {self.differing} that differ whose flow differs most"
+            if self.differing > shown
+            else "those that differ, and others beside them"
+        )
         return f"{shown} of {self.count} arcs are drawn: {some}"
 
 
@@ -86,65 +108,118 @@ class DifferencePicture(Picture):
             for title in group.findall(f"{{{SVG}}}title"):
                 group.remove(title)
             if kind == "node":
-                _fill_place(group, self._desk.names.node(int(digits)), drawn.roles.get(int(digits), []))
+                _fill_place(
+                    group,
+                    self._desk.network.names.node(int(digits)),
+                    drawn.roles.get(int(digits), []),
+                )
             # The page has another picture, with these names.
             group.set("id", f"two-{name}")
         present = dict(known_arcs(self._desk))
         for arc in drawn.arcs:
             _fill_arc(groups[f"arc-{arc.number}"], arc, self._label(arc), present.get(arc.known, 0))
-        return written(root, STYLE, self._below(found, drawn)) if to_take else written(root), drawn.reason
+        return (
+            written(root, STYLE, self._below(found, drawn)) if to_take else written(root),
+            drawn.reason,
+        )
 
     def _below(self, found: Comparison, drawn: _Drawn) -> list[str]:
         """What stands below a picture that is taken along."""
         one, two, unit = found.first, found.second, found.measure.told_unit
         values = f"{plain_text(one.value)} and {plain_text(two.value)} {unit}".rstrip()
         names = f"scenarios {display(one.name)} and {display(two.name)}"
-        said = f"{display(os.path.basename(self._desk.subject.path))}, {names}: {values}, {moved(one.value, two.value)}"
+        said = (
+            f"{display(os.path.basename(self._desk.network.subject.path))}, {names}: {values}, "
+            f"{moved(one.value, two.value)}"
+        )
         return [said, time.strftime("%Y-%m-%d"), LEGEND, *[drawn.reason] * bool(drawn.reason)]
 
     def _drawn(self, found: Comparison) -> _Drawn:
         desk = self._desk
+        network = desk.network
         differing: list[_Found] = []
         roles: dict[int, list[_Found]] = {}
         for it in found.arcs:
             arc = self._found(it.known, it, len(differing))
-            role = desk.role(it.known) if isinstance(it.known, int) else None
+            role = network.role(it.known) if isinstance(it.known, int) else None
             if role:
                 roles.setdefault(role.node, []).append(arc)
             else:
                 differing.append(arc)
-        alike = [known for known in found.alike if isinstance(known, tuple) or not desk.role(known)]
-        most = sorted(differing, key=_by, reverse=True)[:MOST_DRAWN] if len(differing) > MOST_DRAWN else differing
+        alike = [
+            known for known in found.alike if isinstance(known, tuple) or not network.role(known)
+        ]
+        most = (
+            sorted(differing, key=_by, reverse=True)[:MOST_DRAWN]
+            if len(differing) > MOST_DRAWN
+            else differing
+        )
         others = (self._found(known, None, len(differing) + at) for at, known in enumerate(alike))
         if len(differing) + len(alike) > MOST_DRAWN:
             nodes = {node for arc in most for node in (arc.tail, arc.head)} | set(roles)
             others = (arc for arc in others if arc.tail in nodes or arc.head in nodes)
         arcs = [*most, *(arc for _, arc in zip(range(MOST_DRAWN - len(most)), others))]
-        return _Drawn(sorted(arcs, key=lambda arc: arc.number), roles, len(differing) + len(alike), len(differing))
+        return _Drawn(
+            sorted(arcs, key=lambda arc: arc.number),
+            roles,
+            len(differing) + len(alike),
+            len(differing),
+        )
 
     def _found(self, known: Known, differs: ArcDifference | None, at: int) -> _Found:
-        desk, place = self._desk, self._desk.folding.place
+        desk, place = self._desk, self._desk.network.folding.place
+        network = desk.network
         if isinstance(known, int):
-            line = desk.lines[known - 1]
-            return _Found(known, place(line.tail), place(line.head), desk.names.arc_name(known), known, differs)
-        return _Found(desk.first_count + 1 + at, place(known[0]), place(known[1]), known[2], known, differs)
+            line = network.lines[known - 1]
+            return _Found(
+                known,
+                place(line.tail),
+                place(line.head),
+                network.names.arc_name(known),
+                known,
+                differs,
+            )
+        return _Found(
+            network.first_count + 1 + at,
+            place(known[0]),
+            place(known[1]),
+            known[2],
+            known,
+            differs,
+        )
 
     def _shape_between(self, drawn: _Drawn) -> Shape:
         desk = self._desk
+        network = desk.network
         nodes = {node for arc in drawn.arcs for node in (arc.tail, arc.head)} | set(drawn.roles)
         if len(drawn.arcs) == drawn.count:
-            nodes |= {*desk.sources, *desk.sinks}
+            nodes |= {*network.sources, *network.sinks}
 
         def roles(node: int) -> tuple[tuple[int, str, str], ...]:
-            return tuple((arc.number, self._role_words(arc), _amounts(arc.differs)) for arc in drawn.roles.get(node, ()))
+            return tuple(
+                (arc.number, self._role_words(arc), _amounts(arc.differs))
+                for arc in drawn.roles.get(node, ())
+            )
 
         return Shape(
-            tuple(DrawnArc(arc.number, arc.tail, arc.head, arc.name if arc.differs else "", _amounts(arc.differs)) for arc in drawn.arcs),
-            tuple(DrawnNode(node, desk.names.node(node), roles(node), True, False) for node in sorted(nodes)),
+            tuple(
+                DrawnArc(
+                    arc.number,
+                    arc.tail,
+                    arc.head,
+                    arc.name if arc.differs else "",
+                    _amounts(arc.differs),
+                )
+                for arc in drawn.arcs
+            ),
+            tuple(
+                DrawnNode(node, network.names.node(node), roles(node), True, False)
+                for node in sorted(nodes)
+            ),
         )
 
     def _role_words(self, arc: _Found) -> str:
-        role = self._desk.role(arc.number)
+        role = self._desk.network.role(arc.number)
         return AT_PLACE[role.kind] if role else ""
 
     def _label(self, arc: _Found) -> str:
@@ -153,15 +228,21 @@ class DifferencePicture(Picture):
 
 def _by(arc: _Found) -> Quantity:
     """By how much the flow on an arc differs."""
-    return abs(EXACT.subtract(arc.differs.second.flow, arc.differs.first.flow)) if arc.differs else 0
+    return (
+        abs(EXACT.subtract(arc.differs.second.flow, arc.differs.first.flow)) if arc.differs else 0
+    )
 
 
 def _amounts(differs: ArcDifference | None) -> str:
-    """What an arc was, and what it is, in short: `30 → 45`; with its capacity, and whether it is one of the limit, where these differ."""
+    """What an arc was, and what it is, in short: `30 → 45`; with its capacity, and whether it is
+    one of the limit, where these differ."""
     if differs is None:
         return ""
     one, two = differs.first, differs.second
-    has_capacity, has_limit = one.capacity != two.capacity, differs.kind == "else" and one.is_limit != two.is_limit
+    has_capacity, has_limit = (
+        one.capacity != two.capacity,
+        differs.kind == "else" and one.is_limit != two.is_limit,
+    )
 
     def told(it: ArcState) -> str:
         if it.state != OPEN:
@@ -173,7 +254,8 @@ def _amounts(differs: ArcDifference | None) -> str:
 
 
 def _fill_arc(group: ElementTree.Element, arc: _Found, label: str, number: int) -> None:
-    """Says of an arc in a layout what it is, and which arc of the present scenario, if it is one."""
+    """Says of an arc in a layout what it is, and which arc of the present scenario, if it is
+    one."""
     differs = arc.differs
     if number:
         group.set("data-arc", str(number))
@@ -181,7 +263,11 @@ def _fill_arc(group: ElementTree.Element, arc: _Found, label: str, number: int) 
         marked(group, ["arc", "same"], label)
         return
     group.findall(f"{{{SVG}}}text")[-1].text = _amounts(differs)
-    marked(group, ["arc", differs.kind], f"{label}: {differs.first.told()}, then {differs.second.told()}")
+    marked(
+        group,
+        ["arc", differs.kind],
+        f"{label}: {differs.first.told()}, then {differs.second.told()}",
+    )
 
 
 def _fill_place(group: ElementTree.Element, name: str, roles: Iterable[_Found]) -> None:
@@ -206,10 +292,11 @@ class Comparisons:
 
     def of(self, one: str, two: str) -> Comparison:
         """Two scenarios beside each other, of which one may be the network of the table."""
-        desk = project_of(self._desk)
+        desk = self._desk
+        project = project_of(desk)
         key = desk.turn, one, two
         if not self._kept or self._kept[0] != key:
-            found = compare(desk, one, two)
+            found = compare(project, one, two)
             # If the session has ended meanwhile, the turn is another one.
             self._kept = (desk.turn, one, two), found
         return self._kept[1]
@@ -217,23 +304,36 @@ class Comparisons:
     def view(self, one: str, two: str, first: int, count: int) -> Json:
         """A comparison with so many of the arcs that differ, from the first on."""
         if count > MOST_DIFFERENCES:
-            raise WrongForm(f"wanted are at most {MOST_DIFFERENCES} rows")
+            raise WrongForm(f"expected at most {MOST_DIFFERENCES} rows")
         found = self.of(one, two)
         numbers = dict(known_arcs(self._desk))
         rows = [
             {
-                "arc": it.arc, "number": numbers.get(it.known, 0), "node": self._node(it.known), "kind": it.kind, "first": it.first.told(),
+                "arc": it.arc,
+                "number": numbers.get(it.known, 0),
+                "node": self._node(it.known),
+                "kind": it.kind,
+                "first": it.first.told(),
                 "second": it.second.told(),
             }
             for it in found.arcs[first : first + count]
-        ]  # fmt: skip
+        ]
         same = found.first.limit == found.second.limit
-        told = {"moved": moved(found.first.value, found.second.value), "same_limit": same, "total": len(found.arcs)}
-        return {"first": _standing(found.first), "second": _standing(found.second), **told, "rows": rows}
+        told = {
+            "moved": moved(found.first.value, found.second.value),
+            "same_limit": same,
+            "total": len(found.arcs),
+        }
+        return {
+            "first": _standing(found.first),
+            "second": _standing(found.second),
+            **told,
+            "rows": rows,
+        }
 
     def _node(self, known: Known) -> int:
         """The place whose role an arc is, if it is one; else 0."""
-        role = self._desk.role(known) if isinstance(known, int) else None
+        role = self._desk.network.role(known) if isinstance(known, int) else None
         return role.node if role else 0
 
     def picture(self, one: str, two: str) -> Json:
@@ -251,4 +351,9 @@ class Comparisons:
 
 
 def _standing(it: Standing) -> Json:
-    return {"name": it.name, "value": plain_text(it.value), "limit": list(it.limit[:MOST_LISTED]), "limit_count": len(it.limit)}
+    return {
+        "name": it.name,
+        "value": plain_text(it.value),
+        "limit": list(it.limit[:MOST_LISTED]),
+        "limit_count": len(it.limit),
+    }

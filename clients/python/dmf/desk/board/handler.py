@@ -1,9 +1,10 @@
 """The requests of a connection to a board: who may ask, and which answer is wanted.
 
-Each address begins with a token that only the one who started the board gets. Of a request without it the handler reads the first line
-alone, and answers with a page that says how to get in. It refuses a request with 403 if that names another host, or if a page of another
-origin made it; with 400 if it does not have the form that the page gives it; and else as the board does. Requests come to the desk one
-after the other.
+Each address begins with a token that only the one who started the board gets. Of a request without
+it the handler reads the first line alone, and answers with a page that says how to get in. It
+refuses a request with 403 if that names another host, or if a page of another origin made it; with
+400 if it does not have the form that the page gives it; and else as the board does. Requests come
+to the desk one after the other.
 """
 
 from __future__ import annotations
@@ -76,7 +77,8 @@ class Handler(BaseHTTPRequestHandler):
         """Nothing is logged: an address has the token."""
 
     def parse_request(self) -> bool:
-        """Reads the head of a request. Of one without the token its first line alone is looked at."""
+        """Reads the head of a request. Of one without the token its first line alone is looked
+        at."""
         words = self.raw_requestline.split()
         path = words[1].split(b"?")[0].split(b"/") if len(words) > 1 else []
         if len(path) < 2 or path[0] or not hmac.compare_digest(path[1], self.server.token.encode()):
@@ -112,12 +114,21 @@ class Handler(BaseHTTPRequestHandler):
         hosts = self.headers.get_all("Host") or []
         site = self.headers.get("Sec-Fetch-Site", "none")
         # The file that a browser is started with leads to the page, and is another site.
-        is_opened = self.command == "GET" and self._path() == "/" and self.headers.get("Sec-Fetch-Mode") == "navigate"
+        is_opened = (
+            self.command == "GET"
+            and self._path() == "/"
+            and self.headers.get("Sec-Fetch-Mode") == "navigate"
+        )
         if len(hosts) != 1 or hosts[0].lower() not in self.server.hosts:
-            why = "This board does not answer to the name and the port that the address has; --host-name NAME:PORT lets it do so"
+            why = (
+                "This board does not answer to the name and the port that the address has; "
+                "--host-name NAME:PORT lets it do so"
+            )
         elif any(origin != f"http://{hosts[0]}" for origin in self.headers.get_all("Origin") or []):
             why = "A page of another origin asks"
-        elif site not in ("same-origin", "none") and not (is_opened and self.headers.get("Sec-Fetch-Dest") == "document"):
+        elif site not in ("same-origin", "none") and not (
+            is_opened and self.headers.get("Sec-Fetch-Dest") == "document"
+        ):
             why = "A page of another site asks"
         if not why:
             return None
@@ -140,7 +151,11 @@ class Handler(BaseHTTPRequestHandler):
             self._live(urlsplit(self.path).query)
             return None
         try:
-            pairs = parse_qsl(urlsplit(self.path).query, keep_blank_values=True, strict_parsing=bool(urlsplit(self.path).query))
+            pairs = parse_qsl(
+                urlsplit(self.path).query,
+                keep_blank_values=True,
+                strict_parsing=bool(urlsplit(self.path).query),
+            )
         except ValueError:
             raise WrongForm("the words of the address have not the form NAME=TEXT") from None
         words = dict(pairs)
@@ -169,16 +184,16 @@ class Handler(BaseHTTPRequestHandler):
     def _content(self) -> Json:
         """The content of a request. Raises a `WrongForm`."""
         if self.headers.get("Content-Type", "").split(";")[0].strip() != "application/json":
-            raise WrongForm("wanted is the type application/json")
+            raise WrongForm("expected the type application/json")
         length = self.headers.get("Content-Length", "")
         if not re.fullmatch("[0-9]{1,7}", length) or int(length) > LONGEST_BODY:
-            raise WrongForm(f"wanted is a length of at most {LONGEST_BODY} bytes")
+            raise WrongForm(f"expected a length of at most {LONGEST_BODY} bytes")
         try:
             content = json.loads(self.rfile.read(int(length)).decode())
         except (ValueError, RecursionError):
-            raise WrongForm("the request is no text in JSON") from None
+            raise WrongForm("the request is not valid JSON") from None
         if not isinstance(content, dict):
-            raise WrongForm("wanted is an object of JSON")
+            raise WrongForm("expected a JSON object")
         return content
 
     def _send(self, made: Response) -> None:

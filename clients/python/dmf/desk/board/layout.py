@@ -1,7 +1,8 @@
 """Where the places of a picture lie.
 
-A place stays where it was put, whatever is drawn beside it: Graphviz puts the first picture as it does best, and later one new places near
-their neighbours. A project keeps the places, and a table of coordinates may name them."""
+A place stays where it was put, whatever is drawn beside it: Graphviz puts the first picture as it
+does best, and later one new places near their neighbours. A project keeps the places, and a table
+of coordinates may name them."""
 
 from __future__ import annotations
 
@@ -16,9 +17,9 @@ from ...errors import TableFault
 from ...files import read_file
 from ...quantity import POINT, readings
 from ...tables.csv_file import csv_sheet
-from ...tables.headings import PLACE, USUAL, title_of
-from ...tables.loader import UNREADABLE, split_path
+from ...tables.loader import split_path
 from ...tables.sheet import Faults, Sheet, naming
+from ...tables.titles import PLACE, USUAL, title_of
 from ...tables.workbook import is_workbook, workbook_sheets
 from ...text.drawing import graphviz
 from ...text.spelling import cleaned, quoted_name
@@ -27,9 +28,11 @@ from ..project.scenarios import Scenarios
 from ..steps import DeskFault
 from ..workspace import Desk
 
-# How large a place is, about, in points, and how many spots are tried around the one where it would lie best.
+# How large a place is, about, in points, and how many spots are tried around the one where it would
+# lie best.
 WIDE, HIGH, MOST_SPOTS = 120.0, 50.0, 400
-# How far from all other places a part of the network is put that has no neighbour among them, in points.
+# How far from all other places a part of the network is put that has no neighbour among them, in
+# points.
 APART = 200.0
 
 
@@ -45,7 +48,9 @@ class Spot(NamedTuple):
 
 
 # Where a place lies in a drawing of Graphviz.
-_DRAWN = re.compile(r'<g id="node(?:-|&#45;)(\d+)".*?<ellipse [^>]* cx="([-0-9.]+)" cy="([-0-9.]+)"', re.DOTALL)
+_DRAWN = re.compile(
+    r'<g id="node(?:-|&#45;)(\d+)".*?<ellipse [^>]* cx="([-0-9.]+)" cy="([-0-9.]+)"', re.DOTALL
+)
 # An arc by its ends, and by its place among those with the same ends.
 Way = tuple[int, int, int]
 
@@ -65,8 +70,8 @@ class Places:
     routes: dict[Way, Route] = field(default_factory=dict)
 
     def put(self, nodes: Iterable[int], ways: Iterable[Way], text: str) -> str:
-        """Gives each of these nodes a spot that has none. The text draws them for Graphviz, without spots. Returns what Graphviz has drawn if
-        that lies at these spots. Raises `NoPicture`."""
+        """Gives each of these nodes a spot that has none. The text draws them for Graphviz, without
+        spots. Returns what Graphviz has drawn if that lies at these spots. Raises `NoPicture`."""
         known, new = _parted(nodes, self.spots)
         if new and not known:
             return self._put_apart(new, list(ways), text)
@@ -75,7 +80,8 @@ class Places:
         return ""
 
     def _put_apart(self, new: list[int], ways: list[Way], text: str) -> str:
-        """Places of which none is known are put as Graphviz does best, beside all that are known."""
+        """Places of which none is known are put as Graphviz does best, beside all that are
+        known."""
         found, drawn = laid_out("dot", text, "-Tsvg")
         # A drawing tells them in hundredths, and a layout in five digits.
         found.spots = {int(node): Spot(float(x), -float(y)) for node, x, y in _DRAWN.findall(drawn)}
@@ -84,7 +90,9 @@ class Places:
         by = right + APART - left if self.spots else 0.0
         self.spots.update({node: Spot(spot.x + by, spot.y) for node, spot in found.spots.items()})
         if not by:
-            self.routes.update({way: route for way, route in found.routes.items() if way in set(ways)})
+            self.routes.update(
+                {way: route for way, route in found.routes.items() if way in set(ways)}
+            )
         return "" if by else drawn
 
     def put_near(self, rough: Mapping[int, Spot]) -> None:
@@ -113,7 +121,12 @@ class _FreeSpots:
 
     def _is_free(self, spot: Spot) -> bool:
         column, row = int(spot.x // WIDE), int(spot.y // HIGH)
-        near = (one for x in (-1, 0, 1) for y in (-1, 0, 1) for one in self._fields.get((column + x, row + y), ()))
+        near = (
+            one
+            for x in (-1, 0, 1)
+            for y in (-1, 0, 1)
+            for one in self._fields.get((column + x, row + y), ())
+        )
         return all(abs(one.x - spot.x) >= WIDE or abs(one.y - spot.y) >= HIGH for one in near)
 
 
@@ -126,7 +139,9 @@ def _around(spot: Spot) -> Iterator[Spot]:
 
 def _parted(nodes: Iterable[int], spots: Mapping[int, Spot]) -> tuple[list[int], list[int]]:
     listed = list(nodes)
-    return [node for node in listed if node in spots], [node for node in listed if node not in spots]
+    return [node for node in listed if node in spots], [
+        node for node in listed if node not in spots
+    ]
 
 
 def _rough(text: str, known: Mapping[int, Spot], new: list[int]) -> dict[int, Spot]:
@@ -138,14 +153,26 @@ def _rough(text: str, known: Mapping[int, Spot], new: list[int]) -> dict[int, Sp
 
 
 def laid_out(engine: str, text: str, *words: str) -> tuple[Places, str]:
-    """The spots and routes that an engine of Graphviz finds, and what it writes by these words too. Nodes are numbers in the text, and arcs
-    have their way as `class`."""
+    """The spots and routes that an engine of Graphviz finds, and what it writes by these words too.
+    Nodes are numbers in the text, and arcs have their way as `class`."""
     made = run(text, engine, "-Tjson0", *words)
     told, end = json.JSONDecoder().raw_decode(made)
     # Graphviz names nodes by their place in this list.
     nodes = [int(one["name"]) for one in told.get("objects", ())]
-    spots = {node: Spot(*map(float, one["pos"].split(","))) for node, one in zip(nodes, told.get("objects", ()))}
-    return Places(spots, {_way(one): Route(one.get("pos", ""), one.get("lp", "")) for one in told.get("edges", ())}), made[end:].lstrip()
+    spots = {
+        node: Spot(*map(float, one["pos"].split(",")))
+        for node, one in zip(nodes, told.get("objects", ()))
+    }
+    return (
+        Places(
+            spots,
+            {
+                _way(one): Route(one.get("pos", ""), one.get("lp", ""))
+                for one in told.get("edges", ())
+            },
+        ),
+        made[end:].lstrip(),
+    )
 
 
 def _way(edge: Mapping[str, str]) -> Way:
@@ -158,7 +185,9 @@ def run(text: str, engine: str, *words: str) -> str:
     try:
         return graphviz(text.encode(), engine, *words).decode()
     except FileNotFoundError:
-        raise NoPicture("Graphviz is not there, which draws. On Debian and Ubuntu: apt install graphviz") from None
+        raise NoPicture(
+            "Graphviz, which draws it, is not installed. On Debian and Ubuntu: apt install graphviz"
+        ) from None
     except OSError as error:
         raise NoPicture(f"Graphviz did not draw it: {error.strerror}") from None
     except RuntimeError as error:
@@ -169,25 +198,35 @@ DECIMALS = 2
 
 
 def kept_spots(desk: Desk) -> dict[int, Spot]:
-    """The spots that a project keeps, by the nodes of its places; those of places that are gone are left out."""
-    if not isinstance(desk, Scenarios):
+    """The spots that a project keeps, by the nodes of its places; those of places that are gone are
+    left out."""
+    project = Scenarios.of(desk)
+    if project is None:
         return {}
-    places = desk.names.places
-    return {places[name].entry: Spot(*spot) for name, spot in desk.project.positions.items() if name in places}
+    places = desk.network.names.places
+    return {
+        places[name].entry: Spot(*spot)
+        for name, spot in project.project.positions.items()
+        if name in places
+    }
 
 
 def keep_spots(desk: Desk, spots: Mapping[int, Spot]) -> None:
-    """Has a project keep those of these spots that it does not have yet, unless it can only be read. A place without a name of its own
-    is put anew each time."""
-    if not isinstance(desk, Scenarios) or desk.file.why_not:
+    """Has a project keep those of these spots that it does not have yet, unless it can only be
+    read. A place without a name of its own is put anew each time."""
+    project = Scenarios.of(desk)
+    if project is None or project.file.why_not:
         return
-    before, found = desk.project.positions, {}
+    before, found = project.project.positions, {}
     for node, spot in spots.items():
-        name, at = place_name(desk, node), (round(spot.x, DECIMALS), round(spot.y, DECIMALS))
+        name, at = place_name(desk.network, node), (
+            round(spot.x, DECIMALS),
+            round(spot.y, DECIMALS),
+        )
         if isinstance(name, str) and before.get(name) != at:
             found[name] = at
     if found:
-        desk.take_positions(found)
+        project.take_positions(found)
 
 
 # The usual titles of columns to the right and upwards: of a plane, and of the globe.
@@ -212,20 +251,26 @@ class _MapColumns(NamedTuple):
 
 @dataclass(frozen=True)
 class Map:
-    """Where each place of a map lies, by its name, in the units of its table, and whether these are degrees of the globe."""
+    """Where each place of a map lies, by its name, in the units of its table, and whether these are
+    degrees of the globe."""
 
     spots: Mapping[str, Spot]
     is_globe: bool
 
 
 def read_map(path: str, sign: str = "", encoding: str | None = None) -> Map:
-    """The map in a table of places; `sign` is its decimal sign if that is known. Raises a `TableFault` with all rows that cannot be read,
-    and a `ToolFault` if the file cannot be read."""
+    """The map in a table of places; `sign` is its decimal sign if that is known. Raises a
+    `TableFault` with all rows that cannot be read, and a `FileFault` if the file cannot be read."""
     told, name = split_path(path)
-    data = read_file(told, UNREADABLE)
+    data = read_file(told)
     with naming(told):
         sheet = _sheet(data, told, name, encoding)
-        rows = [(line, row) for piece in sheet.read() for line, row in zip(*piece) if any(map(cleaned, row))]
+        rows = [
+            (line, row)
+            for piece in sheet.read()
+            for line, row in zip(*piece)
+            if any(map(cleaned, row))
+        ]
         if not rows:
             raise TableFault("the table has no row")
         columns = _columns_of(rows[0][1], rows[0][0])
@@ -235,7 +280,11 @@ def read_map(path: str, sign: str = "", encoding: str | None = None) -> Map:
 def _sheet(data: bytes, path: str, name: str, encoding: str | None) -> Sheet:
     if not is_workbook(data):
         return csv_sheet(data, path, encoding, 3)
-    found = [sheet for sheet in workbook_sheets(data, path) if not name or sheet.path.rpartition("#")[2] == name]
+    found = [
+        sheet
+        for sheet in workbook_sheets(data, path)
+        if not name or sheet.path.rpartition("#")[2] == name
+    ]
     if len(found) != 1:
         several = "which sheet is it? Name one after the file, as in places.xlsx#Sheet"
         raise TableFault(several if found else f"no sheet is called {quoted_name(name)}")
@@ -252,10 +301,16 @@ def _columns_of(titles: Sequence[str], line: int) -> _MapColumns:
         found = _MapColumns(first(USUAL[PLACE]), first(right), first(up), is_globe)
         if min(found[:3]) >= 0:
             return found
-    raise NoMap(f"a map has the columns place, x and y, or place, lon and lat; here are {', '.join(map(quoted_name, titles))}", line)
+    raise NoMap(
+        "a map has the columns place, x and y, or place, lon and lat; here are "
+        f"{', '.join(map(quoted_name, titles))}",
+        line,
+    )
 
 
-def _spots(rows: Sequence[tuple[int, list[str]]], columns: _MapColumns, sign: str, path: str) -> dict[str, Spot]:
+def _spots(
+    rows: Sequence[tuple[int, list[str]]], columns: _MapColumns, sign: str, path: str
+) -> dict[str, Spot]:
     faults = Faults(path)
     sign = sign or _sign_of([row[at] for _, row in rows for at in columns[1:3] if at < len(row)])
     spots: dict[str, Spot] = {}
@@ -264,10 +319,16 @@ def _spots(rows: Sequence[tuple[int, list[str]]], columns: _MapColumns, sign: st
         name, numbers = cleaned(cells[0]), [readings(cell).get(sign) for cell in cells[1:]]
         for number, at, most in zip(numbers, columns[1:3], DEGREES):
             if number is None or columns.is_globe and abs(number) > most:
-                why = "is no number" if number is None else f"is past {most} degrees"
+                why = "is not a number" if number is None else f"is past {most} degrees"
                 faults.add(f"{quoted_name(row[at] if at < len(row) else '')} {why}", line, at + 1)
         if not name or name in spots:
-            faults.add("a place has no name" if not name else f"the place {quoted_name(name)} stands twice", line, columns.place + 1)
+            faults.add(
+                "a place has no name"
+                if not name
+                else f"the place {quoted_name(name)} stands twice",
+                line,
+                columns.place + 1,
+            )
         elif all(number is not None for number in numbers):
             spots[name] = Spot(*(float(number) for number in numbers if number is not None))
     faults.judge()
@@ -282,33 +343,50 @@ def _sign_of(cells: Sequence[str]) -> str:
     fitting = [sign for sign in (POINT, ",") if all(sign in one for one in found)]
     if len(fitting) == 2 and any(len(set(one.values())) > 1 for one in found):
         cell = next(cell for cell in cells if len(set(readings(cell).values())) > 1)
-        raise TableFault(f"{quoted_name(cell)} can be read in two ways; say --decimal . or --decimal ,")
+        raise TableFault(
+            f"{quoted_name(cell)} can be read in two ways; say --decimal . or --decimal ,"
+        )
     return fitting[0] if fitting else POINT
 
 
 def placed(desk: Desk, given: Map) -> tuple[dict[int, Spot], list[str]]:
-    """The spots of the desk's places in a picture, by their nodes, and what is to be said of the map."""
-    found = {place.entry: given.spots[name] for name, place in desk.names.places.items() if name in given.spots}
+    """The spots of the desk's places in a picture, by their nodes, and what is to be said of the
+    map."""
+    found = {
+        place.entry: given.spots[name]
+        for name, place in desk.network.names.places.items()
+        if name in given.spots
+    }
     if not found:
         raise TableFault("no place of the map is one of the network")
     return dict(_to_points(found, given.is_globe)), list(_notes(desk, given, len(found)))
 
 
 def _notes(desk: Desk, given: Map, count: int) -> Iterator[str]:
-    missing = [name for name in desk.names.places if name not in given.spots]
+    missing = [name for name in desk.network.names.places if name not in given.spots]
     if missing:
-        yield f"{len(missing)} places are not on the map, as {quoted_name(missing[0])}: each lies near its neighbours"
+        yield (
+            f"{len(missing)} places are not on the map, as {quoted_name(missing[0])}: each lies "
+            "near its neighbours"
+        )
     unknown = len(given.spots) - count
     if unknown:
         yield f"{unknown} places of the map are none of the network"
 
 
 def _to_points(spots: Mapping[int, Spot], is_globe: bool) -> Iterator[tuple[int, Spot]]:
-    """The spots in points. Degrees to the right are as long as those upwards in the middle of the map."""
-    lows, highs = ([of(spot[axis] for spot in spots.values()) for axis in (0, 1)] for of in (min, max))
+    """The spots in points. Degrees to the right are as long as those upwards in the middle of the
+    map."""
+    lows, highs = (
+        [of(spot[axis] for spot in spots.values()) for axis in (0, 1)] for of in (min, max)
+    )
     shrink = math.cos(math.radians((lows[1] + highs[1]) / 2)) if is_globe else 1.0
     wide, high = (highs[0] - lows[0]) * shrink, highs[1] - lows[1]
     # As far apart as places would be that fill such a map evenly, or lie on such a line.
-    points = MAP_APART * len(spots) ** 0.5 / (wide * high) ** 0.5 if wide and high else MAP_APART * len(spots) / (wide or high or 1.0)
+    points = (
+        MAP_APART * len(spots) ** 0.5 / (wide * high) ** 0.5
+        if wide and high
+        else MAP_APART * len(spots) / (wide or high or 1.0)
+    )
     for node, spot in spots.items():
         yield node, Spot((spot.x - lows[0]) * shrink * points, (spot.y - lows[1]) * points)

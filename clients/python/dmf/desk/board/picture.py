@@ -1,5 +1,5 @@
-"""The picture on a board: drawn by Graphviz once for what it shows, with each place where it was before, and filled with the flows and the
-cut at each step."""
+"""The picture on a board: drawn by Graphviz once for what it shows, with each place where it was
+before, and filled with the flows and the cut at each step."""
 
 from __future__ import annotations
 
@@ -25,7 +25,8 @@ MOST_ROUTED = 20
 MOST_KEPT = 8
 # A text as wide as any digit of a number, and what stands in place of the numbers of a closed arc.
 WIDEST, CLOSED = "8", "closed"
-# How large the letters below a picture are that is taken along, and how wide a letter and how high a line is for that size.
+# How large the letters below a picture are that is taken along, and how wide a letter and how high
+# a line is for that size.
 CAPTION, WIDE, LINE = 11.0, 0.6, 1.4
 STYLE = f"""
 text {{ font-family: Helvetica, Arial, sans-serif; }}
@@ -56,8 +57,8 @@ class DrawnArc(NamedTuple):
 
 
 class DrawnNode(NamedTuple):
-    """What a layout depends on of a place. Its roles are the arcs that stand for what it gives, takes or lets through, each with its
-    words there and the widest text of its numbers."""
+    """What a layout depends on of a place. Its roles are the arcs that stand for what it gives,
+    takes or lets through, each with its words there and the widest text of its numbers."""
 
     node: int
     label: str
@@ -102,8 +103,8 @@ class Picture:
         self._layouts: dict[Shape, str] = {}
 
     def svg(self, nodes: tuple[int, ...], arcs: list[int], *, to_take: bool = False) -> str:
-        """The picture of these arcs, and of these nodes even if they have none. A picture to take along has its style in it. Raises
-        `NoPicture`."""
+        """The picture of these arcs, and of these nodes even if they have none. A picture to take
+        along has its style in it. Raises `NoPicture`."""
         shape = self._shape_of(arcs, nodes)
         root = self.laid_out(shape)
         self._fill(root, shape)
@@ -120,62 +121,95 @@ class Picture:
 
     def _lay_out(self, shape: Shape) -> str:
         ways = shape.ways()
-        drawn = self.places.put((it.node for it in shape.nodes), ways.values(), _text(self._lines(shape, ways)))
+        drawn = self.places.put(
+            (it.node for it in shape.nodes), ways.values(), _text(self._lines(shape, ways))
+        )
         return drawn or run(_text(self._lines(shape, ways, is_put=True)), "neato", "-n2", "-Tsvg")
 
     def _ends(self, line: DeskArc) -> tuple[int, int]:
         """The places at the ends of an arc."""
-        return self._desk.folding.place(line.tail), self._desk.folding.place(line.head)
+        network = self._desk.network
+        return network.folding.place(line.tail), network.folding.place(line.head)
 
     def _degrees(self) -> Counter[int]:
-        """How many arcs each place has, open or closed, of those that a picture can show. The arcs of the file are counted once."""
+        """How many arcs each place has, open or closed, of those that a picture can show. The arcs
+        of the file are counted once."""
         desk = self._desk
-        given = desk.first_count
+        network = desk.network
+        given = network.first_count
         if self._given is None:
-            numbers = (number for number in range(1, given + 1) if not desk.folding.has_roles or not desk.role(number))
-            self._given = Counter(node for number in numbers for node in self._ends(desk.lines[number - 1]))
+            numbers = (
+                number
+                for number in range(1, given + 1)
+                if not network.folding.has_roles or not network.role(number)
+            )
+            self._given = Counter(
+                node for number in numbers for node in self._ends(network.lines[number - 1])
+            )
         degrees = self._given.copy()
-        degrees.update(node for line in desk.lines[given:] for node in self._ends(line))
-        degrees.subtract(node for line in desk.lines if line.is_replaced for node in self._ends(line))
+        degrees.update(node for line in network.lines[given:] for node in self._ends(line))
+        degrees.subtract(
+            node for line in network.lines if line.is_replaced for node in self._ends(line)
+        )
         return degrees
 
     def _shape_of(self, arcs: list[int], chosen: tuple[int, ...]) -> Shape:
-        desk, names, place = self._desk, self._desk.names, self._desk.folding.place
+        network = self._desk.network
+        desk, names, place = self._desk, network.names, network.folding.place
+        network = desk.network
 
         def ends(number: int) -> tuple[int, int]:
-            return self._ends(desk.lines[number - 1])
+            return self._ends(network.lines[number - 1])
 
         drawn = Counter(node for number in arcs for node in ends(number))
         drawn.update(dict.fromkeys(map(place, chosen), 0))
-        is_whole = len(arcs) == len(desk.pictured())
+        is_whole = len(arcs) == len(network.pictured())
         if is_whole:
-            drawn.update(dict.fromkeys((*desk.sources, *desk.sinks), 0))
+            drawn.update(dict.fromkeys((*network.sources, *network.sinks), 0))
         degrees = drawn if is_whole else self._degrees()
-        roles = desk.roles()
+        roles = network.roles()
 
         def told(node: int) -> tuple[tuple[int, str, str], ...]:
-            at_node = () if node in desk.shut_nodes else roles.get(node, ())
-            return tuple((number, AT_PLACE[kind], _widest(desk, number)) for number, kind in at_node)
+            at_node = () if node in network.shut_nodes else roles.get(node, ())
+            return tuple(
+                (number, AT_PLACE[kind], _widest(desk, number)) for number, kind in at_node
+            )
 
         return Shape(
-            tuple(DrawnArc(number, *ends(number), names.arc_name(number), _widest(desk, number)) for number in arcs),
             tuple(
-                DrawnNode(node, names.node(node), told(node), drawn[node] == degrees[node], node in desk.shut_nodes)
+                DrawnArc(number, *ends(number), names.arc_name(number), _widest(desk, number))
+                for number in arcs
+            ),
+            tuple(
+                DrawnNode(
+                    node,
+                    names.node(node),
+                    told(node),
+                    drawn[node] == degrees[node],
+                    node in network.shut_nodes,
+                )
                 for node in sorted(drawn)
             ),
         )
 
     def _lines(self, shape: Shape, ways: dict[int, Way], *, is_put: bool = False) -> Iterator[str]:
         """A picture for Graphviz, with the spots and routes that are known if it is put."""
+        network = self._desk.network
         splines = "line" if is_put and len(shape.nodes) > MOST_ROUTED else "true"
-        yield f"digraph dmf {{\n  rankdir=LR; bgcolor=transparent; ranksep=0.2; splines={splines}; notranslate=true"
+        yield (
+            f"digraph dmf {{\n  rankdir=LR; bgcolor=transparent; ranksep=0.2; splines={splines}; "
+            "notranslate=true"
+        )
         yield '  node [fontname="Helvetica"]\n  edge [fontname="Helvetica", fontsize=11]'
-        if self._desk.measure.legend:
-            yield f'  fontname="Helvetica"; fontsize=11; label={quoted(self._desk.measure.legend)}'
+        if network.measure.legend:
+            yield f'  fontname="Helvetica"; fontsize=11; label={quoted(network.measure.legend)}'
         for it in shape.nodes:
             roles = [f"{words} {widest}" for _, words, widest in it.roles]
-            looks = {"id": quoted(f"node-{it.node}"), "label": quoted(_label(it.label), *roles, *["shut"] * it.is_shut)}
-            if it.node in (*self._desk.sources, *self._desk.sinks):
+            looks = {
+                "id": quoted(f"node-{it.node}"),
+                "label": quoted(_label(it.label), *roles, *["shut"] * it.is_shut),
+            }
+            if it.node in (*network.sources, *network.sinks):
                 looks["peripheries"] = "2"
             if is_put:
                 looks["pos"] = '"{:.2f},{:.2f}"'.format(*self.places.spots[it.node])
@@ -183,15 +217,26 @@ class Picture:
         for arc in shape.arcs:
             label = quoted(_label(arc.name), arc.widest) if arc.name else quoted(arc.widest)
             way = ways[arc.number]
-            looks = {"id": quoted(f"arc-{arc.number}"), "label": label, "class": '"{} {} {}"'.format(*way)}
+            looks = {
+                "id": quoted(f"arc-{arc.number}"),
+                "label": label,
+                "class": '"{} {} {}"'.format(*way),
+            }
             if is_put and way in self.places.routes:
-                looks.update({name: quoted(text) for name, text in zip(("pos", "lp"), self.places.routes[way]) if text})
+                looks.update(
+                    {
+                        name: quoted(text)
+                        for name, text in zip(("pos", "lp"), self.places.routes[way])
+                        if text
+                    }
+                )
             yield drawn_line(f"{arc.tail} -> {arc.head}", looks)
         yield "}"
 
     def _fill(self, root: ElementTree.Element, shape: Shape) -> None:
         """Puts numbers and classes into a layout."""
         desk = self._desk
+        network = desk.network
         cut = desk.cut_arcs() if desk.is_greatest else {}
         side = desk.side() if desk.is_greatest else set()
         groups = {group.get("id"): group for group in root.iter(f"{{{SVG}}}g")}
@@ -200,11 +245,21 @@ class Picture:
                 group.remove(title)
         for number, *_ in shape.arcs:
             group = groups[f"arc-{number}"]
-            line, flow = desk.lines[number - 1], desk.flow(number)
+            line, flow = network.lines[number - 1], desk.flow(number)
             is_full = flow > 0 and flow == line.capacity
-            looks = {"closed": line.is_closed, "cut": number in cut, "full": is_full, "unused": not flow and not line.is_closed}
+            looks = {
+                "closed": line.is_closed,
+                "cut": number in cut,
+                "full": is_full,
+                "unused": not flow and not line.is_closed,
+            }
             group.findall(f"{{{SVG}}}text")[-1].text = _amounts(desk, number)
-            _mark(group, "arc", looks, f"{desk.names.arc(number)}: {spoken(desk, number)}{', limit' * (number in cut)}")
+            _mark(
+                group,
+                "arc",
+                looks,
+                f"{network.names.arc(number)}: {spoken(desk, number)}{', limit' * (number in cut)}",
+            )
         for it in shape.nodes:
             group = groups[f"node-{it.node}"]
             for ellipse in group.findall(f"{{{SVG}}}ellipse")[:1]:
@@ -216,31 +271,53 @@ class Picture:
                 text.set("class", "cut" if number in cut else "")
                 label += f", {words} {spoken(desk, number)}{', limit' * (number in cut)}"
             is_cut = any(number in cut for number, *_ in it.roles)
-            _mark(group, "node", {"side": it.node in side, "shut": it.is_shut, "part": not it.is_whole, "cut": is_cut}, label)
+            _mark(
+                group,
+                "node",
+                {
+                    "side": it.node in side,
+                    "shut": it.is_shut,
+                    "part": not it.is_whole,
+                    "cut": is_cut,
+                },
+                label,
+            )
 
 
 def _widest(desk: Desk, number: int) -> str:
-    """The widest text that the numbers of an arc may have, while its capacity has so many digits."""
-    capacity = re.sub("[0-9]", WIDEST, plain_text(desk.lines[number - 1].capacity))
-    decimals = desk.measure.decimals
+    """Return the widest text that an arc's numbers can have as long as its capacity keeps its
+    number of digits."""
+    network = desk.network
+    capacity = re.sub("[0-9]", WIDEST, plain_text(network.lines[number - 1].capacity))
+    decimals = network.measure.decimals
     flow = capacity.partition(POINT)[0] + bool(decimals) * (POINT + WIDEST * decimals)
     return max(f"{flow}/{capacity}", CLOSED, key=len)
 
 
 def _amounts(desk: Desk, number: int) -> str:
     """The flow on an arc and its capacity, in short."""
-    line, flow = desk.lines[number - 1], plain_text(desk.flow(number))
-    return CLOSED if line.is_closed else flow if line.is_unlimited else f"{flow}/{plain_text(line.capacity)}"
+    line, flow = desk.network.lines[number - 1], plain_text(desk.flow(number))
+    return (
+        CLOSED
+        if line.is_closed
+        else flow
+        if line.is_unlimited
+        else f"{flow}/{plain_text(line.capacity)}"
+    )
 
 
 def spoken(desk: Desk, number: int) -> str:
     """The flow on an arc, in words."""
-    line, flow = desk.line(number), desk.flow(number)
+    network = desk.network
+    line, flow = network.line(number), desk.flow(number)
     if line.is_closed:
         return CLOSED
     if line.is_unlimited:
-        return desk.told(flow)
-    return f"{plain_text(flow)} of {desk.told(line.capacity)}{', full' if flow and flow == line.capacity else ''}"
+        return network.told(flow)
+    return (
+        f"{plain_text(flow)} of "
+        f"{network.told(line.capacity)}{', full' if flow and flow == line.capacity else ''}"
+    )
 
 
 def _mark(group: ElementTree.Element, kind: str, looks: dict[str, bool], label: str) -> None:
@@ -256,7 +333,8 @@ def marked(group: ElementTree.Element, classes: Iterable[str], label: str) -> No
 
 
 def caption(desk: Desk, legend: str) -> list[str]:
-    """What a picture to take along says below it: of what it is, of which day, and how it is read. The unit stands in it."""
+    """What a picture to take along says below it: of what it is, of which day, and how it is read.
+    The unit stands in it."""
     return [*said_of(desk), legend]
 
 
@@ -265,15 +343,33 @@ def written(root: ElementTree.Element, style: str = "", below: Sequence[str] = (
     if style:
         left, top, width, height = map(float, (root.get("viewBox") or "0 0 1 1").split())
         wide = max([width, *(len(line) * CAPTION * WIDE for line in below)])
-        root.set("viewBox", f"{left:.2f} {top:.2f} {wide:.2f} {height + len(below) * CAPTION * LINE + CAPTION:.2f}")
+        root.set(
+            "viewBox",
+            f"{left:.2f} {top:.2f} {wide:.2f} {height + len(below) * CAPTION * LINE + CAPTION:.2f}",
+        )
         for name in "width", "height":
             root.attrib.pop(name, None)
         made = ElementTree.Element(f"{{{SVG}}}style")
         made.text = style
-        root.insert(0, ElementTree.Element(f"{{{SVG}}}rect", x=f"{left:.2f}", y=f"{top:.2f}", width="100%", height="100%", fill="#ffffff"))
+        root.insert(
+            0,
+            ElementTree.Element(
+                f"{{{SVG}}}rect",
+                x=f"{left:.2f}",
+                y=f"{top:.2f}",
+                width="100%",
+                height="100%",
+                fill="#ffffff",
+            ),
+        )
         root.insert(0, made)
         for at, line in enumerate(below, 1):
-            text = ElementTree.SubElement(root, f"{{{SVG}}}text", x=f"{left + CAPTION:.2f}", y=f"{top + height + at * CAPTION * LINE:.2f}")
+            text = ElementTree.SubElement(
+                root,
+                f"{{{SVG}}}text",
+                x=f"{left + CAPTION:.2f}",
+                y=f"{top + height + at * CAPTION * LINE:.2f}",
+            )
             text.set("font-size", f"{CAPTION:.2f}")
             text.set("class", "caption")
             text.text = _label(line)
@@ -281,9 +377,12 @@ def written(root: ElementTree.Element, style: str = "", below: Sequence[str] = (
 
 
 def _seen(root: ElementTree.Element) -> None:
-    """Has a picture go by the spots of places alone, so that a place has the same coordinates in each picture."""
+    """Has a picture go by the spots of places alone, so that a place has the same coordinates in
+    each picture."""
     graph = next(group for group in root.iter(f"{{{SVG}}}g") if group.get("class") == "graph")
-    moved = re.search(r"translate\(([-0-9.e]+)[ ,]+([-0-9.e]+)\)", graph.attrib.pop("transform", ""))
+    moved = re.search(
+        r"translate\(([-0-9.e]+)[ ,]+([-0-9.e]+)\)", graph.attrib.pop("transform", "")
+    )
     _, _, width, height = map(float, (root.get("viewBox") or "0 0 1 1").split())
     left, up = (float(moved[1]), float(moved[2])) if moved else (0.0, 0.0)
     root.set("viewBox", f"{-left:.2f} {-up:.2f} {width:.2f} {height:.2f}")

@@ -1,9 +1,11 @@
-"""What a board answers a request with: the fixed pages, and why a request is refused whose form is wrong."""
+"""What a board answers a request with: the fixed pages, and why a request is refused whose form is
+wrong."""
 
 from __future__ import annotations
 
 import json
 import re
+from collections.abc import Mapping
 from dataclasses import dataclass
 from pathlib import Path
 from typing import Any, Union
@@ -12,6 +14,8 @@ LONGEST_TEXT = 4_000
 # How many arcs a request may name.
 MOST_ARCS = 100_000
 Json = dict[str, Any]
+# The names of fields, each with its kind.
+Fields = Mapping[str, type]
 
 
 class WrongForm(Exception):
@@ -47,13 +51,14 @@ def whole(text: str, name: str) -> int:
 def judge_words(words: dict[str, str], wanted: tuple[str, ...]) -> None:
     """Raises a `WrongForm` if the words of an address are not these."""
     if set(words) != set(wanted):
-        raise WrongForm(f"wanted are the words {list(wanted)}, and given {sorted(words)}")
+        raise WrongForm(f"expected the words {list(wanted)}, got {sorted(words)}")
 
 
-def judge_fields(content: Json, form: dict[str, type]) -> None:
-    """Raises a `WrongForm` if a request has not these fields, each of its kind: a whole number, a text, or a list of arcs."""
+def judge_fields(content: Json, form: Fields) -> None:
+    """Raises a `WrongForm` if a request has not these fields, each of its kind: a whole number, a
+    text, or a list of arcs."""
     if set(content) != set(form):
-        raise WrongForm(f"wanted are the fields {sorted(form)}, and given {sorted(content)}")
+        raise WrongForm(f"expected the fields {sorted(form)}, got {sorted(content)}")
     for name, kind in form.items():
         given = content[name]
         if type(given) is not kind:
@@ -64,13 +69,26 @@ def judge_fields(content: Json, form: dict[str, type]) -> None:
             judge_arcs(given, MOST_ARCS)
 
 
+# How many parts a page shows beside a state at most.
+MOST_SHOWN = 8
+
+
+def judged_addresses(shown: object) -> list[str]:
+    """The addresses by which a page asks for what it shows. Raises a `WrongForm` if it is none."""
+    if not isinstance(shown, list) or len(shown) > MOST_SHOWN:
+        raise WrongForm(f"what is shown is a list of at most {MOST_SHOWN} addresses")
+    if not all(isinstance(address, str) and len(address) <= LONGEST_TEXT for address in shown):
+        raise WrongForm("what is shown is a list of addresses")
+    return shown
+
+
 KINDS: dict[type, str] = {int: "a whole number", str: "a text", list: "a list of arcs"}
 
 
 def judge_arcs(numbers: list[object], most: int) -> None:
     """Raises a `WrongForm` if these are no arcs, more than so many, or one stands twice."""
     if len(numbers) > most:
-        raise WrongForm(f"wanted is a list of at most {most} arcs")
+        raise WrongForm(f"expected a list of at most {most} arcs")
     if not all(type(number) is int for number in numbers):
         raise WrongForm("an arc and a turn are whole numbers")
     if len(set(numbers)) < len(numbers):
@@ -79,7 +97,8 @@ def judge_arcs(numbers: list[object], most: int) -> None:
 
 LOOPBACK = "127.0.0.1"
 _HOW_TO_GET_IN = """<!DOCTYPE html>
-<html lang="en"><meta charset="utf-8"><meta name="viewport" content="width=device-width, initial-scale=1"><title>dmf-board</title>
+<html lang="en"><meta charset="utf-8">
+<meta name="viewport" content="width=device-width, initial-scale=1"><title>dmf-board</title>
 <h1>This is a dmf-board</h1>
 <p>{why}.</p>
 <p>The board printed its address where it was started, as in {address}. Open the whole of it.</p>
@@ -94,15 +113,19 @@ WAY_IN = """<!DOCTYPE html>
 def outside(why: str) -> Response:
     """A page for those who may not ask."""
     address = f"http://{LOOPBACK}:8000/tsCcyvcFxpZj3dU0/"
-    return Response(403, "text/html; charset=utf-8", _HOW_TO_GET_IN.format(why=why, address=address).encode())
+    return Response(
+        403, "text/html; charset=utf-8", _HOW_TO_GET_IN.format(why=why, address=address).encode()
+    )
 
 
 FOLDER = Path(__file__).parent / "page"
 PAGE_KINDS = {".html": "text/html", ".css": "text/css", ".js": "text/javascript"}
 PAGE = "index.html"
-# What the page may do: run its own scripts, have its own style, and ask this server. What is told of a network is no script, by its kind.
+# What the page may do: run its own scripts, have its own style, and ask this server. What is told
+# of a network is no script, by its kind.
 POLICY = (
-    "default-src 'none'; script-src 'self'; style-src 'self'; connect-src 'self'; base-uri 'none'; form-action 'none'; "
+    "default-src 'none'; script-src 'self'; style-src 'self'; connect-src 'self'; base-uri 'none'; "
+    "form-action 'none'; "
     "frame-ancestors 'none'"
 )
 
@@ -110,4 +133,7 @@ POLICY = (
 def pages() -> dict[str, Response]:
     """The answers with these files, by their names."""
     found = sorted(file for file in FOLDER.iterdir() if file.suffix in PAGE_KINDS)
-    return {file.name: Response(200, f"{PAGE_KINDS[file.suffix]}; charset=utf-8", file.read_bytes()) for file in found}
+    return {
+        file.name: Response(200, f"{PAGE_KINDS[file.suffix]}; charset=utf-8", file.read_bytes())
+        for file in found
+    }

@@ -1,8 +1,9 @@
 """A board: what a page in the browser shows of a desk, and does to it.
 
-It refuses a request with 400 if that does not have the form that the page gives it, with 409 if the desk refuses it, and with 410 if the
-session has ended and none could be begun in its place. Each answer in JSON has the desk's turn, by which a page sees that it shows a state
-that has passed, and each change says which turn the page shows that asks for it.
+It refuses a request with 400 if that does not have the form that the page gives it, with 409 if the
+desk refuses it, and with 410 if the session has ended and none could be begun in its place. Each
+answer in JSON has the desk's turn, by which a page sees that it shows a state that has passed, and
+each change says which turn the page shows that asks for it.
 """
 
 from __future__ import annotations
@@ -10,35 +11,85 @@ from __future__ import annotations
 import contextlib
 import threading
 from collections.abc import Callable, Iterator, Mapping
+from enum import Enum
+from functools import partial
+from typing import Any, NamedTuple, cast
+from urllib.parse import parse_qsl
 
-from ...quantity import plain_text
+from ...quantity import moved, plain_text
 from ..export import problem, table, taken
 from ..project.report import report
 from ..project.scenarios import Scenarios
 from ..steps import DeskFault, unforeseen
 from ..workspace import Desk
-from .actions import FORMS, Sweeps, carry_out
+from .actions import ACTS, SCENARIO_ACTS, BoardAct, Sweeps
 from .differences import Comparisons
 from .layout import NoPicture, Spot, keep_spots, kept_spots
 from .picture import Picture
-from .responses import Json, Made, Response, WrongForm, answer, judge_arcs, judge_fields, judge_words, whole
+from .responses import (
+    Fields,
+    Json,
+    Made,
+    Response,
+    WrongForm,
+    answer,
+    judge_arcs,
+    judge_fields,
+    judge_words,
+    judged_addresses,
+    whole,
+)
 from .selection import ArcList, Nearby, Overview
-from .views import arc_view, costs_view, many_view, opened_view, place_view, scenarios_view, state_view
+from .views import (
+    arc_view,
+    costs_view,
+    many_view,
+    opened_view,
+    place_view,
+    scenarios_view,
+    state_view,
+    trial_view,
+)
 
 MOST_SWEPT = 5_000
-Keep = Callable[[str, Desk], Scenarios]
-# What takes the desk to other scenarios, and can be stopped.
-LONG = ("costs", "comparison", "difference", "difference.svg", "report.html")
+Keep = Callable[[str, Desk], Desk]
 CHANGED = "the network has changed in another tab: look again"
 STOPPED = "it was stopped"
+
+
+class Effect(Enum):
+    """What a request does: reads; changes what the page shows; or tries something out."""
+
+    READ = "reads"
+    CHANGE = "changes"
+    TRY = "tries"
+
+
+class PageRoute(NamedTuple):
+    """What a page can ask for: the fields that it gives, with the kind of each; what answers it;
+    what that does; whether it can be stopped; and how a request is judged that is posted, if it
+    is."""
+
+    fields: Fields
+    handler: Callable[..., Any]
+    effect: Effect = Effect.READ
+    can_stop: bool = False
+    judge: Callable[[Json], None] | None = None
 
 
 class Board:
     """What a board shows of a desk, and does for its page."""
 
-    def __init__(self, desk: Desk, spots: Mapping[int, Spot] | None = None, *, keep: Keep | None = None, offer: str = "") -> None:
-        """`spots` is where places lie in the picture, by their nodes, if that is known; else a project may tell it. `keep` makes a project of
-        the desk in the file `offer`."""
+    def __init__(
+        self,
+        desk: Desk,
+        spots: Mapping[int, Spot] | None = None,
+        *,
+        keep: Keep | None = None,
+        offer: str = "",
+    ) -> None:
+        """`spots` is where places lie in the picture, by their nodes, if that is known; else a
+        project may tell it. `keep` makes a project of the desk in the file `offer`."""
         self._keep_in, self._offer = keep, offer if keep else ""
         # Whether something is being done that can be stopped.
         self._is_busy = False
@@ -58,9 +109,9 @@ class Board:
         self._sweeps = Sweeps(desk)
         self._comparisons = Comparisons(desk, self.picture.places)
 
-    def _keep(self) -> None:
+    def _keep(self, _: Json) -> None:
         """Keeps the steps in a new project, and shows that from now on."""
-        if not self._keep_in or isinstance(self.desk, Scenarios):
+        if not self._keep_in or Scenarios.of(self.desk):
             raise DeskFault("no project can be kept of this")
         before = self.desk
         self._show(self._keep_in(self._offer, before), self.picture.places.spots)
@@ -68,63 +119,63 @@ class Board:
 
     def get(self, path: str, words: dict[str, str]) -> Response:
         """The answer to a request that changes nothing."""
-        forms: dict[str, tuple[Callable[..., Made], tuple[str, ...]]] = {
-            "turn": (dict, ()),
-            "state": (self._state, ()),
-            "picture": (self._picture, ("near",)),
-            "ground": (self._ground, ()),
-            "looks": (self._overview.looks, ()),
-            "arc": (lambda number: arc_view(self.desk, whole(number, "number")), ("number",)),
-            "place": (lambda node: place_view(self.desk, whole(node, "node")), ("node",)),
-            "find": (self._rows_of_all.found, ("text",)),
-            "opened": (lambda: opened_view(self.desk), ()),
-            "rows": (self._rows, ("filter", "sort", "first", "count")),
-            "numbers": (self._numbers, ("filter", "sort", "first", "count")),
-            "costs": (lambda **words: self._beside(lambda: costs_view(self.desk, **words)), ("column", "to", "second")),
-            "scenarios": (lambda: scenarios_view(self.desk), ()),
-            "comparison": (self._compared, ("one", "two", "first", "count")),
-            "difference": (lambda one, two: self._beside(lambda: self._comparisons.picture(one, two)), ("one", "two")),
-            "difference.svg": (self._difference_file, ("one", "two", "turn")),
-            "picture.svg": (self._picture_file, ("near", "turn")),
-            "plan.csv": (self._table_file, ("turn",)),
-            "problem.max": (self._problem_file, ("turn",)),
-            "report.html": (self._report_file, ("turn",)),
-        }
-        if path not in forms:
-            return answer({"error": "there is no such page"}, 404)
-        serve, wanted = forms[path]
-        judge_words(words, wanted)
+        route = ROUTES.get(path)
+        if route is None or route.judge:
+            return answer({"error": "no such page"}, 404)
+        judge_words(words, tuple(route.fields))
         # What can be stopped is not tried again.
-        return self._judged(lambda: serve(**words), tries=1 if path in LONG else 2, needs_flows=path != "state")
+        tries, needs_flows = 1 if route.can_stop else 2, path != "state"
+        return self._judged(partial(self._read, route, words), tries, needs_flows)
+
+    def _read(self, route: PageRoute, words: Mapping[str, str]) -> Made:
+        """What a route reads, by the words of an address."""
+        fields: dict[str, Any] = dict(words)
+        for name in (name for name, kind in route.fields.items() if kind is int):
+            fields[name] = whole(words[name], name)
+        if "turn" in fields:
+            self._judge_turn(fields.pop("turn"))
+        made: Made
+        if route.can_stop:
+            # It takes the session to other scenarios and back.
+            self._sweeps.end()
+            with self._stoppable():
+                made = route.handler(self, **fields)
+        else:
+            made = route.handler(self, **fields)
+        return made
 
     def post(self, path: str, content: Json) -> Response:
         """The answer to a request that changes something, or tries it."""
-        if path == "sweep":
-            if set(content) != {"arcs", "turn"} or type(content["arcs"]) is not list or type(content["turn"]) is not int:
-                raise WrongForm(f"wanted is a list of at most {MOST_SWEPT} arcs, and the turn")
-            judge_arcs(content["arcs"], MOST_SWEPT)
-            return self._judged(lambda: self._swept(content["arcs"], content["turn"]))
-        if path == "many":
-            judge_fields(content, {"arcs": list, "turn": int})
-            return self._judged(lambda: many_view(self.desk, content["arcs"]))
-        if path != "do":
-            return answer({"error": "there is no such page"}, 404)
-        what = content.pop("what", None)
-        if not isinstance(what, str) or what not in FORMS:
-            raise WrongForm(f"what is to be done is one of {', '.join(FORMS)}")
-        judge_fields(content, {**FORMS[what], "turn": int})
-        return self._judged(lambda: self._done(what, content))
+        if path == "do":
+            what = content.pop("what", None)
+            path = f"do/{what}"
+            if not isinstance(what, str) or path not in ROUTES:
+                acts = (name[3:] for name in ROUTES if name.startswith("do/"))
+                raise WrongForm(f"what is to be done is one of {', '.join(acts)}")
+        route = ROUTES.get(path)
+        if route is None or route.judge is None:
+            return answer({"error": "no such page"}, 404)
+        if route.effect is Effect.CHANGE:
+            shown = judged_addresses(content.pop("shown", []))
+            route.judge(content)
+            return self._judged(partial(self._done, route, content, shown))
+        route.judge(content)
+        return self._judged(partial(route.handler, self, **content))
 
     def stop(self) -> Response:
-        """Stops what is being done, for another thread that does it. The steps before it are kept."""
+        """Stops what is being done, for another thread that does it. The steps before it are
+        kept."""
         with self._busy_lock:
             if self._is_busy:
                 self.desk.break_off(STOPPED)
         return answer({})
 
-    def _judged(self, make: Callable[[], Made], tries: int = 1, needs_flows: bool = True) -> Response:
-        """The answer, or why there is none. Where the flows are needed and not known yet, finds them first. If the session ends meanwhile,
-        begins another with the steps that were made, and tries once more if a try is left."""
+    def _judged(
+        self, make: Callable[[], Made], tries: int = 1, needs_flows: bool = True
+    ) -> Response:
+        """The answer, or why there is none. Where the flows are needed and not known yet, finds
+        them first. If the session ends meanwhile, begins another with the steps that were made, and
+        tries once more if a try is left."""
         told = ""
         while True:
             try:
@@ -132,7 +183,11 @@ class Board:
                     with self._stoppable():
                         self.desk.follow()
                 made = make()
-                return made if isinstance(made, Response) else answer({"turn": self.desk.turn, "told": told, **made})
+                return (
+                    made
+                    if isinstance(made, Response)
+                    else answer({"turn": self.desk.turn, "told": told, **made})
+                )
             except WrongForm:
                 raise
             except Exception as error:
@@ -144,7 +199,13 @@ class Board:
                     with self._stoppable():
                         self.desk.begin_again()
                 except Exception as error:
-                    return answer({"ended": f"{why}, and it could not be begun again: {unforeseen(error)}", "steps": self.desk.at - 1}, 410)
+                    return answer(
+                        {
+                            "ended": f"{why}, and it could not be begun again: {unforeseen(error)}",
+                            "steps": self.desk.at - 1,
+                        },
+                        410,
+                    )
             if not tries or not told:
                 return answer({"error": told or why, "turn": self.desk.turn}, 409)
 
@@ -153,16 +214,36 @@ class Board:
         if turn != self.desk.turn:
             raise DeskFault(CHANGED)
 
-    def _done(self, what: str, content: Json) -> Json:
-        self._judge_turn(content["turn"])
+    def _done(self, route: PageRoute, content: Json, shown: list[str]) -> Json:
+        self._judge_turn(content.pop("turn"))
         self._sweeps.end()
+        before = self.desk.value
         with self._stoppable():
-            if what == "keep":
-                self._keep()
-            else:
-                carry_out(self.desk, what, content)
-            news, self.desk.news = self.desk.news, []
-            return {**self._state(), "told": "; ".join(news)}
+            route.handler(self, content)
+        told = {"told": "; ".join(self.desk.take_news()), "moved": moved(before, self.desk.value)}
+        state = {**self._state(), **told}
+        return {**state, "parts": self._parts(shown)} if shown else state
+
+    def act(self, make: Callable[[Desk, Json], object], content: Json) -> None:
+        """Does something to the desk. A person need not mind how names are written."""
+        self.desk.state.network.names.is_any_case = True
+        make(self.desk, content)
+
+    def _parts(self, shown: list[str]) -> Json:
+        """What a page shows beside a state, by the addresses by which it would ask for it. What is
+        refused here it asks for, and hears why."""
+        found: Json = {}
+        for address in shown:
+            path, _, query = address.partition("?")
+            route = ROUTES.get(path)
+            if route is None or route.judge or route.can_stop or "turn" in route.fields:
+                continue
+            with contextlib.suppress(Exception):
+                words = dict(parse_qsl(query, keep_blank_values=True))
+                judge_words(words, tuple(route.fields))
+                told = self._read(route, words)
+                found[address] = {"turn": self.desk.turn, "told": "", **cast(Json, told)}
+        return found
 
     def _state(self) -> Json:
         return state_view(self.desk, self._offer)
@@ -178,32 +259,32 @@ class Board:
             with self._busy_lock:
                 self._is_busy = False
 
-    def _rows(self, **words: str) -> Json:
-        return self._rows_of_all.view(words["filter"], words["sort"], whole(words["first"], "first"), whole(words["count"], "count"))
+    def _rows(self, filter: str, sort: str, first: int, count: int) -> Json:
+        return self._rows_of_all.view(filter, sort, first, count)
 
-    def _numbers(self, **words: str) -> Json:
-        first, count = whole(words["first"], "first"), whole(words["count"], "count")
-        return {"numbers": self._rows_of_all.numbers(words["filter"], words["sort"])[first : first + count]}
+    def _numbers(self, filter: str, sort: str, first: int, count: int) -> Json:
+        return {"numbers": self._rows_of_all.numbers(filter, sort)[first : first + count]}
 
-    def _beside(self, make: Callable[[], Made]) -> Made:
-        """What is made of several scenarios, which takes the desk to each and back."""
-        self._sweeps.end()
-        with self._stoppable():
-            return make()
+    def _found(self, text: str) -> Json:
+        return self._rows_of_all.found(text)
 
-    def _compared(self, one: str, two: str, first: str, count: str) -> Made:
-        return self._beside(lambda: self._comparisons.view(one, two, whole(first, "first"), whole(count, "count")))
+    def _looks(self) -> Json:
+        return self._overview.looks()
 
-    def _difference_file(self, one: str, two: str, turn: str) -> Made:
-        self._judge_turn(whole(turn, "turn"))
-        return self._beside(lambda: Response(200, "image/svg+xml", self._comparisons.file(one, two), "difference.svg"))
+    def _comparison(self, one: str, two: str, first: int, count: int) -> Json:
+        return self._comparisons.view(one, two, first, count)
 
-    def _report_file(self, turn: str) -> Made:
-        self._judge_turn(whole(turn, "turn"))
-        return self._beside(lambda: Response(200, "text/html; charset=utf-8", report(self.desk).encode(), "report.html"))
+    def _difference(self, one: str, two: str) -> Json:
+        return self._comparisons.picture(one, two)
+
+    def _difference_file(self, one: str, two: str) -> Response:
+        return Response(200, "image/svg+xml", self._comparisons.file(one, two), "difference.svg")
+
+    def _report_file(self) -> Response:
+        return Response(200, "text/html; charset=utf-8", report(self.desk).encode(), "report.html")
 
     def _near(self, near: str) -> tuple[int, ...]:
-        return self.desk.names.place_of(whole(near, "near")) if near else ()
+        return self.desk.network.names.place_of(whole(near, "near")) if near else ()
 
     def _picture(self, near: str) -> Json:
         nodes = self._near(near)
@@ -229,24 +310,87 @@ class Board:
             with contextlib.suppress(DeskFault):
                 keep_spots(self.desk, spots)
 
-    def _picture_file(self, near: str, turn: str) -> Response:
-        self._judge_turn(whole(turn, "turn"))
+    def _picture_file(self, near: str) -> Response:
         nodes = self._near(near)
         svg = self.picture.svg(nodes, self._nearby.arcs(nodes), to_take=True)
         return Response(200, "image/svg+xml", taken(self.desk, svg.encode()), "plan.svg")
 
-    def _table_file(self, turn: str) -> Response:
-        self._judge_turn(whole(turn, "turn"))
+    def _table_file(self) -> Response:
         return Response(200, "text/csv; charset=utf-8", table(self.desk).encode(), "plan.csv")
 
-    def _problem_file(self, turn: str) -> Response:
-        self._judge_turn(whole(turn, "turn"))
-        return Response(200, "text/plain; charset=utf-8", problem(self.desk).encode(), "problem.max")
+    def _problem_file(self) -> Response:
+        return Response(
+            200, "text/plain; charset=utf-8", problem(self.desk).encode(), "problem.max"
+        )
 
-    def _swept(self, numbers: list[int], turn: int) -> Json:
+    def _swept(self, arcs: list[int], turn: int) -> Json:
         """The result for each of the first arcs."""
         self._judge_turn(turn)
-        trials = self._sweeps.portion(numbers)
-        doubled = ("" if trial.doubled is None else plain_text(trial.doubled) for trial in trials)
-        rows = [{**arc_view(self.desk, it.arc), "without": plain_text(it.closed), "doubled": second} for it, second in zip(trials, doubled)]
-        return {"value": plain_text(self.desk.value), "trials": rows, "left": numbers[len(trials) :]}
+        trials = self._sweeps.portion(arcs)
+        rows = [trial_view(self.desk, trial) for trial in trials]
+        return {
+            "value": plain_text(self.desk.value),
+            "trials": rows,
+            "left": arcs[len(trials) :],
+        }
+
+
+def _judge_sweep(content: Json) -> None:
+    """Raises a `WrongForm` if these are not arcs to try, and the turn."""
+    kinds = {name: type(given) for name, given in content.items()}
+    if kinds != {"arcs": list, "turn": int}:
+        raise WrongForm(f"expected a list of at most {MOST_SWEPT} arcs, and the turn")
+    judge_arcs(content["arcs"], MOST_SWEPT)
+
+
+def _change(fields: Fields, handler: Callable[[Board, Json], None]) -> PageRoute:
+    """An act, which says which turn the page shows."""
+    return PageRoute(
+        fields, handler, Effect.CHANGE, True, partial(judge_fields, form={**fields, **TURN})
+    )
+
+
+def _act(act: BoardAct) -> PageRoute:
+    return _change(act.fields, lambda board, content: board.act(act.make, content))
+
+
+TURN: Fields = {"turn": int}
+NEAR: Fields = {"near": str}
+TWO: Fields = {"one": str, "two": str}
+PART: Fields = {"first": int, "count": int}
+ROWS: Fields = {"filter": str, "sort": str, **PART}
+COSTS: Fields = {"column": str, "to": str, "second": str}
+SWEEP: Fields = {"arcs": list, **TURN}
+ROUTES = {
+    "turn": PageRoute({}, lambda board: {}),
+    "state": PageRoute({}, Board._state),
+    "picture": PageRoute(NEAR, Board._picture),
+    "ground": PageRoute({}, Board._ground),
+    "looks": PageRoute({}, Board._looks),
+    "arc": PageRoute({"number": int}, lambda board, number: arc_view(board.desk, number)),
+    "place": PageRoute({"node": int}, lambda board, node: place_view(board.desk, node)),
+    "find": PageRoute({"text": str}, Board._found),
+    "opened": PageRoute({}, lambda board: opened_view(board.desk)),
+    "rows": PageRoute(ROWS, Board._rows),
+    "numbers": PageRoute(ROWS, Board._numbers),
+    "scenarios": PageRoute({}, lambda board: scenarios_view(board.desk)),
+    "picture.svg": PageRoute({**NEAR, **TURN}, Board._picture_file),
+    "plan.csv": PageRoute(TURN, Board._table_file),
+    "problem.max": PageRoute(TURN, Board._problem_file),
+    # What takes the session to other scenarios, and can be stopped.
+    "costs": PageRoute(COSTS, lambda board, **it: costs_view(board.desk, **it), can_stop=True),
+    "comparison": PageRoute({**TWO, **PART}, Board._comparison, can_stop=True),
+    "difference": PageRoute(TWO, Board._difference, can_stop=True),
+    "difference.svg": PageRoute({**TWO, **TURN}, Board._difference_file, can_stop=True),
+    "report.html": PageRoute(TURN, Board._report_file, can_stop=True),
+    # What is posted. Whatever state a page shows, it may ask about arcs.
+    "many": PageRoute(
+        SWEEP,
+        lambda board, arcs, turn: many_view(board.desk, arcs),
+        judge=partial(judge_fields, form=SWEEP),
+    ),
+    "sweep": PageRoute(SWEEP, Board._swept, Effect.TRY, judge=_judge_sweep),
+    **{f"do/{what}": _act(act) for what, act in ACTS.items()},
+    "do/keep": _change({}, Board._keep),
+    **{f"do/{what}": _act(act) for what, act in SCENARIO_ACTS.items()},
+}

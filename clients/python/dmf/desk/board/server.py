@@ -1,6 +1,7 @@
 """The server of a board: a page in the browser over one desk, which this machine alone reaches.
 
-A page of each browser holds a connection open, `life`. Once none has held one for a while, the board ends.
+A page of each browser holds a connection open, `life`. Once none has held one for a while, the
+board ends.
 """
 
 from __future__ import annotations
@@ -26,7 +27,8 @@ from .routes import Board
 
 
 class Door:
-    """A file that leads a browser to an address. Other users may read the words of a browser's process, but not this file."""
+    """A file that leads a browser to an address. Other users may read the words of a browser's
+    process, but not this file."""
 
     def __init__(self, address: str) -> None:
         """Raises an OSError if the file cannot be made."""
@@ -45,13 +47,14 @@ LOOPBACK_6 = "::1"
 # How long the server waits where it has no file left for a connection, in seconds.
 PAUSE = 0.2
 NO_FILE_LEFT = (errno.EMFILE, errno.ENFILE, errno.ENOBUFS, errno.ENOMEM)
-# How many ports the system is asked for, if the one that it gives is taken by another user in the other family of addresses.
+# How many ports the system is asked for, if the one that it gives is taken by another user in the
+# other family of addresses.
 MOST_PORTS = 20
 
 
 class Server(ThreadingHTTPServer, Host):
-    """The server of a board. `addresses` is where its page is: here, and then by each of these other names, each with its port, by which
-    a tunnel may lead here."""
+    """The server of a board. `addresses` is where its page is: here, and then by each of these
+    other names, each with its port, by which a tunnel may lead here."""
 
     daemon_threads = True
     allow_reuse_address = False
@@ -79,8 +82,9 @@ class Server(ThreadingHTTPServer, Host):
         self.guests = LivePages(board.desk.turn)
 
     def _listen(self, port: int) -> None:
-        """Listens at a port, or at a free one. It takes the same port of the other family of addresses, too: a browser that is sent to
-        `localhost` may try that first, and would tell the token to whoever listens there."""
+        """Listens at a port, or at a free one. It takes the same port of the other family of
+        addresses, too: a browser that is sent to `localhost` may try that first, and would tell the
+        token to whoever listens there."""
         for left in reversed(range(1 if port else MOST_PORTS)):
             self.server_address = LOOPBACK, port
             self.server_bind()
@@ -104,7 +108,8 @@ class Server(ThreadingHTTPServer, Host):
             self._other.close()
 
     def let_go(self, page: socket.socket) -> None:
-        """The connection of a page has ended. If it was the last one and none comes in time, the board ends."""
+        """The connection of a page has ended. If it was the last one and none comes in time, the
+        board ends."""
         self.guests.let_go(page)
         if self.guests.is_last():
             self.shutdown()
@@ -122,7 +127,9 @@ class Server(ThreadingHTTPServer, Host):
             raise
 
     def process_request(self, request: Any, client_address: Any) -> None:
-        self.strangers.take(request, user_of(client_address, request.getsockname()) in (os.getuid(), 0))
+        self.strangers.take(
+            request, user_of(client_address, request.getsockname()) in (os.getuid(), 0)
+        )
         super().process_request(request, client_address)
 
     def shutdown_request(self, request: Any) -> None:

@@ -1,4 +1,5 @@
-"""What the words of a line of dmf-plan mean on a desk: arcs, amounts, and arcs by what is so of them."""
+"""The meaning of the words of a dmf-plan line on a desk: arcs, amounts, and arcs chosen by a
+condition."""
 
 from __future__ import annotations
 
@@ -15,40 +16,60 @@ from ..workspace import Desk
 from .grammar import COMMANDS, is_number, one_name
 
 WHERE, AND = "where", "and"
-CONDITIONS = 'name ~ TEXT, from ~ TEXT, to ~ TEXT, capacity < NUMBER, flow >= NUMBER, full, limit; with "and" between two'
+CONDITIONS = (
+    "name ~ TEXT, from ~ TEXT, to ~ TEXT, capacity < NUMBER, flow >= NUMBER, full, limit; with "
+    '"and" between two'
+)
 
 
 def last_closed(desk: Desk) -> Callable[[], object]:
     """Opens the arc or the place that was closed or shut last, and still is."""
+    network = desk.network
     for step in reversed(desk.steps[: desk.at]):
         for change in reversed(step.changes):
-            if isinstance(change, Shut) and change.node in desk.shut_nodes:
-                return partial(desk.open_place, desk.names.place_of(change.node))
-            if isinstance(change, Close) and desk.lines[change.arc - 1].is_closed and not desk.lines[change.arc - 1].is_replaced:
+            if isinstance(change, Shut) and change.node in network.shut_nodes:
+                return partial(desk.open_place, network.names.place_of(change.node))
+            if (
+                isinstance(change, Close)
+                and network.lines[change.arc - 1].is_closed
+                and not network.lines[change.arc - 1].is_replaced
+            ):
                 return partial(desk.open, change.arc)
     raise DeskFault("nothing is closed")
 
 
 def capped(desk: Desk, words: list[str]) -> tuple[int, str]:
     """The arc and the amount that the words of `cap` mean, if they can mean one thing only."""
+    network = desk.network
     if len(words) < 2:
-        raise DeskFault(f"wanted is: {COMMANDS['cap'].form}")
+        raise DeskFault(f"usage: {COMMANDS['cap'].form}")
     # An amount may be several words: 1 200, +10 %, 12 l/s.
-    splits = [at for at in range(1, len(words)) if is_amount(" ".join(words[at:]).removesuffix(desk.measure.unit).strip())]
+    splits = [
+        at
+        for at in range(1, len(words))
+        if is_amount(" ".join(words[at:]).removesuffix(network.measure.unit).strip())
+    ]
     found = []
     for at in splits:
         with contextlib.suppress(DeskFault):
-            found.append((desk.the_arc(" ".join(words[:at])), " ".join(words[at:])))
+            found.append((network.the_arc(" ".join(words[:at])), " ".join(words[at:])))
     if len(found) > 1:
         raise DeskFault("this can mean several things; put the name in quotes")
-    # Else the fault of the likeliest meaning, in which the amount is as long as can be, or one word.
+    # Else the fault of the likeliest meaning, in which the amount is as long as can be, or one
+    # word.
     likeliest = next(iter(splits), len(words) - 1)
-    return found[0] if found else (desk.the_arc(" ".join(words[:likeliest])), " ".join(words[likeliest:]))
+    return (
+        found[0]
+        if found
+        else (network.the_arc(" ".join(words[:likeliest])), " ".join(words[likeliest:]))
+    )
 
 
 def new_arc(desk: Desk, words: list[str]) -> tuple[Place, Place, Quantity, str]:
-    """The places, the capacity and the name that the words of `add` mean, if they can mean one thing only."""
-    places = desk.names
+    """The places, the capacity and the name that the words of `add` mean, if they can mean one
+    thing only."""
+    network = desk.network
+    places = network.names
     found: list[tuple[Place, Place, str, str]] = []
     if "->" in words[1:] and not any(map(is_number, words[: words.index("->")])):
         # In the words by which arcs are listed.
@@ -61,79 +82,108 @@ def new_arc(desk: Desk, words: list[str]) -> tuple[Place, Place, Quantity, str]:
             if places.is_place(tail) and places.is_place(head):
                 ends = places.place(tail), places.place(head)
                 # An amount may be several words, as 1 200.
-                found += ((*ends, " ".join(words[at:end]), " ".join(words[end:])) for end in _ends_of_amount(desk, words, at))
+                found += (
+                    (*ends, " ".join(words[at:end]), " ".join(words[end:]))
+                    for end in _ends_of_amount(desk, words, at)
+                )
     if len(found) > 1:
         raise DeskFault("this can mean several things; put the names in quotes, and the number")
     if not found and len(words) < 3:
-        raise DeskFault(f"wanted is: {COMMANDS['add'].form}")
+        raise DeskFault(f"usage: {COMMANDS['add'].form}")
     if found:
         (entry, exit, text, label), *_ = found
     else:
         # The fault of the likeliest meaning, in which each name is one word.
-        entry, exit, text, label = places.place(words[0]), places.place(words[1]), words[2], " ".join(words[3:])
-    return entry, exit, amount(text, desk.measure), label
+        entry, exit, text, label = (
+            places.place(words[0]),
+            places.place(words[1]),
+            words[2],
+            " ".join(words[3:]),
+        )
+    return entry, exit, amount(text, network.measure), label
 
 
 def _ends_of_amount(desk: Desk, words: list[str], at: int) -> list[int]:
     """After which words an amount may end that begins at one of these. Its unit belongs to it."""
-    unit = desk.measure.unit.split()
+    unit = desk.network.measure.unit.split()
     ends = [end for end in range(at + 1, len(words) + 1) if is_amount(" ".join(words[at:end]))]
-    return [end + len(unit) if unit and words[end : end + len(unit)] == unit else end for end in ends]
+    return [
+        end + len(unit) if unit and words[end : end + len(unit)] == unit else end for end in ends
+    ]
 
 
 def arcs_named(desk: Desk, words: list[str]) -> list[int]:
-    """The arcs that the words of `flow` mean: those of a name, those at a place, or all; none that was opened again as another one."""
+    """The arcs that the words of `flow` mean: those of a name, those at a place, or all; none that
+    was opened again as another one."""
+    network = desk.network
     name = " ".join(words)
-    numbers = list(range(1, len(desk.lines) + 1))
-    if words and desk.names.is_place(name):
+    numbers = list(range(1, len(network.lines) + 1))
+    if words and network.names.is_place(name):
         numbers = _at(desk, name)
     elif words:
-        numbers = desk.names.arcs(name)
-    return [number for number in numbers if not desk.line(number).is_replaced]
+        numbers = network.names.arcs(name)
+    return [number for number in numbers if not network.line(number).is_replaced]
 
 
 def arcs_to_try(desk: Desk, words: list[str]) -> list[int]:
-    """The open arcs that the words of `what-if each` mean: those of the limit, those at a place, or all."""
+    """The open arcs that the words of `what-if each` mean: those of the limit, those at a place, or
+    all."""
+    network = desk.network
     rest = [word for word in words[1:] if word not in ("of", "the")]
     if len(words) >= 3 and words[1] == "at":
         wanted = _at(desk, " ".join(words[2:]))
     elif words and words[1:] and rest in (["cut"], ["limit"]):
         wanted = list(desk.cut_arcs()) if desk.is_greatest else []
     elif len(words) == 1 or rest == ["all"]:
-        wanted = list(range(1, len(desk.lines) + 1))
+        wanted = list(range(1, len(network.lines) + 1))
     else:
-        raise DeskFault(f"wanted is: {COMMANDS['what-if'].form}")
-    return [number for number in wanted if not desk.line(number).is_closed]
+        raise DeskFault(f"usage: {COMMANDS['what-if'].form}")
+    return [number for number in wanted if not network.line(number).is_closed]
 
 
 def _at(desk: Desk, name: str) -> list[int]:
     """The arcs at a place."""
-    place = desk.names.place(name)
-    return [number for number, line in enumerate(desk.lines, 1) if {line.tail, line.head} & set(place)]
+    network = desk.network
+    place = network.names.place(name)
+    return [
+        number
+        for number, line in enumerate(network.lines, 1)
+        if {line.tail, line.head} & set(place)
+    ]
 
 
 def arcs_listed(desk: Desk, words: list[str]) -> list[int]:
-    """The arcs of the table that the words of `pipes` mean: all, or the open ones of which conditions are so."""
+    """The arcs of the table that the words of `pipes` mean: all, or the open ones of which
+    conditions are so."""
     if words and words[0] != WHERE:
-        raise DeskFault(f"wanted is: {COMMANDS['pipes'].form}")
-    return arcs_where(desk, words[1:]) if words else desk.pictured()
+        raise DeskFault(f"usage: {COMMANDS['pipes'].form}")
+    return arcs_where(desk, words[1:]) if words else desk.network.pictured()
 
 
 def arcs_from(desk: Desk, words: list[str]) -> list[int]:
     """The arcs of the table that lead away from a place."""
-    place = desk.names.place(one_name(words, "from"))
-    return [number for number in desk.pictured() if desk.lines[number - 1].tail == place.exit]
+    network = desk.network
+    place = network.names.place(one_name(words, "from"))
+    return [number for number in network.pictured() if network.lines[number - 1].tail == place.exit]
 
 
 def arcs_where(desk: Desk, words: list[str], *, are_closed: bool = False) -> list[int]:
-    """The open arcs, or the closed ones, of which conditions are so. Raises a `DeskFault` if there are none."""
-    conditions = [_condition(desk, list(part)) for is_and, part in groupby(words, AND.__eq__) if not is_and]
+    """The open arcs, or the closed ones, of which conditions are so. Raises a `DeskFault` if there
+    are none."""
+    network = desk.network
+    conditions = [
+        _condition(desk, list(part)) for is_and, part in groupby(words, AND.__eq__) if not is_and
+    ]
     if not conditions or words[0] == AND or words[-1] == AND:
-        raise DeskFault(f"wanted after where is: {CONDITIONS}")
-    numbers = [number for number in desk.pictured() if desk.lines[number - 1].is_closed == are_closed]
+        raise DeskFault(f"expected after `where`: {CONDITIONS}")
+    numbers = [
+        number for number in network.pictured() if network.lines[number - 1].is_closed == are_closed
+    ]
     found = [number for number in numbers if all(is_so(number) for is_so in conditions)]
     if not found:
-        raise DeskFault(f"of the {len(numbers)} {'closed' if are_closed else 'open'} arcs this is so of none")
+        raise DeskFault(
+            f"of the {len(numbers)} {'closed' if are_closed else 'open'} arcs this is so of none"
+        )
     return found
 
 
@@ -141,16 +191,22 @@ def _condition(desk: Desk, words: list[str]) -> Condition:
     """Whether a condition is so of an arc. Raises a `DeskFault` if it is none."""
     found = condition(desk, words)
     if not found:
-        raise DeskFault(f"{quoted_name(' '.join(words))} is no condition; wanted is: {CONDITIONS}")
+        raise DeskFault(
+            f"{quoted_name(' '.join(words))} is not a condition; expected: {CONDITIONS}"
+        )
     return found
 
 
 def capped_where(desk: Desk, words: list[str]) -> tuple[dict[int, Quantity], str]:
-    """The capacities that arcs get, of which conditions are so, and the words of that step. An amount is the last word, or the last two."""
+    """The capacities that arcs get, of which conditions are so, and the words of that step. An
+    amount is the last word, or the last two."""
+    network = desk.network
     size = 2 if words[-1] == "%" or not is_amount(words[-1]) else 1
     text, conditions = " ".join(words[-size:]), words[1:-size]
     numbers = arcs_where(desk, conditions)
-    capacities = {number: amount(text, desk.measure, desk.line(number).capacity) for number in numbers}
+    capacities = {
+        number: amount(text, network.measure, network.line(number).capacity) for number in numbers
+    }
     return capacities, f"{arcs_told(numbers, words[:-size])}: {text}"
 
 

@@ -1,4 +1,5 @@
-"""The words of dmf-plan: its commands, how a line is parted into words, what one word may be, and how it is completed."""
+"""The words of dmf-plan: its commands, how a line is parted into words, what one word may be, and
+how it is completed."""
 
 from __future__ import annotations
 
@@ -12,11 +13,20 @@ from ..steps import DeskFault
 from ..workspace import Desk
 
 LONGEST_COUNT = 12
-FLOW, PLACE, ARC, CLOSED, COMMAND, EACH, SCENARIO = "flow", "place", "arc", "closed", "command", "each", "scenario"
+FLOW, PLACE, ARC, CLOSED, COMMAND, EACH, SCENARIO = (
+    "flow",
+    "place",
+    "arc",
+    "closed",
+    "command",
+    "each",
+    "scenario",
+)
 
 
 class Help(NamedTuple):
-    """How a command is written, what it does, which names may stand after it, and how it is written in a list where that is shorter."""
+    """How a command is written, what it does, which names may stand after it, and how it is written
+    in a list where that is shorter."""
 
     form: str
     says: str
@@ -25,60 +35,124 @@ class Help(NamedTuple):
 
 
 ARCS_SAID = (
-    'An arc goes by its name, by its ends as in Mill-Town or "Mill Town", or by its number as in #7. A name with spaces stands in quotes, '
+    'An arc goes by its name, by its ends as in Mill-Town or "Mill Town", or by its number as in '
+    "#7. A name with spaces stands in quotes, "
     "or as it is where that can mean one thing alone."
 )
 MANY_SAID = (
-    'In place of ARC, where and conditions name all arcs of which these are so, in one step: close where name ~ DN200, '
+    "In place of ARC, where and conditions name all arcs of which these are so, in one step: close "
+    "where name ~ DN200, "
     "cap where capacity < 60 and full +10 %, open where to ~ Mill."
 )
 COMMANDS = {
-    "solve": Help("solve", "Finds the greatest value that can be sent, going on from the present flow."),
-    "cut": Help("cut", "Shows the limit: the arcs that hold the value where it is, and the places on the source's side of them."),
-    "flow": Help("flow [ARC|PLACE]", "Shows what flows on each arc, or on one, or on those at a place.", FLOW),
-    "pipes": Help("pipes [where CONDITIONS]", "Lists the arcs of the table, or those of which conditions are so: pipes where limit."),
+    "solve": Help(
+        "solve", "Finds the greatest value that can be sent, going on from the present flow."
+    ),
+    "cut": Help(
+        "cut",
+        "Shows the limit: the arcs that hold the value where it is, and the places on the source's "
+        "side of them.",
+    ),
+    "flow": Help(
+        "flow [ARC|PLACE]", "Shows what flows on each arc, or on one, or on those at a place.", FLOW
+    ),
+    "pipes": Help(
+        "pipes [where CONDITIONS]",
+        "Lists the arcs of the table, or those of which conditions are so: pipes where limit.",
+    ),
     "places": Help("places", "Lists the places, with what comes in and goes out."),
     "from": Help("from PLACE", "Shows what flows on each arc out of a place.", PLACE),
     "close": Help("close ARC", f"Closes an arc. {ARCS_SAID} {MANY_SAID}", ARC),
-    "open": Help("open [ARC|PLACE]", "Opens an arc that is closed, or a place that is shut; alone, what was closed or shut last.", CLOSED),
-    "cap": Help("cap ARC NUMBER", f"Gives an arc another capacity: 47.3, or +10 % or -5 of what it has. {ARCS_SAID} {MANY_SAID}", ARC),
-    "add": Help("add PLACE PLACE NUMBER [NAME]", "Adds an arc from the first place to the second, with a capacity.", PLACE),
+    "open": Help(
+        "open [ARC|PLACE]",
+        "Opens an arc that is closed, or a place that is shut; alone, what was closed or shut "
+        "last.",
+        CLOSED,
+    ),
+    "cap": Help(
+        "cap ARC NUMBER",
+        f"Gives an arc another capacity: 47.3, or +10 % or -5 of what it has. {ARCS_SAID} "
+        f"{MANY_SAID}",
+        ARC,
+    ),
+    "add": Help(
+        "add PLACE PLACE NUMBER [NAME]",
+        "Adds an arc from the first place to the second, with a capacity.",
+        PLACE,
+    ),
     "shut": Help("shut PLACE", "Closes each arc at a place.", PLACE),
     "undo": Help("undo [NUMBER]", "Takes back the last step, or so many."),
     "redo": Help("redo [NUMBER]", "Makes again the step that `undo` took back last, or so many."),
     "steps": Help("steps", "Lists the steps with the value after each."),
-    "try": Help("try", "Begins a trial: `drop` takes back all that is done from here on, and `keep` keeps it."),
-    "keep": Help("keep [FILE]", "Ends the trial, and keeps its steps; or keeps what is done in a new project, whose name ends with .dmf.json."),
+    "try": Help(
+        "try",
+        "Begins a trial: `drop` takes back all that is done from here on, and `keep` keeps it.",
+    ),
+    "keep": Help(
+        "keep [FILE]",
+        "Ends the trial, and keeps its steps; or keeps what is done in a new project, whose name "
+        "ends with .dmf.json.",
+    ),
     "drop": Help("drop", "Ends the trial, and takes its steps back."),
     "what-if": Help(
         "what-if each arc [of the cut | at PLACE]  or  what-if COMMAND",
-        "Lists for each arc the greatest value if it alone is closed, and if a second one lies beside it; or shows what a command and a "
+        "Lists for each arc the greatest value if it alone is closed, and if a second one lies "
+        "beside it; or shows what a command and a "
         "solve would bring. Nothing changes.",
         EACH,
         "what-if each arc ..",
     ),
     "cost": Help(
         "cost [COLUMN] [of seconds] [to NUMBER]",
-        "Tells what each unit more costs at each arc of the limit, by the column of the table called cost or by another one, and a cheap way to "
-        "twice the value or to NUMBER. The way is found greedily: a cheaper one may exist. With `of seconds` the column is what a second arc "
+        "Tells what each unit more costs at each arc of the limit, by the column of the table "
+        "called cost or by another one, and a cheap way to "
+        "twice the value or to NUMBER. The way is found greedily: a cheaper one may exist. With "
+        "`of "
+        "seconds` the column is what a second arc "
         "costs. Nothing changes.",
         "",
         "cost ..",
     ),
-    "worst": Help("worst [NUMBER]", "Tries each arc, and lists those that are worst to lose, the first ten or so many. Nothing changes."),
-    "draw": Help("draw FILE", "Draws the network: FILE ends with .svg, .png or .pdf, or with .dot for the text alone."),
-    "save": Help("save FILE", "Writes the plan as a table where FILE ends with .csv, or the problem where it ends with .max."),
+    "worst": Help(
+        "worst [NUMBER]",
+        "Tries each arc, and lists those that are worst to lose, the first ten or so many. Nothing "
+        "changes.",
+    ),
+    "draw": Help(
+        "draw FILE",
+        "Draws the network: FILE ends with .svg, .png or .pdf, or with .dot for the text alone.",
+    ),
+    "save": Help(
+        "save FILE",
+        "Writes the plan as a table where FILE ends with .csv, or the problem where it ends with "
+        ".max.",
+    ),
     "scenario": Help(
-        "scenario [new NAME [from OTHER] | go NAME | copy NAME | name NAME | delete NAME | note TEXT]",
-        "Lists the scenarios of a project, or begins one, goes to one, copies, names, deletes or notes one. A new one begins from the network of "
-        "the table, or with the steps that another one has now; copies, names and notes are of the present one. NAME in the midst of a line "
+        "scenario [new NAME [from OTHER] | go NAME | copy NAME | name NAME | delete NAME | note "
+        "TEXT]",
+        "Lists the scenarios of a project, or begins one, goes to one, copies, names, deletes or "
+        "notes one. A new one begins from the network of "
+        "the table, or with the steps that another one has now; copies, names and notes are of the "
+        "present one. NAME in the midst of a line "
         "stands in quotes if it has spaces.",
         SCENARIO,
         "scenario ..",
     ),
-    "compare": Help("compare [SCENARIO] SCENARIO", "Shows in what two scenarios differ: value, limit and arcs; base is the table's network.", SCENARIO),
-    "report": Help("report FILE", "Writes a page to hand on, whose name ends with .html: values, limits, steps, pictures, and what is worst to lose."),
-    "notes": Help("notes [TEXT]", "Shows the notes of a project, or puts others in their place. Its report begins with them: with the question."),
+    "compare": Help(
+        "compare [SCENARIO] SCENARIO",
+        "Shows in what two scenarios differ: value, limit and arcs; base is the table's network.",
+        SCENARIO,
+    ),
+    "report": Help(
+        "report FILE",
+        "Writes a page to hand on, whose name ends with .html: values, limits, steps, pictures, "
+        "and what is worst to lose.",
+    ),
+    "notes": Help(
+        "notes [TEXT]",
+        "Shows the notes of a project, or puts others in their place. Its report begins with them: "
+        "with the question.",
+    ),
     "help": Help("help [COMMAND]", "Lists the commands, or says what one does.", COMMAND),
     "quit": Help("quit", "Ends; only a project keeps what was done."),
 }
@@ -96,7 +170,8 @@ class Word(NamedTuple):
 
 
 def split(line: str) -> list[Word]:
-    """The words of a line. A word that begins with a double quote goes on to the next, and two quotes in it stand for one."""
+    """The words of a line. A word that begins with a double quote goes on to the next, and two
+    quotes in it stand for one."""
     words = []
     at = 0
     while at < len(line):
@@ -142,14 +217,14 @@ def typed_form(name: str, is_open: bool) -> str:
 
 def no_words(words: list[str], command: str) -> None:
     if words:
-        raise DeskFault(f"wanted is: {COMMANDS[command].form}")
+        raise DeskFault(f"usage: {COMMANDS[command].form}")
 
 
 def one_name(words: list[str], command: str) -> str:
     """The rest of the line after a command, which is one name."""
     name = cleaned(" ".join(words))
     if not name:
-        raise DeskFault(f"wanted is: {COMMANDS[command].form}")
+        raise DeskFault(f"usage: {COMMANDS[command].form}")
     return name
 
 
@@ -161,9 +236,9 @@ def is_number(word: str) -> bool:
 def count_of(words: list[str], command: str) -> int:
     """How many steps a command is about."""
     if len(words) > 1:
-        raise DeskFault(f"wanted is: {COMMANDS[command].form}")
+        raise DeskFault(f"usage: {COMMANDS[command].form}")
     if words and not (words[0].isascii() and words[0].isdigit() and len(words[0]) < LONGEST_COUNT):
-        raise DeskFault(f"{quoted_name(words[0])} is no number of steps")
+        raise DeskFault(f"{quoted_name(words[0])} is not a number of steps")
     return int(words[0]) if words else 1
 
 
@@ -175,25 +250,38 @@ class Completed(NamedTuple):
 
 
 def completed(desk: Desk, line: str) -> Completed:
-    """Each word that may stand in place of the last one of a line, of those that begin so, without regard to case and accents."""
+    """Each word that may stand in place of the last one of a line, of those that begin so, without
+    regard to case and accents."""
     words = split(line)
-    if not words or words[-1].start + len(words[-1].text) < len(line) and not words[-1].is_open and line[-1] in " \t":
+    if (
+        not words
+        or words[-1].start + len(words[-1].text) < len(line)
+        and not words[-1].is_open
+        and line[-1] in " \t"
+    ):
         words.append(Word("", len(line)))
     *before, last = words
     begun = folded(last.text)
-    found = dict.fromkeys(name for name in _candidates(desk, [word.text for word in before]) if folded(name).startswith(begun))
+    found = dict.fromkeys(
+        name
+        for name in _candidates(desk, [word.text for word in before])
+        if folded(name).startswith(begun)
+    )
     return Completed(last.start, sorted(f"{typed_form(name, last.is_open)} " for name in found))
 
 
 def _candidates(desk: Desk, before: list[str]) -> Iterator[str]:
     """The words that may stand after these."""
-    names = desk.names
+    network = desk.network
+    names = network.names
     if before[:1] == ["what-if"]:
         if len(before) == 1:
             yield from ("each", *CHANGES)
             return
         if before[1] == "each":
-            yield from {2: ["arc"], 3: ["of", "at"]}.get(len(before), names.places if before[3:4] == ["at"] else ["the", "cut"])
+            yield from {2: ["arc"], 3: ["of", "at"]}.get(
+                len(before), names.places if before[3:4] == ["at"] else ["the", "cut"]
+            )
             return
         before = before[1:]
     takes = COMMANDS[before[0]].takes if before and before[0] in COMMANDS else ""
@@ -205,20 +293,30 @@ def _candidates(desk: Desk, before: list[str]) -> Iterator[str]:
     elif takes == PLACE and len(before) <= (2 if before[0] == "add" else 1):
         yield from names.places
     elif takes in (ARC, FLOW) and len(before) == 1:
-        yield from (names.called(n) for n, line in enumerate(desk.lines, 1) if not line.is_closed or takes == FLOW)
+        yield from (
+            names.called(n)
+            for n, line in enumerate(network.lines, 1)
+            if not line.is_closed or takes == FLOW
+        )
         if takes == FLOW:
             yield from names.places
     elif takes == CLOSED and len(before) == 1:
-        yield from (names.called(n) for n, line in enumerate(desk.lines, 1) if line.is_closed and not line.is_replaced)
-        yield from (names.node(node) for node in sorted(desk.shut_nodes))
+        yield from (
+            names.called(n)
+            for n, line in enumerate(network.lines, 1)
+            if line.is_closed and not line.is_replaced
+        )
+        yield from (names.node(node) for node in sorted(network.shut_nodes))
 
 
 def _scenario_words(desk: Desk, before: list[str]) -> Iterator[str]:
     """The words that may stand after these, which begin a command about scenarios."""
     if before == ["scenario"]:
         yield from ("new", "go", "copy", "name", "delete", "note")
-    elif isinstance(desk, Scenarios) and (before[0] == "compare" or before[1] in ("go", "delete") or before[-1] == "from"):
-        yield from (it.name for it in desk.project.scenarios)
+    elif (project := Scenarios.of(desk)) and (
+        before[0] == "compare" or before[1] in ("go", "delete") or before[-1] == "from"
+    ):
+        yield from (it.name for it in project.project.scenarios)
         yield from [BASE] * (before[1:2] not in (["go"], ["delete"]))
     elif before[1:2] == ["new"] and len(before) == 3:
         yield "from"

@@ -19,12 +19,13 @@ class Files:
         self._written: set[str] = set()
 
     def new(self, path: str, endings: Sequence[str]) -> str:
-        """The path of a file that may be written: if this session did not write it, it must be new. Raises a `DeskFault`."""
+        """The path of a file that may be written: if this session did not write it, it must be new.
+        Raises a `DeskFault`."""
         path = os.path.expanduser(path)
         if Path(path).suffix not in endings:
             raise DeskFault(f"the name of the file ends with one of {', '.join(endings)}")
         if os.path.realpath(path) not in self._written and os.path.lexists(path):
-            raise DeskFault(f"{quoted_name(path)} is there already; name another file")
+            raise DeskFault(f"{quoted_name(path)} already exists; choose another name")
         return path
 
     def put(self, path: str, data: bytes) -> str:

@@ -1,5 +1,6 @@
-"""How a person types the lines of dmf-plan, and sees its answers: by prompt-toolkit where that is installed and the terminal can move its
-cursor, else by readline; a long answer by a pager. Typed lines are kept in a file, from one session to the next."""
+"""How a person types the lines of dmf-plan, and sees its answers: by prompt-toolkit where that is
+installed and the terminal can move its cursor, else by readline; a long answer by a pager. Typed
+lines are kept in a file, from one session to the next."""
 
 from __future__ import annotations
 
@@ -20,8 +21,8 @@ except ImportError:  # A Python without it has no completion and no history.
     readline = None  # type: ignore[assignment]
 
 MOST_REMEMBERED = 2_000
-# What completes a line, and what asks for a line after a prompt. It raises an EOFError at Ctrl-D, a KeyboardInterrupt at Ctrl-C, and
-# a UnicodeDecodeError for bytes that are no text.
+# What completes a line, and what asks for a line after a prompt. It raises an EOFError at Ctrl-D, a
+# KeyboardInterrupt at Ctrl-C, and a UnicodeDecodeError for bytes that are no text.
 Complete = Callable[[str], Completed]
 Ask = Callable[[str], str]
 
@@ -29,12 +30,20 @@ Ask = Callable[[str], str]
 def _history() -> Path:
     """The file of the typed lines."""
     state = os.environ.get("XDG_STATE_HOME", "")
-    return Path(state if os.path.isabs(state) else os.path.expanduser("~/.local/state")) / "dmf" / "plan_history"
+    return (
+        Path(state if os.path.isabs(state) else os.path.expanduser("~/.local/state"))
+        / "dmf"
+        / "plan_history"
+    )
 
 
 def _is_dumb() -> bool:
     """Whether standard output is no terminal that can move its cursor."""
-    return os.environ.get("TERM", "dumb") in ("", "dumb", "unknown") or not sys.stdout or not sys.stdout.isatty()
+    return (
+        os.environ.get("TERM", "dumb") in ("", "dumb", "unknown")
+        or not sys.stdout
+        or not sys.stdout.isatty()
+    )
 
 
 @contextlib.contextmanager
@@ -57,10 +66,15 @@ def _by_prompt_toolkit(complete: Complete) -> Iterator[Ask]:
     from prompt_toolkit.key_binding import KeyBindings, KeyPressEvent
 
     class Names(Completer):
-        def get_completions(self, document: Document, complete_event: CompleteEvent) -> Iterable[Completion]:
+        def get_completions(
+            self, document: Document, complete_event: CompleteEvent
+        ) -> Iterable[Completion]:
             line = document.text_before_cursor
             found = complete(line)
-            return (Completion(text, found.start - len(line), display=text.rstrip()) for text in found.texts)
+            return (
+                Completion(text, found.start - len(line), display=text.rstrip())
+                for text in found.texts
+            )
 
     file = _history()
     before: list[str] = []
@@ -71,7 +85,8 @@ def _by_prompt_toolkit(complete: Complete) -> Iterator[Ask]:
 
     @keys.add("tab")
     def press_tab(event: KeyPressEvent) -> None:
-        """Writes what all matches have in common, and shows them if that is no more than was typed. An Enter that follows finds it."""
+        """Writes what all matches have in common, and shows them if that is no more than was typed.
+        An Enter that follows finds it."""
         buffer = event.current_buffer
         if buffer.complete_state:
             buffer.complete_next()
@@ -85,7 +100,9 @@ def _by_prompt_toolkit(complete: Complete) -> Iterator[Ask]:
         elif found.texts:
             buffer.start_completion()
 
-    session: Any = PromptSession(history=history, completer=Names(), complete_while_typing=False, key_bindings=keys)
+    session: Any = PromptSession(
+        history=history, completer=Names(), complete_while_typing=False, key_bindings=keys
+    )
 
     def ask(prompt: str) -> str:
         line = str(session.prompt(prompt))
@@ -105,7 +122,9 @@ def _by_prompt_toolkit(complete: Complete) -> Iterator[Ask]:
         with contextlib.suppress(OSError):
             file.parent.mkdir(mode=0o700, parents=True, exist_ok=True)
             lines = [line for line in history.get_strings() if "\n" not in line]
-            file.write_text("".join(f"{line}\n" for line in lines[-MOST_REMEMBERED:]), errors="replace")
+            file.write_text(
+                "".join(f"{line}\n" for line in lines[-MOST_REMEMBERED:]), errors="replace"
+            )
 
 
 @contextlib.contextmanager

@@ -8,34 +8,74 @@ import os
 import sys
 from collections.abc import Callable, Iterable, Iterator
 
-from ...errors import Error, ToolFault
+from ...errors import Error, FileFault
 from ...quantity import Quantity, moved, plain_text
 from ...text.lexical import display
 from ...text.spelling import quoted_name
 from ..export import DRAWN, drawn, problem, table, taken
 from ..expressions import amount
 from ..project.report import report
-from ..project.scenarios import Scenarios
 from ..steps import DeskFault, unforeseen
 from ..workspace import Desk
 from .arguments import (
-    WHERE, arcs_from, arcs_listed, arcs_named, arcs_to_try, arcs_told, arcs_where, capped, capped_where, last_closed, new_arc,
-)  # fmt: skip
-from .grammar import ALWAYS, CHANGES, COMMANDS, Completed, Word, completed, count_of, no_words, one_name, quoted, split
+    WHERE,
+    arcs_from,
+    arcs_listed,
+    arcs_named,
+    arcs_to_try,
+    arcs_told,
+    arcs_where,
+    capped,
+    capped_where,
+    last_closed,
+    new_arc,
+)
+from .grammar import (
+    ALWAYS,
+    CHANGES,
+    COMMANDS,
+    Completed,
+    Word,
+    completed,
+    count_of,
+    no_words,
+    one_name,
+    quoted,
+    split,
+)
 from .handlers import Files
-from .output import arc_line, arc_lines, compared, costs_told, place_lines, project_of, scenario, swept, tried, worst
+from .output import (
+    arc_line,
+    arc_lines,
+    compared,
+    costs_told,
+    kept_project,
+    place_lines,
+    scenario,
+    swept,
+    tried,
+    worst,
+)
 from .prompt import asking, show
 
 MOST_SIDE = 30
 # Keeps the steps of a desk in a new project at a path, whose desk goes on in its place.
-Keep = Callable[[str, Desk], Scenarios]
+Keep = Callable[[str, Desk], Desk]
 
 
 class Shell:
-    """The session. `is_typed` says that a person types, who sees a prompt and may complete names; else the lines are a script's. `keep` makes
-    a project, and `offer` is a name for it."""
+    """The session. `is_typed` says that a person types, who sees a prompt and may complete names;
+    else the lines are a script's. `keep` makes a project, and `offer` is a name for it."""
 
-    def __init__(self, desk: Desk, *, is_typed: bool, write: Callable[[str], None], keep: Keep | None = None, offer: str = "") -> None:
+    def __init__(
+        self,
+        desk: Desk,
+        *,
+        is_typed: bool,
+        write: Callable[[str], None],
+        keep: Keep | None = None,
+        offer: str = "",
+    ) -> None:
         self.desk = desk
         self.is_typed = is_typed
         self.write = write
@@ -45,13 +85,35 @@ class Shell:
         self._offer = offer
         self._files = Files()
         self._do: dict[str, Callable[[list[str]], object]] = {
-            "solve": self._solve, "cut": self._cut, "flow": self._flow, "pipes": self._pipes, "places": self._places, "from": self._from,
-            "worst": self._worst, "close": self._close, "open": self._open, "cap": self._cap,
-            "add": self._add, "shut": self._shut, "undo": self._undo, "redo": self._redo, "steps": self._steps, "try": self._try,
-            "keep": self._keep, "drop": self._drop, "what-if": self._what_if, "cost": self._cost, "draw": self._draw, "save": self._save,
-            "scenario": self._scenario, "compare": self._compare, "report": self._report, "notes": self._notes,
-            "help": self._help, "quit": self._quit,
-        }  # fmt: skip
+            "solve": self._solve,
+            "cut": self._cut,
+            "flow": self._flow,
+            "pipes": self._pipes,
+            "places": self._places,
+            "from": self._from,
+            "worst": self._worst,
+            "close": self._close,
+            "open": self._open,
+            "cap": self._cap,
+            "add": self._add,
+            "shut": self._shut,
+            "undo": self._undo,
+            "redo": self._redo,
+            "steps": self._steps,
+            "try": self._try,
+            "keep": self._keep,
+            "drop": self._drop,
+            "what-if": self._what_if,
+            "cost": self._cost,
+            "draw": self._draw,
+            "save": self._save,
+            "scenario": self._scenario,
+            "compare": self._compare,
+            "report": self._report,
+            "notes": self._notes,
+            "help": self._help,
+            "quit": self._quit,
+        }
 
     # How lines come and how they are answered.
 
@@ -73,18 +135,19 @@ class Shell:
                 return None
         with self._shown_at_once():
             made = carry_out([word.text for word in words[1:]])
-            if news := self._news():
+            if news := self.desk.take_news():
                 self.tell(*news)
         return made
 
     @contextlib.contextmanager
     def _shown_at_once(self) -> Iterator[None]:
-        """Shows a person what the block tells as one answer, which may be long. To a script each line goes at once."""
+        """Shows a person what the block tells as one answer, which may be long. To a script each
+        line goes at once."""
         if not self.is_typed:
             yield
             return
         # A person need not mind how names are written.
-        self.desk.names.is_any_case = True
+        self.desk.state.network.names.is_any_case = True
         write, told = self.write, list[str]()
         self.write = told.append
         try:
@@ -94,17 +157,12 @@ class Shell:
             if told:
                 show("".join(told), write)
 
-    def _news(self) -> list[str]:
-        """What is to be said beside an answer, once."""
-        news, self.desk.news = self.desk.news, []
-        return news
-
     def _guarded(self, do: Callable[[], object]) -> object:
-        """What a call returns, or None if it raises. What goes wrong in it is told, and the steps before it are kept, on a new session
-        if its own has ended."""
+        """What a call returns, or None if it raises. What goes wrong in it is told, and the steps
+        before it are kept, on a new session if its own has ended."""
         try:
             return do()
-        except ToolFault:
+        except FileFault:
             # Nothing can be told any more.
             raise
         except KeyboardInterrupt:
@@ -121,7 +179,11 @@ class Shell:
             word = "quit"
         if word not in self._do:
             near = difflib.get_close_matches(word.lower(), COMMANDS, n=2)
-            hint = f"; is it {' or '.join(map(quoted_name, near))}?" if near else "; `help` lists the commands"
+            hint = (
+                f"; is it {' or '.join(map(quoted_name, near))}?"
+                if near
+                else "; `help` lists the commands"
+            )
             raise DeskFault(f"no command is called {quoted_name(word)}{hint}")
         return self._do[word]
 
@@ -141,19 +203,27 @@ class Shell:
         try:
             self.desk.begin_again()
             self.tell(f"begun again, with the steps that were made: {self._value()}")
-        except ToolFault:
+        except FileFault:
             raise
         except (Exception, KeyboardInterrupt) as error:
             why = "broken off" if isinstance(error, KeyboardInterrupt) else unforeseen(error)
-            self.refuse(f"it could not be begun again: {why}; the next command tries once more, and `save FILE.max` keeps what was done")
+            self.refuse(
+                f"it could not be begun again: {why}; the next command tries once more, and `save "
+                "FILE.max` keeps what was done"
+            )
 
     def tell(self, *lines: str) -> None:
         self.write("".join(f"{line}\n" for line in lines))
 
     def run_typed(self) -> None:
         """Takes lines from a person, to the end."""
-        offer = f"`keep {quoted(display(self._offer))}` keeps what you do in a project, to go on another day."
-        self.tell(self.greeting(), "`help` lists the commands, `quit` ends.", *[offer] * bool(self._offer))
+        offer = (
+            f"`keep {quoted(display(self._offer))}` keeps what you do in a project, to go on "
+            "another day."
+        )
+        self.tell(
+            self.greeting(), "`help` lists the commands, `quit` ends.", *[offer] * bool(self._offer)
+        )
         if not self.desk.steps and self._guarded(self.desk.solve):
             self.tell(self._value())
         with asking(self.completed) as ask:
@@ -167,7 +237,7 @@ class Shell:
                 except KeyboardInterrupt:
                     self.tell("")
                 except UnicodeDecodeError:
-                    self.refuse("that line is no UTF-8")
+                    self.refuse("that line is not UTF-8")
 
     def completed(self, line: str) -> Completed:
         """What may stand in place of the end of a line."""
@@ -182,11 +252,16 @@ class Shell:
                 return
 
     def greeting(self) -> str:
-        desk = self.desk
-        ends = f"from {desk.names.terminal(desk.source)} to {desk.names.terminal(desk.sink)}"
-        places = len(desk.folding.places(range(1, len(desk.names.nodes) + 1)))
-        scenario = f" What is done is kept in it; the scenario is {quoted_name(desk.scenario.name)}." if isinstance(desk, Scenarios) else ""
-        return f"{display(desk.subject.path)}: {ends}, {len(desk.pictured())} arcs between {places} places.{scenario}"
+        network, name = self.desk.network, self.desk.state.scenario
+        source, sink = map(network.names.terminal, (network.source, network.sink))
+        places = len(network.folding.places(range(1, len(network.names.nodes) + 1)))
+        scenario = (
+            f" What is done is kept in it; the scenario is {quoted_name(name)}." if name else ""
+        )
+        return (
+            f"{display(network.subject.path)}: from {source} to {sink}, "
+            f"{len(network.pictured())} arcs between {places} places.{scenario}"
+        )
 
     def _prompt(self) -> str:
         return str(self._guarded(self._told_state) or f"{plain_text(self.desk.value)}> ")
@@ -194,14 +269,16 @@ class Shell:
     def _told_state(self) -> str:
         desk = self.desk
         state = "ended" if desk.has_ended else "greatest" if desk.is_greatest else "not greatest"
-        name = f"{display(desk.scenario.name)}: " if isinstance(desk, Scenarios) else ""
+        name = f"{display(desk.state.scenario)}: " * bool(desk.state.scenario)
         return f"{name}{'try, ' * desk.trials}{plain_text(desk.value)}, {state}> "
 
     def _value(self, before: Quantity | None = None) -> str:
         """The present value, and its difference to the one before."""
         value = self.desk.value
         by = "" if before is None or value == before else f", {moved(before, value)}"
-        return f"value {self.desk.told(value)}{by}" + (", the greatest" if self.desk.is_greatest else "; more can be sent: solve")
+        return f"value {self.desk.network.told(value)}{by}" + (
+            ", the greatest" if self.desk.is_greatest else "; more can be sent: solve"
+        )
 
     # What the commands do.
 
@@ -223,9 +300,13 @@ class Shell:
     def _close(self, words: list[str]) -> None:
         if words[:1] == [WHERE]:
             numbers = arcs_where(self.desk, words[1:])
-            self._change_each(lambda: self.desk.close(*numbers, words=arcs_told(numbers, words)), len(numbers), "closed")
+            self._change_each(
+                lambda: self.desk.close(*numbers, words=arcs_told(numbers, words)),
+                len(numbers),
+                "closed",
+            )
             return
-        number = self.desk.the_arc(one_name(words, "close"))
+        number = self.desk.network.the_arc(one_name(words, "close"))
         self._change(lambda: self.desk.close(number))
 
     def _open(self, words: list[str]) -> None:
@@ -234,23 +315,31 @@ class Shell:
             return
         if words[:1] == [WHERE]:
             numbers = arcs_where(self.desk, words[1:], are_closed=True)
-            self._change_each(lambda: self.desk.open(*numbers, words=arcs_told(numbers, words)), len(numbers), "opened")
+            self._change_each(
+                lambda: self.desk.open(*numbers, words=arcs_told(numbers, words)),
+                len(numbers),
+                "opened",
+            )
             return
         name = " ".join(words)
         desk = self.desk
-        if desk.names.is_place(name) and desk.shut_nodes & set(desk.names.place(name)):
-            self._change(lambda: desk.open_place(desk.names.place(name)))
+        if desk.network.names.is_place(name) and desk.network.shut_nodes & set(
+            desk.network.names.place(name)
+        ):
+            self._change(lambda: desk.open_place(desk.network.names.place(name)))
         else:
-            number = desk.the_arc(name, is_closed=True)
+            number = desk.network.the_arc(name, is_closed=True)
             self._change(lambda: desk.open(number))
 
     def _cap(self, words: list[str]) -> None:
         if words[:1] == [WHERE]:
             capacities, told = capped_where(self.desk, words)
-            self._change_each(lambda: self.desk.cap_each(capacities, told), len(capacities), "changed")
+            self._change_each(
+                lambda: self.desk.cap_each(capacities, told), len(capacities), "changed"
+            )
             return
         number, text = capped(self.desk, words)
-        capacity = amount(text, self.desk.measure, self.desk.line(number).capacity)
+        capacity = amount(text, self.desk.network.measure, self.desk.network.line(number).capacity)
         self._change(lambda: self.desk.cap(number, capacity))
 
     def _add(self, words: list[str]) -> None:
@@ -258,7 +347,7 @@ class Shell:
         self._change(lambda: self.desk.add(tail, head, capacity, name))
 
     def _shut(self, words: list[str]) -> None:
-        place = self.desk.names.place(one_name(words, "shut"))
+        place = self.desk.network.names.place(one_name(words, "shut"))
         self._change(lambda: self.desk.shut(place))
 
     def _undo(self, words: list[str]) -> None:
@@ -280,9 +369,15 @@ class Shell:
             raise DeskFault("a trial is open; `keep` alone or `drop` ends it")
         if not self._keep_in:
             raise DeskFault("no project can be kept here")
-        desk, self.desk = self.desk, self._keep_in(os.path.expanduser(one_name(words, "keep")), self.desk)
+        desk, self.desk = self.desk, self._keep_in(
+            os.path.expanduser(one_name(words, "keep")), self.desk
+        )
         desk.end()
-        self.tell(f"kept from here on: {display(self.desk.subject.path)}. Each step solves after its change", self._value())
+        self.tell(
+            f"kept from here on: {display(self.desk.network.subject.path)}. "
+            "Each step solves after its change",
+            self._value(),
+        )
 
     def _drop(self, words: list[str]) -> None:
         no_words(words, "drop")
@@ -290,22 +385,39 @@ class Shell:
 
     def _steps(self, words: list[str]) -> None:
         no_words(words, "steps")
-        steps = self.desk.steps
-        self.tell(f"  {0:>3} {'*' if self.desk.at == 0 else ' '} {display(self.desk.subject.path)}: value {self.desk.told(0)}")
+        # Where the session stands does not matter, nor whether it has ended.
+        steps, network = self.desk.steps, self.desk.state.network
+        self.tell(
+            f"  {0:>3} {'*' if self.desk.at == 0 else ' '} {display(network.subject.path)}: value "
+            f"{network.told(0)}"
+        )
         for number, step in enumerate(steps, 1):
             mark = "*" if number == self.desk.at else " "
             undone = " (undone)" if number > self.desk.at else ""
-            self.tell(f"  {number:>3} {mark} {display(step.text)}: value {self.desk.told(step.value)}{undone}")
+            self.tell(
+                f"  {number:>3} {mark} {display(step.text)}: value "
+                f"{network.told(step.value)}{undone}"
+            )
 
     def _cut(self, words: list[str]) -> None:
         no_words(words, "cut")
         desk = self.desk
         if not desk.is_greatest:
-            raise DeskFault("the flow is not greatest, so there is no limit to tell; `solve` first")
-        side = desk.names.side(desk.side())
+            raise DeskFault("the flow is not greatest, so the limit is not known; `solve` first")
+        network = desk.network
+        side = network.names.side(desk.side())
         more = f" and {len(side) - MOST_SIDE} more" if len(side) > MOST_SIDE else ""
-        self.tell(f"limit {desk.told(desk.value)}", *[f"  source's side: {', '.join(side[:MOST_SIDE])}{more}"] * bool(side))
-        self.tell(*(f"  #{number} {desk.names.arc(number)}: {plain_text(desk.line(number).capacity)}" for number in desk.cut_arcs()))
+        self.tell(
+            f"limit {network.told(desk.value)}",
+            *[f"  source's side: {', '.join(side[:MOST_SIDE])}{more}"] * bool(side),
+        )
+        self.tell(
+            *(
+                f"  #{number} {network.names.arc(number)}: "
+                f"{plain_text(network.line(number).capacity)}"
+                for number in desk.cut_arcs()
+            )
+        )
 
     def _flow(self, words: list[str]) -> None:
         self.tell(*(arc_line(self.desk, number) for number in arcs_named(self.desk, words)))
@@ -328,26 +440,31 @@ class Shell:
             self._sweep(words[1:])
             return
         if not words or words[0] not in CHANGES:
-            raise DeskFault(f"wanted is: {COMMANDS['what-if'].form}; a command there is one of {', '.join(CHANGES)}")
+            raise DeskFault(
+                f"usage: {COMMANDS['what-if'].form}; a command there is one of "
+                f"{', '.join(CHANGES)}"
+            )
         before, value = self.desk.value, self._value_after(words)
-        self.tell(f"it would be {self.desk.told(value)}: {moved(before, value)}")
+        self.tell(f"it would be {self.desk.network.told(value)}: {moved(before, value)}")
 
     def _value_after(self, words: list[str]) -> Quantity:
         """The greatest value after a change, which is taken back."""
-        desk, write = self.desk, self.write
-        if not desk.is_greatest:
-            raise DeskFault("the flow is not greatest, so nothing can be compared with it; `solve` first")
-        with desk.aside():
-            try:
-                self.write = _nothing
-                self._do[words[0]](words[1:])
-                desk.solve()
-            finally:
-                self.write = write
+        if not self.desk.is_greatest:
+            raise DeskFault(
+                "the flow is not greatest, so nothing can be compared with it; `solve` first"
+            )
+        with self.desk.aside() as desk:
+            tried = Shell(desk, is_typed=False, write=_nothing)
+            tried._do[words[0]](words[1:])
+            desk.solve()
             return desk.value
 
     def _sweep(self, words: list[str]) -> None:
-        self.tell(*swept(self.desk, tried(self.desk, arcs_to_try(self.desk, words), is_shown=self.is_typed)))
+        self.tell(
+            *swept(
+                self.desk, tried(self.desk, arcs_to_try(self.desk, words), is_shown=self.is_typed)
+            )
+        )
 
     def _cost(self, words: list[str]) -> None:
         self.tell(*costs_told(self.desk, words))
@@ -358,19 +475,24 @@ class Shell:
 
     def _save(self, words: list[str]) -> None:
         path = self._files.new(one_name(words, "save"), [".csv", ".max"])
-        self.tell(self._files.put(path, (table(self.desk) if path.endswith(".csv") else problem(self.desk)).encode()))
+        self.tell(
+            self._files.put(
+                path, (table(self.desk) if path.endswith(".csv") else problem(self.desk)).encode()
+            )
+        )
 
     def _scenario(self, words: list[str]) -> None:
-        self.tell(*scenario(project_of(self.desk), words))
+        self.tell(*scenario(kept_project(self.desk), words))
 
     def _compare(self, words: list[str]) -> None:
-        self.tell(*compared(project_of(self.desk), words).lines())
+        self.tell(*compared(kept_project(self.desk), words).lines())
 
     def _notes(self, words: list[str]) -> None:
-        desk = project_of(self.desk)
+        project = kept_project(self.desk)
         if words:
-            desk.take_notes(" ".join(words))
-        self.tell(f"notes: {display(desk.project.notes)}" if desk.project.notes else "there are no notes")
+            project.take_notes(" ".join(words))
+        notes = project.project.notes
+        self.tell(f"notes: {display(notes)}" if notes else "no notes")
 
     def _report(self, words: list[str]) -> None:
         path = self._files.new(one_name(words, "report"), [".html"])
@@ -383,7 +505,13 @@ class Shell:
             self.tell(COMMANDS[word].form, f"  {COMMANDS[word].says}")
             return
         width = max(len(command.short or command.form) for command in COMMANDS.values())
-        self.tell(*(f"  {command.short or command.form:<{width}}  {command.says.split('. ')[0].rstrip('.')}." for command in COMMANDS.values()))
+        self.tell(
+            *(
+                f"  {command.short or command.form:<{width}}  "
+                f"{command.says.split('. ')[0].rstrip('.')}."
+                for command in COMMANDS.values()
+            )
+        )
 
     def _quit(self, words: list[str]) -> bool:
         no_words(words, "quit")

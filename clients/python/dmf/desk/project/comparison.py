@@ -1,4 +1,5 @@
-"""In what two scenarios differ: the value, the limit, and each arc whose flow, capacity or state is another one."""
+"""In what two scenarios differ: the value, the limit, and each arc whose flow, capacity or state is
+another one."""
 
 from __future__ import annotations
 
@@ -9,19 +10,21 @@ from typing import NamedTuple, Union
 
 from ...quantity import Measure, Quantity, moved, plain_text
 from ...text.lexical import display
-from ..desk_view import DeskView
 from ..steps import DeskArc
+from ..workspace import Desk
 from .scenarios import Scenarios
 
-# By what an arc is known in every scenario: its number, if it is one of the table; else its ends, its name and its place among those
-# alike that were added.
+# By what an arc is known in every scenario: its number, if it is one of the table; else its ends,
+# its name and its place among those alike that were added.
 Known = Union[int, tuple[int, int, str, int]]
 OPEN, CLOSED, ABSENT = "open", "closed", "not there"
 
 
 class ArcState(NamedTuple):
-    """An arc in a scenario: `open`, `closed` or `not there`; its capacity, which one that is closed had before, and its flow; whether it is
-    one of the limit; and whether it carries as much as the arcs at its place, so that its capacity says nothing."""
+    """An arc in a scenario: `open`, `closed` or `not there`; its capacity, which one that is closed
+    had before, and its flow; whether it is one of the limit; and whether it carries as much as the
+    arcs at its place, so that its capacity says nothing.
+    """
 
     state: str
     capacity: Quantity
@@ -33,7 +36,11 @@ class ArcState(NamedTuple):
         """It in words: `45 of 45, limit`."""
         if self.state != OPEN:
             return self.state
-        amounts = f"{plain_text(self.flow)}, no limit" if self.is_unlimited else f"{plain_text(self.flow)} of {plain_text(self.capacity)}"
+        amounts = (
+            f"{plain_text(self.flow)}, no limit"
+            if self.is_unlimited
+            else f"{plain_text(self.flow)} of {plain_text(self.capacity)}"
+        )
         return amounts + ", limit" * self.is_limit
 
 
@@ -42,7 +49,8 @@ _ABSENT = ArcState(ABSENT, 0, 0, False)
 
 @dataclass(frozen=True)
 class Standing:
-    """A scenario as it stands: its value, the places on the source's side of its limit, and the arcs of the limit, by their names."""
+    """A scenario as it stands: its value, the places on the source's side of its limit, and the
+    arcs of the limit, by their names."""
 
     name: str
     value: Quantity
@@ -52,7 +60,8 @@ class Standing:
 
 @dataclass(frozen=True)
 class ArcDifference:
-    """An arc that differs: its name with its ends, and what it is in each scenario. `known` tells it from others alike."""
+    """An arc that differs: its name with its ends, and what it is in each scenario. `known` tells
+    it from others alike."""
 
     arc: str
     first: ArcState
@@ -61,17 +70,24 @@ class ArcDifference:
 
     @property
     def kind(self) -> str:
-        """What is other in the second scenario: the arc has `come` or `gone`, `more` or `less` flows on it, or something `else`."""
+        """What is other in the second scenario: the arc has `come` or `gone`, `more` or `less`
+        flows on it, or something `else`."""
         was, now = self.first.state == OPEN, self.second.state == OPEN
         if was != now:
             return "come" if now else "gone"
-        return "more" if self.second.flow > self.first.flow else "less" if self.second.flow < self.first.flow else "else"
+        return (
+            "more"
+            if self.second.flow > self.first.flow
+            else "less"
+            if self.second.flow < self.first.flow
+            else "else"
+        )
 
 
 @dataclass(frozen=True)
 class Comparison:
-    """Two scenarios beside each other, and the arcs that differ, in the order of the table. Numbers are the table's. `alike` are the arcs that
-    do not differ."""
+    """Two scenarios beside each other, and the arcs that differ, in the order of the table. Numbers
+    are the table's. `alike` are the arcs that do not differ."""
 
     first: Standing
     second: Standing
@@ -95,26 +111,38 @@ class Comparison:
 
 
 class _Snapshot:
-    """What is seen of a scenario that a desk shows: itself and its arcs, all before the desk shows another one."""
+    """What is seen of a scenario that a desk shows: itself and its arcs, all before the desk shows
+    another one."""
 
-    def __init__(self, desk: Scenarios, name: str) -> None:
-        cut, names = desk.cut_arcs(), desk.names
+    def __init__(self, desk: Desk, name: str) -> None:
+        network = desk.network
+        cut, names = desk.cut_arcs(), network.names
         limit = tuple(names.arc(number) for number in cut)
         self.standing = Standing(name, desk.value, tuple(names.side(desk.side())), limit)
-        flows, lines = desk.flows(), desk.lines
+        flows, lines = desk.flows(), network.lines
         self._cut = frozenset(cut)
         self._flows = flows
         self._lines: list[DeskArc] = list(lines)
-        self._measure = desk.measure
+        self._measure = network.measure
         self.numbers = dict(known_arcs(desk))
         # What can differ of each arc, as it can be compared at once.
         self.bare = {
-            known: (line.is_closed, line.capacity, flows.get(number, 0), number in cut, line.is_unlimited)
-            for known, number in self.numbers.items() for line in (lines[number - 1],)
-        }  # fmt: skip
+            known: (
+                line.is_closed,
+                line.capacity,
+                flows.get(number, 0),
+                number in cut,
+                line.is_unlimited,
+            )
+            for known, number in self.numbers.items()
+            for line in (lines[number - 1],)
+        }
         # An arc that was added is not there in another scenario, and goes by other numbers in it.
-        self._label = names.arc
-        self._added = {known: names.arc(number) for known, number in self.numbers.items() if isinstance(known, tuple)}
+        self._added = {
+            known: names.arc(number)
+            for known, number in self.numbers.items()
+            if isinstance(known, tuple)
+        }
 
     def state(self, known: Known) -> ArcState:
         number = self.numbers.get(known)
@@ -122,21 +150,33 @@ class _Snapshot:
             return _ABSENT
         line = self._lines[number - 1]
         flow = self._measure.quantity(self._flows.get(number, 0))
-        return ArcState(CLOSED if line.is_closed else OPEN, line.capacity, flow, number in self._cut, line.is_unlimited)
+        return ArcState(
+            CLOSED if line.is_closed else OPEN,
+            line.capacity,
+            flow,
+            number in self._cut,
+            line.is_unlimited,
+        )
 
     def label(self, known: Known) -> str:
-        """How an arc is called; nothing if it was added in another scenario."""
-        return self._added.get(known, "") if isinstance(known, tuple) else self._label(known)
+        """How an arc is called that was added in the scenario; nothing if it was not."""
+        return self._added.get(known, "") if isinstance(known, tuple) else ""
 
 
-def known_arcs(desk: DeskView) -> Iterator[tuple[Known, int]]:
-    """The arcs of a desk by what they are known by. One that was closed and opened again is the one that it was."""
+def known_arcs(desk: Desk) -> Iterator[tuple[Known, int]]:
+    """The arcs of a desk by what they are known by. One that was closed and opened again is the one
+    that it was."""
+    network = desk.network
     count = Counter[tuple[int, int, str]]()
-    given = desk.first_count
-    yield from ((number, number) for number, line in enumerate(desk.lines[:given], 1) if not line.is_replaced)
+    given = network.first_count
+    yield from (
+        (number, number)
+        for number, line in enumerate(network.lines[:given], 1)
+        if not line.is_replaced
+    )
     known: dict[int, Known] = {}
-    for number, line in enumerate(desk.lines[given:], given + 1):
-        alike = line.tail, line.head, desk.names.arc_name(number)
+    for number, line in enumerate(network.lines[given:], given + 1):
+        alike = line.tail, line.head, network.names.arc_name(number)
         if line.first:
             known[number] = known.get(line.first, line.first)
         else:
@@ -146,15 +186,32 @@ def known_arcs(desk: DeskView) -> Iterator[tuple[Known, int]]:
             yield known[number], number
 
 
-def compare(desk: Scenarios, first: str, second: str) -> Comparison:
-    """Two scenarios of a desk's project, of which one may be `base`, beside each other. The desk shows the present one again then.
-    Raises a `DeskFault` if there is no such scenario. Takes as long as those steps take in which the three are not the same from the first
-    on."""
-    with desk.visiting(first):
+def compare(project: Scenarios, first: str, second: str) -> Comparison:
+    """Compare two scenarios of a project. Either may be `base`. The desk shows the present one as
+    before. Raises a `DeskFault` if there is no such scenario. Takes as long as those
+    steps take in which the three are not the same from the first on."""
+    with project.visiting(first) as desk:
         one = _Snapshot(desk, first)
-    with desk.visiting(second):
+    with project.visiting(second) as desk:
         two = _Snapshot(desk, second)
+    network = project.desk.network
+
+    def label(known: Known) -> str:
+        return (
+            network.names.arc(known)
+            if isinstance(known, int)
+            else one.label(known) or two.label(known)
+        )
+
     every = dict.fromkeys([*one.numbers, *two.numbers])
     found = {known for known in every if one.bare.get(known) != two.bare.get(known)}
-    rows = tuple(ArcDifference(one.label(it) or two.label(it), one.state(it), two.state(it), it) for it in every if it in found)
-    return Comparison(one.standing, two.standing, rows, desk.measure, tuple(it for it in every if it not in found))
+    rows = tuple(
+        ArcDifference(label(it), one.state(it), two.state(it), it) for it in every if it in found
+    )
+    return Comparison(
+        one.standing,
+        two.standing,
+        rows,
+        network.measure,
+        tuple(it for it in every if it not in found),
+    )

@@ -1,4 +1,5 @@
-"""Opens the desk of a project with the table that it came from, says what has changed in that since, and keeps a new project."""
+"""Opens the desk of a project with the table that it came from, says what has changed in that
+since, and keeps a new project."""
 
 from __future__ import annotations
 
@@ -13,11 +14,18 @@ from decimal import Decimal
 from functools import cached_property
 from typing import Optional
 
-from ...errors import Error, TableFault, ToolFault
+from ...errors import Error, FileFault, TableFault
 from ...files import read_file
 from ...quantity import decimals
 from ...session.base import Program
-from ...tables.loader import COLUMNS, LoadedProblem, TableOptions, is_problem, split_path, subject_of
+from ...tables.loader import (
+    COLUMNS,
+    LoadedProblem,
+    TableOptions,
+    is_problem,
+    split_path,
+    subject_of,
+)
 from ...tables.other_columns import Extra
 from ...tables.readers import ReadOptions
 from ...text.lexical import TextFault, display
@@ -29,7 +37,17 @@ from ..steps import DeskFault
 from ..workspace import Desk
 from .acts import arc_told
 from .scenarios import FIRST, Base, Differences, Scenarios
-from .schema import ENDING, OPTIONS, PLACE_OPTIONS, ArcName, File, KeptTable, Project, ProjectFault, Scenario
+from .schema import (
+    ENDING,
+    OPTIONS,
+    PLACE_OPTIONS,
+    ArcName,
+    File,
+    KeptTable,
+    Project,
+    ProjectFault,
+    Scenario,
+)
 from .storage import ProjectFile, created, read_project
 
 # How many rows that differ are told.
@@ -37,22 +55,34 @@ MOST_TOLD = 20
 
 
 def sum_of(path: str) -> str:
-    """The SHA-256 sum of a file. Raises a `ToolFault` if it cannot be read."""
+    """The SHA-256 sum of a file. Raises a `FileFault` if it cannot be read."""
     return hashlib.sha256(_content_of(path)).hexdigest()
 
 
 def _content_of(path: str) -> bytes:
-    """Return the content of a file. Raises a `ToolFault` if it cannot be read, or is a pipe or a device, which may have no end."""
+    """Return the content of a file. Raises a `FileFault` if it cannot be read, or is a pipe or a
+    device, which may have no end."""
     if os.path.exists(path) and not os.path.isfile(path):
-        raise ToolFault(f"{path} is no file that could be read again", 4)
-    return read_file(path, 4)
+        raise FileFault(f"{path} is not a file that could be read again")
+    return read_file(path)
 
 
 def kept_table(words: argparse.Namespace, subject: LoadedProblem, folder: str) -> KeptTable:
-    """The table that the words of a tool name, which this problem was made of, for a project in a folder. Raises a `ToolFault`."""
+    """The table that the words of a tool name, which this problem was made of, for a project in a
+    folder. Raises a `FileFault`."""
     path, sheet = split_path(words.path)
-    table = KeptTable(_file(path, folder), sheet, unit=subject.measure.unit, noun=subject.noun, assumed=list(subject.notes))
-    given = {**vars(words), **getattr(words, "titles", {}), "scale": None if words.scale is None else f"{words.scale:f}"}
+    table = KeptTable(
+        _file(path, folder),
+        sheet,
+        unit=subject.measure.unit,
+        noun=subject.noun,
+        assumed=list(subject.notes),
+    )
+    given = {
+        **vars(words),
+        **getattr(words, "titles", {}),
+        "scale": None if words.scale is None else f"{words.scale:f}",
+    }
     found = {**subject.found, "decimal": subject.measure.sign}
     for name in OPTIONS:
         said = given.get(name) or found.get(name)
@@ -65,35 +95,55 @@ def kept_table(words: argparse.Namespace, subject: LoadedProblem, folder: str) -
         if place_path is not None:
             path, sheet = split_path(place_path)
             kept = _file(path, folder)
-            table.places[option] = replace(kept, path=f"{kept.path}#{sheet}" if sheet else kept.path)
+            table.places[option] = replace(
+                kept, path=f"{kept.path}#{sheet}" if sheet else kept.path
+            )
     return table
 
 
 def _file(path: str, folder: str) -> File:
     if not os.path.isfile(path):
-        raise ToolFault(f"{path} is no file that could be read again", 4)
+        raise FileFault(f"{path} is not a file that could be read again")
     return File(os.path.relpath(os.path.realpath(path), os.path.realpath(folder)), sum_of(path))
 
 
 def with_sums(table: KeptTable, folder: str) -> KeptTable:
-    """The table with the sums that its files have now. Raises a `ToolFault` if one cannot be read."""
+    """The table with the sums that its files have now. Raises a `FileFault` if one cannot be
+    read."""
 
     def now(file: File) -> File:
         return replace(file, sum=sum_of(split_path(os.path.join(folder, file.path))[0]))
 
-    return replace(table, file=now(table.file), places={option: now(file) for option, file in table.places.items()})
+    return replace(
+        table,
+        file=now(table.file),
+        places={option: now(file) for option, file in table.places.items()},
+    )
 
 
 def read_again(table: KeptTable, folder: str) -> LoadedProblem:
-    """The problem of a table as its files are now. Raises a `ToolFault` if one cannot be read, and a `TableFault` if one has a fault."""
+    """The problem of a table as its files are now. Raises a `FileFault` if one cannot be read, and
+    a `TableFault` if one has a fault."""
     options = table.options
     titles = {column: options[column] for column in COLUMNS if column in options}
     places = {option: os.path.join(folder, file.path) for option, file in table.places.items()}
     scale = Decimal(options["scale"]) if "scale" in options else None
     wanted = TableOptions(
-        ReadOptions(titles, options.get("decimal", ""), options.get("raw_names", False)), options.get("encoding"), scale,
-        options.get("both_ways", False), tuple(options.get("source", ())), tuple(options.get("sink", ())), places,
-    )  # fmt: skip
+        ReadOptions(
+            titles,
+            options.get("decimal", ""),
+            options.get("raw_names", False),
+            options.get("missing", ""),
+            tuple(options.get("ignore", ())),
+            options.get("matrix", False),
+        ),
+        options.get("encoding"),
+        scale,
+        options.get("both_ways", False),
+        tuple(options.get("source", ())),
+        tuple(options.get("sink", ())),
+        places,
+    )
     path = os.path.join(folder, table.file.path)
     data = problem_in(_content_of(path))
     if is_problem(path, data):
@@ -106,7 +156,9 @@ def differences(before: bytes, after: bytes) -> Differences:
     (was, unit_before), (now, unit_after) = map(_rows, (before, after))
     found = Differences()
     if unit_before != unit_after:
-        found.told.append(f"numbers are in {unit_after or 'no unit'} now, and were in {unit_before or 'no unit'}")
+        found.told.append(
+            f"numbers are in {unit_after or 'no unit'} now, and were in {unit_before or 'no unit'}"
+        )
     for name in dict.fromkeys([*was, *now]):
         old, new = was.get(name, []), now.get(name, [])
         if old == new:
@@ -127,10 +179,14 @@ def _told(name: ArcName, gone: list[str], come: list[str]) -> Iterator[str]:
 
 
 def _rows(text: bytes) -> tuple[Mapping[ArcName, list[str]], str]:
-    """By the name of an arc, the capacities of those alike, with the source and the sink; and the unit."""
+    """By the name of an arc, the capacities of those alike, with the source and the sink; and the
+    unit."""
     problem = read_problem(text)
     folding, measure = TableRoles(problem.described), problem.described.measure
-    labels = [cleaned(display(problem.node_names.get(node, str(node)))) for node in range(1, problem.node_count + 1)]
+    labels = [
+        cleaned(display(problem.node_names.get(node, str(node))))
+        for node in range(1, problem.node_count + 1)
+    ]
 
     def label(node: int) -> str:
         return labels[folding.place(node) - 1]
@@ -141,8 +197,16 @@ def _rows(text: bytes) -> tuple[Mapping[ArcName, list[str]], str]:
             found[f"the {kind}", label(node), ""] = [label(node)]
     for number, (tail, head, capacity) in enumerate(problem.arcs, 1):
         role = folding.role(tail, head)
-        name = (role.kind, label(role.node)) if role else (label(tail), label(head), display(problem.arc_names.get(number, "")))
-        amount = "as much as the arcs there carry" if role and role.is_unlimited else measure.text(capacity)
+        name = (
+            (role.kind, label(role.node))
+            if role
+            else (label(tail), label(head), display(problem.arc_names.get(number, "")))
+        )
+        amount = (
+            "as much as the arcs there carry"
+            if role and role.is_unlimited
+            else measure.text(capacity)
+        )
         found.setdefault(name, []).append(amount)
     return found, measure.told_unit
 
@@ -158,16 +222,16 @@ def is_project(path: str) -> bool:
     return path.endswith(ENDING)
 
 
-def project_desk(path: str, table: str = "", program: Program = None) -> Scenarios:
-    """The desk of the project at a path. `table` is where its table is now, if that has moved. Raises a `ProjectFault`, an OSError if the
-    file cannot be read, and what `Desk` raises."""
+def project_desk(path: str, table: str = "", program: Program = None) -> Desk:
+    """The desk of the project at a path. `table` is where its table is now, if that has moved.
+    Raises a `ProjectFault`, an OSError if the file cannot be read, and what `Desk` raises."""
     file = read_project(path)
     try:
         if not file.is_folded:
             _judge_network(file)
         _judge_amounts(file)
         file.fold()
-        return Scenarios(file, _base(path, file, table), program)
+        return Scenarios(file, _base(path, file, table), program).desk
     except BaseException:
         # Nothing was done that the journal has not, and the next call may find that it is a fault.
         file.leave()
@@ -175,17 +239,21 @@ def project_desk(path: str, table: str = "", program: Program = None) -> Scenari
 
 
 def _judge_network(file: ProjectFile) -> None:
-    """Raise a `ProjectFault` if the network of a project, which no session has read yet, has a fault."""
+    """Raise a `ProjectFault` if the network of a project, which no session has read yet, has a
+    fault."""
     try:
-        read_problem(file.project.network.encode("utf-8", "surrogateescape"))
+        read_problem(file.record.project.network.encode("utf-8", "surrogateescape"))
     except TextFault as fault:
         raise ProjectFault(f"{file.path}: network: {fault}") from None
 
 
 def _judge_amounts(file: ProjectFile) -> None:
-    """Raise a `ProjectFault` with its place for an amount that the network of a project cannot have."""
-    found = list(_amounts(file.project))
-    subject = LoadedProblem(file.path, file.project.network.encode("utf-8", "surrogateescape"))
+    """Raise a `ProjectFault` with its place for an amount that the network of a project cannot
+    have."""
+    found = list(_amounts(file.record.project))
+    subject = LoadedProblem(
+        file.path, file.record.project.network.encode("utf-8", "surrogateescape")
+    )
     largest: dict[int, Decimal] = {}
     for amount, _ in found:
         largest[decimals(amount)] = max(amount, largest.get(decimals(amount), amount))
@@ -208,7 +276,8 @@ def _amounts(project: Project) -> Iterator[tuple[Decimal, str]]:
 
 @dataclass(frozen=True)
 class _ProjectSubject(LoadedProblem):
-    """The problem that a project keeps. The columns of its table that were read for nothing are read again when they are asked for."""
+    """The problem that a project keeps. The columns of its table that were read for nothing are
+    read again when they are asked for."""
 
     read: Optional[Callable[[], LoadedProblem]] = field(default=None, repr=False, compare=False)
 
@@ -218,12 +287,16 @@ class _ProjectSubject(LoadedProblem):
 
 
 def _base(path: str, file: ProjectFile, moved: str) -> Base:
-    """The network of a project: the one that it keeps, or that of its table where that has changed since."""
-    project, folder = file.project, os.path.dirname(file.path)
+    """The network of a project: the one that it keeps, or that of its table where that has changed
+    since."""
+    project, folder = file.record.project, os.path.dirname(file.path)
     kept = _ProjectSubject(
-        path, project.network.encode("utf-8", "surrogateescape"), project.table.noun, tuple(project.table.assumed),
+        path,
+        project.network.encode("utf-8", "surrogateescape"),
+        project.table.noun,
+        tuple(project.table.assumed),
         bool(project.table.options.get("raw_names")),
-    )  # fmt: skip
+    )
     told = [f"it is open to be read alone, since {file.why_not}"] if file.why_not else []
     table = _moved(project.table, moved, folder) if moved else project.table
     as_kept = "the network is as it was kept"
@@ -233,19 +306,37 @@ def _base(path: str, file: ProjectFile, moved: str) -> Base:
         if now == project.table:
             return Base(replace(kept, read=lambda: read_again(now, folder)), told)
         subject = read_again(now, folder)
-    except (ToolFault, TableFault) as fault:
-        lines = list(fault.reasons) if isinstance(fault, ToolFault) else fault.lines()
-        return Base(kept, [*told, f"the table {name} is not read, and {as_kept}: {lines[0]}; --table FILE names it where it is now", *lines[1:]])
+    except (FileFault, TableFault) as fault:
+        lines = fault.lines() if isinstance(fault, TableFault) else [str(fault)]
+        return Base(
+            kept,
+            [
+                *told,
+                f"the table {name} is not read, and {as_kept}: {lines[0]}; --table FILE names it "
+                "where it is now",
+                *lines[1:],
+            ],
+        )
     try:
         found = differences(kept.text, subject.text)
     except TextFault as fault:
         _judge_network(file)
-        return Base(kept, [*told, f"the table {name} is not read, and {as_kept}: {fault}; --table FILE names it where it is now"])
+        return Base(
+            kept,
+            [
+                *told,
+                f"the table {name} is not read, and {as_kept}: {fault}; --table FILE names it "
+                "where it is now",
+            ],
+        )
     if file.why_not:
         changed = [f"the table {name} has changed since, and {as_kept}"] if found.told else []
         return Base(kept, [*told, *changed])
     if found.told:
-        told += [f"the table {name} has changed since:", *(f"  {line}" for line in told_shortly(found.told))]
+        told += [
+            f"the table {name} has changed since:",
+            *(f"  {line}" for line in told_shortly(found.told)),
+        ]
     now = replace(now, unit=subject.measure.unit, noun=subject.noun, assumed=list(subject.notes))
     return Base(replace(subject, path=path), told, now, found)
 
@@ -253,22 +344,29 @@ def _base(path: str, file: ProjectFile, moved: str) -> Base:
 def _moved(table: KeptTable, path: str, folder: str) -> KeptTable:
     """The table at another path."""
     at, sheet = split_path(path)
-    return replace(table, file=File(os.path.relpath(os.path.realpath(at), folder), ""), sheet=sheet or table.sheet)
+    return replace(
+        table,
+        file=File(os.path.relpath(os.path.realpath(at), folder), ""),
+        sheet=sheet or table.sheet,
+    )
 
 
 def beside(path: str) -> str:
-    """Where the project of a table is kept if nothing else is said: `pipes.dmf.json` beside `pipes.csv`."""
+    """Where the project of a table is kept if nothing else is said: `pipes.dmf.json` beside
+    `pipes.csv`."""
     return os.path.splitext(split_path(path)[0])[0] + ENDING
 
 
-def keep_project(path: str, words: argparse.Namespace, desk: Desk, program: Program = None) -> Scenarios:
-    """The desk of a new project, in a file that is not there yet, with the table that the words of a tool name and the steps that were made
-    on a desk, which goes on. Raises a `DeskFault` if it cannot be kept."""
+def keep_project(path: str, words: argparse.Namespace, desk: Desk, program: Program = None) -> Desk:
+    """The desk of a new project, in a file that is not there yet, with the table that the words of
+    a tool name and the steps that were made on a desk, which goes on. Raises a `DeskFault` if it
+    cannot be kept."""
     if not is_project(path):
         raise DeskFault(f"the name of a project ends with {ENDING}")
-    if isinstance(desk, Scenarios):
-        raise DeskFault(f"what is done is kept in {quoted_name(desk.file.path)} already")
-    subject = desk.subject
+    kept = Scenarios.of(desk)
+    if kept:
+        raise DeskFault(f"what is done is kept in {quoted_name(kept.file.path)} already")
+    subject = desk.network.subject
     base = Base(replace(subject, path=path))
     path = os.path.realpath(path)
     try:
@@ -278,20 +376,28 @@ def keep_project(path: str, words: argparse.Namespace, desk: Desk, program: Prog
         found = [] if again.text == subject.text else differences(subject.text, again.text).told
         if found:
             raise DeskFault(f"no project can be kept: the table is another one now: {found[0]}")
-        project = Project(secrets.token_hex(8), table, base.network, scenarios=[Scenario(FIRST)], present=FIRST)
+        project = Project(
+            secrets.token_hex(8), table, base.network, scenarios=(Scenario(FIRST),), present=FIRST
+        )
         file = created(path, project)
-    except (ToolFault, TableFault) as fault:
+    except (FileFault, TableFault) as fault:
         raise DeskFault(f"no project can be kept: {fault}") from None
     except FileExistsError as error:
-        raise DeskFault(f"{quoted_name(base.subject.path)} cannot be made: {error.strerror}; open it, or choose another name") from None
+        raise DeskFault(
+            f"{quoted_name(base.subject.path)} cannot be made: {error.strerror}; open it, or "
+            "choose "
+            "another name"
+        ) from None
     except OSError as error:
-        raise DeskFault(f"{quoted_name(base.subject.path)} cannot be made: {error.strerror}") from None
+        raise DeskFault(
+            f"{quoted_name(base.subject.path)} cannot be made: {error.strerror}"
+        ) from None
     try:
         made = Scenarios(file, base, program)
-        made.take_steps(desk.steps[: desk.at], desk.turn)
+        made.take_steps(desk.state.done, desk.turn)
     except BaseException as error:
         file.discard()
         if isinstance(error, Error):
             raise DeskFault(f"no project can be kept: {error}") from None
         raise
-    return made
+    return made.desk

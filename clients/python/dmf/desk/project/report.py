@@ -1,7 +1,8 @@
 """A page in HTML to hand on.
 
-It has of each scenario its value, its limit, its steps, a picture, and in what it differs from the network of the table; what is worst to
-lose and best to have twice; and that `dmf check` finds each flow greatest. `report.html` is its frame."""
+It has of each scenario its value, its limit, its steps, a picture, and in what it differs from the
+network of the table; what is worst to lose and best to have twice; and that `dmf check` finds each
+flow greatest. `report.html` is its frame."""
 
 from __future__ import annotations
 
@@ -26,7 +27,7 @@ from ..steps import DeskFault, Trial
 from ..workspace import Desk
 from .comparison import ArcDifference, compare
 from .scenarios import BASE, Scenarios
-from .schema import ENDING
+from .schema import ENDING, Scenario
 
 # How many arcs are tried for what is worst to lose, and how long a check may take, in seconds.
 MOST_TRIED = 300
@@ -35,8 +36,8 @@ PATIENCE = 60
 
 @dataclass(frozen=True)
 class Section:
-    """A scenario in a report. `picture` is the text of an SVG, or empty where `no_picture` says why there is none; `check` is what
-    `dmf check` wrote of the flow."""
+    """A scenario in a report. `picture` is the text of an SVG, or empty where `no_picture` says why
+    there is none; `check` is what `dmf check` wrote of the flow."""
 
     name: str
     begun_from: str
@@ -54,8 +55,9 @@ class Section:
 
 @dataclass(frozen=True)
 class Tried:
-    """What the arcs mean for the value of a scenario, by their names: the losses if one alone is closed, the largest first, and the gains if a
-    second one lies beside one. `said` says which were tried."""
+    """What the arcs mean for the value of a scenario, by their names: the losses if one alone is
+    closed, the largest first, and the gains if a second one lies beside one. `said` says which were
+    tried."""
 
     scenario: str
     value: Quantity
@@ -66,7 +68,8 @@ class Tried:
 
 @dataclass(frozen=True)
 class Findings:
-    """All that a report says of the network and the scenarios of a desk. The first section is the network of the table."""
+    """All that a report says of the network and the scenarios of a desk. The first section is the
+    network of the table."""
 
     title: str
     notes: str
@@ -82,17 +85,28 @@ class Findings:
 
 
 def checked(desk: Desk, program: Program = None) -> str:
-    """What `dmf check` writes of the present flow: `c greatest 165`. Raises a `DeskFault` if it finds none."""
-    flows, measure = desk.flows(), desk.measure
+    """What `dmf check` writes of the present flow: `c greatest 165`. Raises a `DeskFault` if it
+    finds none."""
+    network = desk.network
+    flows, measure = desk.flows(), network.measure
     lines = [f"s {measure.whole(desk.value)}\n"]
-    lines += (f"f {desk.lines[number - 1].tail} {desk.lines[number - 1].head} {flow}\n" for number, flow in flows.items())
+    lines += (
+        f"f {network.lines[number - 1].tail} {network.lines[number - 1].head} {flow}\n"
+        for number, flow in flows.items()
+    )
     with tempfile.NamedTemporaryFile("w", prefix="dmf-", suffix=".max") as file:
         file.write(problem(desk))
         file.flush()
         used = executable.program() if program is None else program
         try:
             words = [used, "check", file.name]
-            ran = subprocess.run(words, input="".join(lines).encode(), capture_output=True, timeout=PATIENCE, check=False)
+            ran = subprocess.run(
+                words,
+                input="".join(lines).encode(),
+                capture_output=True,
+                timeout=PATIENCE,
+                check=False,
+            )
         except subprocess.TimeoutExpired:
             raise DeskFault(f"dmf check took more than {PATIENCE} seconds") from None
     told = (ran.stdout or ran.stderr).decode(errors="replace").strip()
@@ -101,73 +115,119 @@ def checked(desk: Desk, program: Program = None) -> str:
     return told
 
 
-def _section(desk: Desk, name: str, differences: tuple[ArcDifference, ...] = ()) -> Section:
-    """What is to be said of the scenario that a desk shows."""
-    scenario = desk.project.scenario(name) if isinstance(desk, Scenarios) else None
+def _section(
+    desk: Desk,
+    name: str,
+    first: int,
+    scenario: Scenario | None = None,
+    differences: tuple[ArcDifference, ...] = (),
+) -> Section:
+    """What is to be said of what a desk shows, whose steps begin with this one: of a scenario, if
+    it is one."""
+    network = desk.network
     picture, why = "", ""
     try:
         text = drawn(desk, "picture.svg").decode()
         picture = text[text.index("<svg") :]
     except DeskFault as fault:
         why = str(fault)
-    first = 1 if isinstance(desk, Scenarios) else 0
     made = desk.steps[first : desk.at]
     return Section(
-        name, scenario.begun_from if scenario else "", scenario.note if scenario else "", desk.value,
-        tuple((step.text, step.value) for step in made), tuple(step.text for step in scenario.left_out) if scenario else (),
-        tuple((desk.names.arc(number), desk.line(number).capacity) for number in desk.cut_arcs()), tuple(desk.names.side(desk.side())),
-        differences, picture, why, checked(desk),
-    )  # fmt: skip
+        name,
+        scenario.begun_from if scenario else "",
+        scenario.note if scenario else "",
+        desk.value,
+        tuple((step.text, step.value) for step in made),
+        tuple(step.text for step in scenario.left_out) if scenario else (),
+        tuple(
+            (network.names.arc(number), network.line(number).capacity) for number in desk.cut_arcs()
+        ),
+        tuple(network.names.side(desk.side())),
+        differences,
+        picture,
+        why,
+        checked(desk),
+    )
 
 
 def _sections(desk: Desk) -> Iterator[Section]:
-    if not isinstance(desk, Scenarios):
-        yield _section(desk, "the plan")
+    project = Scenarios.of(desk)
+    if project is None:
+        yield _section(desk, "the plan", 0)
         return
-    with desk.visiting(BASE):
-        yield _section(desk, BASE)
-    for scenario in desk.project.scenarios:
-        differences = compare(desk, BASE, scenario.name).arcs
-        with desk.visiting(scenario.name):
-            yield _section(desk, scenario.name, differences)
+    with project.visiting(BASE) as shown:
+        yield _section(shown, BASE, 1)
+    for scenario in project.project.scenarios:
+        differences = compare(project, BASE, scenario.name).arcs
+        with project.visiting(scenario.name) as shown:
+            yield _section(shown, scenario.name, 1, scenario, differences)
 
 
 def _tried(desk: Desk) -> Tried:
     """What the arcs of the present state mean for its value."""
-    open_arcs = [number for number in desk.pictured() if not desk.line(number).is_closed]
+    network = desk.network
+    open_arcs = [number for number in network.pictured() if not network.line(number).is_closed]
     is_all = len(open_arcs) <= MOST_TRIED
     cut = list(desk.cut_arcs())
     numbers = list(dict.fromkeys([*cut, *open_arcs])) if is_all else cut[:MOST_TRIED]
     told = f"each of the {len(open_arcs)} arcs and of the limit was tried alone"
     if not is_all:
-        told = f"of {len(open_arcs)} arcs only the {len(numbers)} of the limit were tried, each alone; others may be worse to lose"
+        told = (
+            f"of {len(open_arcs)} arcs only the {len(numbers)} of the limit were tried, each "
+            "alone; "
+            "others may be worse to lose"
+        )
     found: list[Trial] = list(trials_of(desk, numbers))
-    value, name = desk.value, desk.names.arc
+    value, name = desk.value, network.names.arc
     losses = [(name(it.arc), value - it.closed) for it in found if it.closed < value]
-    gains = [(name(it.arc), it.doubled - value) for it in found if it.doubled is not None and it.doubled > value]
-    scenario = desk.scenario.name if isinstance(desk, Scenarios) else "the plan"
+    gains = [
+        (name(it.arc), it.doubled - value)
+        for it in found
+        if it.doubled is not None and it.doubled > value
+    ]
     return Tried(
-        scenario, value, tuple(sorted(losses, key=lambda it: -it[1])), tuple(sorted(gains, key=lambda it: -it[1])), told
-    )  # fmt: skip
+        desk.state.scenario or "the plan",
+        value,
+        tuple(sorted(losses, key=lambda it: -it[1])),
+        tuple(sorted(gains, key=lambda it: -it[1])),
+        told,
+    )
 
 
 def _table_arcs(desk: Desk) -> int:
-    """Count the arcs of the table. One that was closed and opened again has a new number, and is the arc that it was."""
-    return sum((desk.line(number).first or number) <= desk.first_count for number in desk.pictured())
+    """Count the arcs of the table. One that was closed and opened again has a new number, and is
+    the arc that it was."""
+    network = desk.network
+    return sum(
+        (network.line(number).first or number) <= network.first_count
+        for number in network.pictured()
+    )
 
 
 def findings(desk: Desk) -> Findings:
-    """What is to be said of a desk. Takes as long as the steps of all scenarios take, a comparison of each, and a sweep. Raises a `DeskFault`
-    if the flow is not greatest."""
+    """What is to be said of a desk. Takes as long as the steps of all scenarios take, a comparison
+    of each, and a sweep. Raises a `DeskFault` if the flow is not greatest."""
+    network = desk.network
     if not desk.is_greatest:
-        raise DeskFault("the flow is not greatest, so there is no limit to tell; `solve` first")
-    subject, names = desk.subject, desk.names
-    with_notes = desk.project.notes if isinstance(desk, Scenarios) else ""
-    assumed = desk.project.table.assumed if isinstance(desk, Scenarios) else subject.notes
+        raise DeskFault("the flow is not greatest, so the limit is not known; `solve` first")
+    subject, names = network.subject, network.names
+    kept = Scenarios.of(desk)
+    with_notes, assumed = (
+        (kept.project.notes, kept.project.table.assumed) if kept else ("", subject.notes)
+    )
     return Findings(
-        os.path.basename(subject.path).removesuffix(ENDING), with_notes, desk.measure.told_unit, subject.noun or "arc", names.terminal(desk.source), names.terminal(desk.sink),
-        _table_arcs(desk), len(names.places), tuple(assumed), tuple(_sections(desk)), _tried(desk),
-    )  # fmt: skip
+        os.path.basename(subject.path).removesuffix(ENDING),
+        with_notes,
+        network.measure.told_unit,
+        subject.noun or "arc",
+        names.terminal(network.source),
+        names.terminal(network.sink),
+        _table_arcs(desk),
+        len(names.places),
+        tuple(assumed),
+        tuple(_sections(desk)),
+        _tried(desk),
+    )
 
 
 # How many rows of a table are shown, and how many places in a sentence.
@@ -208,18 +268,33 @@ def _counted(count: int, noun: str) -> str:
 
 
 def _head(found: Findings) -> Iterator[str]:
-    yield f"<h1>{_text(found.title)}: what can be sent from {_text(found.source)} to {_text(found.sink)}</h1>"
+    yield (
+        f"<h1>{_text(found.title)}: what can be sent from {_text(found.source)} to "
+        f"{_text(found.sink)}</h1>"
+    )
     unit = f", in {_text(found.unit)}" if found.unit else ""
-    yield f'<p class="faint">{_counted(found.arcs, _text(found.noun))} between {found.places} places{unit}. {time.strftime("%-d %B %Y")}.</p>'
+    yield (
+        f'<p class="faint">{_counted(found.arcs, _text(found.noun))} between {found.places} '
+        f'places{unit}. {time.strftime("%-d %B %Y")}.</p>'
+    )
     if found.notes:
         yield f'<p class="note">{_lines(found.notes)}</p>'
     base = found.sections[0].value
     if len(found.sections) > 1:
         yield "<h2>The scenarios</h2>"
         rows = [
-            [_text(it.name), plain_text(it.value), "" if it.name == BASE else moved(base, it.value), str(len(it.steps))] for it in found.sections
-        ]  # fmt: skip
-        titles = ("scenario", False), (_text(f"greatest value ({found.unit})" if found.unit else "greatest value"), True)
+            [
+                _text(it.name),
+                plain_text(it.value),
+                "" if it.name == BASE else moved(base, it.value),
+                str(len(it.steps)),
+            ]
+            for it in found.sections
+        ]
+        titles = ("scenario", False), (
+            _text(f"greatest value ({found.unit})" if found.unit else "greatest value"),
+            True,
+        )
         yield from _table([*titles, ("against base", True), ("steps", True)], rows)
         yield f'<p class="faint">{BASE} is the network of the table, without a step.</p>'
 
@@ -231,40 +306,67 @@ def _section_lines(found: Findings, it: Section) -> Iterator[str]:
         yield f'<p class="faint">begun with the steps of {_text(it.begun_from)}</p>'
     if it.note:
         yield f'<p class="note">{_lines(it.note)}</p>'
-    by = "" if it is base else f" <small>({moved(base.value, it.value)} than base)</small>" if it.value != base.value else " <small>(as base)</small>"
+    by = (
+        ""
+        if it is base
+        else f" <small>({moved(base.value, it.value)} than base)</small>"
+        if it.value != base.value
+        else " <small>(as base)</small>"
+    )
     yield f'<p class="value">{_told(it.value, found.unit)}{by}</p>'
     if it.steps:
         yield "<h3>What was changed</h3><ol>"
-        yield from (f"<li>{_text(text)} <span class='faint'>then {_told(value, found.unit)}</span></li>" for text, value in it.steps)
+        yield from (
+            f"<li>{_text(text)} <span class='faint'>then {_told(value, found.unit)}</span></li>"
+            for text, value in it.steps
+        )
         yield "</ol>"
     if it.left_out:
-        yield "<p>Left out, since the table has changed and they mean nothing in it any more: " + "; ".join(map(_text, it.left_out)) + ".</p>"
+        steps = "; ".join(map(_text, it.left_out))
+        yield (
+            "<p>Left out, since the table has changed and they mean nothing in it any more: "
+            f"{steps}.</p>"
+        )
     yield from _limit(found, it)
     if it.picture:
         data = base64.b64encode(it.picture.encode()).decode()
-        yield f'<figure><img alt="The network of {_text(it.name)}; what is the limit is red" src="data:image/svg+xml;base64,{data}"></figure>'
+        yield (
+            f'<figure><img alt="The network of {_text(it.name)}; what is the limit is red" '
+            f'src="data:image/svg+xml;base64,{data}"></figure>'
+        )
     else:
         yield f'<p class="faint">There is no picture: {_text(it.no_picture)}.</p>'
     if it.differences:
         yield from _differences(it.differences)
-    yield f'<p class="faint">The flow was judged by <code>dmf check</code>: <code>{_text(it.check)}</code></p></section>'
+    yield (
+        '<p class="faint">The flow was judged by <code>dmf check</code>: '
+        f"<code>{_text(it.check)}</code></p></section>"
+    )
 
 
 def _limit(found: Findings, it: Section) -> Iterator[str]:
     """The limit in plain words."""
     yield "<h3>What is the limit</h3>"
     if not it.limit:
-        yield f"<p>Nothing leads from {_text(found.source)} to {_text(found.sink)} any more, so nothing can be sent.</p>"
+        yield (
+            f"<p>Nothing leads from {_text(found.source)} to {_text(found.sink)} any more, so "
+            "nothing can be sent.</p>"
+        )
         return
     one = len(it.limit) == 1
     yield (
-        f"<p>All that is sent has to pass {'this one' if one else f'these {len(it.limit)}'}, and together {'it carries' if one else 'they carry'} "
+        f"<p>All that is sent has to pass {'this one' if one else f'these {len(it.limit)}'}, and "
+        f"together {'it carries' if one else 'they carry'} "
         f"{_told(it.value, found.unit)} at most. To widen only others brings nothing.</p>"
     )
-    yield from _table([("limit", False), ("carries at most", True)], [[f'<span class="limit">{_text(arc)}</span>', plain_text(most)] for arc, most in it.limit])
+    yield from _table(
+        [("limit", False), ("carries at most", True)],
+        [[f'<span class="limit">{_text(arc)}</span>', plain_text(most)] for arc, most in it.limit],
+    )
     if it.side:
         more = f" and {len(it.side) - MOST_PLACES} more" if len(it.side) > MOST_PLACES else ""
-        yield f'<p class="faint">Before it: {", ".join(map(_text, it.side[:MOST_PLACES]))}{more}.</p>'
+        side = ", ".join(map(_text, it.side[:MOST_PLACES]))
+        yield f'<p class="faint">Before it: {side}{more}.</p>'
 
 
 def _differences(differences: tuple[ArcDifference, ...]) -> Iterator[str]:
@@ -276,21 +378,40 @@ def _differences(differences: tuple[ArcDifference, ...]) -> Iterator[str]:
 def _trial_lines(found: Findings, tried: Tried) -> Iterator[str]:
     yield f"<h2>Worst to lose, best to have twice: {_text(tried.scenario)}</h2>"
     yield f'<p class="faint">{_text(tried.said[:1].upper() + tried.said[1:])}.</p>'
-    columns: list[tuple[str, str, tuple[tuple[str, Quantity], ...], Callable[[Quantity, Quantity], Quantity], str]] = [
+    columns: list[
+        tuple[
+            str,
+            str,
+            tuple[tuple[str, Quantity], ...],
+            Callable[[Quantity, Quantity], Quantity],
+            str,
+        ]
+    ] = [
         ("closed", "loses", tried.losses, EXACT.subtract, "Closed alone, none costs anything."),
-        ("with a second one beside it", "gains", tried.gains, EXACT.add, "A second one beside any of them brings nothing."),
+        (
+            "with a second one beside it",
+            "gains",
+            tried.gains,
+            EXACT.add,
+            "A second one beside any of them brings nothing.",
+        ),
     ]
     for title, word, rows, sign, none in columns:
         if not rows:
             yield f"<p>{none}</p>"
             continue
-        cells = [[_text(arc), plain_text(by), plain_text(sign(tried.value, by))] for arc, by in rows]
+        cells = [
+            [_text(arc), plain_text(by), plain_text(sign(tried.value, by))] for arc, by in rows
+        ]
         yield from _table([(title, False), (word, True), ("then", True)], cells)
 
 
 def report(desk: Desk) -> str:
-    """The report of a desk: of a project with all its scenarios, and of other desks with the present state. Takes as long as all steps of
-    all scenarios take, a comparison of each and a sweep. It carries the present problem. Raises a `DeskFault` if the flow is not greatest, and what a session raises."""
+    """The report of a desk: of a project with all its scenarios, and of other desks with the
+    present state. Takes as long as all steps of all scenarios take, a comparison of each and a
+    sweep. It carries the present problem. Raises a `DeskFault` if the flow is not greatest, and
+    what a session raises.
+    """
     found = findings(desk)
     lines = [*_head(found)]
     for section in found.sections:
@@ -298,10 +419,16 @@ def report(desk: Desk) -> str:
     lines += _trial_lines(found, found.tried)
     lines += ["<h2>What this rests on</h2>"]
     if found.assumed:
-        lines += ["<p>Taken for granted when the table was read:</p><ul>", *(f"<li>{_text(it)}</li>" for it in found.assumed), "</ul>"]
+        lines += [
+            "<p>Taken for granted when the table was read:</p><ul>",
+            *(f"<li>{_text(it)}</li>" for it in found.assumed),
+            "</ul>",
+        ]
     lines.append(
-        f"<p>Values and limits are those of dmf {__version__}, whose solves are proved to find the greatest value; this report is only "
-        "tested. A limit is a set of arcs that all has to pass, of the least capacity; of several, the one nearest to the source.</p>"
+        f"<p>Values and limits are those of dmf {__version__}, whose solves are proved to find the "
+        "greatest value; this report is only "
+        "tested. A limit is a set of arcs that all has to pass, of the least capacity; of several, "
+        "the one nearest to the source.</p>"
     )
     page = (Path(__file__).with_name("report.html")).read_text(encoding="utf-8")
     title = f"{display(found.title)}: report"

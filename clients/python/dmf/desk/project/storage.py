@@ -1,9 +1,11 @@
-"""A project in its file. What is done to it is kept at once as a line of a journal beside the file, which takes the same time whatever
-the project has; when a desk ends, the file is written anew, beside the old one at first, and the last versions stay beside it.
+"""A project in its file. What is done to it is kept at once as a line of a journal beside the file,
+which takes the same time whatever the project has; when a desk ends, the file is written anew,
+beside the old one at first, and the last versions stay beside it.
 
-The journal names the project and how many acts came before it, and each of its lines has its number. So a file and a journal that do not
-belong together are refused, and a line that the file has already is not done twice. A last line without its end is the act that was in
-hand when the desk was killed."""
+The journal names the project and how many acts came before it, and each of its lines has its
+number. So a file and a journal that do not belong together are refused, and a line that the file
+has already is not done twice. A last line without its end is the act that was in hand when the desk
+was killed."""
 
 from __future__ import annotations
 
@@ -14,13 +16,13 @@ import json
 import os
 import re
 import shutil
-import signal
 import stat
-from collections.abc import Iterator
+from collections.abc import Iterator, Sequence
+from dataclasses import dataclass
 from typing import Any
 
 from ...files import write_file
-from .acts import act_of, prepared
+from .acts import act_of, done
 from .schema import Fields, Project, ProjectFault, parse_project, read_json, text_of
 
 MARK = "dmf journal"
@@ -44,10 +46,12 @@ class Journal:
         self.path = path
         while True:
             # A link could lead to a file of somebody's.
-            self._file = os.open(path, os.O_RDWR | os.O_CREAT | os.O_APPEND | os.O_NOFOLLOW | os.O_NONBLOCK, 0o666)
+            self._file = os.open(
+                path, os.O_RDWR | os.O_CREAT | os.O_APPEND | os.O_NOFOLLOW | os.O_NONBLOCK, 0o666
+            )
             try:
                 if not stat.S_ISREG(os.fstat(self._file).st_mode):
-                    raise OSError(errno.EINVAL, "it is no file")
+                    raise OSError(errno.EINVAL, "it is not a file")
                 fcntl.flock(self._file, fcntl.LOCK_EX | fcntl.LOCK_NB)
                 # The desk that had the lock may have removed the file before this one got it.
                 with contextlib.suppress(FileNotFoundError):
@@ -59,42 +63,45 @@ class Journal:
                 if isinstance(error, OSError) and error.errno in TAKEN:
                     raise Locked from None
                 raise
-        self._length = os.fstat(self._file).st_size
 
-    def begin(self, identity: str, serial: int) -> None:
-        """Begins it anew, after so many acts."""
-        os.ftruncate(self._file, 0)
-        self._length = 0
-        self.append(_head(identity, serial))
+    @property
+    def length(self) -> int:
+        return os.fstat(self._file).st_size
 
     @staticmethod
     def is_begun(text: bytes, identity: str) -> bool:
-        """Return True if a text without an end of a line can be what a kill left of a journal that was begun."""
+        """Return True if a text without an end of a line can be what a kill left of a journal that
+        was begun."""
         head = _head(identity, 0)[:-2]
-        return head.startswith(text) or text.startswith(head) and re.fullmatch(rb"[0-9]+}?", text[len(head) :]) is not None
+        return (
+            head.startswith(text)
+            or text.startswith(head)
+            and re.fullmatch(rb"[0-9]+}?", text[len(head) :]) is not None
+        )
 
-    def append(self, line: bytes) -> None:
-        """Appends a line, and waits until it is on the disk. If that fails, raises an OSError, and the journal is as it was."""
-        line += b"\n"
-        if self._length < 0:
-            raise OSError(errno.EIO, "a line of the journal was not written whole")
+    def write(self, end: int, lines: bytes) -> None:
+        """Cut the journal back to an end, append lines, and wait until they are on the disk. Raise
+        an OSError if that fails; whatever of them is there then is cut back before the next
+        ones."""
+        os.ftruncate(self._file, end)
         try:
-            left = line
+            left = lines
             while left:
                 left = left[os.write(self._file, left) :]
             os.fdatasync(self._file)
-        except BaseException:
-            self._length, length = -1, self._length
-            os.ftruncate(self._file, length)
-            self._length = length
-            raise
-        self._length += len(line)
-
-    def end(self, *, is_folded: bool) -> None:
-        """Drops the lock, and removes the journal if the project's file has all of it."""
-        if is_folded:
+        except OSError:
             with contextlib.suppress(OSError):
+                os.ftruncate(self._file, end)
+            raise
+
+    def end(self, *, is_folded: bool, at: int | None = None) -> None:
+        """Drops the lock, and removes the journal if the project's file has all of it; else cuts it
+        back to an end, if one is given."""
+        with contextlib.suppress(OSError):
+            if is_folded:
                 os.remove(self.path)
+            elif at is not None:
+                os.ftruncate(self._file, at)
         os.close(self._file)
 
 
@@ -110,19 +117,45 @@ def versions_of(path: str) -> list[str]:
     """The older versions of a project's file, the oldest first: `water.dmf.json.~7~`."""
     folder, name = os.path.split(path)
     form = re.compile(re.escape(name) + r"\.~([0-9]{1,9})~")
-    found = [(int(match[1]), match[0]) for match in map(form.fullmatch, os.listdir(folder or ".")) if match]
+    found = [
+        (int(match[1]), match[0])
+        for match in map(form.fullmatch, os.listdir(folder or "."))
+        if match
+    ]
     return [os.path.join(folder, version) for _, version in sorted(found)]
 
 
+# What is done to a project, as a line of the journal has it: a word and what goes with it.
+Act = tuple[str, Any]
+
+
+@dataclass(frozen=True)
+class Record:
+    """A project as it is after some acts: how far the journal goes that tells them, from 0 if the
+    project's file has them all; and the last lines of it, which `ProjectFile.write` writes."""
+
+    project: Project
+    journal_end: int = 0
+    lines: bytes = b""
+
+
 class ProjectFile:
-    """A project that is open. `why_not` says why this desk may only read it, and is empty if it writes it; `news` are what is
-    to be said: what a kill has cost, and what somebody else has written meanwhile."""
+    """A project that is open. `why_not` says why this desk may only read it, and is empty if it
+    writes it; `news` are what is to be said: what a kill has cost, and what somebody else has
+    written meanwhile."""
 
     def __init__(
-        self, path: str, project: Project, journal: Journal | None, why_not: str = "", filed: int = 0, has_rest: bool = False
+        self,
+        path: str,
+        project: Project,
+        journal: Journal | None,
+        why_not: str = "",
+        filed: int = 0,
+        has_rest: bool = False,
     ) -> None:
         self.path = path
-        self.project = project
+        # The project as it was opened.
+        self.record = Record(project, journal.length if journal else 0)
         self.why_not = why_not
         self.news: list[str] = []
         self._seen = _stamp(path)
@@ -134,39 +167,59 @@ class ProjectFile:
 
     @property
     def is_folded(self) -> bool:
-        """Return True if the file has all that the journal has, so that opening it writes nothing."""
-        return self._journal is None or self.project.serial == self._filed and not self._has_rest
+        """Return True if the file has all that the journal has, so that opening it writes
+        nothing."""
+        return (
+            self._journal is None
+            or self.record.project.serial == self._filed
+            and not self._has_rest
+        )
 
     def fold(self) -> None:
-        """Write what the journal has into the file. If that cannot be done, the project can only be read from then on."""
+        """Write what the journal has into the file. If that cannot be done, the project can only be
+        read from then on."""
         if self.is_folded:
+            self.record = Record(self.record.project)
             return
-        self.news += [f"the last line of {journal_of(self.path)} has no end: what was in hand then is lost"] * self._has_rest
+        self.news += [
+            f"the last line of {journal_of(self.path)} has no end: what was in hand then is lost"
+        ] * self._has_rest
         try:
-            self.write()
+            self._write_file(self.record.project)
+            self.record = Record(self.record.project)
         except OSError as error:
             self.why_not = f"it cannot be written: {error.strerror}"
             self.end()
 
-    def keep(self, word: str, content: Any) -> None:
-        """Does this to the project, once it is on the disk. Raises an OSError if that fails, and a `ProjectFault` if it cannot be done, and
-        leaves all as it was."""
-        if self._journal is None:
-            raise OSError(errno.EROFS, self.why_not)
-        with _uninterrupted():
-            if self.project.serial == self._filed:
-                self._journal.begin(self.project.identity, self._filed)
-            line = json.dumps({"serial": self.project.serial + 1, word: content}).encode()
+    def after(self, record: Record, acts: Sequence[Act]) -> Record:
+        """Return the record after some acts, which are not written yet. Raise a `ProjectFault` if
+        one cannot be done."""
+        if not acts:
+            return record
+        project, lines = record.project, [] if record.journal_end else [
+            _head(record.project.identity, self._filed)
+        ]
+        for word, content in acts:
+            line = json.dumps({"serial": project.serial + 1, word: content}).encode()
             # What is done is what the line says.
-            make = prepared(self.project, word, read_json(line)[word], word)
-            self._journal.append(line)
-            make()
+            project = done(project, word, read_json(line)[word], word)
+            lines.append(line)
+        text = b"".join(line + b"\n" for line in lines)
+        return Record(project, record.journal_end + len(text), text)
 
-    def write(self) -> None:
-        """Writes the file anew, and keeps the one before it as a version. Raises an OSError if that fails; nothing is lost then."""
+    def write(self, before: Record, after: Record) -> None:
+        """Write the lines of a record after those of the one before it, so that they are on the
+        disk. Raise an OSError if that fails."""
         if self._journal is None:
             raise OSError(errno.EROFS, self.why_not)
-        text, is_theirs = text_of(self.project), _stamp(self.path) != self._seen
+        self._journal.write(before.journal_end, after.lines)
+
+    def _write_file(self, project: Project) -> None:
+        """Writes the file anew, and keeps the one before it as a version. Raises an OSError if that
+        fails; nothing is lost then."""
+        if self._journal is None:
+            raise OSError(errno.EROFS, self.why_not)
+        text, is_theirs = text_of(project), _stamp(self.path) != self._seen
         version = self._version()
         try:
             write_file(self.path, text)
@@ -175,9 +228,11 @@ class ProjectFile:
                 os.remove(version)
             raise
         if is_theirs and version:
-            self.news.append(f"somebody else has written {self.path} meanwhile: that is {version} now")
+            self.news.append(
+                f"somebody else has written {self.path} meanwhile: that is {version} now"
+            )
         self._seen = _stamp(self.path)
-        self._filed = self.project.serial
+        self._filed = project.serial
         for old in versions_of(self.path)[:-MOST_VERSIONS]:
             with contextlib.suppress(OSError):
                 os.remove(old)
@@ -195,18 +250,20 @@ class ProjectFile:
             shutil.copy2(self.path, version)
         return version
 
-    def end(self) -> None:
-        """Writes the file if something was done, and lets others write it. If it cannot be written, raises an OSError; the journal has
-        all then."""
+    def end(self, record: Record | None = None) -> None:
+        """Writes the file if something was done, and lets others write it. `record` is what the
+        project has come to, if a desk had it. If it cannot be written, raises an OSError; the
+        journal has all then."""
         if self._journal is None:
             return
-        journal = self._journal
+        journal, record = self._journal, record or self.record
+        project = record.project
         try:
-            if self.project.serial > self._filed and not self.why_not:
-                self.write()
+            if project.serial > self._filed and not self.why_not:
+                self._write_file(project)
         finally:
             self._journal, self.why_not = None, self.why_not or "it was closed"
-            journal.end(is_folded=self.project.serial == self._filed)
+            journal.end(is_folded=project.serial == self._filed, at=record.journal_end)
 
     def leave(self) -> None:
         """Let others write it, and leave the file and what is in the journal as they are."""
@@ -231,22 +288,14 @@ def _stamp(path: str) -> tuple[int, ...]:
     return ()
 
 
-@contextlib.contextmanager
-def _uninterrupted() -> Iterator[None]:
-    """Lets Ctrl-C wait for the end of the block."""
-    before = signal.pthread_sigmask(signal.SIG_BLOCK, [signal.SIGINT])
-    try:
-        yield
-    finally:
-        signal.pthread_sigmask(signal.SIG_SETMASK, before)
-
-
 def created(path: str, project: Project) -> ProjectFile:
     """A new project, in a file that is not there yet. Raises an OSError."""
     if os.path.lexists(path):
         raise FileExistsError(errno.EEXIST, "it already exists")
     if os.path.exists(journal_of(path)) and os.path.getsize(journal_of(path)):
-        raise FileExistsError(errno.EEXIST, f"the journal of another one is there, {journal_of(path)}")
+        raise FileExistsError(
+            errno.EEXIST, f"the journal of another one is there, {journal_of(path)}"
+        )
     try:
         journal = Journal(journal_of(path))
     except Locked:
@@ -262,7 +311,8 @@ def created(path: str, project: Project) -> ProjectFile:
 
 
 def opened(path: str) -> ProjectFile:
-    """The project in a file, which has all that was in the journal from then on. Raises what `read_project` raises."""
+    """The project in a file, which has all that was in the journal from then on. Raises what
+    `read_project` raises."""
     file = read_project(path)
     file.fold()
     return file
@@ -280,7 +330,7 @@ def read_project(path: str) -> ProjectFile:
     """
     path = os.path.realpath(path)
     if not stat.S_ISREG(os.stat(path).st_mode):
-        raise OSError(errno.EINVAL, "it is no file")
+        raise OSError(errno.EINVAL, "it is not a file")
     journal, why_not = None, ""
     is_new = not os.path.lexists(journal_of(path))
     try:
@@ -299,8 +349,9 @@ def read_project(path: str) -> ProjectFile:
 
 
 def _read(path: str) -> tuple[Project, int, bool]:
-    """The project of a file and its journal, how many acts the file has, and whether the journal ends with half a line. The journal is read
-    first: if another desk writes the file between, the file has all of that journal."""
+    """The project of a file and its journal, how many acts the file has, and whether the journal
+    ends with half a line. The journal is read first: if another desk writes the file between, the
+    file has all of that journal."""
     journal = _journal_text(journal_of(path))
     with open(path, "rb") as file:
         text = file.read()
@@ -313,7 +364,12 @@ def _read(path: str) -> tuple[Project, int, bool]:
     filed = project.serial
     *lines, rest = journal.split(b"\n")
     if not lines and not Journal.is_begun(rest, project.identity):
-        raise ProjectFault(f"{journal_of(path)} is no journal of this project; move it away to open the file as it is")
+        raise ProjectFault(
+            f"{journal_of(path)} is not a journal of this project; move it away to open the file "
+            "as "
+            "it "
+            "is"
+        )
     count = 0
     for at, line in enumerate(lines, 1):
         place = f"{journal_of(path)}: line {at}"
@@ -327,7 +383,7 @@ def _read(path: str) -> tuple[Project, int, bool]:
             if serial != count:
                 raise ProjectFault(f"the act has the number {serial}, and {count} comes next")
             if serial > filed:
-                prepared(project, word, given, word)()
+                project = done(project, word, given, word)
     return project, filed, bool(rest)
 
 
@@ -336,7 +392,11 @@ def _journal_text(path: str) -> bytes:
     if not os.path.lexists(path):
         return b""
     try:
-        with open(path, "rb", opener=lambda name, flags: os.open(name, flags | os.O_NOFOLLOW | os.O_NONBLOCK)) as file:
+        with open(
+            path,
+            "rb",
+            opener=lambda name, flags: os.open(name, flags | os.O_NOFOLLOW | os.O_NONBLOCK),
+        ) as file:
             if stat.S_ISREG(os.fstat(file.fileno()).st_mode):
                 return file.read()
     except FileNotFoundError:
@@ -344,7 +404,10 @@ def _journal_text(path: str) -> bytes:
     except OSError as error:
         if error.errno != errno.ELOOP:
             raise
-    raise ProjectFault(f"{path} is a link or no file, and so no journal; move it away to open the project as its file is")
+    raise ProjectFault(
+        f"{path} is a link or no file, and so no journal; move it away to open the project as its "
+        "file is"
+    )
 
 
 @contextlib.contextmanager
@@ -357,16 +420,24 @@ def _placed(place: str) -> Iterator[None]:
 
 
 def _begin_of(content: Any, project: Project) -> int:
-    """After how many acts a journal begins. Raises a `ProjectFault` if it is not one of this project, as its file is."""
+    """After how many acts a journal begins. Raises a `ProjectFault` if it is not one of this
+    project, as its file is."""
     fields = Fields(content, "")
     version = fields.take(MARK, int)
     if version != VERSION:
-        raise ProjectFault(f"it is a journal of version {version}, and this dmf reads version {VERSION}")
+        raise ProjectFault(
+            f"it is a journal of version {version}, and this dmf reads version {VERSION}"
+        )
     identity, after = fields.take("id", str), fields.count("after")
     fields.end()
     if identity != project.identity:
-        raise ProjectFault("it is the journal of another project; move it away to open this one as its file is")
+        raise ProjectFault(
+            "it is the journal of another project; move it away to open this one as its file is"
+        )
     if after > project.serial:
-        told = f"it goes on from act {after}, and the file has {project.serial}, so the file is an older version"
+        told = (
+            f"it goes on from act {after}, and the file has {project.serial}, so the file is an "
+            "older version"
+        )
         raise ProjectFault(f"{told}; move the journal away to open the file as it is")
     return after

@@ -1,7 +1,7 @@
 use Rattle.std.proofs.Common.{ap, ◌∙◌, codes}
 use Rattle.clap.specs.Words.{found_of, rows_of, subcommand_rows_of}
 use Rattle.clap.proofs.WalkLemmas.{first_value-rows, one_text-rows}
-use Rattle.dmf_arguments.specs.Words.{checking}
+use Rattle.dmf_arguments.specs.Words.{checking, valuing}
 use Rattle.dmf_arguments.proofs.Reading.{same-holding, same-solving, asked_rows, flag_reads}
 use Rattle.dmf_arguments.proofs.words.arguments_of.Goals as goal
 
@@ -26,6 +26,15 @@ returns-in_ok-path_of-in-Some-check-default-clause-check c = λ cut brief any pr
     let found = found_of c.in-Some-check-default.check.now in
     let both = asked_rows (subcommand_rows_of c.args.matches.now) (rows_of found) _ _ _ _ _ _ _ c.in-Some-check-default.ensures.rows is in
     ap checking (c.in_ok-path_of-in-Some-check-default.ensures path (first_value-rows found (codes "problem") ∙ both.path_is))
+
+-- the values of all arcs were asked for
+pub returns-in-Some-vital-default-clause-vital : goal.returns-in-Some-vital-default-clause-vital
+returns-in-Some-vital-default-clause-vital c = λ progress cut brief any text path is.
+    let found = found_of c.in-Some-vital-default.vital.now in
+    let both = asked_rows (subcommand_rows_of c.args.matches.now) (rows_of found) _ _ _ _ _ _ _ c.in-Some-vital-default.ensures.rows is in
+    ap valuing
+    (flag_reads progress c.get_flag-in-Some-vital-default.result _ c.get_flag-in-Some-vital-default.ensures.value c.get_flag-in-Some-vital-default.ensures.other
+    (one_text-rows found (codes "progress") ∙ both.progress_is))
 
 -- solving was asked for
 pub returns-in-Some-clause-solve : goal.returns-in-Some-clause-solve

@@ -20,7 +20,7 @@ returns-in-Ok-clause-words c =
     ap asked_of (found ∙ ap₂ subcommand_of line words_are) in
     let tells = c.arguments_of.ensures in
     record {
-      taken = λ clean. subst (λ (a : Option Asked). Asks a c.arguments_of.result) asked (tells.nothing, tells.solve, tells.session, tells.check);
+      taken = λ clean. subst (λ (a : Option Asked). Asks a c.arguments_of.result) asked (tells.nothing, tells.solve, tells.session, tells.check, tells.vital);
       refused = λ kind kinds faulty. absurd (no_kinds (sym none ∙ faulty));
     }
 

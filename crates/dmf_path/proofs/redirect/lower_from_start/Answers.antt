@@ -18,7 +18,7 @@ returns-then-not-is_from_start-clause-may c =
     }
 
 pub surround-requires : goal.surround-requires
-surround-requires c = c.requires.goal_is
+surround-requires c = record { fit = c.requires.fit; goal = c.requires.goal_is }
 
 pub lower_labels-requires : goal.lower_labels-requires
 lower_labels-requires c =

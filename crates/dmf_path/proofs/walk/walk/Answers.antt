@@ -5,6 +5,7 @@ use Rattle.dmf_node.specs.Node.{IsNode}
 use Rattle.dmf_links.specs.Links.{tail_of}
 use Rattle.dmf_links.specs.LinkTable.{links_of}
 use Rattle.dmf_path.specs.Ball.{AreNodes}
+use Rattle.dmf_path.specs.Windows.{AreRanges}
 use Rattle.dmf_path.specs.Held.{Way, way_of}
 use Rattle.dmf_path.specs.Residual.{ResidualLinks, residual_of, with_settled_rooms}
 use Rattle.dmf_path.specs.Walk.{IsWalk}
@@ -42,8 +43,9 @@ first_leading-look-requires-clause-seen c =
     record {
       one_label_each = omega (arith, nodes, c.requires.searching.aimed.one_label_each);
       one_each = λ some. omega (arith, nodes, (fit.known some).near.one_each);
-      nodes = λ some. subst (λ n. AreNodes n c.args.ball.now.around.queue c.args.ball.now.around.done) (sym nodes) (fit.known some).nodes;
-      inside = fit.tidy;
+      nodes = λ some. subst (λ n. AreNodes n c.args.ball.now.around.queue) (sym nodes) (fit.known some).nodes;
+      tidy = fit.tidy;
+      ranges = λ known. subst (λ (x : ResidualLinks). AreRanges x.links c.args.ball.now.windows) (sym c.loop-node.invariant.on.same) (fit.windows known).ranges;
     }
 
 -- the turn
@@ -72,6 +74,7 @@ turn c =
           let known = c.requires.fit.known some in
           let is : c.args.ball.now.goal ≡ c.loop-node.trail.goal = c.requires.around some ∙ sym c.loop-node.invariant.goal in
           rw is at known.near;
+      windows = c.requires.fit.windows;
       from = omega (arith, found.from_first, found.order);
       skipped = found.from_first;
       order = found.order;

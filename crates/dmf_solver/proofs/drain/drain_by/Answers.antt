@@ -17,7 +17,7 @@ begun : (g : _) (c : In_ok-touched g) → IsCarryingSearch c.args.state.now c.ar
     × (flows_read Along c.args.state.now.flows c.args.carrying.pairs ≡ c.args.state.now.flows)
 begun g c =
     let s = c.args.state.now in
-    carrying-first s c.args.carrying c.nodes.ensures.state c.requires.carrying
+    carrying-first s c.args.carrying c.most_touched.ensures c.requires.carrying
 
 pub drain_along-requires-clause-carrying : goal.drain_along-requires-clause-carrying
 drain_along-requires-clause-carrying g c = (c.args.state.now.flows, (begun g (goal.at.drain_along-requires-clause-carrying g c).In_ok-touched).0)
@@ -34,7 +34,7 @@ list_drained-requires-clause-below g c =
     let s = c.args.state.now in
     let here = begun g (goal.at.list_drained-requires-clause-below g c).In_ok-touched in
     let pairs = length-carries s s.flows _ c.args.carrying here.0 in
-    let flows = AllZip-long _ s.network.arcs s.flows c.nodes.ensures.state.flow.within in
+    let flows = AllZip-long _ s.network.arcs s.flows c.most_touched.ensures.flow.within in
     subst (λ count. AreBelow count c.drain_along.new.touched) (omega (arith, pairs, flows))
     (c.drain_along.ensures.touched.below (c.in_ok-touched.ensures (length c.args.carrying.pairs)))
 
@@ -61,14 +61,14 @@ returns-clause-moves g c =
     let here = begun g (goal.at.returns-clause-moves g c).In_ok-touched in
     let drains = rw here.1 at (c.drain_along.ensures.drains s.flows here.0).1.drains in
     IfOk-weaker c.list_drained.result _ _ (λ drained listed. draining-moves s c.args.turn.arc c.args.turn.limit last drained.moves.items
-    c.nodes.ensures.state c.requires.is_there drains listed) c.list_drained.ensures.moves
+    c.most_touched.ensures c.requires.is_there drains listed) c.list_drained.ensures.moves
 
 pub returns-clause-drained : goal.returns-clause-drained
 returns-clause-drained g c =
     let s = c.args.state.now in
     let here = (goal.at.returns-clause-drained g c).After-drain_along in
     tells-listed s (c.args.turn ∷ []) (flows_read Along s.flows c.drain_along.new.search.pairs) c.list_drained.result _ _
-    (one_each s s.flows _ c.drain_along.new.search (drained g here) ∙ sym (AllZip-long _ s.network.arcs s.flows c.nodes.ensures.state.flow.within))
+    (one_each s s.flows _ c.drain_along.new.search (drained g here) ∙ sym (AllZip-long _ s.network.arcs s.flows c.most_touched.ensures.flow.within))
     c.list_drained.ensures.moves (told g here)
 
 pub returns-in_err-touched-clause-drained : goal.returns-in_err-touched-clause-drained

@@ -22,7 +22,7 @@ pub loop-i-init : goal.loop-i-init
 loop-i-init g c =
     let s = c.args.state.now in
     let turns = turns_to_zero (numbers c.args.arcs.now) in
-    let first = carrying-first s c.args.search c.nodes.ensures.state c.requires.carrying in
+    let first = carrying-first s c.args.search c.most_touched.ensures c.requires.carrying in
     record {
       up_to = record {
         carrying = first.0;
@@ -60,7 +60,7 @@ loop-i-preserved g c =
     let drains = c.drain_in_turn.ensures.drains unpaired is.up_to.carrying (emptied-before 0 arcs s.network s.flows i c.requires.arcs c.loop-i-test.true) in
     let pairs = length-carries s unpaired _ c.loop-i.search is.up_to.carrying in
     let long : length c.loop-i.search.pairs ≡ length s.flows + 1 =
-    omega (arith, pairs, AllZip-long _ s.network.arcs s.flows c.nodes.ensures.state.flow.within) in
+    omega (arith, pairs, AllZip-long _ s.network.arcs s.flows c.most_touched.ensures.flow.within) in
     record {
       up_to = subst (λ (list : List ℕ). AreDrainedUpTo s (turns_to_zero js) rest list search (g.W.Watch.drained c.args.watch.now)
           (g.W.Watch.drained c.drain_in_turn.new.watch)) (sym same)
@@ -109,7 +109,7 @@ returns-clause-moves g c =
     let js = numbers arcs in
     let last = drained_flows s arcs c.loop-i.search in
     let drains = drains-told s.network 1 (length js) js s.flows last _ _ (told g (goal.at.returns-clause-moves g c).After-loop-i) in
-    IfOk-weaker c.list_drained.result _ _ (λ drained listed. shutting-moves s js last drained.moves.items c.nodes.ensures.state
+    IfOk-weaker c.list_drained.result _ _ (λ drained listed. shutting-moves s js last drained.moves.items c.most_touched.ensures
     (HasArcs-open 0 arcs s.network c.requires.arcs) drains listed) c.list_drained.ensures.moves
 
 pub returns-clause-told : goal.returns-clause-told
@@ -125,7 +125,7 @@ returns-clause-drained g c =
     tells-listed s (turns_to_zero (numbers c.args.arcs.now)) (drained_flows s c.args.arcs.now c.loop-i.search)
     c.list_drained.result _ _
     (one_each s (flows_without c.args.arcs.now s.flows) _ c.loop-i.search (carrying g here)
-    ∙ sym (AllZip-long _ s.network.arcs s.flows c.nodes.ensures.state.flow.within)) c.list_drained.ensures.moves (told g here)
+    ∙ sym (AllZip-long _ s.network.arcs s.flows c.most_touched.ensures.flow.within)) c.list_drained.ensures.moves (told g here)
 
 -- Nothing was reported.
 pub returns-in_err-touched-clause-told : goal.returns-in_err-touched-clause-told

@@ -12,7 +12,7 @@ loop-k-preserved c =
     let loss : ℕ = c.in_ok-losses-2.field-0 in
     let inside : k < length old = omega (arith, c.loop-k.losses.ok.0, c.loop-k-test.true, c.len-k-end.ensures, c.loop-k.invariant.one_each, c.in_ok-losses.ensures.len, ap length c.arcs.ensures.value) in
     record {
-      ready = c.loss_of.ensures.ready;
+      ready = c.loss_of_arc.ensures.ready;
       one_each = length-set old k loss ∙ c.loop-k.invariant.one_each;
       losses = λ i h. ⊎_elim
           (λ (here : i ≡ k).

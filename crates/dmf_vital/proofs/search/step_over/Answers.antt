@@ -1,17 +1,20 @@
-use Rattle.std.proofs.Common.{◌<◌, ◌-◌, ap, ◌∙◌, sym, subst, arith, get_or, length}
+use Rattle.std.proofs.Common.{ℕ, ◌≡◌, ◌<◌, ◌-◌, false, ap, ◌∙◌, sym, subst, arith, get_or, length}
+use Rattle.std.proofs.lemmas.Bool.{both_ways}
 use Rattle.std.proofs.lemmas.List.{get_or_read}
 use Rattle.std.proofs.lemmas.Slice.Zip.{AllZip-long}
 use Rattle.dmf_node.specs.Node.{IsNode}
 use Rattle.dmf_state.specs.declared.arc.Arc.{Arc}
 use Rattle.dmf_state.specs.Arc.{no_arc}
+use Rattle.dmf_state.specs.Network.{arc_number}
 use Rattle.dmf_state.proofs.ChangedArc.{has_arc-within}
 use Rattle.dmf_state.proofs.Changing.{within-at}
 use Rattle.dmf_vital.specs.declared.tree.Reached.{Reached}
-use Rattle.dmf_vital.specs.Hop.{to_of, room_of}
-use Rattle.dmf_vital.specs.Tree.{not_reached, place_of}
+use Rattle.dmf_vital.specs.Exits.{is_exit, is_exit_arc}
+use Rattle.dmf_vital.specs.Hop.{to_of, room_of, turned}
+use Rattle.dmf_vital.specs.Tree.{not_reached, back_of, place_of, room_over}
 use Rattle.dmf_vital.proofs.Chained.{node-to}
-use Rattle.dmf_vital.proofs.Growing.{LeadsOn, leads-on, both-ok, both-err, on-ok, stepped-grown, stepped-keeps, stepped-leads}
-use Rattle.dmf_vital.proofs.search.step_over.Goals.{After-reach, then-room-eq0-via-then-room-eq0, then-room-eq0-via-else-room-eq0+then-index-gt0}
+use Rattle.dmf_vital.proofs.Growing.{LeadsOn, leads-on, both-ok, both-err, met-stepped, stepped-grown, stepped-keeps, stepped-leads}
+use Rattle.dmf_vital.proofs.search.step_over.Goals.{After-room_of-room, After-to_of-v, After-reach, then-room-eq0-via-then-room-eq0, then-room-eq0-via-else-room-eq0+then-is_exit}
 use Rattle.dmf_vital.proofs.search.step_over.Goals as goal
 
 pub bounds-steps-hop : goal.bounds-steps-hop
@@ -24,66 +27,108 @@ room_of-room-requires c =
     let s = c.args.steps.now in
     omega (arith, within-at s.state.now.network.arcs s.flows.now (c.args.hop.arc - 1) c.requires.within, ap (λ (a : Arc). a.cap) c.arc-arc.ensures.value)
 
-pub reach-requires : goal.reach-requires
-reach-requires c =
-    let n = c.args.steps.now.state.now.network in
-    let good = c.arc-arc.ensures.state.network.arcs (c.args.hop.arc - 1) no_arc (has_arc-within n c.args.hop.arc c.requires.is_there).1 in
-    let leads = c.to_of-v.ensures ∙ ap (to_of c.args.hop.against) c.arc-arc.ensures.value in
-    let node : IsNode n.nodes c.to_of-v.result = subst (IsNode n.nodes) (sym leads) (node-to c.args.hop.against n.nodes _ good) in
-    rw c.requires.grown.are.one_each node
+-- the room as it is
+room : (c : After-room_of-room) → c.room_of-room.result ≡ room_over c.args.steps.now.state.now.network c.args.steps.now.flows.now c.args.back c.args.hop.against c.args.hop.arc
+room c =
+    let flow : ℕ = get_or c.args.steps.now.flows.now (c.args.hop.arc - 1) 0 in
+    c.room_of-room.ensures
+    ∙ ap (λ t. room_of t c.arc-arc.result flow) c.turned.ensures
+    ∙ ap (λ (a : Arc). room_of (turned c.args.back c.args.hop.against) a flow) c.arc-arc.ensures.value
 
--- The step has no room, or it leads to a reached node.
-pub returns-then-room-eq0-clause-leads : goal.returns-then-room-eq0-clause-leads
-returns-then-room-eq0-clause-leads c =
-    let s = c.args.steps.now in
-    let n = s.state.now.network in
-    let hop = c.args.hop in
-    let flow = get_or s.flows.now (hop.arc - 1) 0 in
-    let room = c.room_of-room.ensures ∙ ap (λ (a : Arc). room_of hop.against a flow) c.arc-arc.ensures.value in
-    let leads = c.to_of-v.ensures ∙ ap (to_of hop.against) c.arc-arc.ensures.value in
-    let good = c.arc-arc.ensures.state.network.arcs (hop.arc - 1) no_arc (has_arc-within n hop.arc c.requires.is_there).1 in
-    let node : IsNode n.nodes c.to_of-v.result = subst (IsNode n.nodes) (sym leads) (node-to hop.against n.nodes _ good) in
-    let nodes = c.args.tree.now.nodes.items in
-    let within : c.to_of-v.result - 1 < length nodes = omega (arith, node.from_one, node.to_last, c.requires.grown.are.one_each) in
-    elim c.then-room-eq0.branch [
-      | then-room-eq0-via-then-room-eq0 w ↦ λ some. absurd (omega (arith, room, some, w.if-room-eq0.true))
-      | then-room-eq0-via-else-room-eq0+then-index-gt0 w ↦ λ some.
-          let place = ap (λ (r : Reached). r.place) (get_or_read nodes (c.to_of-v.result - 1) w.index.result.now within w.index.ensures not_reached) in
-          subst (λ v. 0 < place_of nodes v) leads (omega (arith, place, w.if-index-gt0.true))
+-- The step has no room, or is over an exit.
+pub returns-then-room-eq0-clause-stepped : goal.returns-then-room-eq0-clause-stepped
+returns-then-room-eq0-clause-stepped c =
+    let is = room (goal.at.returns-then-room-eq0-clause-stepped c).After-room_of-room in
+    λ there other from some. elim c.then-room-eq0.branch [
+      | then-room-eq0-via-then-room-eq0 w ↦ absurd (omega (arith, is, some, w.if-room-eq0.true))
+      | then-room-eq0-via-else-room-eq0+then-is_exit w ↦
+          absurd (both_ways (is_exit c.args.steps.now.state.now.network c.args.steps.now.exits c.args.hop.arc) other
+          (ap (is_exit_arc c.args.steps.now.exits c.args.hop.arc) (sym c.arc-arc.ensures.value) ∙ sym w.is_exit.ensures ∙ w.if-is_exit.true))
     ]
 
-leads : (c : After-reach) → LeadsOn c.args.steps.now.state.now.network c.args.steps.now.flows.now c.args.steps.now.without c.args.tree.now.nodes.items
-    c.args.hop c.to_of-v.result
-leads c = leads-on c.args.steps.now.state.now.network c.args.steps.now.flows.now c.args.steps.now.without c.to_of-v.result c.args.hop c.arc-arc.result
-    c.args.tree.now.nodes.items c.index.result.now c.arc-arc.ensures.state.network.arcs c.requires.grown.are.one_each c.requires.is_there c.requires.other
-    c.requires.reached c.arc-arc.ensures.value c.to_of-v.ensures c.index.ensures c.if-index-gt0.false
+-- the node to which it leads
+to : (c : After-to_of-v) → c.to_of-v.result ≡ to_of c.args.hop.against (arc_number c.args.steps.now.state.now.network c.args.hop.arc)
+to c = c.to_of-v.ensures ∙ ap (to_of c.args.hop.against) c.arc-arc.ensures.value
+
+node : (c : After-to_of-v) → IsNode c.args.steps.now.state.now.network.nodes c.to_of-v.result
+node c =
+    let n = c.args.steps.now.state.now.network in
+    let good = c.arc-arc.ensures.state.network.arcs (c.args.hop.arc - 1) no_arc (has_arc-within n c.args.hop.arc c.requires.is_there).1 in
+    subst (IsNode n.nodes) (sym (to c)) (node-to c.args.hop.against n.nodes _ good)
+
+-- it is over no exit
+other : (c : After-to_of-v) → is_exit c.args.steps.now.state.now.network c.args.steps.now.exits c.args.hop.arc ≡ false
+other c = ap (is_exit_arc c.args.steps.now.exits c.args.hop.arc) (sym c.arc-arc.ensures.value) ∙ sym c.is_exit.ensures ∙ c.if-is_exit.false
+
+pub overflow_sub-v : goal.overflow_sub-v
+overflow_sub-v c = (node (goal.at.overflow_sub-v c).After-to_of-v).from_one
+
+pub index-there-requires : goal.index-there-requires
+index-there-requires c =
+    let at = node (goal.at.index-there-requires c).After-to_of-v in
+    omega (arith, at.from_one, at.to_last, c.requires.grown.are.one_each, c.args.tree.now.nodes.ok.0)
+
+pub reach-requires : goal.reach-requires
+reach-requires c = rw c.requires.grown.are.one_each (node (goal.at.reach-requires c).After-to_of-v)
+
+-- The node was reached before.
+pub returns-then-there-gt0-clause-stepped : goal.returns-then-there-gt0-clause-stepped
+returns-then-there-gt0-clause-stepped c =
+    let at = (goal.at.returns-then-there-gt0-clause-stepped c).After-to_of-v in
+    let s = c.args.steps.now in
+    let n = s.state.now.network in
+    let nodes = c.args.tree.now.nodes.items in
+    let v : ℕ = c.to_of-v.result in
+    let is = node at in
+    let within : v - 1 < length nodes = omega (arith, is.from_one, is.to_last, c.requires.grown.are.one_each) in
+    let entry = get_or_read nodes (v - 1) c.index-there.result.now within c.index-there.ensures not_reached in
+    let place = ap (λ (r : Reached). r.place) entry in
+    let end = ap (λ (r : Reached). r.back) entry in
+    let some = room (goal.at.returns-then-there-gt0-clause-stepped c).After-room_of-room in
+    met-stepped n s.flows.now s.exits nodes c.args.back c.index-there.result.now.back c.args.hop c.turned-then-there-gt0.result c.turned-then-there-gt0.ensures
+    c.requires.is_there (other at) c.requires.reached c.requires.end (omega (arith, some, c.if-room-eq0.false))
+    (subst (λ u. 0 < place_of nodes u) (to at) (omega (arith, place, c.if-there-gt0.true)))
+    (ap (back_of nodes) (sym (to at)) ∙ sym end)
+
+leads : (c : After-reach) → LeadsOn c.args.steps.now.state.now.network c.args.steps.now.exits c.args.tree.now.nodes.items c.args.back c.args.hop c.to_of-v.result
+leads c = leads-on c.args.steps.now.state.now.network c.args.steps.now.exits c.to_of-v.result c.args.back c.args.hop c.arc-arc.result
+    c.args.tree.now.nodes.items c.index-there.result.now c.arc-arc.ensures.state.network.arcs c.requires.grown.are.one_each c.requires.is_there
+    (ap (is_exit_arc c.args.steps.now.exits c.args.hop.arc) (sym c.arc-arc.ensures.value) ∙ sym c.is_exit.ensures ∙ c.if-is_exit.false)
+    c.requires.reached c.requires.end c.arc-arc.ensures.value c.to_of-v.ensures c.index-there.ensures c.if-there-gt0.false
+
+room-now : (c : After-reach) → c.room_of-room.result ≡ room_over c.args.steps.now.state.now.network c.args.steps.now.flows.now c.args.back c.args.hop.against c.args.hop.arc
+room-now c =
+    let flow : ℕ = get_or c.args.steps.now.flows.now (c.args.hop.arc - 1) 0 in
+    c.room_of-room.ensures
+    ∙ ap (λ t. room_of t c.arc-arc.result flow) c.turned.ensures
+    ∙ ap (λ (a : Arc). room_of (turned c.args.back c.args.hop.against) a flow) c.arc-arc.ensures.value
 
 pub returns-clause-grown : goal.returns-clause-grown
 returns-clause-grown c =
+    let at = (goal.at.returns-clause-grown c).After-reach in
     let s = c.args.steps.now in
-    let flow = get_or s.flows.now (c.args.hop.arc - 1) 0 in
-    let room = c.room_of-room.ensures ∙ ap (λ (a : Arc). room_of c.args.hop.against a flow) c.arc-arc.ensures.value in
-    stepped-grown s.state.now.network s.flows.now s.without c.to_of-v.result c.args.width c.room_of-room.result c.min.result c.args.hop
-    c.args.tree.now.nodes.items c.reach.new.tree.nodes.items c.args.tree.now.found.items c.reach.new.tree.found.items (leads c) c.requires.grown
-    c.requires.wide room c.if-room-eq0.false c.min.ensures c.reach.result
+    stepped-grown s.state.now.network s.flows.now s.exits c.args.back c.to_of-v.result c.args.width c.room_of-room.result c.min.result c.args.hop
+    c.args.tree.now.nodes.items c.reach.new.tree.nodes.items c.args.tree.now.found.items c.reach.new.tree.found.items (leads at) c.requires.grown
+    c.requires.wide (room-now at) c.if-room-eq0.false c.min.ensures c.reach.result
     (both-ok c.reach.result _ _ c.reach.ensures.nodes c.reach.ensures.found) (both-err c.reach.result _ _ c.reach.ensures.nodes_stay c.reach.ensures.found_stay)
 
 pub returns-clause-kept : goal.returns-clause-kept
 returns-clause-kept c =
+    let at = (goal.at.returns-clause-kept c).After-reach in
     let s = c.args.steps.now in
-    let flow = get_or s.flows.now (c.args.hop.arc - 1) 0 in
-    let room = c.room_of-room.ensures ∙ ap (λ (a : Arc). room_of c.args.hop.against a flow) c.arc-arc.ensures.value in
-    stepped-keeps s.state.now.network s.flows.now s.without c.to_of-v.result c.args.width c.room_of-room.result c.min.result c.args.hop
-    c.args.tree.now.nodes.items c.reach.new.tree.nodes.items c.args.tree.now.found.items c.reach.new.tree.found.items (leads c) c.requires.grown
-    c.requires.wide room c.if-room-eq0.false c.min.ensures c.reach.result c.reach.ensures.nodes c.reach.ensures.nodes_stay
+    stepped-keeps s.state.now.network s.flows.now s.exits c.args.back c.to_of-v.result c.args.width c.room_of-room.result c.min.result c.args.hop
+    c.args.tree.now.nodes.items c.reach.new.tree.nodes.items c.args.tree.now.found.items c.reach.new.tree.found.items (leads at) c.requires.grown
+    c.requires.wide (room-now at) c.if-room-eq0.false c.min.ensures c.reach.result c.reach.ensures.nodes c.reach.ensures.nodes_stay
 
-pub returns-clause-leads : goal.returns-clause-leads
-returns-clause-leads c =
+pub returns-clause-stepped : goal.returns-clause-stepped
+returns-clause-stepped c =
+    let at = (goal.at.returns-clause-stepped c).After-reach in
     let s = c.args.steps.now in
-    let flow = get_or s.flows.now (c.args.hop.arc - 1) 0 in
-    let room = c.room_of-room.ensures ∙ ap (λ (a : Arc). room_of c.args.hop.against a flow) c.arc-arc.ensures.value in
-    on-ok c.reach.result _ _ c.reach.ensures.nodes (λ first some.
-    subst (λ v. 0 < place_of c.reach.new.tree.nodes.items v) (sym (leads c).leads_to)
-    (stepped-leads s.state.now.network s.flows.now s.without c.to_of-v.result c.args.width c.room_of-room.result c.min.result c.args.hop
-    c.args.tree.now.nodes.items c.reach.new.tree.nodes.items c.args.tree.now.found.items c.reach.new.tree.found.items (leads c) c.requires.grown
-    c.requires.wide room c.if-room-eq0.false c.min.ensures first))
+    let after = c.reach.new.tree.nodes.items in
+    let now = stepped-leads s.state.now.network s.flows.now s.exits c.args.back c.to_of-v.result c.args.width c.room_of-room.result c.min.result c.args.hop
+    c.args.tree.now.nodes.items c.reach.new.tree.nodes.items c.args.tree.now.found.items c.reach.new.tree.found.items (leads at) c.requires.grown
+    c.requires.wide (room-now at) c.if-room-eq0.false c.min.ensures c.in_ok-reach.ensures.nodes in
+    λ there not_exit from some. (
+      subst (λ v. 0 < place_of after v) (sym (leads at).leads_to) now.0,
+      ap (back_of after) (leads at).leads_to ∙ now.1,
+    )

@@ -3,7 +3,6 @@
  * @typedef {import("./state.js").State} State
  * @typedef {import("./labels.js").Label} Label
  */
-import { moved } from "./amounts.js";
 import { choose, theChoice } from "./choice.js";
 import { boxOf, parts, show } from "./drawing.js";
 import { at, onClick } from "./elements.js";
@@ -246,7 +245,7 @@ export async function closeChoice() {
  */
 export function sayPicture(state) {
   const limit = state.limit.slice(0, MOST_SAID).map((arc) => arc.short).join(", "), rest = state.limit_count - MOST_SAID;
-  const step = state.at ? ` Last step: ${state.steps[state.at].text}, ${moved(state.steps[state.at - 1].value, state.value)}.` : "";
+  const step = state.at ? ` Last step: ${state.steps[state.at].text}, ${state.steps[state.at].by}.` : "";
   at("picture-said").textContent = `${state.value}${units()} flow from ${state.source} to ${state.sink}, over ${state.arcs} ${noun()}s. `
     + `The limit: ${limit}${rest > 0 ? ` and ${rest} more` : ""}.${step}`;
 }

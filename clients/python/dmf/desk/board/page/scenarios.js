@@ -1,9 +1,9 @@
 /**
  * The scenarios of a project: one goes to another by a click, begins, copies, names, notes and deletes them.
  * @typedef {import("./state.js").State} State
- * @typedef {{ name: string, from: string, note: string, steps: number, undone: number, value: string, left_out: string[] }} Scenario
+ * @typedef {{ name: string, from: string, note: string, steps: number, undone: number, value: string, by: string,
+ *   left_out: string[] }} Scenario
  */
-import { moved } from "./amounts.js";
 import { choose, theChoice } from "./choice.js";
 import { offerScenarios } from "./compare.js";
 import { at, button, field, make, offer, onClick, replace } from "./elements.js";
@@ -30,7 +30,7 @@ export async function showScenarios(state, before) {
   const present = told.scenarios.find((it) => it.name === state.scenario);
   at("scenario-base").textContent = `The network of the table, without a step, comes to ${told.base}. `
     + (present?.note ? `${state.scenario}: ${present.note}` : "");
-  replace(at("scenario-list"), told.scenarios.map((it) => line(it, told.base, it === present, Boolean(state.why_not))));
+  replace(at("scenario-list"), told.scenarios.map((it) => line(it, it === present, Boolean(state.why_not))));
   const names = told.scenarios.map((it) => it.name);
   offer("scenario-from", [[BASE, "the network of the table"], ...names.map((name) => [name, `the steps of ${name}`])], BASE);
   for (const it of at("scenario-acts").querySelectorAll("button, input, select")) it.toggleAttribute("disabled", Boolean(state.why_not));
@@ -40,12 +40,11 @@ export async function showScenarios(state, before) {
 /**
  * A line of the list.
  * @param {Scenario} it
- * @param {string} base the value of the network of the table
  * @param {boolean} isPresent
  * @param {boolean} isFixed that nothing can be deleted
  */
-function line(it, base, isPresent, isFixed) {
-  const by = moved(base, it.value), steps = `${it.steps} step${it.steps === 1 ? "" : "s"}`, from = it.from ? `, begun from ${it.from}` : "";
+function line(it, isPresent, isFixed) {
+  const { by } = it, steps = `${it.steps} step${it.steps === 1 ? "" : "s"}`, from = it.from ? `, begun from ${it.from}` : "";
   const go = button(`${it.name}: ${it.value} (${by === "no change" ? "as base" : by})`, () => goTo(it.name));
   if (isPresent) go.setAttribute("aria-current", "true");
   const left = it.left_out.length ? `; left out when the table had changed: ${it.left_out.join("; ")}` : "";

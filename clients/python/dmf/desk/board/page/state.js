@@ -6,12 +6,11 @@
  *   open: boolean, side: boolean }} Place
  * @typedef {{ turn: number, title: string, unit: string, noun: string, notes: string[], source: string, sink: string, value: string,
  *   arcs: number, given: number, places: number, kept_in: string, scenario: string, why_not: string, floor: number, offer: string,
- *   flows_follow: boolean, at: number,
- *   steps: { text: string, value: string }[], limit: Arc[], limit_count: number, side: string[], side_count: number,
- *   names: string[] }} State
+ *   flows_follow: boolean, at: number, by: string,
+ *   steps: { text: string, value: string, by: string }[], limit: Arc[], limit_count: number, side: string[], side_count: number,
+ *   names: string[], parts?: Record<string, any> }} State
  * @typedef {{ arc?: number, node?: number }} Choice
  */
-import { moved } from "./amounts.js";
 import { heard, ONCE } from "./asking.js";
 import { at, button, dropTyped } from "./elements.js";
 import { heedLeaving, live } from "./live.js";
@@ -28,6 +27,15 @@ let acting = false, newest = 0;
 let shut = [];
 /** @type {((state: State, before: State | null) => unknown)[]} */
 const watchers = [];
+/** What parts of the page show of a state, which they ask for after each: of each path the last address. */
+const SHOWN = ["picture", "looks", "rows", "arc", "place", "scenarios"];
+/** @type {Map<string, string>} */
+const addresses = new Map();
+/**
+ * What was told with a state, by the addresses by which these parts ask for it.
+ * @type {Record<string, any>}
+ */
+let parts = {};
 
 /** The present state. Throws before there is one. */
 export function present() {
@@ -56,6 +64,10 @@ export function watch(watcher) {
  * @returns {Promise<any>}
  */
 export async function ask(path, content, isQuiet = false) {
+  const [name] = path.split("?"), part = parts[path];
+  if (!content && SHOWN.includes(name)) addresses.set(name, path);
+  delete parts[path];
+  if (!content && part && part.turn === state?.turn) return part;
   const reply = await heard(path, content && { turn: state?.turn, ...content });
   if (!reply) {
     if (!ONCE.includes(path) || !await heard("state")) {
@@ -135,6 +147,8 @@ async function catchUp() {
 async function show(told) {
   const before = state;
   state = told;
+  parts = told.parts ?? {};
+  addresses.clear();
   // Before it has a content, to lay it out would be work for nothing.
   at("main").hidden = false;
   const shown = Promise.all(watchers.map((watcher) => watcher(told, before)));
@@ -155,13 +169,12 @@ export async function act(content, words = "") {
   acting = true;
   at("main").setAttribute("aria-busy", "true");
   trouble("");
-  const before = state;
-  /** @type {State | null | undefined} */
-  const told = await patiently(ask("do", content));
+  /** @type {State & { moved: string } | null | undefined} */
+  const told = await patiently(ask("do", { ...content, shown: [...addresses.values()] }));
   acting = false;
   if (told) {
     dropTyped();
-    news(`${upper(words || told.steps[told.at].text)}: ${told.value}${units()}${before ? `, ${moved(before.value, told.value)}` : ""}`);
+    news(`${upper(words || told.steps[told.at].text)}: ${told.value}${units()}, ${told.moved}`);
     await show(told);
   } else {
     // What was done before has nothing to do with what is refused.

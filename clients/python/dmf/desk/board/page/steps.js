@@ -2,7 +2,6 @@
  * The steps that were made, and those that were undone.
  * @typedef {import("./state.js").State} State
  */
-import { moved } from "./amounts.js";
 import { at, button, field, make, onClick, replaceAlike } from "./elements.js";
 import { act, redo, undo } from "./state.js";
 
@@ -15,7 +14,7 @@ export function showSteps(state) {
   if (held === at("redo") && field("redo").disabled) at("undo").focus();
   replaceAlike(at("way"), state.steps.map((step, place) => {
     const words = place ? step.text : "as in the file";
-    const by = place ? ` (${moved(state.steps[place - 1].value, step.value)})` : "";
+    const by = place ? ` (${step.by})` : "";
     const go = button(`${words}: ${step.value}${by}`, () => act({ what: "go", step: place }, `at the step “${words}”`));
     if (place === state.at) go.setAttribute("aria-current", "step");
     // The steps of the scenario that this one began from stay.

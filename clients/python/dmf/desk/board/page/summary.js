@@ -2,7 +2,6 @@
  * What can be sent, at the top, and the limit.
  * @typedef {import("./state.js").State} State
  */
-import { moved } from "./amounts.js";
 import { pick } from "./choice.js";
 import { at, fill, keepInSight, make, numberCell, onClick, replaceAlike } from "./elements.js";
 import { act, caption, noun, present, units } from "./state.js";
@@ -19,8 +18,7 @@ function tell(state) {
   const named = state.scenario ? `, ${state.scenario}` : "";
   document.title = `${state.value} ${state.title}${named}`;
   at("title").textContent = `${state.title}${named}: from ${state.source} to ${state.sink}`;
-  const by = moved(state.steps[0].value, state.value);
-  const since = state.at ? ` (${by} than at the beginning).`.replace("no change than", "as much as") : ".";
+  const since = state.at ? ` (${state.by} than at the beginning).`.replace("no change than", "as much as") : ".";
   at("value").replaceChildren(
     make("strong", state.value), `${units()} can be sent from ${state.source} to ${state.sink}, and not more${since}`);
   at("legend").textContent = `45/60: 45${units()} flow where 60 fit`;

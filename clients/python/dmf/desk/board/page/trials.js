@@ -2,10 +2,11 @@
  * What each arc means for the value: each is tried in turn, alone.
  * @typedef {import("./state.js").Arc} Arc
  * @typedef {import("./state.js").State} State
- * @typedef {Arc & { doubled: string, without: string }} Row
- * @typedef {{ row: Row, lost: bigint, won: bigint }} Trial
+ *
+ * What is lost without an arc, and won by a second one, is empty where it is nothing; `loss` and `gain` are the same in digits of one
+ * length, so that the larger one comes later in the order of texts.
+ * @typedef {Arc & { doubled: string, without: string, lost: string, won: string, loss: string, gain: string }} Trial
  */
-import { amount, whole } from "./amounts.js";
 import { pick } from "./choice.js";
 import { at, cell, fill, make, numberCell, onClick } from "./elements.js";
 import { ask, caption, noun, present, units } from "./state.js";
@@ -35,7 +36,7 @@ async function sweep(numbers, which) {
     const told = await ask("sweep", { arcs: mine.left.slice(0, AT_ONCE) });
     if (going !== mine) return;
     if (!told) break;
-    mine.trials.push(...told.trials.map(trial));
+    mine.trials.push(...told.trials);
     mine.left = told.left.concat(mine.left.slice(AT_ONCE));
     if (!mine.left.length || performance.now() < shown + PAUSE) continue;
     showTrials(mine.trials);
@@ -64,63 +65,54 @@ function leave() {
 }
 
 /**
- * What is lost without an arc, and won by a second one beside it.
- * @param {Row} row
- * @returns {Trial}
- */
-function trial(row) {
-  const value = whole(present().value);
-  return { row, lost: value - whole(row.without), won: row.doubled ? whole(row.doubled) - value : 0n };
-}
-
-/**
  * @param {Trial[]} trials
- * @param {"lost" | "won"} which
+ * @param {"loss" | "gain"} which
  */
-const largest = (trials, which) => trials.reduce((most, it) => (it[which] > most ? it[which] : most), 0n);
+const largest = (trials, which) => trials.reduce((most, it) => (it[which] > most ? it[which] : most), "");
 
 /**
  * @param {Trial[]} trials
  * @param {string} which
  */
 function verdict(trials, which) {
-  const lost = largest(trials, "lost"), won = largest(trials, "won");
-  const worst = trials.filter((it) => it.lost === lost), best = trials.filter((it) => it.won === won);
+  const loss = largest(trials, "loss"), gain = largest(trials, "gain");
+  const worst = trials.filter((it) => it.loss === loss), best = trials.filter((it) => it.gain === gain);
+  const lost = worst[0]?.lost, won = best[0]?.won;
   /** @param {Trial[]} some */
-  const named = (some) => some.slice(0, MOST_NAMED).map(({ row }) => row.short).join(" or ")
+  const named = (some) => some.slice(0, MOST_NAMED).map((it) => it.short).join(" or ")
     + (some.length > MOST_NAMED ? " or others" : "");
-  const second = worst.length !== 1 || !worst[0].row.doubled ? ""
-    : worst[0].won ? `; a second one brings ${amount(worst[0].won)} more` : "; a second one brings nothing";
+  const second = worst.length !== 1 || !worst[0].doubled ? ""
+    : worst[0].won ? `; a second one brings ${worst[0].won} more` : "; a second one brings nothing";
   const those = which ? " " + which : "", any = which || "of them";
-  return (lost ? `Worst to lose${those}: ${named(worst)}, ${amount(lost)}${units()} less${second}. ` : `None ${any} is missed alone. `)
-    + (won ? `Best${those} to have a second of: ${named(best)}, ${amount(won)}${units()} more.`
+  return (lost ? `Worst to lose${those}: ${named(worst)}, ${lost}${units()} less${second}. ` : `None ${any} is missed alone. `)
+    + (won ? `Best${those} to have a second of: ${named(best)}, ${won}${units()} more.`
       : `A second one of any ${any} alone brings nothing.`);
 }
 
 /**
  * A bar as long as this part of the most.
- * @param {bigint} by
- * @param {bigint} most
+ * @param {string} by
+ * @param {string} most
  * @param {string} kind
  */
 function bar(by, most, kind) {
   const made = make("span", [], { class: `bar ${kind}` });
-  made.style.setProperty("--part", String(Number((by * 1000n) / most) / 1000));
+  made.style.setProperty("--part", String(Number(by) / Number(most)));
   return made;
 }
 
 /** @param {Trial[]} trials */
 function showTrials(trials) {
-  const most = [largest(trials, "lost"), largest(trials, "won")].reduce((one, other) => (one > other ? one : other), 1n);
+  const [most] = [largest(trials, "loss"), largest(trials, "gain")].sort().reverse();
   /**
-   * @param {bigint} one
-   * @param {bigint} other
+   * @param {string} one
+   * @param {string} other
    */
   const greater = (one, other) => (one > other ? -1 : one < other ? 1 : 0);
-  const sorted = [...trials].sort((one, other) => greater(one.lost, other.lost) || greater(one.won, other.won)).slice(0, MOST_ROWS);
-  fill("trials", caption(), [upper(noun()), "with it closed", "", "with a second one", ""], sorted.map(({ lost, won, row }) => [
-    pick(row, row.short), numberCell(row.without), cell(lost ? [bar(lost, most, ""), `${amount(lost)} less`] : "no change"),
-    numberCell(row.doubled || "too large"), cell(won ? [bar(won, most, "gain"), `${amount(won)} more`] : "no change")]));
+  const sorted = [...trials].sort((one, other) => greater(one.loss, other.loss) || greater(one.gain, other.gain)).slice(0, MOST_ROWS);
+  fill("trials", caption(), [upper(noun()), "with it closed", "", "with a second one", ""], sorted.map((row) => [
+    pick(row, row.short), numberCell(row.without), cell(row.lost ? [bar(row.loss, most, ""), `${row.lost} less`] : "no change"),
+    numberCell(row.doubled || "too large"), cell(row.won ? [bar(row.gain, most, "gain"), `${row.won} more`] : "no change")]));
 }
 
 /**

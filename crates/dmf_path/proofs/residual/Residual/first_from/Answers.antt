@@ -1,8 +1,9 @@
 -- Each link of the goal is looked at.
-use Rattle.std.proofs.Common.{◌≡◌, ◌+◌, ◌<◌, get_or, length, sym, ◌∙◌, arith}
+use Rattle.std.proofs.Common.{◌≡◌, ◌<◌, true, get_or, inl, inr, length, subst, sym, ◌∙◌, arith}
 use Rattle.std.proofs.lemmas.List.{get_or_default}
 use Rattle.dmf_links.specs.Links.{LiesAt}
 use Rattle.dmf_links.specs.LinkTable.{links_of}
+use Rattle.dmf_path.specs.Windows.{IsWithin}
 use Rattle.dmf_path.proofs.walks.NearGoal.{first-kept, first-set, first-last}
 use Rattle.dmf_path.proofs.residual.Residual.first_from.Goals as goal
 use Rattle.dmf_path.proofs.residual.Residual.first_from.Goals.{then-index-eq1+then-index-node, else-index-eq1}
@@ -41,8 +42,11 @@ loop-place-preserved c =
 pub returns-clause-first : goal.returns-clause-first
 returns-clause-first c =
     let l = links_of c.args.self.now.table.value in
-    let are = c.args.self.now.table.value.are in
-    let end : c.places_at-places.result.end ≡ get_or l.first (c.args.head + 1) 0 =
-    (rw c.deref.ensures at c.places_at-places.ensures.end) in
-    first-last c.loop-place.invariant c.args.self.now.table.value.are c.args.self.now.flags_are c.requires.links.node_is
-    (omega (arith, end, c.loop-place-test.false)) c.requires.links.from_first c.requires.links.to_last
+    let windows = c.args.ball.now.windows in
+    let left_out = rw c.deref.ensures at c.places_at-places.ensures.left_out in
+    λ p later before room. elim (first-last c.loop-place.invariant {LeftOut = λ q. (windows.known ≡ true) × (¬ IsWithin windows c.args.head q)}
+    c.args.self.now.table.value.are c.args.self.now.flags_are c.requires.links.node_is c.places_at-places.result.end
+    (omega (arith, c.loop-place-test.false)) left_out c.requires.links.from_first c.requires.links.to_last p later before room) [
+      | inl other ↦ inl other
+      | inr out ↦ inr (out.1.0, subst (λ w. ¬ IsWithin windows w (get_or l.partners p 0)) (sym out.0) out.1.1)
+    ]

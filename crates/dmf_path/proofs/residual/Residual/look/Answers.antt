@@ -22,8 +22,8 @@ loop-place-preserved c =
             to = omega (arith, less.first, i.to);
             first = λ p from before at room. i.first p from (omega (arith, before, less.first)) (omega (arith, before, less.place)) room;
             only = λ p from at room falls. elim (cases_eq p place) [
-              | inl same ↦ subst (λ q. IsAstray c.args.ball.now c.args.wanted.goal c.args.wanted.left (get_or heads q 0)) (sym same)
-                  (astray w.if-may_lead.false)
+              | inl same ↦ inl (subst (λ q. IsAstray c.args.ball.now c.args.wanted.goal c.args.wanted.left (get_or heads q 0)) (sym same)
+                  (astray w.if-may_lead.false))
               | inr apart ↦ i.only p from (omega (arith, at, apart)) room falls
             ];
           })

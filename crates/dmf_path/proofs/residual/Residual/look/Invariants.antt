@@ -1,5 +1,6 @@
 use Rattle.std.proofs.Common.{◌≡◌, ◌≢◌, ℕ, ◌+◌, ◌≤◌, ◌<◌, slice_index}
-use Rattle.dmf_path.specs.Astray.{IsAstray}
+use Rattle.dmf_links.specs.LinkTable.{links_of}
+use Rattle.dmf_path.specs.Astray.{LeadsAstray}
 use Rattle.dmf_path.proofs.residual.Residual.look.Given as goal
 
 abbrev pub invariant-loop-place : goal.invariant-loop-place
@@ -10,5 +11,5 @@ invariant-loop-place l = record {
       → slice_index l.labels (slice_index l.self.table.value.heads.items p) + 1 ≢ l.wanted.label;
   only : (p : ℕ) → l.from ≤ p → p < l.place → 0 < slice_index l.self.rooms.items p
       → slice_index l.labels (slice_index l.self.table.value.heads.items p) + 1 ≡ l.wanted.label
-      → IsAstray l.ball l.wanted.goal l.wanted.left (slice_index l.self.table.value.heads.items p);
+      → LeadsAstray l.ball (links_of l.self.table.value) l.wanted.goal l.wanted.left p;
 }

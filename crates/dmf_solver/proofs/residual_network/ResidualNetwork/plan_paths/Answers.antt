@@ -55,7 +55,7 @@ at_end-requires-clause-side g c = λ long.
     let solved = c.solve-solved.ensures in
     let s = c.solve-solved.result.search in
     let same = with_items_is c.into_ways_out-search.result.1 c.solve-solved.new.marks (c.solve-solved.auto.marks ∙ c.deref_mut.ensures.len) in
-    let nodes : c.nodes-3.result ≡ s.nodes = c.nodes-3.ensures.value ∙ sym (ap (λ (x : Searched). x.nodes) solved.solved.search_is) in
+    let nodes : c.nodes-2.result ≡ s.nodes = c.nodes-2.ensures.value ∙ sym (ap (λ (x : Searched). x.nodes) solved.solved.search_is) in
     subst (IsClosedSide (steps_of s.pairs) s.start s.goal) (sym same)
     (solved.side (sym c.solve-solved.auto.marks ∙ sym (ap length same) ∙ long ∙ nodes))
 

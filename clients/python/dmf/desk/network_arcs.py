@@ -1,0 +1,277 @@
+"""The arcs of a desk's network as its changes have left them, with what the table says of them:
+names, limits, roles. It has no session.
+
+Amounts are quantities, as the table has them. A session has whole numbers: the quantities times the
+scale of the problem.
+"""
+
+from __future__ import annotations
+
+from collections.abc import Iterable, Iterator, Sequence
+from itertools import chain
+from typing import Any
+
+from .. import history as session
+from ..arcs import Arc
+from ..quantity import EXACT, Measure, Quantity, plain_text
+from ..state import NetworkState
+from ..tables.loader import LoadedProblem
+from ..text.lexical import NODE
+from ..text.spelling import cleaned, names_in, naming_pieces, quoted_name
+from ..text.table_comments import Role, TableRoles
+from .directory import Directory
+from .steps import Add, Cap, Change, DeskArc, DeskFault, Follow, Marks, Node, Reopen
+
+
+class NetworkArcs:
+    """The arcs of a problem, which follow the changes that a network keeps, made and undone: there
+    is one timeline. Arcs and nodes go by their numbers."""
+
+    def __init__(
+        self, subject: LoadedProblem, state: NetworkState[Node], nodes: Sequence[Node]
+    ) -> None:
+        self.subject = subject
+        columns, quantity = state.columns, self.measure.quantity
+        self._nodes = nodes
+        self.folding = TableRoles(subject.described)
+        self.lines = [*map(DeskArc, columns.tails, columns.heads, map(quantity, state.capacities))]
+        # The names of arcs, those of added ones too.
+        self._keys = dict(columns.keys)
+        node_names = names_in(naming_pieces(subject.text, NODE), NODE)
+        self.names = Directory(node_names, self.lines, self._keys, nodes, self.folding)
+        # The nodes of the problem's source and sink, which may join several places.
+        self.source, self.sink = state.number(state.source), state.number(state.sink)
+        # The arcs of unlimited sources and sinks.
+        self._at_first_unlimited = {
+            number for number, role in subject.described.roles.items() if role.is_unlimited
+        }
+        # How many arcs the problem has; those after them were added.
+        self.first_count = len(self.lines)
+        self.marks = Marks()
+        self._mark(self.marks)
+
+    @property
+    def measure(self) -> Measure:
+        """How the session's numbers stand for quantities."""
+        return self.subject.measure
+
+    def told(self, amount: Quantity) -> str:
+        """An amount with its unit."""
+        return f"{plain_text(amount)} {self.measure.told_unit}".rstrip()
+
+    def taken(self, amount: Quantity) -> Quantity:
+        """An amount as the session's numbers have it."""
+        return self.measure.quantity(self.measure.whole(amount))
+
+    @property
+    def shut_nodes(self) -> frozenset[int]:
+        """The nodes that are shut."""
+        return self.marks.shut
+
+    @property
+    def sources(self) -> list[int]:
+        """The places that flow comes from, by their nodes."""
+        return self.folding.ends(self.source)
+
+    @property
+    def sinks(self) -> list[int]:
+        """The places that flow goes to, by their nodes."""
+        return self.folding.ends(self.sink)
+
+    def line(self, number: int) -> DeskArc:
+        """An arc as it is. Raises a `DeskFault` if there is none of this number."""
+        if not 1 <= number <= len(self.lines):
+            raise DeskFault(f"arc #{number} does not exist")
+        return self.lines[number - 1]
+
+    def open_line(self, number: int) -> DeskArc:
+        """An open arc as it is. Raises a `DeskFault` if it is closed."""
+        line = self.line(number)
+        if line.is_closed:
+            raise DeskFault(f"{self.names.arc(number)} is closed")
+        return line
+
+    def opened(self) -> Iterator[tuple[int, DeskArc]]:
+        """The open arcs, with their numbers."""
+        return ((number, line) for number, line in enumerate(self.lines, 1) if not line.is_closed)
+
+    def role(self, number: int) -> Role | None:
+        """What an arc stands for, if it is none of the table."""
+        return self.folding.role(*self.lines[number - 1][:2])
+
+    def roles(self) -> dict[int, list[tuple[int, str]]]:
+        """By the node of a place: the arcs that stand for what it gives, takes or lets through,
+        each with which of these."""
+        found: dict[int, list[tuple[int, str]]] = {}
+        for number, line in enumerate(self.lines, 1) if self.folding.has_roles else ():
+            if (role := self.role(number)) and not line.is_replaced:
+                found.setdefault(role.node, []).append((number, role.kind))
+        return found
+
+    def pictured(self) -> list[int]:
+        """The arcs of the table and those that were added. One that was opened again counts
+        once."""
+        found = [number for number, line in enumerate(self.lines, 1) if not line.is_replaced]
+        return (
+            [number for number in found if not self.role(number)]
+            if self.folding.has_roles
+            else found
+        )
+
+    def limited(self) -> set[int]:
+        """The places of sources and sinks to which a limit was given that had none."""
+        if not self.folding.has_unlimited:
+            return set()
+        lines = (line for line in self.lines if not line.is_unlimited and not line.is_replaced)
+        roles = (self.folding.role(*line[:2]) for line in lines)
+        return {role.node for role in roles if role and role.is_unlimited}
+
+    def whole(self, number: int) -> int:
+        """The capacity of an arc as the session has it."""
+        return self.measure.whole(self.lines[number - 1].capacity)
+
+    def the_arc(self, text: str, *, is_closed: bool = False) -> int:
+        """The arc that a text means: the open one, or else the closed one. Raises a `DeskFault` if
+        it means none, or several."""
+        meant = self.names.arcs(text)
+        found = [number for number in meant if not self.lines[number - 1].is_replaced]
+        if not found:
+            was, now = self.names.short(meant[0]), self._replacing(meant[0])
+            raise DeskFault(f"{was} was closed as #{meant[0]} and opened again as #{now}")
+        fitting = [number for number in found if self.lines[number - 1].is_closed == is_closed]
+        if len(fitting) == 1:
+            return fitting[0]
+        if fitting:
+            raise DeskFault(
+                f"{quoted_name(cleaned(text))} may be {self.names.list(fitting)}; "
+                "say one by its number"
+            )
+        arcs = self.names.list(found)
+        raise DeskFault(f"{arcs} is open" if is_closed else f"{arcs} is closed; `open` opens it")
+
+    def _replacing(self, number: int) -> int:
+        """The arc that replaced one when it was opened again."""
+        first = self.lines[number - 1].first or number
+        return max(other for other, it in enumerate(self.lines, 1) if it.first == first)
+
+    def following(self, changes: Iterable[Change]) -> list[Follow]:
+        """What changes with these: an unlimited source gives as much as the arcs there carry then,
+        and a sink takes as much."""
+        more: dict[tuple[int, int], Quantity] = {}
+        for change in changes:
+            if isinstance(change, Add):
+                ends, by = (change.tail, change.head), change.capacity
+            elif isinstance(change, (Cap, Reopen)):
+                line = self.lines[change.arc - 1]
+                ends, by = line[:2], line.capacity
+                if isinstance(change, Cap):
+                    by = EXACT.subtract(change.capacity, line.capacity)
+            else:
+                continue
+            more[ends] = EXACT.add(more.get(ends, 0), by)
+        found = []
+        for number, role in self._unlimited(more):
+            arcs = [line[:3] for _, line in self.opened()] + [
+                (*ends, by) for ends, by in more.items()
+            ]
+            carried = self._sum(
+                capacity for tail, head, capacity in arcs if self.folding.at_role(role, tail, head)
+            )
+            if carried > self.lines[number - 1].capacity:
+                found.append(Follow(number, carried))
+        return found
+
+    def _unlimited(self, ends: Iterable[tuple[int, int]]) -> Iterator[tuple[int, Role]]:
+        """The open arcs of the unlimited sources and sinks at which arcs with such ends are."""
+        wanted = list(ends)
+        added = range(self.first_count + 1, len(self.lines) + 1)
+        for number in (
+            chain(self.subject.described.roles, added) if self.folding.has_unlimited else ()
+        ):
+            line, role = self.lines[number - 1], self.role(number)
+            if role and line.is_unlimited and not line.is_closed:
+                if any(self.folding.at_role(role, *those) for those in wanted):
+                    yield number, role
+
+    def _sum(self, amounts: Iterable[Quantity]) -> Quantity:
+        total: Quantity = 0
+        for amount in amounts:
+            total = EXACT.add(total, amount)
+        return self.taken(total)
+
+    def _opened_places(self, changes: Iterable[Change]) -> set[int]:
+        """The shut places whose arcs these changes opened again, all but those to other shut
+        places."""
+        ends = (self.lines[it.arc - 1][:2] for it in changes if isinstance(it, Reopen))
+        opened = {node for nodes in ends for node in nodes if node in self.shut_nodes}
+        left = set()
+        for line in self.lines if opened else ():
+            if line.is_shut and line.is_closed:
+                left |= {
+                    node
+                    for node in line[:2]
+                    if node in opened and not self.shut_nodes & {*line[:2]} - {node}
+                }
+        return opened - left
+
+    # How the arcs follow.
+
+    def _mark(self, marks: Marks) -> None:
+        """Has these marks, by which sources and sinks are unlimited or not."""
+        self.marks = marks
+        later = range(self.first_count + 1, len(self.lines) + 1) if self._at_first_unlimited else ()
+        for number in chain(self._at_first_unlimited, later):
+            line = self.lines[number - 1]
+            is_unlimited = self._is_unlimited(line.first or number)
+            if line.is_unlimited != is_unlimited:
+                self.lines[number - 1] = line._replace(is_unlimited=is_unlimited)
+
+    def _is_unlimited(self, first: int) -> bool:
+        return first in self._at_first_unlimited and first not in self.marks.limited
+
+    def _follow(self, change: session.Change, is_made: bool) -> None:
+        """Has the lines be as a change left the network, or as it was before that."""
+        if change.added:
+            arc, capacity, replaced = change.added
+            if is_made and arc.number > len(self.lines):
+                self._put(arc, capacity, replaced)
+            elif not is_made and arc.number <= len(self.lines):
+                self._drop(arc.number, replaced)
+        for number, before, after in change.capacities:
+            line, now = self.lines[number - 1], after if is_made else before
+            if now is None:
+                was_shut = change.command[0] == "shut"
+                self.lines[number - 1] = line._replace(is_closed=True, was_shut=was_shut)
+            else:
+                looks: dict[str, Any] = {"is_closed": False, "was_shut": False}
+                looks["is_unlimited"] = self._is_unlimited(line.first or number)
+                self.lines[number - 1] = line._replace(capacity=self.measure.quantity(now), **looks)
+
+    def _put(self, arc: Arc[Node], capacity: int, replaced: int | None) -> None:
+        """Takes in the line of an arc that was added, in place of a closed one if that was opened
+        again."""
+        if arc.given_key is not None:
+            self._keys[arc.number] = arc.given_key
+        if replaced:
+            was = self.lines[replaced - 1]
+            self.lines.append(
+                was._replace(is_closed=False, was_shut=False, first=was.first or replaced)
+            )
+        else:
+            nodes = self.names.nodes
+            self.lines.append(
+                DeskArc(nodes[arc.tail], nodes[arc.head], self.measure.quantity(capacity))
+            )
+        self.names.put(arc.number)
+        if replaced:
+            self.names.drop(replaced)
+            self.lines[replaced - 1] = was._replace(is_replaced=True)
+
+    def _drop(self, number: int, replaced: int | None) -> None:
+        """Drops the line of the last arc."""
+        self.names.drop(number)
+        self._keys.pop(number, None)
+        self.lines.pop()
+        if replaced:
+            self.names.put(replaced)
+            self.lines[replaced - 1] = self.lines[replaced - 1]._replace(is_replaced=False)

@@ -1,0 +1,66 @@
+"""The question that is asked if two columns of a table may be meant, or none can be."""
+
+from __future__ import annotations
+
+import shlex
+from collections.abc import Sequence
+
+from ..errors import TableFault
+from ..text.spelling import cleaned, quoted_name
+from .headings import MOST_LISTED
+
+# How many cells of a column are shown, with how many characters.
+MOST_SHOWN, LONGEST_SHOWN = 2, 20
+
+
+class ColumnQuestion(TableFault):
+    """Why nothing is read: two columns of a table may be meant, or none can be. `column` is what is
+    looked for, and `choices` are the columns that may be it, with some of their cells."""
+
+    def __init__(
+        self,
+        reason: str,
+        line: int,
+        column: str,
+        choices: Sequence[tuple[str, Sequence[str]]],
+        is_arcs: bool,
+    ) -> None:
+        super().__init__(reason, line)
+        self.sought = column
+        self.choices = list(choices)
+        self.is_arcs = is_arcs
+        self.may_be_matrix = False
+
+    def __reduce__(self) -> tuple[object, ...]:
+        return (
+            ColumnQuestion,
+            (self.reason, self.line, self.sought, self.choices, self.is_arcs),
+            self.__dict__,
+        )
+
+    def lines(self) -> list[str]:
+        """The question, and a line for each column."""
+        shown = [
+            (self._option(name), shown_cells(cells)) for name, cells in self.choices[:MOST_LISTED]
+        ]
+        width = max((len(option) for option, _ in shown), default=0)
+        rest = [f"  and {len(self.choices) - MOST_LISTED} more"] * (len(self.choices) > MOST_LISTED)
+        rest += ["  --matrix, if the titles are the places where rows lead"] * self.may_be_matrix
+        return [
+            self.told(),
+            *(f"  {option:{width}}  {cells}".rstrip() for option, cells in shown),
+            *rest,
+        ]
+
+    def _option(self, name: str) -> str:
+        return f"--{self.sought} {shlex.quote(name)}" if self.is_arcs else quoted_name(name)
+
+
+def shown_cells(cells: Sequence[str]) -> str:
+    """Some cells of a column, as they are told."""
+    short = [
+        cell if len(cell) <= LONGEST_SHOWN else f"{cell[:LONGEST_SHOWN]}.."
+        for cell in map(cleaned, cells)
+        if cell
+    ]
+    return f"as in {', '.join(short[:MOST_SHOWN])}" if short else "has no cell"

@@ -1,0 +1,4 @@
+pub mod Putting
+pub mod ArcRows
+pub mod FromLosses
+pub mod OneText

@@ -1,0 +1,36 @@
+//! What is left without each arc, from bytes to bytes.
+ghost use Rattle.dmf_valuing.specs.Laws.{ArcsHaveOneText};
+ghost use Rattle.dmf_valuing.specs.Rows.{AreArcRows};
+ghost use Rattle.dmf_valuing.specs.VitalRun.{RunsVital};
+
+use crate::laws::arcs_have_one_text;
+use crate::rows::write_vital;
+use dmf_solver::Watch;
+use dmf_solving::solve_any;
+use dmf_streams::{EngineFault, Status, flush, read_state};
+use dmf_text::{Sink, Source};
+use dmf_vital::arc_losses;
+use std::alloc::Global;
+
+/// Reads a problem, and finds its greatest value and what is left of it without each arc. Writes the value as `c value V`, then for each
+/// arc in order, idle ones too, `v J WITHOUT`, and flushes. WITHOUT is the value of a greatest flow of the network in which arc number J
+/// is closed. Reports to the watch what [`solve_from`](dmf_solving::solve_from) reports.
+///
+/// Fails as [`run_solve`](dmf_solving::run_solve) does.
+pub fn run_vital<P: Source, W: Sink, V: Watch>(
+    alloc: Global,
+    problem: &mut P,
+    out: &mut W,
+    watch: &mut V,
+) -> Result<Status, EngineFault>
+    ensures run { RunsVital AreArcRows (P.left problem.old) (P.left problem.new) (W.written out.old) (W.written out.new) result }
+    ensures one_text { ArcsHaveOneText }
+{
+    arcs_have_one_text();
+    let state = read_state(alloc, problem)?;
+    let solved = solve_any(alloc, state, false, watch)?;
+    let losses = arc_losses(alloc, &solved.state)?;
+    write_vital(solved.state.value(), losses.as_slice(), out)?;
+    flush(out)?;
+    Ok(Status::Well)
+}

@@ -1,0 +1,427 @@
+// dmf.hpp: the calls of dmf.h for C++17 and later. Header only; a program links with libdmf as a program in C does.
+//
+//     dmf::session session(4, 1, 4, {1, 1, 2, 2, 3}, {2, 3, 3, 4, 4}, {3, 2, 5, 2, 3});
+//     session.solve();
+//     session.close(1);
+//     session.solve();
+//     std::cout << session.value() << '\n';
+//     session.undo(2);
+//
+// Each function makes the call of dmf.h that has its name, and dmf.h is the reference for what that call does. Nodes and
+// arcs are numbered from 1; arc i + 1 is at index i of an array.
+//
+// Refusals.  A refused call throws, and the session and the caller's arrays are as they were before it: dmf::error, or
+// std::bad_alloc where memory is short. Functions marked noexcept neither throw nor allocate.
+// Arrays.  A dmf::span is made from a pointer and a size, or from anything with data() and size(): std::vector, std::array,
+// std::span in C++20. It may be empty. What a call writes may not overlap what it reads.
+// Threads.  One call at a time for each session, const functions too; different sessions are independent.
+// Cost.  Each function costs what its call costs, and a std::vector or std::string where it returns one.
+#ifndef DMF_HPP
+#define DMF_HPP
+
+#include <cassert>
+#include <cstddef>
+#include <cstdint>
+#include <dmf.h>
+#include <initializer_list>
+#include <iterator>
+#include <memory>
+#include <new>
+#include <stdexcept>
+#include <string>
+#include <string_view>
+#include <type_traits>
+#include <utility>
+#include <vector>
+
+namespace dmf {
+
+/// The largest bound of a history.
+inline constexpr std::uint32_t max_past = DMF_MAX_PAST;
+
+/// What a call answers. The comments of enum dmf_status say what each means.
+enum class status : std::uint32_t {
+    ok = DMF_OK,
+    no_memory = DMF_NO_MEMORY,
+    no_such_node = DMF_NO_SUCH_NODE,
+    no_such_arc = DMF_NO_SUCH_ARC,
+    closed = DMF_CLOSED,
+    too_many_arcs = DMF_TOO_MANY_ARCS,
+    sum_too_large = DMF_SUM_TOO_LARGE,
+    nothing_to_undo = DMF_NOTHING_TO_UNDO,
+    nothing_to_redo = DMF_NOTHING_TO_REDO,
+    not_greatest = DMF_NOT_GREATEST,
+    bad_length = DMF_BAD_LENGTH,
+    bad_number = DMF_BAD_NUMBER,
+    bad_text = DMF_BAD_TEXT,
+    over_capacity = DMF_OVER_CAPACITY,
+    not_conserved = DMF_NOT_CONSERVED,
+    negative = DMF_NEGATIVE,
+};
+
+/// The first fault of a problem text. The comments of enum dmf_fault say what each means.
+enum class fault : std::uint32_t {
+    problem_line_expected = DMF_FAULT_PROBLEM_LINE_EXPECTED,
+    second_problem_line = DMF_FAULT_SECOND_PROBLEM_LINE,
+    unknown_line = DMF_FAULT_UNKNOWN_LINE,
+    not_max = DMF_FAULT_NOT_MAX,
+    field_count = DMF_FAULT_FIELD_COUNT,
+    not_a_number = DMF_FAULT_NOT_A_NUMBER,
+    too_large = DMF_FAULT_TOO_LARGE,
+    count_out_of_range = DMF_FAULT_COUNT_OUT_OF_RANGE,
+    node_out_of_range = DMF_FAULT_NODE_OUT_OF_RANGE,
+    neither_source_nor_sink = DMF_FAULT_NEITHER_SOURCE_NOR_SINK,
+    terminal_named_twice = DMF_FAULT_TERMINAL_NAMED_TWICE,
+    same_terminals = DMF_FAULT_SAME_TERMINALS,
+    arc_before_terminals = DMF_FAULT_ARC_BEFORE_TERMINALS,
+    too_many_arcs = DMF_FAULT_TOO_MANY_ARCS,
+    too_few_arcs = DMF_FAULT_TOO_FEW_ARCS,
+    terminal_missing = DMF_FAULT_TERMINAL_MISSING,
+    sum_too_large = DMF_FAULT_SUM_TOO_LARGE,
+};
+
+/// Returns the words for a status, which live as long as the program.
+[[nodiscard]] constexpr const char *text(status status) noexcept {
+    switch (status) {
+    case status::ok: return "no error";
+    case status::no_memory: return "no memory";
+    case status::no_such_node: return "no such node";
+    case status::no_such_arc: return "no such arc";
+    case status::closed: return "arc is closed";
+    case status::too_many_arcs: return "too many arcs";
+    case status::sum_too_large: return "capacities past 64 bits";
+    case status::nothing_to_undo: return "nothing to undo";
+    case status::nothing_to_redo: return "nothing to redo";
+    case status::not_greatest: return "flow is not greatest";
+    case status::bad_length: return "array has the wrong length";
+    case status::bad_number: return "number out of range";
+    case status::bad_text: return "not a problem text";
+    case status::over_capacity: return "flow exceeds the capacity of an arc";
+    case status::not_conserved: return "flow is not conserved at a node";
+    case status::negative: return "more flow enters the source than leaves it";
+    }
+    return "unknown status";
+}
+
+/// Returns the words for a fault, as `dmf solve` prints them. They live as long as the program.
+[[nodiscard]] constexpr const char *text(fault fault) noexcept {
+    switch (fault) {
+    case fault::problem_line_expected: return "problem line expected";
+    case fault::second_problem_line: return "second problem line";
+    case fault::unknown_line: return "unknown line";
+    case fault::not_max: return "not a max problem";
+    case fault::field_count: return "wrong number of fields";
+    case fault::not_a_number: return "not a number";
+    case fault::too_large: return "number too large";
+    case fault::count_out_of_range: return "count out of range";
+    case fault::node_out_of_range: return "no such node";
+    case fault::neither_source_nor_sink: return "neither source nor sink";
+    case fault::terminal_named_twice: return "terminal named twice";
+    case fault::same_terminals: return "source and sink are the same";
+    case fault::arc_before_terminals: return "arc before source and sink";
+    case fault::too_many_arcs: return "too many arcs";
+    case fault::too_few_arcs: return "too few arcs";
+    case fault::terminal_missing: return "source or sink missing";
+    case fault::sum_too_large: return "capacities past 64 bits";
+    }
+    return "unknown fault";
+}
+
+/// Thrown by a call that is refused for any reason but memory.
+class error : public std::runtime_error {
+public:
+    explicit error(dmf::status status) : error(status, text(status)) {}
+
+    /// Returns what the call answered.
+    [[nodiscard]] dmf::status status() const noexcept { return status_; }
+
+protected:
+    error(dmf::status status, const std::string &words) : std::runtime_error("dmf: " + words), status_(status) {}
+
+private:
+    dmf::status status_;
+};
+
+/// Thrown for a problem text that is refused: its status is bad_text.
+class text_error : public error {
+public:
+    text_error(std::uint64_t line, dmf::fault fault)
+        : error(status::bad_text, "line " + std::to_string(line) + ": " + text(fault)), line_(line), fault_(fault) {}
+
+    /// Returns the line of the first fault, counted from 1.
+    [[nodiscard]] std::uint64_t line() const noexcept { return line_; }
+
+    /// Returns what is wrong there.
+    [[nodiscard]] dmf::fault fault() const noexcept { return fault_; }
+
+private:
+    std::uint64_t line_;
+    dmf::fault fault_;
+};
+
+/// Thrown for arrays of arcs that are refused at an arc: its status is no_such_node, too_many_arcs or sum_too_large.
+class arc_error : public error {
+public:
+    arc_error(dmf::status status, std::uint64_t arc)
+        : error(status, "arc " + std::to_string(arc) + ": " + text(status)), arc_(arc) {}
+
+    /// Returns the number of the first arc that is refused, counted from 1.
+    [[nodiscard]] std::uint64_t arc() const noexcept { return arc_; }
+
+private:
+    std::uint64_t arc_;
+};
+
+/// A pointer and how many elements it leads to, as std::span is in C++20. Does not own them.
+template <class Element> class span {
+    template <class Range>
+    static constexpr bool leads_to_elements =
+        std::is_convertible_v<std::remove_pointer_t<decltype(std::data(std::declval<Range &>()))> (*)[], Element (*)[]>;
+
+public:
+    constexpr span() noexcept = default;
+    constexpr span(Element *data, std::size_t size) noexcept : data_(data), size_(size) {}
+
+    /// Views the elements of an array, or of anything with data() and size().
+    template <class Range, class = decltype(std::size(std::declval<Range &>())),
+              class = std::enable_if_t<leads_to_elements<Range> && !std::is_same_v<std::decay_t<Range>, span>>>
+    constexpr span(Range &&range) : data_(std::data(range)), size_(std::size(range)) {}
+
+    /// Views the numbers of a list in braces, until the end of the call that it is written in.
+    template <class Value = Element, class = std::enable_if_t<std::is_const_v<Value>>>
+    constexpr span(std::initializer_list<std::remove_const_t<Value>> list) noexcept : size_(list.size()) {
+        data_ = list.begin();
+    }
+
+    [[nodiscard]] constexpr Element *data() const noexcept { return data_; }
+    [[nodiscard]] constexpr std::size_t size() const noexcept { return size_; }
+
+private:
+    Element *data_ = nullptr;
+    std::size_t size_ = 0;
+};
+
+/// What session::check finds about flows.
+struct judgement {
+    dmf::status status;  ///< ok for a maximum flow; not_greatest, over_capacity, not_conserved or negative
+    std::uint64_t place; ///< the arc after over_capacity and the node after not_conserved; else 0
+
+    /// Returns true for a maximum flow.
+    explicit operator bool() const noexcept { return status == dmf::status::ok; }
+};
+
+/// Returns the version of the library: 10,000 times the first number, 100 times the second, and the third.
+[[nodiscard]] inline std::uint32_t version() noexcept { return dmf_version(); }
+
+/// Returns the number of the library's interface; DMF_ABI is the one of this header.
+[[nodiscard]] inline std::uint32_t abi() noexcept { return dmf_abi(); }
+
+namespace detail {
+
+[[noreturn]] inline void refuse(dmf_status answer) {
+    if (answer == DMF_NO_MEMORY)
+        throw std::bad_alloc();
+    throw error(static_cast<status>(answer));
+}
+
+inline void expect_ok(dmf_status answer) {
+    if (answer != DMF_OK)
+        refuse(answer);
+}
+
+// The library takes no NULL, but the data() of what is empty may be one.
+template <class Element> Element *pointer(span<Element> elements) noexcept {
+    static std::remove_const_t<Element> nothing{};
+    return elements.data() != nullptr ? elements.data() : &nothing;
+}
+
+inline const std::uint8_t *bytes(std::string_view text) noexcept {
+    return reinterpret_cast<const std::uint8_t *>(text.empty() ? "" : text.data());
+}
+
+struct closer {
+    void operator()(dmf_session *session) const noexcept { dmf_session_free(session); }
+};
+
+} // namespace detail
+
+/// A network with a flow on it, and the states before and after the present one. It frees itself. It moves and does not
+/// copy; one that was moved from may only be assigned to or destroyed.
+class session {
+public:
+    /// Opens a session on a network of `nodes` nodes, with the arcs of three arrays of the same size and no flow. It keeps
+    /// up to `past` states before the present one. Copies the arrays. Throws arc_error with the first arc that is refused,
+    /// error with bad_length or bad_number, or std::bad_alloc.
+    session(std::uint32_t nodes, std::uint32_t source, std::uint32_t sink, span<const std::uint32_t> tails,
+            span<const std::uint32_t> heads, span<const std::uint64_t> capacities, std::uint32_t past = max_past)
+        : handle_(opened(nodes, source, sink, tails, heads, capacities, past)) {}
+
+    /// Takes over a session that dmf_session_new or dmf_session_read gave, and frees it in the end.
+    explicit session(dmf_session *handle) noexcept : handle_(handle) {}
+
+    /// Opens a session on a problem text in the DIMACS format. Throws text_error with the line and what is wrong there,
+    /// error with bad_number for `past`, or std::bad_alloc.
+    [[nodiscard]] static session read(std::string_view text, std::uint32_t past = max_past) {
+        dmf_session *handle = nullptr;
+        std::uint64_t line = 0;
+        std::uint32_t fault = 0;
+        const dmf_status answer = dmf_session_read(detail::bytes(text), text.size(), past, &handle, &line, &fault);
+        if (answer == DMF_BAD_TEXT)
+            throw text_error(line, static_cast<dmf::fault>(fault));
+        detail::expect_ok(answer);
+        return session(handle);
+    }
+
+    /// Returns the session for calls of dmf.h. It still belongs to this object; null after a move.
+    [[nodiscard]] dmf_session *get() noexcept { return handle_.get(); }
+    [[nodiscard]] const dmf_session *get() const noexcept { return handle_.get(); }
+
+    /// Gives the session up to the caller, who has to free it with dmf_session_free.
+    [[nodiscard]] dmf_session *release() noexcept { return handle_.release(); }
+
+    // ---- Changes: each appends a state, drops the undone ones, and forgets the oldest past the bound
+
+    /// Gives an arc another capacity, and takes what flows above it off the arc and off paths through it, which may take
+    /// long. Throws error with no_such_arc, closed or sum_too_large, or std::bad_alloc.
+    void cap(std::uint64_t arc, std::uint64_t capacity) { detail::expect_ok(dmf_session_cap(live(), arc, capacity)); }
+
+    /// Adds an arc without flow, and returns its number. Throws error with no_such_node, too_many_arcs or sum_too_large, or
+    /// std::bad_alloc.
+    std::uint64_t add(std::uint64_t tail, std::uint64_t head, std::uint64_t capacity) {
+        detail::expect_ok(dmf_session_add(live(), tail, head, capacity));
+        return arcs();
+    }
+
+    /// Closes an arc, as if its capacity became 0; only undo() opens it again. May take long, as cap() may. Throws error
+    /// with no_such_arc or closed, or std::bad_alloc.
+    void close(std::uint64_t arc) { detail::expect_ok(dmf_session_close(live(), arc)); }
+
+    /// Closes every open arc that leaves or enters a node, as one change. May take long, as cap() may. Throws error with
+    /// no_such_node, or std::bad_alloc.
+    void shut(std::uint64_t node) { detail::expect_ok(dmf_session_shut(live(), node)); }
+
+    /// Augments the present flow to a maximum flow. May take long. Appends a state also if the flow was a maximum flow.
+    /// Throws std::bad_alloc alone.
+    void solve() { detail::expect_ok(dmf_session_solve(live())); }
+
+    // ---- Steps: all of them, or none
+
+    /// Steps back so many states, each as it was, arc for arc. Throws error with nothing_to_undo. Takes no memory.
+    void undo(std::uint64_t steps = 1) { detail::expect_ok(dmf_session_undo(live(), steps)); }
+
+    /// Steps forward so many undone states. Throws error with nothing_to_redo. Takes memory, and may throw std::bad_alloc,
+    /// only where an added arc comes back.
+    void redo(std::uint64_t steps = 1) { detail::expect_ok(dmf_session_redo(live(), steps)); }
+
+    // ---- The present state, which none of these changes
+
+    /// Returns the value of the flow.
+    [[nodiscard]] std::uint64_t value() const noexcept { return dmf_session_value(live()); }
+
+    /// Returns how many states undo() can step back.
+    [[nodiscard]] std::uint32_t past() const noexcept { return dmf_session_past(live()); }
+
+    /// Returns how many states redo() can step forward.
+    [[nodiscard]] std::uint32_t future() const noexcept { return dmf_session_future(live()); }
+
+    [[nodiscard]] std::uint32_t nodes() const noexcept { return dmf_session_nodes(live()); }
+    [[nodiscard]] std::uint32_t source() const noexcept { return dmf_session_source(live()); }
+    [[nodiscard]] std::uint32_t sink() const noexcept { return dmf_session_sink(live()); }
+
+    /// Returns how many arcs there are, closed ones too.
+    [[nodiscard]] std::size_t arcs() const noexcept { return dmf_session_arcs(live()); }
+
+    /// Returns the flow on each arc.
+    [[nodiscard]] std::vector<std::uint64_t> flows() const {
+        std::vector<std::uint64_t> found(arcs());
+        flows(found);
+        return found;
+    }
+
+    /// Writes the flow on each arc into an array of arcs() elements, and takes no memory. Throws error with bad_length.
+    void flows(span<std::uint64_t> into) const {
+        detail::expect_ok(dmf_session_flows(live(), detail::pointer(into), into.size()));
+    }
+
+    /// Returns the capacity of each arc, 0 for a closed one.
+    [[nodiscard]] std::vector<std::uint64_t> capacities() const {
+        std::vector<std::uint64_t> found(arcs());
+        capacities(found);
+        return found;
+    }
+
+    /// Writes the capacity of each arc into an array of arcs() elements, and takes no memory. Throws error with bad_length.
+    void capacities(span<std::uint64_t> into) const {
+        detail::expect_ok(dmf_session_capacities(live(), detail::pointer(into), into.size()));
+    }
+
+    /// Returns the source side of the smallest minimum cut: 1 at index v - 1 if every minimum cut has node v on the source
+    /// side, else 0. The capacities of the arcs that leave it add up to the value. Throws error with not_greatest before a
+    /// solve(), or std::bad_alloc.
+    [[nodiscard]] std::vector<std::uint8_t> side() const {
+        std::vector<std::uint8_t> found(nodes());
+        side(found);
+        return found;
+    }
+
+    /// Writes the source side into an array of nodes() elements. Throws as side() does, and error with bad_length.
+    void side(span<std::uint8_t> into) const {
+        detail::expect_ok(dmf_session_side(live(), detail::pointer(into), into.size()));
+    }
+
+    /// Judges flows, one for each arc, as flows of the present network; the session's own flow does not matter. A wrong
+    /// flow is an answer and not an error. Throws error with bad_length, or std::bad_alloc.
+    [[nodiscard]] judgement check(span<const std::uint64_t> flows) const {
+        std::uint64_t place = 0;
+        const dmf_status answer = dmf_session_check(live(), detail::pointer(flows), flows.size(), &place);
+        if (answer == DMF_NO_MEMORY || answer == DMF_BAD_LENGTH)
+            detail::refuse(answer);
+        return {static_cast<status>(answer), place};
+    }
+
+    /// Returns the problem text of the open arcs. Throws std::bad_alloc alone.
+    [[nodiscard]] std::string problem() const { return written(dmf_session_problem); }
+
+    /// Returns the solution text of the present flow. Throws std::bad_alloc alone.
+    [[nodiscard]] std::string solution() const { return written(dmf_session_solution); }
+
+private:
+    [[nodiscard]] static dmf_session *opened(std::uint32_t nodes, std::uint32_t source, std::uint32_t sink,
+                                             span<const std::uint32_t> tails, span<const std::uint32_t> heads,
+                                             span<const std::uint64_t> capacities, std::uint32_t past) {
+        dmf_session *handle = nullptr;
+        std::size_t bad_arc = 0;
+        const dmf_status answer = dmf_session_new(nodes, source, sink, detail::pointer(tails), tails.size(),
+                                                  detail::pointer(heads), heads.size(), detail::pointer(capacities),
+                                                  capacities.size(), past, &handle, &bad_arc);
+        if (answer == DMF_NO_SUCH_NODE || answer == DMF_TOO_MANY_ARCS || answer == DMF_SUM_TOO_LARGE)
+            throw arc_error(static_cast<status>(answer), bad_arc + 1);
+        detail::expect_ok(answer);
+        return handle;
+    }
+
+    [[nodiscard]] dmf_session *live() const noexcept {
+        assert(handle_ && "this session was moved from");
+        return handle_.get();
+    }
+
+    // Asks for the length with room for one byte, which is never enough, and then for the text.
+    template <class Call> [[nodiscard]] std::string written(Call call) const {
+        std::string text(1, '\0');
+        std::size_t length = 0;
+        for (;;) {
+            const dmf_status answer = call(live(), reinterpret_cast<std::uint8_t *>(text.data()), text.size(), &length);
+            if (answer == DMF_NO_MEMORY)
+                detail::refuse(answer);
+            text.resize(length);
+            if (answer == DMF_OK)
+                return text;
+        }
+    }
+
+    std::unique_ptr<dmf_session, detail::closer> handle_;
+};
+
+} // namespace dmf
+
+#endif

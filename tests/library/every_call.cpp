@@ -1,0 +1,181 @@
+// Makes each call of dmf.hpp on the network of examples/a.max, and expects what was worked out by hand. Prints the lines of
+// what is wrong.
+#include <array>
+#include <dmf.hpp>
+#include <iostream>
+#if __cplusplus >= 202002L
+#include <span>
+#endif
+
+namespace {
+using numbers = std::vector<std::uint64_t>;
+
+int wrong = 0;
+
+void judge(bool holds, int line, const char *what) {
+    if (!holds) {
+        std::cout << "line " << line << ": " << what << "\n";
+        wrong++;
+    }
+}
+
+#define EXPECT(...) judge((__VA_ARGS__), __LINE__, #__VA_ARGS__)
+#define REFUSED(answer, ...) judge(status_of([&] { __VA_ARGS__; }) == dmf::status::answer, __LINE__, #__VA_ARGS__)
+
+template <class Act> dmf::status status_of(Act act) {
+    try {
+        act();
+    } catch (const dmf::error &error) {
+        return error.status();
+    }
+    return dmf::status::ok;
+}
+
+template <class Error, class Act> Error thrown(Act act) {
+    try {
+        act();
+    } catch (const Error &error) {
+        return error;
+    }
+    throw std::logic_error("nothing was thrown");
+}
+
+constexpr std::uint64_t largest = UINT64_MAX;
+const std::string text = "p max 4 5\nn 1 s\nn 4 t\na 1 2 3\na 1 3 2\na 2 3 5\na 2 4 2\na 3 4 3\n";
+
+dmf::session example(std::uint32_t past = dmf::max_past) {
+    return dmf::session(4, 1, 4, {1, 1, 2, 2, 3}, {2, 3, 3, 4, 4}, {3, 2, 5, 2, 3}, past);
+}
+
+void opening() {
+    static_assert(!std::is_copy_constructible_v<dmf::session> && !std::is_copy_assignable_v<dmf::session>);
+    static_assert(std::is_nothrow_move_constructible_v<dmf::session> && std::is_nothrow_move_assignable_v<dmf::session>);
+    const std::vector<std::uint32_t> tails = {1, 1, 2, 2, 3};
+    const std::uint32_t heads[] = {2, 3, 3, 4, 4};
+    const std::array<std::uint64_t, 5> capacities = {3, 2, 5, 2, 3};
+    EXPECT(dmf::session(4, 1, 4, tails, heads, capacities).problem() == text);
+    EXPECT(dmf::session(4, 1, 4, {tails.data(), 5}, {heads, 5}, {capacities.data(), 5}, 1).problem() == text);
+#if __cplusplus >= 202002L
+    EXPECT(dmf::session(4, 1, 4, std::span(tails), std::span(heads), std::span(capacities)).problem() == text);
+#endif
+    EXPECT(dmf::session::read(text).problem() == text);
+    EXPECT(dmf::session::read(std::string_view(text + "more").substr(0, text.size())).problem() == text);
+    REFUSED(bad_length, dmf::session(4, 1, 4, tails, {2, 3}, capacities));
+    REFUSED(bad_number, dmf::session(4, 1, 5, tails, heads, capacities));
+    REFUSED(bad_number, (void)dmf::session::read(text, dmf::max_past + 1));
+    const auto node = thrown<dmf::arc_error>([&] { dmf::session(4, 1, 4, {1, 1}, {2, 5}, {3, 2}); });
+    EXPECT(node.status() == dmf::status::no_such_node && node.arc() == 2);
+    EXPECT(node.what() == std::string("dmf: arc 2: no such node"));
+    const auto sum = thrown<dmf::arc_error>([&] { dmf::session(4, 1, 4, {1, 1, 1}, {2, 2, 2}, {largest, 0, 1}); });
+    EXPECT(sum.status() == dmf::status::sum_too_large && sum.arc() == 3);
+    const auto line = thrown<dmf::text_error>([&] { (void)dmf::session::read("p max 4 2\nz 1\n"); });
+    EXPECT(line.status() == dmf::status::bad_text && line.line() == 2 && line.fault() == dmf::fault::unknown_line);
+    EXPECT(line.what() == std::string("dmf: line 2: unknown line"));
+    EXPECT(thrown<dmf::text_error>([] { (void)dmf::session::read({}); }).fault() == dmf::fault::problem_line_expected);
+}
+
+void reading() {
+    dmf::session session = example();
+    REFUSED(not_greatest, (void)session.side());
+    EXPECT(session.value() == 0 && session.flows() == numbers(5));
+    session.solve();
+    EXPECT(session.value() == 5 && session.flows() == numbers{3, 2, 1, 2, 3});
+    EXPECT(session.capacities() == numbers{3, 2, 5, 2, 3});
+    EXPECT(session.side() == std::vector<std::uint8_t>{1, 0, 0, 0});
+    EXPECT(session.nodes() == 4 && session.source() == 1 && session.sink() == 4 && session.arcs() == 5);
+    EXPECT(session.solution() == "s 5\nf 1 2 3\nf 1 3 2\nf 2 3 1\nf 2 4 2\nf 3 4 3\n");
+    std::array<std::uint64_t, 5> into{};
+    std::array<std::uint8_t, 4> marks{9, 9, 9, 9};
+    session.capacities(into);
+    EXPECT(into == std::array<std::uint64_t, 5>{3, 2, 5, 2, 3});
+    session.flows({into.data(), into.size()});
+    EXPECT(into == std::array<std::uint64_t, 5>{3, 2, 1, 2, 3});
+    session.side(marks);
+    EXPECT(marks == std::array<std::uint8_t, 4>{1, 0, 0, 0});
+    REFUSED(bad_length, session.flows({into.data(), 4}));
+    REFUSED(bad_length, session.capacities({into.data(), 4}));
+    REFUSED(bad_length, session.side({marks.data(), 3}));
+    REFUSED(bad_length, session.flows({}));
+    EXPECT(into == std::array<std::uint64_t, 5>{3, 2, 1, 2, 3} && marks[3] == 0);
+}
+
+void judging() {
+    const dmf::session session = example();
+    EXPECT(session.check({3, 2, 1, 2, 3}) && session.check({3, 2, 1, 2, 3}).place == 0);
+    const dmf::judgement over = session.check({3, 3, 0, 3, 3}), lost = session.check({3, 2, 0, 2, 3});
+    EXPECT(!over && over.status == dmf::status::over_capacity && over.place == 2);
+    EXPECT(!lost && lost.status == dmf::status::not_conserved && lost.place == 2);
+    EXPECT(session.check(numbers(5)).status == dmf::status::not_greatest);
+    REFUSED(bad_length, (void)session.check({1}));
+    EXPECT(dmf::session(2, 1, 2, {2}, {1}, {1}).check({1}).status == dmf::status::negative);
+}
+
+void changing() {
+    dmf::session session = example();
+    session.solve();
+    session.cap(1, 1);
+    session.solve();
+    EXPECT(session.value() == 3 && session.capacities()[0] == 1 && session.past() == 3);
+    session.undo(2);
+    EXPECT(session.value() == 5 && session.past() == 1 && session.future() == 2);
+    session.redo();
+    EXPECT(session.capacities()[0] == 1 && session.future() == 1);
+    session.undo();
+    EXPECT(session.add(1, 4, 7) == 6 && session.arcs() == 6 && session.future() == 0);
+    session.solve();
+    EXPECT(session.value() == 12);
+    session.close(6);
+    session.shut(2);
+    session.solve();
+    EXPECT(session.value() == 2 && session.capacities() == numbers{0, 2, 0, 0, 3, 0});
+    REFUSED(closed, session.close(6));
+    REFUSED(closed, session.cap(1, 1));
+    REFUSED(no_such_arc, session.close(7));
+    REFUSED(no_such_arc, session.cap(0, 1));
+    REFUSED(no_such_node, session.shut(5));
+    REFUSED(no_such_node, session.add(1, 5, 1));
+    REFUSED(sum_too_large, session.cap(2, largest));
+    REFUSED(sum_too_large, session.add(1, 4, largest));
+    REFUSED(nothing_to_undo, session.undo(100));
+    REFUSED(nothing_to_redo, session.redo());
+    EXPECT(session.value() == 2 && session.past() == 6);
+    EXPECT(thrown<dmf::error>([&] { session.close(6); }).what() == std::string("dmf: arc is closed"));
+}
+
+void owning() {
+    dmf::session first = example(), second = example(0);
+    first.solve();
+    const dmf_session *handle = first.get();
+    second = std::move(first);
+    EXPECT(second.get() == handle && second.value() == 5);
+    dmf::session third(std::move(second));
+    EXPECT(third.get() == handle && std::as_const(third).get() == handle);
+    first = example();
+    EXPECT(first.value() == 0 && dmf_session_solve(first.get()) == DMF_OK && first.value() == 5);
+    dmf::session fourth(third.release());
+    EXPECT(third.get() == nullptr && fourth.get() == handle && fourth.value() == 5);
+}
+
+// The arrays of a network without arcs may lie nowhere.
+void without_arcs() {
+    dmf::session session(2, 1, 2, {}, std::vector<std::uint32_t>(), {nullptr, 0});
+    session.solve();
+    EXPECT(session.value() == 0 && session.flows().empty() && session.check({}));
+    EXPECT(session.problem() == "p max 2 0\nn 1 s\nn 2 t\n" && session.solution() == "s 0\n");
+}
+} // namespace
+
+int main() {
+    opening();
+    reading();
+    judging();
+    changing();
+    owning();
+    without_arcs();
+    EXPECT(dmf::abi() == DMF_ABI && dmf::version() == dmf_version());
+    for (std::uint32_t number = 0; number <= DMF_NEGATIVE; number++)
+        std::cout << dmf::text(static_cast<dmf::status>(number)) << "\n";
+    for (std::uint32_t number = 1; number <= DMF_FAULT_SUM_TOO_LARGE; number++)
+        std::cout << dmf::text(static_cast<dmf::fault>(number)) << "\n";
+    return wrong;
+}

@@ -1,0 +1,45 @@
+// Each call of dmf.hpp that may want memory throws std::bad_alloc where each request for it is refused, and leaves the
+// session as it was. Prints how many do.
+#include <cstdlib>
+#include <dmf.hpp>
+#include <iostream>
+
+extern "C" {
+void *__libc_malloc(std::size_t);
+void *__libc_realloc(void *, std::size_t);
+}
+
+static bool refuses = false;
+
+extern "C" void *malloc(std::size_t size) { return refuses ? nullptr : __libc_malloc(size); }
+extern "C" void *realloc(void *old, std::size_t size) { return refuses ? nullptr : __libc_realloc(old, size); }
+
+template <class Act> static bool is_refused(Act act) {
+    refuses = true;
+    try {
+        act();
+    } catch (const std::bad_alloc &) {
+        refuses = false;
+        return true;
+    }
+    refuses = false;
+    return false;
+}
+
+int main() {
+    static const char text[] = "p max 4 5\nn 1 s\nn 4 t\na 1 2 3\na 1 3 2\na 2 3 5\na 2 4 2\na 3 4 3\n";
+    dmf::session session = dmf::session::read(text);
+    int count = 0;
+    count += is_refused([] { (void)dmf::session::read(text); });
+    count += is_refused([] { dmf::session(2, 1, 2, {1}, {2}, {3}); });
+    count += is_refused([&] { session.solve(); });
+    const bool unsolved = session.value() == 0 && session.past() == 0;
+    session.solve();
+    count += is_refused([&] { session.close(1); });
+    count += is_refused([&] { session.shut(2); });
+    count += is_refused([&] { (void)session.side(); });
+    count += is_refused([&] { (void)session.problem(); });
+    count += is_refused([&] { (void)session.solution(); });
+    count += is_refused([&] { (void)session.check({3, 2, 1, 2, 3}); });
+    std::cout << count << (unsolved && session.value() == 5 && session.past() == 1 ? "\n" : " and a change\n");
+}
