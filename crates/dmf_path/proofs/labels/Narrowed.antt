@@ -85,4 +85,3 @@ module _ {r : ResidualLinks} {flags : List ℕ} {old new : Windows} {v first beh
           ];
         };
   }
-
