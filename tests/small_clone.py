@@ -22,6 +22,7 @@ SCRIPTS += [
     for name in (
         "build.py",
         "prebuilt",
+        "format_rattle",
         "commands.sh",
         "count.sh",
         "packages.sh",
@@ -66,6 +67,12 @@ run) mkdir -p out/rlib && cp "$files/made" out/dmf ;;
 *) mkdir -p out/rlib ;;
 esac
 """
+# A toolchain's formatter that dislikes a line of its own.
+FORMATTER = """#!/bin/sh
+test "$1 $2" = "fmt --check" || exit 3
+shift 2
+! grep -l "^UNFORMATTED" "$@"
+"""
 PROGRAM = '#!/bin/sh\necho ran {} "$@"\n'
 MAKES_LIBRARY = '#!/bin/sh\nmkdir -p "$1" && echo "${LIBRARY:-a library}" >"$1/libdmf.so.0"\n'
 
@@ -100,8 +107,12 @@ class Clone:
         shutil.copy(ROOT / "tools/dmf.map", self.root / "tools")
         for tool in FEW:
             (self.bin / tool).symlink_to(shutil.which(tool) or tool)
-        self.rt.write_text(STAND_IN.format(shlex.quote(str(root))))
-        self.rt.chmod(0o755)
+        for path, script in {
+            self.rt: STAND_IN.format(shlex.quote(str(root))),
+            self.rt.parent / "rattle": FORMATTER,
+        }.items():
+            path.write_text(script)
+            path.chmod(0o755)
 
     def renew(self, program: str = PROGRAM.format("the first")) -> None:
         """Fills prebuilt/ with this program, which is then built no more."""

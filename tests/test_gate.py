@@ -73,17 +73,17 @@ def ended(
 
 
 def test_all_well(clone: Clone) -> None:
-    """Tests, proofs, a library, a mutant, that nothing was loaded from before, and two comparisons:
-    of the sources of prebuilt/, and of its bytes."""
+    """Tests, proofs, a library, a mutant, that nothing was loaded from before, the crates' format,
+    and two comparisons: of the sources of prebuilt/, and of its bytes."""
     status, lines = ended(clone, *GATE)
-    assert (status, lines[-1], lines.count(SAID)) == (0, "10 passed, 0 failed", 3)
+    assert (status, lines[-1], lines.count(SAID)) == (0, "11 passed, 0 failed", 3)
 
 
 def test_surroundings(clone: Clone) -> None:
     """What stands in the caller's environment changes nothing of what the gate tests."""
     caller = {"CI": "true", "DMF_BUILT": "/nowhere", "PYTEST_ADDOPTS": "-k nothing"}
     status, lines = ended(clone, *GATE, **caller, PYTHONPATH="/nowhere")
-    assert (status, lines[-1]) == (0, "10 passed, 0 failed")
+    assert (status, lines[-1]) == (0, "11 passed, 0 failed")
 
 
 def test_all_edits(clone: Clone) -> None:
@@ -97,9 +97,9 @@ def test_all_edits(clone: Clone) -> None:
 def test_failures(clone: Clone, said: str) -> None:
     """A part that tells a failure, or that tells nothing."""
     missing = said != "1 passed, 1 failed"
-    assert ended(clone, *GATE, said=said)[1][-1] == f"{8 + (not missing)} passed, 1 failed"
+    assert ended(clone, *GATE, said=said)[1][-1] == f"{9 + (not missing)} passed, 1 failed"
     status, lines = ended(clone, *GATE, test=said)
-    assert (status, lines[-1]) == (1, f"{8 + (not missing)} passed, 1 failed")
+    assert (status, lines[-1]) == (1, f"{9 + (not missing)} passed, 1 failed")
 
 
 @pytest.mark.parametrize(
@@ -139,7 +139,7 @@ def test_no_bare_debian(clone: Clone) -> None:
         "gate: no bare Debian could be made (only root can), so README's commands ran on this "
         "machine: a failure, unless --no-root is given"
     )
-    assert (status, lines[-2:], lines.count(SAID)) == (1, [said, "10 passed, 1 failed"], 3)
+    assert (status, lines[-2:], lines.count(SAID)) == (1, [said, "11 passed, 1 failed"], 3)
     assert ended(clone, ".ci/run", "--root") == (2, ["Usage: .ci/run [--no-root]"])
 
 
@@ -151,9 +151,17 @@ def test_other_sources(clone: Clone) -> None:
         1,
         [
             "prebuilt/ is of other sources: `tools/prebuilt renew` makes it anew",
-            "0 passed, 1 failed",
+            "1 passed, 1 failed",
         ],
     )
+
+
+def test_unformatted(clone: Clone) -> None:
+    """A file of a crate that the prover would refuse for its format: the gate ends at once, and
+    names it."""
+    (clone.root / "crates/low/src/lib.rt").write_text("UNFORMATTED\n")
+    clone.renew()
+    assert ended(clone, *GATE) == (1, ["crates/low/src/lib.rt", "1 passed, 1 failed"])
 
 
 def test_another_executable(clone: Clone) -> None:
@@ -164,7 +172,7 @@ def test_another_executable(clone: Clone) -> None:
         "prebuilt/ has another executable than crates/dmf/out/dmf: `tools/prebuilt renew` makes it "
         "anew"
     )
-    assert (status, lines[-1], said in lines) == (1, "9 passed, 1 failed", True)
+    assert (status, lines[-1], said in lines) == (1, "10 passed, 1 failed", True)
 
 
 def with_library(clone: Clone, script: str) -> None:
@@ -185,7 +193,7 @@ def test_another_library(clone: Clone) -> None:
         "prebuilt/ has another library than out/library/libdmf.so.0: `tools/prebuilt renew` makes "
         "it anew"
     )
-    assert (status, lines[-1], said in lines) == (1, "9 passed, 1 failed", True)
+    assert (status, lines[-1], said in lines) == (1, "10 passed, 1 failed", True)
 
 
 def test_a_stale_library(clone: Clone) -> None:
@@ -199,7 +207,7 @@ def test_a_stale_library(clone: Clone) -> None:
     status, lines = ended(clone, *GATE)
     assert (status, lines[-1], "out/library/libdmf.so.0 is not there" in lines) == (
         1,
-        "8 passed, 2 failed",
+        "9 passed, 2 failed",
         True,
     )
 
