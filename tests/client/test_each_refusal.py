@@ -86,7 +86,10 @@ def test_networks() -> None:
     )
     assert message == "capacities past 64 bits: <Arc 2: 'b' to 'a'>"
     message = refuse(dmf.NotANumber, dmf.Network, [("a", "b", 1.5)], "a", "b")
-    assert message == "not a number: 1.5 in ('a', 'b', 1.5)"
+    assert message == (
+        "not a number: 1.5 in ('a', 'b', 1.5): a capacity is a whole number from 0 to 2^64 - 1; "
+        "for decimals use dmf.read_table"
+    )
     refuse(dmf.NoSuchNode, dmf.Network, PIPES, "lake", "see")
 
 

@@ -280,7 +280,7 @@ def test_faults() -> None:
             call(DICTIONARY, "lake", "pond")
         with pytest.raises(dmf.SourceAndSinkAreTheSame):
             call(DICTIONARY, "lake", "lake")
-        with pytest.raises(dmf.NotANumber, match=r"^not a number: -1 in \('a', 'b', -1, None\)$"):
+        with pytest.raises(dmf.NotANumber, match=r"^not a number: -1 in \('a', 'b', -1, None\): "):
             call({"a": {"b": -1}}, "a", "b")
         with pytest.raises(
             dmf.CapacitiesPast64Bits, match="^capacities past 64 bits: <Arc 2: 'b' to 'c'>$"

@@ -217,7 +217,11 @@ MALFORMED: list[tuple[Any, str]] = [
     ("close x", "unknown command: 'c' in a sweep"),
     ([(["close"], "x")], "unknown command: [(['close'], 'x')] in a sweep"),
     ([("cap", ["x"], 1)], "no such arc: ['x']"),
-    ([("cap", "x", "much")], "not a number: 'much' in <Arc 1: 'a' to 'b', 'x'>"),
+    (
+        [("cap", "x", "much")],
+        "not a number: 'much' in <Arc 1: 'a' to 'b', 'x'>: a capacity is a whole number from 0 to "
+        "2^64 - 1",
+    ),
     ([("shut", {})], "no such node: {}"),
     ([("add", "a", ["b"], 1)], "no such node: ['b']"),
 ]

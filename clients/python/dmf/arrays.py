@@ -59,6 +59,19 @@ def columns_of_arrays(
     return columns, capacities
 
 
+def column_of(frame: Any, title: str) -> Any:
+    """Return a column of a frame. Raises a KeyError that names the titles of the frame, if they are
+    known."""
+    try:
+        return frame[title]
+    except Exception:
+        titles = list(frame.keys() if hasattr(frame, "keys") else getattr(frame, "columns", ()))
+        if not titles or title in titles:
+            raise
+        shown = ", ".join(map(shown_value, titles))
+        raise KeyError(f"no column {shown_value(title)}: the columns are {shown}") from None
+
+
 def _plain(column: Any) -> Any:
     """A series of pandas as an array of numpy, and an array that hides some of its values as a
     list, in which these are None; any other column as it is, or as a list where its length is not

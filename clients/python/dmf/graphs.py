@@ -269,7 +269,12 @@ def _given(
         columns = columns_of(rows, graph)
     elif hasattr(graph, "columns"):
         columns = columns_of_arrays(
-            graph["tail"], graph["head"], graph[capacity], None, (), infinite
+            arrays.column_of(graph, "tail"),
+            arrays.column_of(graph, "head"),
+            arrays.column_of(graph, capacity),
+            None,
+            (),
+            infinite,
         )
     elif (
         isinstance(graph, tuple)

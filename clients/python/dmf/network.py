@@ -188,7 +188,7 @@ class Network(Presentable[Node]):
         Raises
         ------
         KeyError
-            If the frame lacks a column.
+            If the frame lacks a column; the message has the titles that it has.
         Error
             What `from_arrays` raises.
 
@@ -198,8 +198,8 @@ class Network(Presentable[Node]):
         >>> Network.from_frame(frame, source="a", sink="c").solve().value
         2
         """
-        columns = [frame[column] for column in (tail, head, capacity)]
-        keys = None if key is None else frame[key]
+        columns = [arrays.column_of(frame, title) for title in (tail, head, capacity)]
+        keys = None if key is None else arrays.column_of(frame, key)
         return cls.from_arrays(
             *columns,
             source=source,
@@ -564,7 +564,7 @@ class Network(Presentable[Node]):
         """Steps so many changes back or on, and returns the value. `judge` raises if there are not
         so many, and `follow` makes the same steps in what is kept, to a flow of a value.
         """
-        steps = whole(count, word)
+        steps = whole(count, word, "a number of steps")
         judge(steps)
         value = self._stepped((word, steps))
         follow(steps, value)

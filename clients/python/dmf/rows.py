@@ -4,6 +4,7 @@ what is no arc."""
 from __future__ import annotations
 
 import contextlib
+import math
 import operator
 from array import array
 from collections import defaultdict
@@ -28,20 +29,31 @@ WANTED = (
 )
 
 
-def whole(number: Any, at: object) -> int:
-    """This value as a whole number from 0 to 2^64 - 1. Raises `NotANumber` and `NumberTooLarge`,
-    whose messages say that it stands in `at`."""
+def whole(number: Any, at: object, what: str = "a capacity") -> int:
+    """Return a value as a whole number from 0 to 2^64 - 1. Raises `NotANumber` and
+    `NumberTooLarge`, whose messages name what it stands in, `at`, and what it should be."""
     try:
         # A float of Python or of numpy, of any width.
         is_whole = getattr(number, "is_integer", bool)
         taken = int(number) if is_whole() else operator.index(number)
     except TypeError:
-        raise NotANumber(f"{shown_value(number)} in {shown_value(at)}") from None
-    if taken < 0:
-        raise NotANumber(f"{shown_value(number)} in {shown_value(at)}")
+        taken = -1
+    if 0 <= taken <= LARGEST:
+        return taken
+    expected = f"{shown_value(at)}: {what} is a whole number from 0 to 2^64 - 1"
     if taken > LARGEST:
-        raise NumberTooLarge(f"one of {taken.bit_length()} bits in {shown_value(at)}")
-    return taken
+        raise NumberTooLarge(f"one of {taken.bit_length()} bits in {expected}")
+    hint = "; for decimals use dmf.read_table" if _has_fraction(number) else ""
+    raise NotANumber(f"{shown_value(number)} in {expected}{hint}")
+
+
+def _has_fraction(number: Any) -> bool:
+    """Return True for a number that is not whole: a float, a Decimal or a Fraction."""
+    try:
+        nearest = float(number)
+    except (OverflowError, TypeError, ValueError):
+        return False
+    return math.isfinite(nearest) and nearest % 1 > 0
 
 
 def columns_of(rows: Iterable[Any], nodes: Iterable[Node]) -> tuple[Columns[Node], array[int]]:

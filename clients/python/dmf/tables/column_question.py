@@ -30,6 +30,8 @@ class ColumnQuestion(TableFault):
         self.choices = list(choices)
         self.is_arcs = is_arcs
         self.may_be_matrix = False
+        # Whether a call of Python gets the question, which then names the keywords of the call.
+        self.is_call = False
 
     def __reduce__(self) -> tuple[object, ...]:
         return (
@@ -45,7 +47,8 @@ class ColumnQuestion(TableFault):
         ]
         width = max((len(option) for option, _ in shown), default=0)
         rest = [f"  and {len(self.choices) - MOST_LISTED} more"] * (len(self.choices) > MOST_LISTED)
-        rest += ["  --matrix, if the titles are the places where rows lead"] * self.may_be_matrix
+        matrix = "matrix=True" if self.is_call else "--matrix"
+        rest += [f"  {matrix}, if the titles are the places where rows lead"] * self.may_be_matrix
         return [
             self.told(),
             *(f"  {option:{width}}  {cells}".rstrip() for option, cells in shown),
@@ -53,7 +56,11 @@ class ColumnQuestion(TableFault):
         ]
 
     def _option(self, name: str) -> str:
-        return f"--{self.sought} {shlex.quote(name)}" if self.is_arcs else quoted_name(name)
+        if not self.is_arcs:
+            return quoted_name(name)
+        if self.is_call:
+            return f"columns={{{self.sought!r}: {name!r}}}"
+        return f"--{self.sought} {shlex.quote(name)}"
 
 
 def shown_cells(cells: Sequence[str]) -> str:

@@ -14,6 +14,7 @@ from ..session.base import Program, bound
 from ..session.runners import chosen
 from ..state import NetworkState
 from .arcs_and_places import UNLIMITED_WORD, Term
+from .keywords import naming_keywords
 from .loader import TableOptions, complete, load_tables, plan_of_sheet, split_path
 from .other_columns import extra_of
 from .problem_builder import NetworkTables, net_of
@@ -61,6 +62,7 @@ def network_of_plan(plan: NetworkTables, program: Program, history: Optional[int
     return made
 
 
+@naming_keywords()
 def read_table(
     table: Any,
     *,
