@@ -183,7 +183,7 @@ def test_progress(driver: Any, tmp_path: Path) -> None:
             "=> at.innerText))"
         )
         found = driver.execute_script(f"return {texts}")
-        assert len(found) == min(tried, 300) and tried < 2 * count
+        assert len(found) == min(tried, 20) and tried < 2 * count
         for name, without, _, doubled, _ in found:
             own, other = fits[name]
             assert (int(without), int(doubled)) == (
@@ -199,5 +199,12 @@ def test_progress(driver: Any, tmp_path: Path) -> None:
             )
             and f", {most} litres less" in told
         )
+        show_all = driver.find_element("id", "trials-more")
+        if tried > 20:
+            at_most = f"the first {3000:,}" if tried > 3000 else f"all {tried:,}"
+            assert show_all.text == f"Show {at_most}"
+            show_all.click()
+            rows = driver.find_elements("css selector", "#trials tbody tr")
+            assert (len(rows), show_all.is_displayed()) == (min(tried, 3000), False)
         driver.execute_script("letGo()")
         driver.get("about:blank")

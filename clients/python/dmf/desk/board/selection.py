@@ -238,7 +238,11 @@ class ArcList:
             )
         except DeskFault as why:
             reading, numbers, fault = "", [], str(why)
-        rows = [arc_view(self._desk, number) for number in numbers[first : first + count]]
+        changed = self._desk.network.changed()
+        rows = [
+            {**arc_view(self._desk, number), "changed": number in changed}
+            for number in numbers[first : first + count]
+        ]
         return {
             "total": len(numbers),
             "first": first,
@@ -290,10 +294,18 @@ class ArcList:
             "to": lambda number: natural(names.node(network.lines[number - 1].head)),
             "flow": desk.flow,
             "capacity": lambda number: network.lines[number - 1].capacity,
+            "use": self._use,
         }
         if column not in columns:
             raise WrongForm(f"a column is one of {', '.join(columns)}")
         return columns[column]
+
+    def _use(self, number: int) -> float:
+        """Return which part of an arc's capacity is used; less than nothing if it is closed."""
+        line = self._desk.network.lines[number - 1]
+        if line.is_closed:
+            return -1.0
+        return float(self._desk.flow(number)) / float(line.capacity) if line.capacity else 0.0
 
     def _parts(self, text: str) -> tuple[list[Condition], list[str]]:
         """The conditions of a filter, and what each is in words."""

@@ -9,7 +9,7 @@ import { choose, pick } from "./choice.js";
 import { at, cell, field, fill, make, offer, onClick, replace } from "./elements.js";
 import { patiently } from "./messages.js";
 import { ask, noun, units } from "./state.js";
-import { sentence, upper } from "./words.js";
+import { listed, sentence, upper } from "./words.js";
 
 const AT_ONCE = 300;
 /** What the picture's colours mean, in words. */
@@ -81,8 +81,7 @@ export function closeComparison() {
 
 /** @param {Standing} it */
 function limitOf(it) {
-  const left = it.limit_count - it.limit.length;
-  return (it.limit.join("; ") || "nothing") + (left ? ` and ${left} more` : "");
+  return it.limit_count ? listed(it.limit, it.limit_count, "; ") : "nothing";
 }
 
 function showTable() {

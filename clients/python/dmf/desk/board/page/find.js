@@ -4,12 +4,22 @@ import { at, button, field, make } from "./elements.js";
 import { ask } from "./state.js";
 
 let typed = 0;
+/**
+ * What is being found for what was typed last. Enter waits for it.
+ * @type {Promise<unknown>}
+ */
+let search = Promise.resolve();
 
 async function find() {
   const turn = (typed += 1), text = field("text").value.trim();
   /** @type {{ found: { label: string, node?: number, number?: number }[], more?: boolean } | null | undefined} */
   const told = text ? await ask(`find?text=${encodeURIComponent(text)}`) : { found: [] };
-  if (!told || turn !== typed) return;
+  if (turn !== typed) return;
+  if (!told) {
+    // What was found for another text is not what is meant.
+    at("found").replaceChildren();
+    return;
+  }
   const lines = told.found.map((it) => make("li", button(it.label, () => choose(it.node ? { node: it.node } : { arc: it.number }))));
   if (text && !lines.length) lines.push(make("li", "Nothing has this in its name."));
   if (told.more) lines.push(make("li", "There are more: write more of the name."));
@@ -17,9 +27,14 @@ async function find() {
 }
 
 export function beginFinding() {
-  at("text").addEventListener("input", find);
-  at("search").addEventListener("submit", (event) => {
+  at("text").addEventListener("input", () => {
+    search = find();
+  });
+  at("search").addEventListener("submit", async (event) => {
     event.preventDefault();
-    at("found").querySelector("button")?.click();
+    const turn = typed;
+    await search;
+    // What is typed after Enter is another search.
+    if (turn === typed) at("found").querySelector("button")?.click();
   });
 }

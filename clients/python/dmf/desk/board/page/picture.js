@@ -13,8 +13,9 @@ import { news } from "./messages.js";
 import { paint } from "./painting.js";
 import { ask, noun, present, units } from "./state.js";
 import { beginView, fit, move, reveal, scale, see, zoom } from "./view.js";
+import { listed } from "./words.js";
 
-const LARGER = 1.4, STEP = 60, MOST_SAID = 10, STILL = 300;
+const LARGER = 1.4, STEP = 60, STILL = 300;
 let asked = 0, count = 0, pending = 0, moving = 0;
 /** The place that is shown with what lies near it, or nothing where that is the limit; and the one of the picture that is there. */
 let near = "", nearShown = "none";
@@ -244,8 +245,8 @@ export async function closeChoice() {
  * @param {State} state
  */
 export function sayPicture(state) {
-  const limit = state.limit.slice(0, MOST_SAID).map((arc) => arc.short).join(", "), rest = state.limit_count - MOST_SAID;
+  const limit = listed(state.limit.map((arc) => arc.short), state.limit_count);
   const step = state.at ? ` Last step: ${state.steps[state.at].text}, ${state.steps[state.at].by}.` : "";
   at("picture-said").textContent = `${state.value}${units()} flow from ${state.source} to ${state.sink}, over ${state.arcs} ${noun()}s. `
-    + `The limit: ${limit}${rest > 0 ? ` and ${rest} more` : ""}.${step}`;
+    + `The limit: ${limit}.${step}`;
 }

@@ -5,7 +5,7 @@
 import { pick } from "./choice.js";
 import { at, fill, keepInSight, make, numberCell, onClick, replaceAlike } from "./elements.js";
 import { act, caption, noun, present, units } from "./state.js";
-import { upper } from "./words.js";
+import { fileName, grouped, listed, upper } from "./words.js";
 
 /** @param {State} state */
 export function showSummary(state) {
@@ -16,8 +16,9 @@ export function showSummary(state) {
 /** @param {State} state */
 function tell(state) {
   const named = state.scenario ? `, ${state.scenario}` : "";
-  document.title = `${state.value} ${state.title}${named}`;
-  at("title").textContent = `${state.title}${named}: from ${state.source} to ${state.sink}`;
+  document.title = `${state.value} ${fileName(state.title)}${named}`;
+  at("title").title = state.title;
+  at("title").textContent = `${fileName(state.title)}${named}: from ${state.source} to ${state.sink}`;
   const since = state.at ? ` (${state.by} than at the beginning).`.replace("no change than", "as much as") : ".";
   at("value").replaceChildren(
     make("strong", state.value), `${units()} can be sent from ${state.source} to ${state.sink}, and not more${since}`);
@@ -41,8 +42,8 @@ export function beginKeeping() {
 /** @param {State} state */
 function showLimit(state) {
   const rest = state.limit_count - state.limit.length;
-  const more = state.side_count > state.side.length ? ` and ${state.side_count - state.side.length} more` : "";
   at("limit-note").textContent = `Whatever way is taken, it leads over one of these, and together they carry ${state.value}${units()}. `
-    + `Before the limit: ${state.side.join(", ")}${more}.` + (rest ? ` The first ${state.limit.length} of ${state.limit_count}:` : "");
+    + `Before the limit: ${listed(state.side, state.side_count)}.`
+    + (rest ? ` The first ${state.limit.length} of ${grouped(state.limit_count)}:` : "");
   fill("limit-table", caption(), [upper(noun()), "carries"], state.limit.map((arc) => [pick(arc), numberCell(arc.capacity)]));
 }

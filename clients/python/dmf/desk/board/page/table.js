@@ -1,6 +1,6 @@
 /**
  * The table of all arcs. It holds the rows that can be seen, and asks for others as one scrolls.
- * @typedef {import("./state.js").Arc} Arc
+ * @typedef {import("./state.js").Arc & { changed: boolean }} Arc
  * @typedef {{ total: number, first: number, rows: Arc[], reading: string, fault: string }} Part
  */
 import { choose } from "./choice.js";
@@ -12,7 +12,7 @@ import { sentence, upper } from "./words.js";
 
 /** The height of a row in pixels, as the style has it; how many rows are asked for at once; how many a page of keys moves by. */
 const HEIGHT = 32, AT_ONCE = 36, PAGE = 10;
-const COLUMNS = [["name", ""], ["from", "From"], ["to", "To"], ["flow", "flows"], ["capacity", "fits"]];
+const COLUMNS = [["name", ""], ["from", "From"], ["to", "To"], ["flow", "flows"], ["capacity", "fits"], ["use", "use"]];
 /** @type {Part} */
 let part = { total: 0, first: 0, rows: [], reading: "", fault: "" };
 /**
@@ -123,13 +123,23 @@ function row(place) {
 }
 
 /**
+ * Which part of what an arc can carry is used.
+ * @param {Arc} arc
+ */
+function use(arc) {
+  const used = Number(arc.flow) / Number(arc.capacity);
+  return arc.closed || !Number.isFinite(used) ? "" : `${Math.round(100 * used)} %`;
+}
+
+/**
  * Has a row say what is so of an arc. The row stays where it is, since a click on one that is made anew under the pointer would be lost.
  * @param {HTMLTableRowElement} made
  * @param {Arc} arc
  */
 function fill(made, arc) {
-  const marks = [arc.closed && "closed", arc.full && "full", arc.limit && "limit"].filter(Boolean).join(", ");
-  const [tick, ...cells] = made.cells, texts = [arc.name || arc.label, arc.tail, arc.head, arc.closed ? "" : arc.flow, arc.capacity, marks];
+  const marks = [arc.closed && "closed", arc.full && "full", arc.limit && "limit", arc.changed && !arc.closed && "changed"];
+  const [tick, ...cells] = made.cells, flow = arc.closed ? "" : arc.flow;
+  const texts = [arc.name || arc.label, arc.tail, arc.head, flow, arc.capacity, use(arc), marks.filter(Boolean).join(", ")];
   for (const [column, cell] of cells.entries()) if (cell.textContent !== texts[column]) cell.textContent = texts[column];
   cells[0].title = arc.label;
   tick.firstElementChild?.setAttribute("aria-label", `choose ${arc.label}`);

@@ -10,15 +10,18 @@
 import { pick } from "./choice.js";
 import { at, cell, fill, make, numberCell, onClick } from "./elements.js";
 import { ask, caption, noun, present, units } from "./state.js";
-import { upper } from "./words.js";
+import { grouped, upper } from "./words.js";
 
-/** How many rows the table has; how many arcs are asked for at once; how many are named; how often what is found so far is shown, in ms. */
-const MOST_ROWS = 300, AT_ONCE = 5000, MOST_NAMED = 5, PAUSE = 400;
+/** How many rows the table has at first, and at most; how many arcs are asked for at once; how many are named;
+ * how often what is found so far is shown, in ms. */
+const FIRST_ROWS = 20, MOST_ROWS = 3000, AT_ONCE = 5000, MOST_NAMED = 5, PAUSE = 400;
 /**
  * The sweep that goes on: what it has found, the arcs that are left, and which they all are if that is not all.
  * @type {{ trials: Trial[], left: number[], which: string } | null}
  */
 let going = null;
+/** What the table was made of last, and whether it has more than its first rows. */
+const shown = { trials: /** @type {Trial[]} */ ([]), isAll: false };
 
 /**
  * Tries these in turn. Where they are not all, `which` says so. The table has those that matter most.
@@ -31,17 +34,18 @@ async function sweep(numbers, which) {
   going = mine;
   at("trials").hidden = false;
   at("stop").hidden = false;
-  let shown = -Infinity;
+  shown.isAll = false;
+  let last = -Infinity;
   while (mine.left.length) {
     const told = await ask("sweep", { arcs: mine.left.slice(0, AT_ONCE) });
     if (going !== mine) return;
     if (!told) break;
     mine.trials.push(...told.trials);
     mine.left = told.left.concat(mine.left.slice(AT_ONCE));
-    if (!mine.left.length || performance.now() < shown + PAUSE) continue;
+    if (!mine.left.length || performance.now() < last + PAUSE) continue;
     showTrials(mine.trials);
     at("verdict").textContent = `${mine.trials.length} of ${numbers.length} are tried ..`;
-    shown = performance.now();
+    if (mine.trials.length) last = performance.now();
   }
   stop();
 }
@@ -101,18 +105,33 @@ function bar(by, most, kind) {
   return made;
 }
 
-/** @param {Trial[]} trials */
+/**
+ * Shows those that matter most, or all that the table has room for.
+ * @param {Trial[]} trials
+ */
 function showTrials(trials) {
+  shown.trials = trials;
+  const count = Math.min(trials.length, shown.isAll ? MOST_ROWS : FIRST_ROWS);
   const [most] = [largest(trials, "loss"), largest(trials, "gain")].sort().reverse();
   /**
    * @param {string} one
    * @param {string} other
    */
   const greater = (one, other) => (one > other ? -1 : one < other ? 1 : 0);
-  const sorted = [...trials].sort((one, other) => greater(one.loss, other.loss) || greater(one.gain, other.gain)).slice(0, MOST_ROWS);
-  fill("trials", caption(), [upper(noun()), "with it closed", "", "with a second one", ""], sorted.map((row) => [
+  const sorted = [...trials].sort((one, other) => greater(one.loss, other.loss) || greater(one.gain, other.gain));
+  fill("trials", caption(), [upper(noun()), "with it closed", "", "with a second one", ""], sorted.slice(0, count).map((row) => [
     pick(row, row.short), numberCell(row.without), cell(row.lost ? [bar(row.loss, most, ""), `${row.lost} less`] : "no change"),
     numberCell(row.doubled || "too large"), cell(row.won ? [bar(row.gain, most, "gain"), `${row.won} more`] : "no change")]));
+  const all = Math.min(trials.length, MOST_ROWS);
+  at("trials-more").hidden = shown.isAll || all <= count;
+  at("trials-more").textContent = `Show ${all < trials.length ? "the first" : "all"} ${grouped(all)}`;
+}
+
+/** Shows the rows after the first ones, and goes to the next of them. */
+function showAll() {
+  shown.isAll = true;
+  showTrials(shown.trials);
+  /** @type {HTMLElement | null} */ (at("trials").querySelector(`tbody tr:nth-child(${FIRST_ROWS + 1}) button`))?.focus();
 }
 
 /**
@@ -139,4 +158,5 @@ export function beginTrials() {
     sweep(limit.map((arc) => arc.number), `of the ${limit.length < limit_count ? "first " : ""}${limit.length} of the limit`);
   });
   onClick("stop", stop);
+  onClick("trials-more", showAll);
 }

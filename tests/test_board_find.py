@@ -1,0 +1,95 @@
+"""What is found by name on a board's page, and how names and lists are written, by headless
+Chromium."""
+
+from __future__ import annotations
+
+import shutil
+from pathlib import Path
+from typing import Any
+
+import pytest
+from board_pages import Page
+from board_running import board
+from desk_shared import PIPES
+
+pytestmark = pytest.mark.seconds(20)
+ENTER = "\ue007"
+# Lets the answers to what is typed come late.
+LATE = """
+const ask = window.fetch;
+window.fetch = async (path, content) => {
+  if (path.startsWith("find?")) await new Promise((go) => setTimeout(go, 400));
+  return ask(path, content);
+};
+"""
+
+
+def test_enter_at_once(driver: Any) -> None:
+    """An Enter that comes before the answers chooses what is found for all that was typed before
+    it, and not what was found for another text."""
+    with board(PIPES) as it:
+        page = Page(driver, it.address)
+        field = driver.find_element("id", "text")
+        driver.execute_script(LATE)
+        for typed, chosen in ("Station", "Station"), ("market st", "Market Street"):
+            field.clear()
+            field.send_keys(typed + ENTER)
+            page.wait(lambda: page.text("#what h3") == chosen)  # noqa: B023
+        field.clear()
+        field.send_keys("no such name" + ENTER)
+        page.wait(lambda: page.text("#found") == "Nothing has this in its name.")
+        assert page.text("#what h3") == "Market Street"
+        driver.get("about:blank")
+
+
+def test_title_is_the_name_of_the_file(driver: Any, tmp_path: Path) -> None:
+    """The title has the name of the table's file, wherever that lies."""
+    table = tmp_path / "town pipes.csv"
+    shutil.copy(PIPES, table)
+    with board(str(table)) as it:
+        page = Page(driver, it.address)
+        assert page.text("#title").startswith("town pipes.csv: from Reservoir to Harbour")
+        assert driver.title == "165 town pipes.csv"
+        driver.get("about:blank")
+
+
+def test_lists_end(driver: Any, tmp_path: Path) -> None:
+    """A list of names ends after five, and says how many there are beside them."""
+    count = 1_234
+    table = tmp_path / "fan.csv"
+    rows = [f"S,P{place},{place + 2}\nP{place},T,{place + 1}\n" for place in range(count)]
+    table.write_text("from,to,litres\n" + "".join(rows))
+    with board(str(table)) as it:
+        page = Page(driver, it.address)
+        # Each way is full at its second arc, so that all places but the last lie before the limit.
+        assert "Before the limit: S, P0, P1, P2, P3 and 1,230 more." in page.text("#limit-note")
+        said = driver.find_element("id", "picture-said").get_attribute("textContent")
+        assert " and 1,229 more." in said and said.count(" -> ") == 5
+        driver.get("about:blank")
+
+
+def test_use(driver: Any) -> None:
+    """The table says which part of each pipe is used, is sorted by that, and names what has
+    changed."""
+    with board(PIPES) as it:
+        page = Page(driver, it.address)
+        it.do(what="cap", arc=2, capacity="+20 %")
+        page.wait(lambda: "changed" in page.text("#grid"))
+        page.click("#grid th.use button")
+        page.wait(lambda: ascending(page))
+        cells = "[...document.querySelectorAll('#grid tbody tr[id]')]"
+        told = driver.execute_script(
+            f"return {cells}.map((it) => ['.flow', '.capacity', '.use', '.marks'].map("
+            "(at) => it.querySelector(at).innerText))"
+        )
+        parts = [int(flow) / int(capacity) for flow, capacity, *_ in told]
+        assert parts == sorted(parts) and len(parts) == 14
+        wanted = [f"{int(100 * part + 0.5)} %" for part in parts]
+        assert [use for *_, use, _ in told] == wanted
+        assert sum("changed" in marks for *_, marks in told) == 1
+        driver.get("about:blank")
+
+
+def ascending(page: Page) -> bool:
+    head = page.driver.find_element("css selector", "#grid th.use")
+    return bool(head.get_attribute("aria-sort") == "ascending")
