@@ -1,14 +1,14 @@
-# For the gate, which sources it: a bare Debian 12, and what runs in it.
+# The gate sources this file: it makes a bare Debian 12, and runs commands in it.
 # shellcheck shell=bash
 
 . tools/packages.sh
 
 suite=bookworm
-# Where downloaded packages stay from run to run, if the machine keeps them.
+# Where downloaded packages stay between runs, if the machine keeps files.
 package_cache=/var/cache/dmf-gate
 
-# Runs a command with an environment of PATH and HOME alone, so that nothing in the caller's changes
-# what is tested.
+# Runs a command with only PATH and HOME in its environment, so that nothing else in the caller's
+# environment changes what is tested.
 in_clean_environment() {
     local path=/usr/local/sbin:/usr/local/bin:/usr/sbin:/usr/bin:/sbin:/bin toolchain
     if toolchain=$(command -v rt); then
@@ -17,14 +17,14 @@ in_clean_environment() {
     env -i PATH="$path" HOME="${HOME:-/}" "$@"
 }
 
-# Prints this machine's sources of Debian 12, a line each.
+# Prints this machine's package sources for Debian 12, one a line.
 debian_sources() {
     local format="deb \$(REPO_URI) \$(RELEASE) \$(COMPONENT)"
     apt-get indextargets --format "$format" 'Identifier: Packages' 'Origin: Debian' | grep " $suite" | sort -u
 }
 
-# Makes a bare Debian 12 in a folder: the variant minbase, from this machine's own sources of
-# packages. The last line that it prints says why it failed.
+# Makes a bare Debian 12 in a folder: the variant minbase, from this machine's own package sources. If
+# it fails, the last line that it prints says why.
 make_bare_debian() {
     local sources
     [ "$(id -u)" -eq 0 ] || {
@@ -42,7 +42,7 @@ make_bare_debian() {
         return 1
     }
     mkdir -p "$package_cache" || return
-    # Hooks get the new root's folder as $1.
+    # The hooks are given the new root's folder as $1.
     # shellcheck disable=SC2016
     mmdebstrap --quiet --mode=root --variant=minbase --skip=essential/unlink \
         --setup-hook='mkdir -p "$1/var/cache/apt/archives"' \
@@ -52,8 +52,8 @@ make_bare_debian() {
     in_bare_debian "$1" true
 }
 
-# Runs a command in this Debian, in a namespace of its own for mounts and processes, so nothing of
-# it is left when the command ends.
+# Runs a command in this Debian, with its own namespaces for mounts and processes, so that nothing of
+# it remains when the command ends.
 in_bare_debian() {
     local root=$1
     shift
@@ -73,14 +73,14 @@ in_bare_debian() {
     ' bash "$root" "$package_cache" "$@"
 }
 
-# Puts a clean clone into this Debian, with shared/ beside it if there is one.
+# Makes a clean clone in this Debian, with a copy of ../shared beside it if that exists.
 put_clean_clone() {
     mkdir "$1/work"
     git clone --quiet --no-hardlinks . "$1/work/dmf" || return
     [ ! -d ../shared ] || cp -r ../shared "$1/work/"
 }
 
-# Types README's commands in the clone in this Debian, and tells what was installed.
+# Types README's commands in the clone in this Debian, and prints how much they installed.
 type_in_bare_debian() {
     local root=$1 before status
     before=$(megabytes "$root")
@@ -95,8 +95,9 @@ megabytes() {
     du -sm --one-file-system "$1" | cut -f 1
 }
 
-# Builds the image of the Containerfile over this Debian, without a fetch, and has it solve a
-# problem. The files of podman lie in a folder. The status is 2 where podman cannot build here.
+# Builds the image of the Containerfile on this Debian, without a download, and lets it solve a
+# problem. The second argument is a folder for podman's files. The status is 2 if podman cannot build
+# here.
 try_containerfile() {
     local root=$1 said solve='FROM localhost/dmf\nCOPY a.max .\nRUN /opt/dmf/dmf solve --brief <a.max\n'
     local podman=(env STORAGE_DRIVER=vfs podman --root "$2/storage" --runroot "$2/run")

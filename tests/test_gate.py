@@ -111,12 +111,12 @@ def test_failures(clone: Clone, said: str) -> None:
         (
             "    $ ./test",
             "Nothing.",
-            "typed: README's heading 'Two commands' has no two commands, of which one is ./test",
+            "typed: README's 'Two commands' are not two commands, one of them ./test",
         ),
         (
             "## Two commands",
             "## Commands",
-            "typed: README's heading 'Two commands' has no two commands, of which one is ./test",
+            "typed: README's 'Two commands' are not two commands, one of them ./test",
         ),
     ],
 )
@@ -150,7 +150,7 @@ def test_other_sources(clone: Clone) -> None:
     assert ended(clone, *GATE) == (
         1,
         [
-            "prebuilt/ is of other sources: `tools/prebuilt renew` makes it anew",
+            "prebuilt/ was made from other sources: run `tools/prebuilt renew`",
             "1 passed, 1 failed",
         ],
     )
@@ -168,10 +168,7 @@ def test_another_executable(clone: Clone) -> None:
     """Sources that make another executable than the one of prebuilt/, by one byte."""
     clone.made.write_text(clone.made.read_text() + "\n")
     status, lines = ended(clone, *GATE)
-    said = (
-        "prebuilt/ has another executable than crates/dmf/out/dmf: `tools/prebuilt renew` makes it "
-        "anew"
-    )
+    said = "the executable in prebuilt/ differs from crates/dmf/out/dmf: run `tools/prebuilt renew`"
     assert (status, lines[-1], said in lines) == (1, "10 passed, 1 failed", True)
 
 
@@ -190,8 +187,7 @@ def test_another_library(clone: Clone) -> None:
     with_library(clone, 'mkdir -p "$1" && echo another >"$1/libdmf.so.0"')
     status, lines = ended(clone, *GATE)
     said = (
-        "prebuilt/ has another library than out/library/libdmf.so.0: `tools/prebuilt renew` makes "
-        "it anew"
+        "the library in prebuilt/ differs from out/library/libdmf.so.0: run `tools/prebuilt renew`"
     )
     assert (status, lines[-1], said in lines) == (1, "10 passed, 1 failed", True)
 
@@ -205,7 +201,7 @@ def test_a_stale_library(clone: Clone) -> None:
     stale.write_text("a library\n")
     assert clone.check(str(clone.made), str(stale)) == (0, "")
     status, lines = ended(clone, *GATE)
-    assert (status, lines[-1], "out/library/libdmf.so.0 is not there" in lines) == (
+    assert (status, lines[-1], "out/library/libdmf.so.0 does not exist" in lines) == (
         1,
         "9 passed, 2 failed",
         True,

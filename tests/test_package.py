@@ -179,7 +179,7 @@ def test_not_a_checkout(tmp_path: Path) -> None:
     done = run("./package", folder=tmp_path, GIT_CEILING_DIRECTORIES=str(tmp_path.parent))
     assert (done.returncode, done.stdout, (tmp_path / "out").exists()) == (1, "", False)
     assert (
-        "is no checkout of git, so nobody knows which files belong to dmf; nothing was made"
+        "is not a git checkout, which would say which files belong to dmf; nothing was made"
         in done.stderr
     )
 
@@ -373,8 +373,8 @@ def test_description(made: Path) -> None:
     """It claims no more than what is proved, and its file belongs to the package."""
     told = " ".join(ran("dpkg-deb", "-f", the(made, "dmf_*.deb"), "Description").split())
     assert (
-        "The calls that do so are proved to meet their contracts; the page TRUST of the documents "
-        "says what that covers" in told
+        "The calls that do this are proved to meet their contracts; the page TRUST in the "
+        "documents says what that covers" in told
     )
     assert "greatest" not in told and "minimum" not in told
     assert " ./usr/share/doc/dmf/docs/TRUST.md\n" in ran("dpkg-deb", "-c", the(made, "dmf_*.deb"))
@@ -392,8 +392,8 @@ def test_archive_without_its_executable(made: Path, tmp_path: Path) -> None:
     program.unlink()
     done = run("./dmf", "--version", folder=folder)
     told = (
-        f"dmf: the executable {program} is not there; rt, which is needed to build the program, is "
-        "not in PATH.\n"
+        f"dmf: the executable {program} does not exist; rt, which is needed to build the program, "
+        "is not in PATH.\n"
     )
     assert (done.returncode, done.stdout, done.stderr) == (70, "", told)
 
@@ -432,7 +432,7 @@ def test_words(tmp_path: Path) -> None:
             (few / path.name).symlink_to(path)
     done = run("./package", "--output", tmp_path / "none", PATH=str(few))
     assert (done.returncode, done.stdout, (tmp_path / "none").exists()) == (1, "", False)
-    assert "dpkg-deb is not there; nothing was made" in done.stderr
+    assert "dpkg-deb is not installed; nothing was made" in done.stderr
     ran("./package", "--archive", "--output", tmp_path / "one", PATH=str(few))
     assert sorted(path.suffix for path in (tmp_path / "one").iterdir()) == ["", ".gz"]
     ran("sha256sum", "-c", "SHA256SUMS", folder=tmp_path / "one")

@@ -1,17 +1,17 @@
 # shellcheck shell=sh
-# What the command `dmf` does with its words: one that names a tool runs that, and all else goes to the program. The launcher of an install
-# and ./dmf read this file.
+# What the command `dmf` does with its arguments: if the first one names a tool, it runs the tool;
+# otherwise it runs the program. ./dmf and the launcher of an install source this file.
 
 # Prints a text, and ends.
 print_text() {
-    # A reader that has gone is a failed write, as it is to the program.
+    # As for the program, a reader that has gone makes the write fail.
     trap '' PIPE
     cat -- "$1" || exit 4
     exit
 }
 
-# Runs the tool that the words name, or prints the text on tables; returns if the words are the program's. Before the words stand the folder
-# of the tools and that of the texts.
+# Runs the tool that the arguments name, or prints the text about tables. Returns if the arguments are
+# meant for the program. The first two are the folder of the tools and the folder of the texts.
 run_tool() {
     tools=$1
     texts=$2
@@ -31,7 +31,8 @@ run_tool() {
     esac
 }
 
-# Runs the program with the words; its help ends with the tools. Before the words stand the program and the folder of the texts.
+# Runs the program with the arguments, and adds the tools to its help. The first two are the program
+# and the folder of the texts.
 run_program() {
     program=$1
     texts=$2

@@ -1,11 +1,11 @@
-# For scripts of the gate, which source it: counts what several commands passed and failed.
+# Scripts of the gate source this file: it counts what several commands passed and failed.
 # shellcheck shell=bash
 
 passed=0
 failed=0
 
-# Runs a command, and adds up the last line 'N passed, M failed' that it prints. Without such a
-# line, or where it fails and names no failure, it failed.
+# Runs a command, and adds the counts in its last line 'N passed, M failed'. If it prints no such line,
+# or fails without counting a failure, that counts as one failure.
 count() {
     local said status line
     said=$(mktemp) || exit 1
@@ -23,7 +23,7 @@ count() {
     fi
 }
 
-# Counts a command that ends well as one that passed, and else as one that failed.
+# Runs a command, and counts it as one that passed or one that failed, by its status.
 count_one() {
     if "$@"; then
         passed=$((passed + 1))

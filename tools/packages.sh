@@ -1,7 +1,7 @@
-# For scripts of the gate, which source it: provides packages of Debian.
+# Scripts of the gate source this file: it provides packages of Debian.
 # shellcheck shell=bash
 
-# Prints those of these packages that are not installed.
+# Prints which of these packages are not installed.
 missing() {
     local package
     for package in "$@"; do
@@ -9,8 +9,8 @@ missing() {
     done
 }
 
-# Installs packages. If the present list of packages does not do, it is fetched anew. Waits for
-# another call of apt-get. Prints nothing but why it failed, in a line.
+# Installs packages. If that fails with the present package list, it updates the list and tries again.
+# Waits for other calls of apt-get. Prints only why it failed, in one line.
 install_packages() {
     local said install=(apt-get install -y -q --no-install-recommends -o DPkg::Lock::Timeout=300 "$@")
     export DEBIAN_FRONTEND=noninteractive
@@ -18,8 +18,8 @@ install_packages() {
     said=$(apt-get update -q 2>&1 && "${install[@]}" 2>&1) || grep -m 1 '^[EW]: ' <<<"$said" || tail -n 1 <<<"$said"
 }
 
-# Wants packages for a script of this name. If root calls, missing ones are installed; otherwise, or
-# if that fails, one line says which they are, and the status is 2.
+# Requires packages for the script with this name. Root installs the missing ones; for other users, or
+# if that fails, one line names them, and the status is 2.
 want_packages() {
     local name=$1 wanted why=''
     shift

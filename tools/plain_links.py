@@ -1,6 +1,6 @@
 #!/usr/bin/env python3
-"""Makes plain text of each link of the pages below a folder, in Markdown, that leads to no file or
-folder there.
+"""Turn each link that leads to no file or folder into plain text, in the Markdown pages below a
+folder.
 
     python3 tools/plain_links.py FOLDER
 """
@@ -11,12 +11,12 @@ import re
 import sys
 from pathlib import Path
 
-# A link to a place in the folder, as [text](place#heading). A picture has a `!` before it.
+# A link into the folder, such as [text](path#heading). A picture has a `!` in front.
 LINK = re.compile(r"(!?)\[([^]\[]*)\]\((?![a-z]+:|#)([^()#\s]+)(?:#[^()\s]*)?\)")
 
 
 def plain(text: str, folder: Path) -> str:
-    """The text of a page in a folder, with the links that lead somewhere."""
+    """Return the text of a page in a folder, with only the links that lead somewhere."""
     return LINK.sub(lambda link: link[0] if (folder / link[3]).exists() else link[2], text)
 
 

@@ -118,7 +118,7 @@ lines() {
 
 # What a call tells that puts all into a folder.
 told() {
-    lines put "$1"
+    lines installed "$1"
     echo "$1/bin is not in PATH"
     echo "Python imports the package dmf with PYTHONPATH=$1/share/dmf/python"
     echo "A program in C finds the library with PKG_CONFIG_PATH=$1/lib/pkgconfig and -Wl,-rpath,$1/lib"
@@ -126,7 +126,7 @@ told() {
 
 putting="$(told "$prefix")
 "
-untaken="dmf: prebuilt/dmf-x86_64-linux.gz is not there, or cannot be read.
+untaken="dmf: prebuilt/dmf-x86_64-linux.gz does not exist or cannot be read.
 "
 first="${untaken}dmf: the program is proved and built. This happens once, and takes 9 to 15 minutes on 4 idle processors.
 "
@@ -141,7 +141,7 @@ exit 1
 END
 call "a program that is not built" 1 "" "${first}dmf: dmf is not built
 no proof
-install: the program could not be built; nothing was put
+install: the program could not be built; nothing was installed
 " --prefix "$prefix"
 same "nothing is put without a program" "$([ -e "$prefix" ] || echo nothing)" nothing
 stand_in <<'END'
@@ -187,7 +187,7 @@ exec 3<&-
 touch -r "$root/install" "$root/crates/dmf/src"
 
 # A library that prebuilt/ has not is built.
-unlibraried="install: prebuilt/libdmf-x86_64-linux.so.0.gz is not there, or cannot be read
+unlibraried="install: prebuilt/libdmf-x86_64-linux.so.0.gz does not exist or cannot be read
 "
 mv "$root/prebuilt" "$root/no prebuilt"
 mv "$root/tools/library" "$root/library"
@@ -195,7 +195,7 @@ rm "$root/crates/dmf_c/out/libdmf.so.0"
 printf '#!/bin/sh\necho no proof >&2\nexit 1\n' >"$root/tools/library"
 chmod 755 "$root/tools/library"
 call "a library that is not built" 1 "" "${unlibraried}no proof
-install: the C library could not be built; nothing was put
+install: the C library could not be built; nothing was installed
 " --prefix "$prefix"
 cat >"$root/tools/library" <<'END'
 #!/bin/sh
@@ -210,11 +210,11 @@ mv "$root/no prebuilt" "$root/prebuilt"
 rm "$prefix/share/man/man1/dmf.1"
 (cd "$work" && "$root/install" --remove --prefix "$prefix") >"$work/out" 2>"$work/err"
 judge "removing, where a file is not there" "$?" 0 "$(
-    lines removed "$prefix" | LC_ALL=C sort -r | sed 's|^removed \(.*man1/dmf.1\)|not there: \1|'
+    lines removed "$prefix" | LC_ALL=C sort -r | sed 's|^removed \(.*man1/dmf.1\)|already gone: \1|'
     echo "removed $prefix/share/dmf/installed"
 )"$'\n' ""
 same "what others put stays" "$(tree "$prefix")" "$before"
-call "removing again" 0 "nothing was put below $prefix"$'\n' "" --remove --prefix "$prefix"
+call "removing again" 0 "nothing was installed below $prefix"$'\n' "" --remove --prefix "$prefix"
 
 # What was changed since it was put, and what others put beside it.
 (cd "$work" && "$root/install" --prefix "$prefix") >"$work/out" 2>"$work/err"
@@ -223,7 +223,7 @@ echo mine >"$prefix/bin/dmf"
 echo mine >"$prefix/share/man/man1/mine.1"
 before=$(tree "$prefix")
 call "a file that was changed" 1 "" \
-    "install: $prefix/bin/dmf was changed since this script put it; nothing was put (move it away first)
+    "install: $prefix/bin/dmf was changed after this script installed it; nothing was installed (move it away first)
 " --prefix "$prefix"
 same "all stays as it is" "$(tree "$prefix")" "$before"
 for made in __pycache__/arcs tables/__pycache__/xlsx desk/plan/__pycache__/shell; do
@@ -280,16 +280,16 @@ for place in ../victim "$work/victim" way/victim share/../../victim; do
     echo "${sum%% *} $place" | cat "$work/list" - >"$list"
     call "removing a list with $place" 1 "" "install: $list names $place, which is not below $prefix; nothing was removed
 " --remove --prefix "$prefix"
-    call "putting beside a list with $place" 1 "" "install: $list names $place, which is not below $prefix; nothing was put
+    call "putting beside a list with $place" 1 "" "install: $list names $place, which is not below $prefix; nothing was installed
 " --prefix "$prefix"
 done
-older="has not the mark of this script; nothing was removed. If an older ./install wrote it, remove the files that it names, and it, by hand"
+older="does not have the mark of this script; nothing was removed. If an older ./install wrote it, remove it and the files that it names by hand"
 printf '%s\n' bin/ bin/dmf bin/other share/dmf/installed >"$list"
 call "a list without a mark" 1 "" "install: $list $older"$'\n' --remove --prefix "$prefix"
-call "putting beside a list without a mark" 1 "" "install: $list ${older/removed/put}"$'\n' --prefix "$prefix"
+call "putting beside a list without a mark" 1 "" "install: $list ${older/removed/installed}"$'\n' --prefix "$prefix"
 rm "$list"
 ln -s "$work/list" "$list"
-call "a list that is a link" 1 "" "install: $list is no file below $prefix; nothing was removed"$'\n' --remove --prefix "$prefix"
+call "a list that is a link" 1 "" "install: $list is not a file below $prefix; nothing was removed"$'\n' --remove --prefix "$prefix"
 rm "$list"
 cp "$work/list" "$list"
 same "nothing was removed" "$(tree "$prefix") $(cat "$work/victim")" "$before victim"
@@ -300,7 +300,7 @@ mv "$prefix/share/dmf/python" "$work/elsewhere"
 ln -s "$work/elsewhere" "$prefix/share/dmf/python"
 before=$(tree "$work/elsewhere")
 quiet --prefix "$prefix"
-same "a folder that leads elsewhere" "$? $(grep -c 'names share/dmf/python/dmf.*, which is not below .*; nothing was put$' "$work/err")" "1 1"
+same "a folder that leads elsewhere" "$? $(grep -c 'names share/dmf/python/dmf.*, which is not below .*; nothing was installed$' "$work/err")" "1 1"
 quiet --remove --prefix "$prefix"
 same "removing where a folder leads elsewhere" "$? $(grep -c ', which is not below .*; nothing was removed$' "$work/err")" "1 1"
 same "what is elsewhere stays" "$(tree "$work/elsewhere")" "$before"
@@ -310,7 +310,7 @@ mkdir -p "$work/linked place"
 ln -s "$work/elsewhere" "$work/linked place/bin"
 quiet --prefix "$work/linked place"
 same "putting where a folder leads elsewhere" "$? $(cat "$work/err")" \
-    "1 install: $work/linked place/bin/dmf is not below $work/linked place, where symbolic links lead; nothing was put"
+    "1 install: $work/linked place/bin/dmf is not below $work/linked place once symbolic links are followed; nothing was installed"
 rm -r "$work/linked place"
 
 # The prefix may itself be a link.
@@ -327,10 +327,10 @@ call "removing it all" 0 "$(
 # What is refused.
 echo mine >"$prefix/bin/dmf"
 before=$(tree "$prefix")
-call "a file of somebody else" 1 "" "install: $prefix/bin/dmf is there, and was not put by this script; nothing was put
+call "a file of somebody else" 1 "" "install: $prefix/bin/dmf already exists, and this script did not install it; nothing was installed
 " --prefix "$prefix"
 same "it stays as it is" "$(tree "$prefix")" "$before"
-call "a folder that is a file" 1 "" "install: cannot write in $prefix/bin/dmf; nothing was put (another place: --prefix DIR)
+call "a folder that is a file" 1 "" "install: cannot write in $prefix/bin/dmf; nothing was installed (choose another place with --prefix DIR)
 " --prefix "$prefix/bin/dmf"
 # Nobody else installs below a folder of root's, and the caller does not where he is not root.
 mkdir -p "$work/closed"
@@ -339,7 +339,7 @@ somebody=()
 [ "$(id -u)" -ne 0 ] || somebody=(setpriv --reuid=65534 --regid=65534 --clear-groups)
 "${somebody[@]}" "$root/install" --prefix "$work/closed" >"$work/out" 2>"$work/err"
 judge "a folder that the caller cannot write" "$?" 1 "" \
-    "install: cannot write in $work/closed; nothing was put (another place: --prefix DIR)"$'\n'
+    "install: cannot write in $work/closed; nothing was installed (choose another place with --prefix DIR)"$'\n'
 for words in wash "--prefix" "--prefix="; do
     status=0
     "$root/install" $words >"$work/out" 2>"$work/err" || status=$?

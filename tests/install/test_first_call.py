@@ -16,7 +16,7 @@ import pytest
 from conftest import ROOT
 
 SECONDS = 60
-NONE_THERE = "dmf: prebuilt/dmf-x86_64-linux.gz is not there, or cannot be read"
+NONE_THERE = "dmf: prebuilt/dmf-x86_64-linux.gz does not exist or cannot be read"
 FIRST_CALL = (
     f"{NONE_THERE}.\ndmf: the program is proved and built. This happens once, and takes 9 to 15 "
     "minutes on 4 idle processors.\n"

@@ -106,10 +106,10 @@ def test_other_sources(clone: Clone, edit: Callable[[Path], None]) -> None:
     """A source that says something else: nothing old runs, whatever the times of files say."""
     assert clone.check() == (0, "")
     edit(clone.root / "crates/low/src/lib.rt")
-    assert refused(clone.call(), r"dmf: prebuilt/ is of other sources")
+    assert refused(clone.call(), r"dmf: prebuilt/ was made from other sources")
     assert clone.check() == (
         1,
-        "prebuilt/ is of other sources: `tools/prebuilt renew` makes it anew\n",
+        "prebuilt/ was made from other sources: run `tools/prebuilt renew`\n",
     )
 
 
@@ -120,7 +120,7 @@ def test_built_where_it_can_be(clone: Clone) -> None:
     ended = clone.call("solve", environment=clone.with_toolchain())
     assert (ended.status, ended.out) == (0, "ran the second solve\n")
     first, second, *_ = ended.err.splitlines()
-    assert first == "dmf: prebuilt/ is of other sources." and second.startswith(
+    assert first == "dmf: prebuilt/ was made from other sources." and second.startswith(
         "dmf: the program is proved and built. This happens once"
     )
 
@@ -147,14 +147,14 @@ def test_damaged(clone: Clone, damage: str) -> None:
     assert refused(clone.call(), DAMAGED)
     assert clone.left() == []
     assert clone.check()[0] == 1 and re.fullmatch(
-        DAMAGED + ": `tools/prebuilt renew` makes it anew\n", "dmf: " + clone.check()[1]
+        DAMAGED + ": run `tools/prebuilt renew`\n", "dmf: " + clone.check()[1]
     )
 
 
 @pytest.mark.parametrize("name", [PACKED, FACTS])
 def test_missing(clone: Clone, name: str) -> None:
     (clone.root / name).unlink()
-    assert refused(clone.call(), f"dmf: {name} is not there, or cannot be read")
+    assert refused(clone.call(), f"dmf: {name} does not exist or cannot be read")
 
 
 def test_facts_of_another(clone: Clone) -> None:
@@ -164,7 +164,7 @@ def test_facts_of_another(clone: Clone) -> None:
     facts.write_text(re.sub("(?m)^executable: .", "executable: z", whole))
     assert refused(clone.call(), DAMAGED)
     facts.write_text("")
-    assert refused(clone.call(), "dmf: prebuilt/ is of other sources")
+    assert refused(clone.call(), "dmf: prebuilt/ was made from other sources")
 
 
 @pytest.mark.parametrize("tool", ["gzip", "awk", "sha256sum"])
@@ -278,13 +278,13 @@ def test_nowhere_to_write(read_only: Clone) -> None:
 def test_compared(clone: Clone) -> None:
     """The gate's comparison with what was built."""
     built = clone.root / "crates/dmf/out/dmf"
-    assert clone.check(str(built)) == (1, f"{built} is not there\n")
+    assert clone.check(str(built)) == (1, f"{built} does not exist\n")
     assert clone.call().status == 0
     assert clone.check(str(built)) == (0, "")
     built.write_bytes(flipped(built.read_bytes()))
     assert clone.check(str(built)) == (
         1,
-        f"prebuilt/ has another executable than {built}: `tools/prebuilt renew` makes it anew\n",
+        f"the executable in prebuilt/ differs from {built}: run `tools/prebuilt renew`\n",
     )
 
 
@@ -321,11 +321,14 @@ def test_the_library(clone: Clone) -> None:
         path = clone.root / changed
         before = path.read_text()
         path.write_text(f"{before}# Changed.\n")
-        assert take_library(clone) == (1, "the C library of prebuilt/ is of other sources\n", "")
+        assert take_library(clone) == (
+            1,
+            "the C library of prebuilt/ was made from other sources\n",
+            "",
+        )
         assert clone.check() == (
             1,
-            "the C library of prebuilt/ is of other sources: `tools/prebuilt renew` makes it "
-            "anew\n",
+            "the C library of prebuilt/ was made from other sources: run `tools/prebuilt renew`\n",
         )
         assert clone.call().out == "ran the first\n"
         path.write_text(before)
@@ -342,7 +345,7 @@ def test_a_damaged_library(clone: Clone, damage: str) -> None:
         and said.startswith(f"{PACKED_LIBRARY} is damaged")
         and not (clone.root / LIBRARY).exists()
     )
-    assert clone.check() == (1, f"{said[:-1]}: `tools/prebuilt renew` makes it anew\n")
+    assert clone.check() == (1, f"{said[:-1]}: run `tools/prebuilt renew`\n")
     assert clone.call().out == "ran the first\n"
 
 
@@ -353,10 +356,10 @@ def test_a_library_compared(clone: Clone) -> None:
     library.write_bytes(flipped(library.read_bytes()))
     assert clone.check(str(program), str(library)) == (
         1,
-        f"prebuilt/ has another library than {library}: `tools/prebuilt renew` makes it anew\n",
+        f"the library in prebuilt/ differs from {library}: run `tools/prebuilt renew`\n",
     )
     library.unlink()
-    assert clone.check(str(program), str(library)) == (1, f"{library} is not there\n")
+    assert clone.check(str(program), str(library)) == (1, f"{library} does not exist\n")
 
 
 def test_a_library_read_only(read_only: Clone) -> None:
