@@ -278,7 +278,7 @@ CALLS = (
 MADE = "/usr/bin/python3 -m pytest --write tests/test_commands.py makes"
 NOTE = f"// `tests/commands.py` has the commands: {MADE} this file.\n"
 LISTS = f"# tests/commands.py has the commands:\n# {MADE} these lists.\n\n"
-LISTS_END = "# Here these lists end.\n"
+LISTS_END = "# End of these lists.\n"
 
 
 def calls_text(old: str) -> str:
@@ -319,9 +319,9 @@ def lists_text(old: str) -> str:
     valued = ", ".join(f'b"{it.word}"' for it in COMMANDS.values() if it.reply.startswith("c "))
     front, _, rest = old.partition(LISTS)
     return (
-        f"{front}{LISTS}# How many fields may stand after each command's word.\nFIELD_COUNTS = {{\n"
+        f"{front}{LISTS}# How many fields may follow each command's word.\nFIELD_COUNTS = {{\n"
         f"{counts}}}\n"
-        f"PRINTED = ({printed})\n# The commands whose replies tell the value.\nCHANGES = "
+        f"PRINTED = ({printed})\n# The commands whose replies contain the value.\nCHANGES = "
         f"({valued})\n{LISTS_END}{rest.partition(LISTS_END)[2]}"
     )
 

@@ -99,7 +99,7 @@ def test_table_of_places(tmp_path: Path) -> None:
     table = tmp_path / "places.csv"
     for text, told in (PUMPS, "6 places are not on the map"), (
         PUMPS.replace("9,2", "9,north"),
-        "is not taken as a map",
+        "cannot be used as a map",
     ):
         table.write_text(text)
         with board("--places", str(table), PIPES) as it:

@@ -89,10 +89,9 @@ ODD_NAMES = (
 )
 FORGED = "c arc 1 Mill Lane / p max 3 2 / n 1 s / n 3 t / a 1 2 5 / a 2 3 4"
 UNKNOWN = (
-    "commands that are not known changed the network, so capacities and the arcs of cuts are left "
-    "out from here on; "
+    "unknown commands changed the network, so capacities and the arcs of cuts are left out from "
+    "here on; give the commands with --commands FILE"
 )
-UNKNOWN += "give the commands by --commands FILE"
 # Of which rows this is told, and for which line.
 WARNED = {
     "a session whose commands are not known": 5,
@@ -245,14 +244,14 @@ FAULTS: list[tuple[Text, Text | None, Text, str]] = [
         ROADS,
         None,
         ANSWER.replace("f 2 3 4", "f 2 3 150"),
-        "line 3 of the answer: over capacity: arc 2, from 2 to 3, carries at most 4, and not 150",
+        "line 3 of the answer: over capacity: arc 2, from 2 to 3, carries at most 4, not 150",
     ),
     (ROADS, None, ANSWER.replace("f 2 3", "f 3 2"), "line 3 of the answer: no such arc: 3 to 2"),
     (
         ROADS,
         None,
         "s 6 / f 1 3 2",
-        "line 2 of the answer: arc 1 leads from 1 to 2, and not from 1 to 3",
+        "line 2 of the answer: arc 1 leads from 1 to 2, not from 1 to 3",
     ),
     (
         ROADS,
@@ -276,7 +275,7 @@ FAULTS: list[tuple[Text, Text | None, Text, str]] = [
         ROADS,
         None,
         ANSWER.replace("s 6", "s 5"),
-        "line 4 of the answer: value differs: 6 flows out of the source, and not 5",
+        "line 4 of the answer: value differs: 6 flows out of the source, not 5",
     ),
     (ROADS, None, "s 6 / f 1 2 x", "line 2 of the answer: not a number"),
     (ROADS, None, "s 6 / f 1 2 ²", "line 2 of the answer: not a number"),
@@ -288,26 +287,27 @@ FAULTS: list[tuple[Text, Text | None, Text, str]] = [
         ROADS,
         None,
         "f 1 2 4",
-        "line 1 of the answer: a flow before its value line, or one more than the network has arcs",
+        "line 1 of the answer: a flow before its value line, or more flows than the network has "
+        "arcs",
     ),
     (
         ROADS,
         None,
         "c side 1",
-        "line 1 of the answer: a side before its cut, or one more than the cut has",
+        "line 1 of the answer: a side line before its cut, or more of them than the cut has",
     ),
     (ROADS, None, "a 1 2 3", "line 1 of the answer: unknown line: a"),
     (
         ROADS,
         None,
         "c cut 8 / c side 1 / c side 2",
-        "line 1 of the answer: the arcs of this cut carry 6, and not 8",
+        "line 1 of the answer: the arcs of this cut carry 6, not 8",
     ),
     (
         ROADS,
         None,
         "c cut 6 / c side 2",
-        "line 1 of the answer: the side of this cut has not the source, or has the sink",
+        "line 1 of the answer: the side of this cut lacks the source or contains the sink",
     ),
     (ROADS, None, "c cut 5 / c side 4", "line 2 of the answer: no such node: 4"),
     (
@@ -380,7 +380,12 @@ FAULTS: list[tuple[Text, Text | None, Text, str]] = [
         "line 1 of the answer: this does not answer `undo`, line 1 of the commands: nothing to "
         "undo",
     ),
-    (ROADS, "", "c undo value 0", "line 1 of the answer: no command is left that this answers"),
+    (
+        ROADS,
+        "",
+        "c undo value 0",
+        "line 1 of the answer: no command is left that this could answer",
+    ),
     (ROADS, "solve / c done / undo", "", "line 1 of the commands: no reply to `solve`"),
     (ROADS, None, "solve / ", "line 1 of the answer: no reply to `solve`"),
     (
@@ -393,7 +398,7 @@ FAULTS: list[tuple[Text, Text | None, Text, str]] = [
         ROADS,
         "solve",
         "s 7 / " + ANSWER_7,
-        "line 3 of the answer: over capacity: arc 2, from 2 to 3, carries at most 4, and not 5",
+        "line 3 of the answer: over capacity: arc 2, from 2 to 3, carries at most 4, not 5",
     ),
     ("p max 2 1 / a 1 2", None, "", "line 2 of the problem: arc before source and sink"),
     ("p max 2 1 / n 1 s / n 2 t / a 1 2 ²", None, "", "line 4 of the problem: not a number"),
@@ -416,7 +421,7 @@ LATER = [
         "solve / cap 2 4 / solve",
         f"{ANSWER} / c cap value 6 / {ANSWER} / {CUT}",
         f"{TOLD} / c cap value 6 / {TOLD}",
-        "line 10 of the answer: no command is left that this answers",
+        "line 10 of the answer: no command is left that this could answer",
     ),
     (
         "cap 1 9 / undo",
@@ -434,7 +439,8 @@ LATER = [
         "solve / cap 1 4",
         f"{ANSWER} / f 1 2 4",
         TOLD,
-        "line 5 of the answer: a flow before its value line, or one more than the network has arcs",
+        "line 5 of the answer: a flow before its value line, or more flows than the network has "
+        "arcs",
     ),
 ]
 TITLES = ["number", "name", "from", "to", "flow", "capacity", "full", "in cut"]
@@ -490,13 +496,13 @@ NO_TABLES: list[tuple[Text, Text | None, Text, str]] = [
         ROADS,
         None,
         f"{ANSWER} / {LOST}",
-        "the arcs of the last solution are not known; give the commands by --commands FILE",
+        "the arcs of the last solution are not known; give the commands with --commands FILE",
     ),
     (
         ROADS,
         None,
         "c close value 2 / p max 3 1 / n 1 s / n 3 t / a 1 3 2 / s 2 / f 1 3 2",
-        "the arcs of the last solution are not known; give the commands by --commands FILE",
+        "the arcs of the last solution are not known; give the commands with --commands FILE",
     ),
 ]
 # The roads of examples/town.max, with one that is added.

@@ -165,13 +165,12 @@ SESSION_FAULTS: list[tuple[str | None, str, str]] = [
     (
         None,
         "s 7\nf 1 2 7\nc cap value 3\n",
-        "answer: line 3: commands that are not known changed the network; give them by --commands "
-        "FILE",
+        "answer: line 3: unknown commands changed the network; give them with --commands FILE",
     ),
     (
         "cap 1 9\nsolve\n",
         "c cap value 0\ns 9\nf 1 2 8\n",
-        "answer: line 3: value differs: 8 flows out of the source, and not 9",
+        "answer: line 3: value differs: 8 flows out of the source, not 9",
     ),
     (
         "close 1\n",
@@ -227,13 +226,13 @@ ANSWER_FAULTS = {
     "s\n": "line 1: wrong number of fields",
     "s 1\nf 1 2 -1\n": "line 2: not a number: -1",
     "a 1 2 7\n": "line 1: unknown line: a",
-    "c side 1\n": "line 1: a side before its cut",
+    "c side 1\n": "line 1: a side line before its cut",
     "c cut 7\nc side 3\n": "line 2: no such node: 3",
     "c cut 7\nc cut 7\n": "line 2: second cut",
-    "c cut 6\nc side 1\n": "line 1: the arcs of this cut carry 7, and not 6",
-    "c cut 7\n": "line 1: the side of this cut has not the source, or has the sink",
-    "c cut 0\nc side 1\nc side 2\n": "line 1: the side of this cut has not the source, or has the "
-    "sink",
+    "c cut 6\nc side 1\n": "line 1: the arcs of this cut carry 7, not 6",
+    "c cut 7\n": "line 1: the side of this cut lacks the source or contains the sink",
+    "c cut 0\nc side 1\nc side 2\n": "line 1: the side of this cut lacks the source or "
+    "contains the sink",
     "s " + "9" * 5000: "line 1: number too large: " + "9" * 60 + "..",
 }
 FAULTS = [

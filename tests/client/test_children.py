@@ -71,13 +71,13 @@ def test_much_on_standard_error() -> None:
 
 
 def test_it_answers_no_more_and_does_not_end() -> None:
-    wanted = "dmf closed its input or its output, and was killed"
+    wanted = "dmf closed its input or its output and was killed"
     assert ended("exec sleep 60 >&-") == wanted
     assert ended("exec sleep 60 <&- >&-") == wanted
 
 
 def test_a_long_number_in_an_answer() -> None:
-    wanted = "the session was ended, since what dmf answered to `solve` was not understood"
+    wanted = "the session was ended, since dmf's answer to `solve` was not understood"
     assert ended("echo s $(head -c 5000 /dev/zero | tr '\\0' 9)") == wanted
     assert re.search(wanted, ended(r"printf 's \377\n'"))
 

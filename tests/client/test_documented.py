@@ -18,6 +18,7 @@ from dmf import errors
 from dmf.sweeps import cases as sweeping
 
 ONE_CALL = "value", "minimum_cut", "maximum_flow", "from_networkx", "from_scipy"
+SWEEPS = "sweep", "each_arc_closed", "each_node_shut", "each_capacity_raised", "each_pair_added"
 
 
 @pytest.mark.parametrize("module", [dmf, sweeping], ids=["dmf", "sweeping"])
@@ -31,14 +32,14 @@ def test_docstrings(module: ModuleType) -> None:
 # The calls of these have docstrings in numpy's style.
 CALLS = {
     **{f"Network.{name}": getattr(dmf.Network, name) for name in vars(dmf.Network)},
-    **{name: getattr(dmf, name) for name in ONE_CALL},
+    **{name: getattr(dmf, name) for name in (*ONE_CALL, *SWEEPS)},
 }
 PUBLIC_CALLS = {name: call for name, call in CALLS.items() if "._" not in name}
 
 
 @pytest.mark.parametrize("name", PUBLIC_CALLS)
 def test_call(name: str) -> None:
-    """Each public call of a network and of a graph says first what it does, then names its
+    """Each public call of a network, of a graph and of a sweep first says what it does, names its
     parameters, and has an example, which is run."""
     call = PUBLIC_CALLS[name]
     text = inspect.cleandoc(call.__doc__ or "")

@@ -24,7 +24,7 @@ import dmf, sys
 print(dmf.program())
 print(dmf.Network([("a", "b", 1)], "a", "b", program=sys.argv[1] or None)._session.process.args[0])
 """
-OTHER = "name another by the argument program or by DMF"
+OTHER = "name another one with the argument program or the variable DMF"
 
 
 def put(path: Path, text: str = REAL, mode: int = 0o755) -> Path:
@@ -169,7 +169,7 @@ def test_another_libc(tmp_path: Path) -> None:
     other.chmod(0o755)
     assert (
         refused(other)
-        == "cannot be run: the loader that it names is not here, as on a system without glibc"
+        == "cannot be run: the loader that it names does not exist, as on a system without glibc"
     )
 
 
@@ -239,8 +239,7 @@ def test_another_program() -> None:
     assert refused(shutil.which("false")) == f"{needs}: dmf ended with status 1"
     with script("cat") as program:
         assert refused(program).startswith(
-            f"{needs}: the session was ended, since what dmf answered to `undo 0` was not "
-            "understood"
+            f"{needs}: the session was ended, since dmf's answer to `undo 0` was not understood"
         )
 
 

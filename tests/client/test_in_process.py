@@ -377,7 +377,7 @@ def test_want_of_memory(monkeypatch: pytest.MonkeyPatch, bound: int) -> None:
                 network.solve()
             with pytest.raises(
                 dmf.SessionEnded,
-                match="^the session could not begin anew: `close 2` was refused: no memory$",
+                match="^the session could not be restarted: `close 2` was refused: no memory$",
             ):
                 network.begin_again()
         assert network.begin_again() == 3

@@ -149,7 +149,7 @@ def test_another_value() -> None:
         for _ in range(2):
             with pytest.raises(
                 dmf.SessionEnded,
-                match="^the session was ended: begun anew, it came to the value 4, and not to 5$",
+                match="^the session was ended: after a restart its value was 4 instead of 5$",
             ):
                 network.solve()
 
@@ -166,7 +166,7 @@ def test_a_refusal_when_it_begins_anew() -> None:
         Path(f"{program}.slow").touch()
         with pytest.raises(
             dmf.SessionEnded,
-            match="^the session could not begin anew: `solve` was refused: no memory$",
+            match="^the session could not be restarted: `solve` was refused: no memory$",
         ):
             network.solve()
 

@@ -152,8 +152,8 @@ def test_a_file_system_without_locks() -> None:
     )
     ran = run_tool(*INTO_TABLE, before=before)
     told = (
-        "dmf-sweep: table.csv cannot be locked: No locks available. Let no other sweep write it "
-        "meanwhile\n"
+        "dmf-sweep: table.csv cannot be locked: No locks available. Let no other sweep write to "
+        "it\n"
     )
     assert (ran.returncode, ran.stderr) == (0, told)
     judge_table()
@@ -201,8 +201,8 @@ def test_a_full_disk(size: int, is_real: bool) -> None:
 def test_a_table_that_cannot_be_written() -> None:
     Path("table.csv").mkdir()
     no_file = (
-        "dmf-sweep: {} is not a file in which a sweep can go on; without --table the table goes to "
-        "standard output\n"
+        "dmf-sweep: {} is not a regular file, so no sweep can go on in it; without --table the "
+        "table goes to standard output\n"
     )
     os.mkfifo("pipe")
     for path in "table.csv", "/dev/full", "/dev/zero", "pipe":
@@ -249,8 +249,8 @@ def test_names_of_the_other_form() -> None:
         Path("table.csv").write_text("".join(text.splitlines(keepends=True)[:2]))
         ran = run_tool(*INTO_TABLE, *second)
         told = (
-            "dmf-sweep: table.csv has names of the other form: it was begun with --raw-names, or "
-            "without\n"
+            "dmf-sweep: table.csv has names in another form: only one of the two runs has "
+            "--raw-names\n"
         )
         assert (ran.returncode, ran.stderr) == (3, told)
         assert run_tool(*INTO_TABLE, *first).returncode == 0

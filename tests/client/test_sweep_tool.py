@@ -149,7 +149,7 @@ def test_the_table_of_another_problem(change: tuple[str, str]) -> None:
         run = run_tool("--close-each", "--table", "table.csv")
         assert (run.returncode, run.stderr) == (
             3,
-            "dmf-sweep: table.csv is the table of another problem than net.max\n",
+            "dmf-sweep: table.csv is the table of another problem, not of net.max\n",
         )
         assert (run.stdout, table.read_text()) == ("", text)
     Path("net.max").write_text("c of today\n\n" + PROBLEM.replace("a 1 2 3", "a  1 2\t3"))
@@ -216,8 +216,8 @@ def test_a_table_that_names_no_problem() -> None:
         assert (run.returncode, run.stdout) == (3, "")
         assert (
             run.stderr
-            == "dmf-sweep: table.csv does not say of which problem it is: an older dmf-sweep wrote "
-            "it\n"
+            == "dmf-sweep: table.csv does not say which problem it belongs to: an older dmf-sweep "
+            "wrote it\n"
         )
         assert Path("table.csv").read_text() == text
 

@@ -137,7 +137,7 @@ def test_table(tmp_path: Path) -> None:
         got = ran("dmf-names", tmp_path, given, replies, "--csv")
         assert got.returncode != 0 and got.stdout == b"", given
     assert (
-        b"`print flow` after the last solve tells them"
+        b"`print flow` after the last solve prints them"
         in ran("dmf-names", tmp_path, commands, replies, "--csv").stderr
     )
 
@@ -148,7 +148,7 @@ def test_picture(tmp_path: Path) -> None:
     got = ran("dmf-dot", tmp_path, b"solve\n", b"c solve value 6\n" + CUT, "-")
     assert (
         got.returncode == 0
-        and b"the flows of the last solve were not told; print flow tells them" in got.stderr
+        and b"the flows of the last solve were not printed; `print flow` prints them" in got.stderr
     )
     assert b'1 -> 2 [label="5"]' in got.stdout and b"/" not in got.stdout
     brief = ran(

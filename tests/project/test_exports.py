@@ -227,9 +227,9 @@ def test_pictures_are_read_back(desk: Desk, tmp_path: Path, name: str) -> None:
     end = made.index(b"dmf-problem:") + 40
     path.write_bytes(made[:end])
     told = run("dmf-plan", str(path), typed="solve\n").stderr
-    assert f"{path}: only a part is left of the problem that it carries" in told
+    assert f"{path}: a part of the problem that it carries is missing" in told
     path.write_bytes(made[: end - 9] + b"AAAA" + made[end - 5 :])
-    with pytest.raises(dmf.TableFault, match="only a part is left"):
+    with pytest.raises(dmf.TableFault, match="a part of the problem"):
         dmf.read(path)
     if name == "plan.png":
         assert png_chunks(made) >= 4

@@ -308,7 +308,7 @@ def at_a_terminal(words: list[str], answers: list[bytes]) -> tuple[int, str]:
             words, stdin=terminal.end, stdout=terminal.end, stderr=terminal.end
         )
         for count, answer in enumerate(answers):
-            prompt = "Its number or title: " if count == 0 else "> "
+            prompt = "Number or title: " if count == 0 else "> "
             assert terminal.wait_for(lambda told: prompt in told), terminal.told()
             terminal.type(answer)
         return running.wait(timeout=60), terminal.close()

@@ -71,8 +71,8 @@ def test_faults(tools: Tools, tmp_path: Path, problem: str, answer: str, told: s
 
 def test_too_many_arcs(tools: Tools, tmp_path: Path) -> None:
     told = (
-        "dmf-dot: 4 arcs are too many to draw. With a cut, as of `dmf solve --cut`, those nearest "
-        "it are drawn\n"
+        "dmf-dot: 4 arcs are too many to draw. With a cut, as from `dmf solve --cut`, the arcs "
+        "nearest the cut are drawn\n"
     )
     assert draw(tools, tmp_path, CHAIN, [], ["--most", "3"]) == (3, "", told)
 

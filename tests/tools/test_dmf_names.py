@@ -357,7 +357,7 @@ def test_places(tmp_path: Path) -> None:
     without = ran()
     assert (without.returncode, without.stderr.count(b"\n")) == (4, 1)
     assert without.stderr.startswith(
-        b"dmf-names: the Python package that it needs is not beside it"
+        b"dmf-names: the Python package dmf, which it needs, was not found"
     )
     package = tmp_path / "there" / "share" / "dmf" / "python" / "dmf"
     shutil.copytree(

@@ -136,7 +136,7 @@ def test_dmf_sweep(tmp_path: Path) -> None:
     ran = run("dmf-sweep", str(path), "--close-each", "--table", str(table))
     assert (ran.returncode, ran.stderr, table.read_text()) == (
         3,
-        f"dmf-sweep: {table} is the table of another problem than {path}\n",
+        f"dmf-sweep: {table} is the table of another problem, not of {path}\n",
         whole,
     )
 

@@ -1,5 +1,5 @@
-"""What a network asks of a running session, by the library or by the program, and the texts of
-numbers that go to it and come from it."""
+"""What a network asks of a running session, whether the library or the program runs it, and the
+texts of numbers that are sent to it and read from it."""
 
 from __future__ import annotations
 
@@ -23,24 +23,24 @@ FilePath = Union[str, bytes, "os.PathLike[str]", "os.PathLike[bytes]"]
 Program = Optional[FilePath]
 # The largest number of changes that a session can keep.
 MOST_KEPT = 1_000_000
-# How much text is sent to a program at once, in bytes: every pipe has room for it, so that the
-# program never waits for a reader of its replies while it has lines to take.
+# How much text is sent to a program at once, in bytes. Every pipe holds that much, so the program
+# never has to wait for a reader of its replies while it has lines to read.
 MOST_TEXT = 4_096
-# How many commands of a case go with those of other cases: their lines, of at most 42 bytes each,
-# are no longer than that.
+# The most commands of a case that are sent together with those of other cases. Their lines have at
+# most 42 bytes each, so that all fit into MOST_TEXT.
 MOST_COMMANDS = 90
-# What runs a session: a program, by its path, or the library.
+# What runs a session: a program, given by its path, or the library.
 Way = Union[FilePath, "Runner"]
 PROGRAM = str, bytes, os.PathLike
 
-# The flow on each arc: the text of the open arcs, as the program writes it, or an array of all
-# arcs, closed ones too.
+# The flow on each arc: the lines of the open arcs, as the program writes them, or an array for all
+# arcs, closed ones included.
 Told = Union[bytes, "array[int]"]
 
 
 class ProblemColumns(NamedTuple):
-    """A network by its numbers: how many nodes there are, the source and the sink, and the columns
-    of the arcs. The capacities may be followed by others."""
+    """A network by its numbers: the number of nodes, the source and the sink, and the columns of
+    the arcs. `capacities` may be longer than the other columns."""
 
     nodes: int
     source: int
@@ -50,12 +50,12 @@ class ProblemColumns(NamedTuple):
     capacities: array[int]
 
     def columns(self) -> tuple[array[int], array[int], array[int]]:
-        """The columns of the arcs."""
+        """Return the columns of the arcs."""
         return self.tails, self.heads, self.capacities
 
 
 class Runner(Protocol):
-    """The library, by which sessions begin in this process."""
+    """The library, which begins sessions in this process."""
 
     def begin(self, problem: ProblemColumns, most: int) -> Session:
         """Begin a session on a problem, in which at most `most` changes can be undone."""
@@ -65,23 +65,26 @@ class Runner(Protocol):
 
 
 class Session:
-    """A running session. It has one user at a time, but for `break_off`. Each call that asks
-    something raises `SessionEnded` where the session has ended, and a `Refused` that names the
-    command, or the thing `at` that it was about. Whatever else breaks a call off leaves the session
-    in a state that nobody knows: whoever made it then has to `kill` it."""
+    """A running session.
 
-    # The program, if the caller named it.
+    It has one user at a time; only `break_off` may be called by another thread. Each call that asks
+    the session something raises `SessionEnded` if the session has ended, and a `Refused` that names
+    the command, or the thing `at` that the command was about. Any other exception leaves the
+    session in an unknown state, and its user then has to `kill` it.
+    """
+
+    # The program, if the caller named one.
     program: Program = None
 
     def __init__(self, free: Callable[..., None], *held: object) -> None:
-        """`free` frees what is held, when nothing refers to the session any more, or `end` is
+        """Call `free(*held)` when nothing refers to the session any more, or when `end` is
         called."""
         self.end = weakref.finalize(self, free, *held)
         self.why_ended = "the session was ended"
         self._why_broken = ""
         # The process that began the session.
         self.owner = os.getpid()
-        # How many commands it was given.
+        # How many commands the session was given.
         self.asked_count = 0
 
     @property
@@ -91,58 +94,58 @@ class Session:
 
     @property
     def is_owned(self) -> bool:
-        """Whether this process began the session, rather than its parent process."""
+        """True if this process began the session, rather than its parent process."""
         return os.getpid() == self.owner
 
     def ended(self) -> SessionEnded:
-        """Why the session can answer nothing any more."""
+        """Return the error that says why the session no longer answers."""
         return SessionEnded(self.why_ended)
 
     def is_full_after(self, most: int) -> bool:
-        """Whether it takes few more commands, once it has taken so many."""
+        """Return True if the session has taken more than `most` commands and takes few more."""
         return False
 
     def break_off(self, why: str) -> None:
-        """Ends the session for a thread that waits for its answer, or may ask it later: each of its
-        calls raises `SessionEnded`."""
+        """End the session on behalf of a thread that waits for its answer or may ask it later: each
+        of that thread's calls raises `SessionEnded`."""
         raise NotImplementedError
 
     def kill(self, why: str) -> None:
-        """Ends the session at once, if it has not ended before."""
+        """End the session at once, unless it has ended before."""
         raise NotImplementedError
 
     def step(self, command: Command, at: object = None) -> int:
-        """Carries out a command that changes the network or steps, and returns the value."""
+        """Carry out a command that changes the network or steps, and return the value."""
         raise NotImplementedError
 
     def carry_out(self, commands: Sequence[Command]) -> int:
-        """Carries out commands that a session has carried out before, and returns the value after
-        the last; 0 if there are none. Raises `SessionEnded` if one is refused now."""
+        """Carry out commands that a session carried out before, and return the value after the last
+        one, or 0 if there are none. Raises `SessionEnded` if one is refused now."""
         raise NotImplementedError
 
     def flows(self, value: int, open_count: int) -> Told:
-        """The present flow, which has this value, and goes over so many open arcs."""
+        """Return the present flow, which has this value and runs over `open_count` open arcs."""
         raise NotImplementedError
 
     def cut(self) -> tuple[int, list[int]]:
-        """The capacity of the smallest minimum cut, and the numbers of the nodes of its side,
-        ascending."""
+        """Return the capacity of the smallest minimum cut and the node numbers of its source side,
+        in ascending order."""
         raise NotImplementedError
 
     def problem(self) -> bytes:
-        """The text of the problem of the open arcs."""
+        """Return the text of the problem of the open arcs."""
         raise NotImplementedError
 
     def try_cases(self, cases: Sequence[Sequence[Command]], value: int, found: list[int]) -> None:
-        """Carries out cases one after another, of which each is commands, `solve`, and the `undo`
-        of all that, and adds the value of each to what is found. The value is the given one before
-        and after each. Raises `SessionEnded` if one is refused, since the answers after it are of
-        another network."""
+        """Try cases one after another, and append the value of each to `found`. A case is its
+        commands, a `solve`, and the `undo` of them all. The network has this value before and after
+        each case. Raises `SessionEnded` if anything is refused, since later answers would be those
+        of another network."""
         raise NotImplementedError
 
 
 def bound(history: int | None) -> int:
-    """The largest number of changes that can be undone. Raises `HistoryOutOfRange`."""
+    """Return the largest number of changes that can be undone. Raises `HistoryOutOfRange`."""
     if history is None:
         return MOST_KEPT
     try:
@@ -158,23 +161,23 @@ def bound(history: int | None) -> int:
 
 
 def command_line(command: Command) -> str:
-    """A command as a line of a session."""
+    """Return a command as a line of a session."""
     return " ".join(map(str, command))
 
 
 def case_lines(commands: Sequence[Command]) -> list[str]:
-    """The lines that try a case of commands: these, a solve, and the steps back."""
+    """Return the lines that try a case: its commands, a solve, and the steps back."""
     return [*map(command_line, commands), "solve", f"undo {len(commands) + 1}"]
 
 
 def refused(text: str, line: str, at: object) -> Refused:
-    """The exception for a command that is refused, which names its line, or the thing that it was
-    about."""
+    """Return the exception for a refused command. It names the command's line, or the thing that
+    the command was about."""
     return Refused.of(text, line if at is None else shown_value(at))
 
 
 def refused_line(text: str, line: int | None) -> Refused:
-    """The exception for a problem that is refused, with the line of its fault, if it is that of a
+    """Return the exception for a refused problem, with the line of its fault, if the fault is in a
     line."""
     fault = Refused.of(text, f"line {line} of the problem" if line else "")
     fault.line = line
@@ -182,23 +185,23 @@ def refused_line(text: str, line: int | None) -> Refused:
 
 
 def where(fault: Refused, handle: Callable[[int], object]) -> Refused:
-    """The refusal of a problem that was made of arcs, with the faulty one. The lines of the arcs
-    stand after three others."""
+    """Return the refusal of a problem that was made from arcs, with the faulty arc. Three lines
+    stand before those of the arcs."""
     number = (fault.line or 0) - 3
     return Refused.of(fault.text, repr(handle(number)) if number >= 1 else "")
 
 
 def judged(value: int, wanted: int) -> int:
-    """A value that has to be the wanted one. Raises a ValueError."""
+    """Return a value that must be the expected one. Raises a ValueError."""
     if value != wanted:
         raise ValueError
     return value
 
 
-# How many lines of a text are made or read at once, and how many are made without numpy, with an
-# object for each number.
+# How many lines of a text are written or read at once with numpy, and how many without, where each
+# number is an object.
 PIECE, PLAIN_PIECE = 1 << 14, 1 << 11
-# How many arcs are read before numpy is worth loading.
+# With more arcs than this, reading is faster with numpy even if it has to be imported first.
 MOST_PLAIN = 200_000
 # How many letters of a text are read at once.
 LETTERS = 1 << 18
@@ -206,7 +209,8 @@ _FLOW = re.compile(rb"^f [0-9]+ [0-9]+ ([0-9]+)$", re.MULTILINE)
 
 
 def import_package(name: str, why: str) -> Any:
-    """A package that only some calls need. Raises an ImportError that says which call needs it."""
+    """Import a package that only some calls need. Raises an ImportError that says which call needs
+    it."""
     try:
         return importlib.import_module(name)
     except ImportError as error:
@@ -217,12 +221,13 @@ def import_package(name: str, why: str) -> Any:
 
 
 def loaded_numpy() -> Any:
-    """numpy, if the caller has loaded it already: for work that it speeds up but does not need."""
+    """Return numpy if the caller has imported it already, for work that it speeds up but does not
+    need."""
     return sys.modules.get("numpy")
 
 
 def problem_lines(problem: ProblemColumns) -> Iterator[bytes]:
-    """The arc lines of a problem, many at once."""
+    """Yield the arc lines of a problem, many at once."""
     np, count = loaded_numpy(), len(problem.tails)
     size = PLAIN_PIECE if np is None else PIECE
     for begin in range(0, count, size):
@@ -232,7 +237,7 @@ def problem_lines(problem: ProblemColumns) -> Iterator[bytes]:
 
 
 def problem_pieces(problem: ProblemColumns) -> Iterator[bytes]:
-    """The text of a problem, in pieces."""
+    """Yield the text of a problem in pieces."""
     yield b"p max %d %d\nn %d s\nn %d t\n" % (
         problem.nodes,
         len(problem.tails),
@@ -251,10 +256,10 @@ def _plain_lines(columns: list[array[int]]) -> bytes:
 
 
 def _lines(np: Any, columns: list[array[int]]) -> bytes:
-    """The same lines, all of one width: each number has zeros before it, up to a multiple of four
-    digits."""
+    """Return the same lines, all of one width: each number has leading zeros, up to a multiple of
+    four digits."""
     four_digits = _four_digits(np)
-    # Each field of a line with its type, its place, and what stands there.
+    # Each field of a line: its type, its position, and what stands there.
     fields: list[tuple[str, int, Any]] = [("u1", 0, ord("a"))]
     width = 1
     for column in columns:
@@ -280,13 +285,13 @@ def _lines(np: Any, columns: list[array[int]]) -> bytes:
 
 @functools.cache
 def _four_digits(np: Any) -> Any:
-    """The numbers below 10,000 as texts of four digits, each as one number of four bytes."""
+    """Return the numbers below 10,000 as texts of four digits, each as one number of four bytes."""
     return np.frombuffer(b"".join(map(b"%04d".__mod__, range(10_000))), "u4")
 
 
 def numpy_for(count: int) -> Any:
-    """numpy, if it is loaded, or if it is installed and there are enough arcs to make it worth
-    loading."""
+    """Return numpy if it is imported, or if it is installed and there are enough arcs to make
+    importing it worthwhile."""
     if count >= MOST_PLAIN:
         with contextlib.suppress(ImportError):
             return importlib.import_module("numpy")
@@ -294,7 +299,7 @@ def numpy_for(count: int) -> Any:
 
 
 def pieces_of(lines: bytes) -> Iterator[bytes]:
-    """Lines, as many at once as the processor's cache holds."""
+    """Yield lines in groups, as many at once as the processor's cache holds."""
     begin = 0
     while begin < len(lines):
         end = lines.rfind(b"\n", begin, begin + LETTERS) + 1
@@ -303,10 +308,10 @@ def pieces_of(lines: bytes) -> Iterator[bytes]:
 
 
 def read_lines(lines: bytes, np: Any) -> tuple[array[int], array[int], array[int]]:
-    """The tails, the heads and the capacities of arc lines, by numpy if it is given. Raises a
-    ValueError for other lines."""
+    """Return the tails, the heads and the capacities in arc lines, read with numpy if it is given.
+    Raises a ValueError for other lines."""
     count = lines.count(b"\n")
-    # The letters of the lines are left out, so that numbers alone remain.
+    # Without the letters of the lines, only numbers remain.
     text = lines.replace(b"a", b"")
     if np is None:
         numbers = list(map(int, text.split()))
@@ -326,7 +331,7 @@ def read_lines(lines: bytes, np: Any) -> tuple[array[int], array[int], array[int
 
 
 def read_flows(text: bytes, count: int) -> array[int] | None:
-    """The flows of a solution's text, or None if it does not have so many."""
+    """Return the flows in a solution's text, or None unless it has `count` of them."""
     try:
         found = array(AMOUNTS, (int(match[1]) for match in _FLOW.finditer(text)))
     except (OverflowError, ValueError):
@@ -335,7 +340,7 @@ def read_flows(text: bytes, count: int) -> array[int] | None:
 
 
 def flow_array(text: bytes | array[int], count: int) -> Any:
-    """The flows of a solution's text, or of a column, as an array of numpy."""
+    """Return the flows of a solution's text, or of a column, as a numpy array."""
     np = import_package("numpy", "an array of flows")
     column = (
         np.frombuffer(text, np.uint64)
@@ -351,7 +356,7 @@ def kind_for(numbers: Any) -> str:
 
 
 def _last_numbers(np: Any, text: bytes, count: int) -> Any:
-    """The last number of each line but the first."""
+    """Return the last number of each line except the first."""
     letters = np.frombuffer(text, np.uint8)
     column = np.zeros(count, np.uint64)
     begin, done = text.find(b"\n") + 1, 0
@@ -364,17 +369,17 @@ def _last_numbers(np: Any, text: bytes, count: int) -> Any:
         _add_last_numbers(np, letters[begin:end], ends, column[done : done + ends.size])
         begin, done = end, done + ends.size
     if done != count or begin != len(text):
-        raise ValueError("the program told no flow for each open arc")
+        raise ValueError("the program did not give a flow for each open arc")
     return column
 
 
 def _add_last_numbers(np: Any, letters: Any, ends: Any, column: Any) -> None:
-    """Adds to a column of zeros the number before each of these places. The digits of all are read
-    together, from the last to the first."""
+    """Add the number before each of these positions to a column of zeros. The digits of all numbers
+    are read together, from the last digit to the first."""
     rows, places, scale = np.arange(len(ends)), ends - 1, 1
     while rows.size:
         digits = letters[places] - np.uint8(ord("0"))
-        # A space stands before the first digit, and is less than one.
+        # A space stands before the first digit; its code is less than that of every digit.
         within = digits < 10
         if not within.all():
             rows, places, digits = rows[within], places[within], digits[within]

@@ -1,4 +1,4 @@
-"""The program's executable: where it is found, and why one cannot be used."""
+"""Find the program's executable, or say why one cannot be used."""
 
 from __future__ import annotations
 
@@ -16,10 +16,10 @@ from ..text.lexical import display
 from .versions import fits, needed, other_version
 
 PACKAGE = os.path.dirname(os.path.dirname(os.path.realpath(__file__)))
-# Where pip puts the executable, below this package.
+# Where pip puts the executable inside this package.
 OWN = "bin/dmf"
-# Where this package can lie in a repository, and where `./install` and Debian put it, with the
-# place of the program above that.
+# Where this package can lie in a repository, in an install by `./install`, and in Debian's
+# packages, each with the program's path from the root of that place.
 PLACES = {
     ("clients", "python", "dmf"): "dmf",
     ("share", "dmf", "python", "dmf"): "lib/dmf/dmf",
@@ -27,7 +27,7 @@ PLACES = {
 }
 # How long a program may take to print its version, in seconds.
 SECONDS = 2
-# What the system tells of a path that it cannot run.
+# The errors by which the system says that it cannot run a path.
 NOT_RUN = {
     errno.ENOENT,
     errno.ENOTDIR,
@@ -37,15 +37,17 @@ NOT_RUN = {
     errno.ELOOP,
     errno.ENAMETOOLONG,
 }
-OTHER = "name another by the argument program or by DMF"
+OTHER = "name another one with the argument program or the variable DMF"
 _LACKING = re.compile(r"version `(GLIBC_([0-9.]+))' not found")
 
 
 def program() -> str:
-    """The path of the program that a network runs if its caller names none. It is what the
-    environment variable DMF names; or what pip installed inside this package; or the program of the
-    repository or install in which the package lies, which a repository builds if need be; or `dmf`
-    on the PATH. Raises `NoProgram` if there is none."""
+    """Return the path of the program that a network runs if its caller names none.
+
+    That is the program that the environment variable DMF names; or else the one that pip installed
+    inside this package; or that of the repository or install that contains the package, where a
+    repository builds it if necessary; or `dmf` on the PATH. Raises `NoProgram` if there is none.
+    """
     named = os.environ.get("DMF")
     found = shutil.which(named) if named else _own() or _beside() or shutil.which("dmf")
     if named and not found:
@@ -53,14 +55,15 @@ def program() -> str:
     if not found:
         raise NoProgram(
             "no program dmf was found: this package has none for this machine, and none is on the "
-            "PATH; "
-            "build one by ./dmf in the repository, and name it by the argument program or by DMF"
+            "PATH; build one with ./dmf in the repository, and name it with the argument program "
+            "or the variable DMF"
         )
     return found
 
 
 def _own() -> str | None:
-    """The executable inside this package. Whatever unpacked it may have lost its mode."""
+    """Return the executable inside this package, if there is one, and make it executable: unpacking
+    may have lost its mode."""
     own = os.path.join(PACKAGE, OWN)
     if not os.path.isfile(own):
         return None
@@ -72,8 +75,8 @@ def _own() -> str | None:
 
 @functools.cache
 def _beside() -> str | None:
-    """The program of the repository, or of the install, that this package lies in. In a repository
-    the first call builds it, if need be, and reports on standard error how far it is. Raises
+    """Return the program of the repository or install that contains this package. In a repository,
+    the first call builds it if necessary, and reports its progress on standard error. Raises
     `NoProgram` if it cannot be built."""
     parts = PACKAGE.split(os.sep)
     for place, name in PLACES.items():
@@ -93,9 +96,9 @@ def _beside() -> str | None:
 
 
 def end_reason(status: int | None) -> str:
-    """How a program ended."""
+    """Return how a program ended, in words."""
     if status is None:
-        return "closed its input or its output, and was killed"
+        return "closed its input or its output and was killed"
     if status >= 0:
         return f"ended with status {status}"
     try:
@@ -105,17 +108,17 @@ def end_reason(status: int | None) -> str:
 
 
 def refuse_unrun(path: str | bytes, error: OSError) -> None:
-    """Raises `NoProgram` if a program could not be run for a reason of its own."""
+    """Raise `NoProgram` if a program could not be run because of the program itself."""
     if error.errno not in NOT_RUN:
         return
     why = error.strerror
     if error.errno == errno.ENOENT and os.path.exists(path):
-        why = "the loader that it names is not here, as on a system without glibc"
+        why = "the loader that it names does not exist, as on a system without glibc"
     raise NoProgram(f"{_shown(path)} cannot be run: {why}; {OTHER}") from error
 
 
 def refuse_unfit(path: str | bytes, error: SessionEnded) -> None:
-    """Raises `NoProgram` if a session did not begin because the program is not the one that this
+    """Raise `NoProgram` if a session did not begin because the program is not the one that this
     package needs, or lacks a library."""
     lacking = _LACKING.findall(str(error))
     if lacking:
@@ -133,9 +136,8 @@ def refuse_unfit(path: str | bytes, error: SessionEnded) -> None:
 
 def refuse_other_version(path: str | bytes) -> None:
     """Raise `NoProgram` if a program prints a version that this package does not work with. A
-    program is asked once, as long as its file stays the same. One that prints no version, or cannot
-    be run, is judged by what comes of its first session.
-    """
+    program is asked once as long as its file does not change. If it prints no version, or cannot be
+    run, its first session will show why."""
     found = shutil.which(os.fsdecode(path))
     if found:
         file = os.stat(found)
@@ -146,7 +148,8 @@ def refuse_other_version(path: str | bytes) -> None:
 
 @functools.lru_cache(maxsize=16)
 def _printed(path: str, *_: int) -> str | None:
-    """The version that a program prints; its file's place, time and size tell when to ask again."""
+    """Return the version that a program prints. Its file's inode, time and size are arguments so
+    that a changed file is asked again."""
     return _version(path)
 
 
@@ -155,7 +158,7 @@ def _shown(path: str | bytes) -> str:
 
 
 def _version(path: str | bytes) -> str | None:
-    """The version that a program prints, if it prints one as dmf does."""
+    """Return the version that a program prints, if it prints one as dmf does."""
     try:
         ran = subprocess.run(
             [path, "--version"], stdin=subprocess.DEVNULL, capture_output=True, timeout=SECONDS

@@ -1,5 +1,5 @@
-"""Answers without a session, and sessions whose solves begin from nothing: the value and the cut
-alone."""
+"""Answers without a session, and sessions whose solves begin from nothing and give only the value
+and the cut."""
 
 from __future__ import annotations
 
@@ -21,7 +21,7 @@ VALUE, CUT, FLOW = ["solve", "--brief"], ["solve", "--brief", "--cut"], ["solve"
 
 
 class Solved(NamedTuple):
-    """The greatest value, and the flows or the nodes of the side where these were asked for."""
+    """The greatest value, and the flows or the nodes of the source side if they were asked for."""
 
     value: int
     flows: Told = b""
@@ -31,8 +31,9 @@ class Solved(NamedTuple):
 def solved(
     problem: Iterable[bytes], words: list[str], program: FilePath, begun: Begun | None = None
 ) -> Solved:
-    """What the program answers to these words about a problem in pieces. `begun` is told its
-    process. Raises what `answer_to` raises, and `SessionEnded` for an answer of another form."""
+    """Return the program's answer to these words about a problem in pieces. `begun` is called with
+    its process. Raises what `answer_to` raises, and `SessionEnded` if the answer is not understood.
+    """
     # Small networks are solved without a program.
     from .process import answer_to
 
@@ -48,25 +49,27 @@ def solved(
             else []
         )
     except (ValueError, IndexError):
-        raise SessionEnded(f"what dmf answered to `{' '.join(words)}` was not understood") from None
+        raise SessionEnded(f"dmf's answer to `{' '.join(words)}` was not understood") from None
     return Solved(value, text if words == FLOW else b"", side)
 
 
 class FreshSession(Session):
-    """A session whose solves are those of `dmf solve --brief --cut`: each finds the greatest value
-    and the smallest side of a minimum cut of the network as it is then. No flow is known, and so no
-    change takes long. What is refused, and why, is what another session says, which takes all
-    changes but the solves."""
+    """A session that solves by `dmf solve --brief --cut`: each solve finds the greatest value and
+    the smallest side of a minimum cut of the present network from nothing.
+
+    No flow is known, so that no change takes long. Another session takes all changes and decides
+    what is refused; only the solves do not reach it.
+    """
 
     def __init__(self, session: Session, program: FilePath) -> None:
         super().__init__(session.end)
         self._session = session
         self._program = program
         self._found = Solved(0)
-        # The program that runs now.
+        # The program that is running now.
         self._running: subprocess.Popen[bytes] | None = None
-        # For each step that is made, and each that was undone, the last undone at the end, whether
-        # it is a solve.
+        # For each step made, and for each step undone, the latest undone last: whether it is a
+        # solve.
         self._past: list[bool] = []
         self._future: list[bool] = []
 
@@ -78,7 +81,7 @@ class FreshSession(Session):
         return self._session.is_full_after(most)
 
     def break_off(self, why: str) -> None:
-        """Ends the session, and kills a program that runs."""
+        """End the session, and kill a program that is running."""
         self._session.break_off(why)
         if self._running:
             self._running.kill()
@@ -107,7 +110,7 @@ class FreshSession(Session):
         self._running = process
 
     def _stepped(self, command: Command) -> int:
-        """Steps back or on, of which the other session knows the steps that are no solves."""
+        """Step back or forward. The other session knows only the steps that are not solves."""
         word, count = command
         left, grown = (self._past, self._future) if word == "undo" else (self._future, self._past)
         if count > len(left):
@@ -126,9 +129,9 @@ class FreshSession(Session):
         return value
 
     def flows(self, value: int, open_count: int) -> bytes | array[int]:
-        """Raises an `UnknownCommand`."""
+        """Raise an `UnknownCommand`."""
         raise UnknownCommand(
-            "the flow in a sweep whose cases are solved anew: value and cut alone are known"
+            "the flow in a sweep whose cases are solved anew: only the value and the cut are known"
         )
 
     def cut(self) -> tuple[int, list[int]]:

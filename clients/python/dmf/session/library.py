@@ -1,5 +1,5 @@
-"""The C library in this process: its calls, and a session by them. include/dmf.h says what each
-call does."""
+"""The C library in this process: its calls, and a session that makes them. include/dmf.h says what
+each call does."""
 
 from __future__ import annotations
 
@@ -26,14 +26,14 @@ from .base import (
 from .versions import ABI, fits, other_version
 from .worker_threads import Given, Handle, Job
 
-# The largest network of which all calls run in the thread of their caller, in arcs. There Ctrl-C
-# waits for the call to end, which takes milliseconds. The calls of a larger one run in a thread
-# beside, which Ctrl-C leaves alone, but for steps over so many states at most, each of which looks
-# at each arc a few times at most.
+# For networks with at most MOST_AT_ONCE arcs, all calls run in the caller's thread, where Ctrl-C
+# has to wait for the call to end, which takes milliseconds. For larger ones they run in another
+# thread, which Ctrl-C does not reach, except for steps over at most MOST_STEPS states, each of
+# which looks at each arc only a few times.
 MOST_AT_ONCE, MOST_STEPS = 20_000, 4
 
 OK, NO_MEMORY, NOT_GREATEST, BAD_LENGTH, BAD_TEXT = 0, 1, 9, 10, 12
-# The reasons of a session, by their numbers in dmf.h, in the program's words.
+# The reasons for a refusal in the program's words, by their numbers in dmf.h.
 REASONS = {
     NO_MEMORY: "no memory",
     2: "no such node",
@@ -45,7 +45,7 @@ REASONS = {
     8: "nothing to redo",
     NOT_GREATEST: "flow is not greatest",
 }
-# The faults of a problem text in the order of their numbers, from 1 on.
+# The faults of a problem text, in the order of their numbers, from 1.
 FAULTS = (
     "problem line expected",
     "second problem line",
@@ -66,7 +66,7 @@ FAULTS = (
     "capacities past 64 bits",
     "no memory",
 )
-# The calls by which a session takes a command, by its word, with how many numbers follow that.
+# The commands that calls of the library carry out, each with how many numbers follow its word.
 COMMANDS = {"cap": 2, "add": 3, "close": 1, "shut": 1, "solve": 0, "undo": 1, "redo": 1}
 STEPS = "undo", "redo"
 _POINTER, _WORD, _LONG, _SIZE = ctypes.c_void_p, ctypes.c_uint32, ctypes.c_uint64, ctypes.c_size_t
@@ -76,7 +76,7 @@ class Library:
     """The loaded library."""
 
     def __init__(self, path: str, loaded: ctypes.CDLL) -> None:
-        """Raises an AttributeError if it lacks a call."""
+        """Raise an AttributeError if the library lacks a call."""
         self.path = path
         self._loaded = loaded
         ends = [_WORD, _WORD, _WORD, *[_POINTER, _SIZE] * 3, _WORD, _POINTER, _POINTER]
@@ -102,8 +102,8 @@ class Library:
         return call  # type: ignore[no-any-return]
 
     def begin(self, problem: ProblemColumns, most: int) -> LibrarySession:
-        """A session on a problem, in which so many changes can be undone. Raises a `Refused` as the
-        program does for its text."""
+        """Begin a session on a problem, in which at most `most` changes can be undone. Raises a
+        `Refused` as the program does for the text of the problem."""
         address, bad_arc = _POINTER(), _SIZE()
         columns = [
             part for column in problem.columns() for part in (_place(column), len(problem.tails))
@@ -114,11 +114,11 @@ class Library:
             return LibrarySession(self, address.value or 0, len(problem.tails))
         if status == NO_MEMORY:
             raise refused_line(REASONS[NO_MEMORY], None)
-        # Which fault of its text the program tells, the library knows by that text.
+        # Only from the text does the library know which fault the program reports.
         return self.begin_text(b"".join(problem_pieces(problem)), most)
 
     def begin_text(self, text: bytes, most: int) -> LibrarySession:
-        """A session on the text of a problem. Raises a `Refused` as the program does."""
+        """Begin a session on the text of a problem. Raises a `Refused` as the program does."""
         address, line, fault = _POINTER(), _LONG(), _WORD()
         places = ctypes.byref(address), ctypes.byref(line), ctypes.byref(fault)
         status = self.read(text, len(text), most, *places)
@@ -132,8 +132,8 @@ class Library:
 
 @functools.cache
 def load(path: str) -> Library:
-    """The library at this path. Raises `NoProgram` if it cannot be loaded, or is of another version
-    than this package needs."""
+    """Load the library at this path. Raises `NoProgram` if it cannot be loaded, or has a version
+    that this package does not work with."""
     with _loading(path):
         loaded = ctypes.CDLL(path)
         version = loaded.dmf_version()
@@ -164,8 +164,7 @@ def refuse_other(path: str, number: int) -> None:
 
 
 def refuse_interface(path: str, number: int) -> None:
-    """Raise `NoProgram` for a library whose calls are of another form than this package makes
-    them."""
+    """Raise `NoProgram` for a library whose calls have another form than this package uses."""
     if number != ABI:
         raise NoProgram(f"{display(path)} has the interface {number}, and this package needs {ABI}")
 
@@ -185,8 +184,8 @@ class LibrarySession(Session):
         return self._library
 
     def break_off(self, why: str) -> None:
-        """Where a call waits for a thread beside it, it waits no more. Another one ends by itself
-        before it raises `SessionEnded`."""
+        """End the session. A call that waits for another thread stops waiting; any other call
+        finishes, and then raises `SessionEnded`."""
         if self.end.alive:
             self._why_broken = why
             job = self._job
@@ -194,14 +193,15 @@ class LibrarySession(Session):
                 job.leave()
 
     def kill(self, why: str) -> None:
-        """What a thread beside has begun goes on, and is freed at its end."""
+        """End the session. Work that another thread has begun goes on, and the session is freed
+        when it is done."""
         if self.end.alive:
             self.why_ended = why
             self.end()
 
     def _do(self, work: Callable[..., Given], *words: Any, is_short: bool = False) -> Given:
-        """What calls at the session's address give. `is_short` says that they end soon, however
-        large the network is."""
+        """Return what calls at the session's address return. `is_short` says that they end soon,
+        however large the network is."""
         if self._why_broken:
             self.kill(self._why_broken)
         held = next(iter(self._held), None)
@@ -212,7 +212,7 @@ class LibrarySession(Session):
             is_beside = self._arc_count > MOST_AT_ONCE and not is_short
             given = self._do_beside(work, held, words) if is_beside else work(held, *words)
         except ValueError as error:
-            self.kill("the session was ended, since what dmf answered was not understood")
+            self.kill("the session was ended, since dmf's answer was not understood")
             raise self.ended() from error
         finally:
             if self._why_broken:
@@ -257,7 +257,7 @@ class LibrarySession(Session):
                 value = self._carried_out(held, command)
             except Refused as error:
                 self._why_broken = (
-                    f"the session could not begin anew: `{command_line(command)}` was refused: "
+                    f"the session could not be restarted: `{command_line(command)}` was refused: "
                     f"{error.text}"
                 )
         return value
@@ -279,7 +279,7 @@ class LibrarySession(Session):
         status = self._library.side(held.address, _place(marks), len(marks))
         if status != OK:
             raise refused(REASONS[status], "print cut", None)
-        # It has the capacity of the value, as each minimum cut.
+        # The cut has the capacity of the value, as each minimum cut.
         return self._library.value(held.address), list(compress(count(1), marks))
 
     def problem(self) -> bytes:
@@ -304,9 +304,9 @@ class LibrarySession(Session):
     def _tried(
         self, held: Handle, cases: Sequence[Sequence[Command]], value: int, found: list[int]
     ) -> None:
-        """Raises a ValueError if something in a case is refused, or if all together leave another
-        value: then none of theirs counts. Objects of ctypes take less time than numbers, which it
-        has to convert."""
+        """Try the cases. Raises a ValueError if something in a case is refused, or if the network
+        has another value at the end; then none of their values is used. Numbers are ctypes objects,
+        since ctypes would convert each number again."""
         address, calls, value_of = (
             _POINTER(held.address),
             self._library.commands,
@@ -332,6 +332,6 @@ class LibrarySession(Session):
 
 
 def _place(column: array[int]) -> int:
-    """The address of what an array has. The library wants one that is not 0 of an empty array
-    too."""
+    """Return the address of an array's items. For an empty array too, the library expects an
+    address other than 0."""
     return column.buffer_info()[0] or 8

@@ -1,5 +1,5 @@
-"""The program as a child of this process: how it begins, the lines that go to it and come from it,
-and how it ends."""
+"""The program as a child of this process: how it begins, the lines that are sent to it and read
+from it, and how it ends."""
 
 from __future__ import annotations
 
@@ -39,17 +39,17 @@ _TOLD = re.compile(r"dmf: (?:line ([0-9]{1,10}): )?(.*)")
 
 
 class ProgramSession(Session):
-    """A running session of the program, and the lines that go to it and come from it."""
+    """A running session of the program, and the lines that are sent to it and read from it."""
 
     def __init__(self, words: list[str | bytes], path: str) -> None:
-        """Starts a program with these words, on a problem at this path. Raises an OSError if it
+        """Start a program with these words, on a problem at this path. Raises an OSError if it
         cannot be started."""
         pipe = subprocess.PIPE
-        # In a file, standard error has room for all that a program writes, and nobody has to read
-        # it meanwhile.
+        # A file holds all that the program writes to standard error, so that nobody has to read it
+        # meanwhile.
         self._told = scratch()
         try:
-            # In a session of its own: Ctrl-C at a terminal is for the caller alone.
+            # In a session of its own, since Ctrl-C at a terminal is meant for the caller alone.
             self.process = subprocess.Popen(
                 [*words, "--", path],
                 stdin=pipe,
@@ -65,13 +65,13 @@ class ProgramSession(Session):
         super().__init__(_end, self.process, self._told, os.getpid())
         assert self.process.stdin and self.process.stdout
         self._input, self._output = self.process.stdin, self.process.stdout.fileno()
-        # What was read and belongs to later lines.
+        # What was read beyond the last line that was asked for.
         self._rest = b""
 
     @contextlib.contextmanager
     def exchange(self, lines: str) -> Iterator[None]:
-        """Sends lines, and lets the caller read the answer. If an error breaks that off, the
-        session ends, since the rest of the answer would be read as that of the next command."""
+        """Send lines, and let the caller read the answer. An exception meanwhile ends the session,
+        since the rest of the answer would be read as the answer to the next command."""
         if not self.end.alive:
             raise self.ended()
         try:
@@ -84,9 +84,7 @@ class ProgramSession(Session):
         except (BrokenPipeError, EOFError):
             raise self._fault() from None
         except (ValueError, IndexError) as error:
-            self.kill(
-                f"the session was ended, since what dmf answered to `{lines}` was not understood"
-            )
+            self.kill(f"the session was ended, since dmf's answer to `{lines}` was not understood")
             raise SessionEnded(self.why_ended) from error
         except BaseException:
             self.kill(f"the session was ended when `{lines}` was broken off")
@@ -107,7 +105,7 @@ class ProgramSession(Session):
             return int(_begun(self.line(), line, [b"c", command[0].encode()], at)[-1])
 
     def carry_out(self, commands: Sequence[Command]) -> int:
-        """Sends some at once."""
+        """Send several at once."""
         value = 0
         for piece in _pieces([command_line(command)] for command in commands):
             lines = list(chain.from_iterable(piece))
@@ -116,7 +114,7 @@ class ProgramSession(Session):
                     fields = reply.split()
                     if fields[:2] == [b"c", b"refused"]:
                         self.kill(
-                            f"the session could not begin anew: `{line}` was refused: "
+                            f"the session could not be restarted: `{line}` was refused: "
                             f"{display(b' '.join(fields[3:]).decode())}"
                         )
                         raise self.ended()
@@ -150,7 +148,7 @@ class ProgramSession(Session):
             return begin + self.lines(int(fields[3]) + 2)
 
     def try_cases(self, cases: Sequence[Sequence[Command]], value: int, found: list[int]) -> None:
-        """Sends many at once, so that the program need not wait for the next one."""
+        """Send many at once, so that the program need not wait for the next one."""
         for piece in _pieces(map(case_lines, cases)):
             with self.exchange("\n".join(chain.from_iterable(piece))):
                 for case in piece:
@@ -168,11 +166,11 @@ class ProgramSession(Session):
                     found.append(int(solved[3]))
 
     def line(self) -> list[bytes]:
-        """The fields of the next line of the answer. Raises an EOFError if none comes."""
+        """Return the fields of the next line of the answer. Raises an EOFError if none comes."""
         return self.lines(1).split()
 
     def lines(self, count: int) -> bytes:
-        """The next lines of the answer, so many. Raises an EOFError if they do not come."""
+        """Return the next `count` lines of the answer. Raises an EOFError if they do not come."""
         pieces, found = [self._rest], self._rest.count(b"\n")
         while found < count:
             pieces.append(self._read())
@@ -193,13 +191,13 @@ class ProgramSession(Session):
         return text[:end]
 
     def lines_before(self, begin: bytes) -> bytes:
-        """The lines of the answer before the next one that begins so, which is the last of the
-        whole answer."""
+        """Return the lines of the answer before the next line that begins like this, which is the
+        last line of the whole answer."""
         pieces = [self._rest]
         last = self._rest
         while not (last.endswith(b"\n") and last[last.rfind(b"\n", 0, -1) + 1 :].startswith(begin)):
             pieces.append(self._read())
-            # The last line may have come in parts.
+            # The last line may have arrived in parts.
             last = pieces[-1] if b"\n" in pieces[-1][:-1] else last + pieces[-1]
         self._rest = b""
         text = b"".join(pieces)
@@ -212,13 +210,13 @@ class ProgramSession(Session):
         return piece
 
     def break_off(self, why: str) -> None:
-        """Kills the program."""
+        """Kill the program."""
         if self.end.alive:
             self._why_broken = why
             self.process.kill()
 
     def kill(self, why: str) -> None:
-        """Kills the program."""
+        """Kill the program."""
         if not self.end.alive:
             return
         self.why_ended = why
@@ -226,8 +224,8 @@ class ProgramSession(Session):
         self.end()
 
     def _fault(self) -> Error:
-        """Why the program has ended: the refusal on its standard error, or else all that it wrote
-        there, with its status."""
+        """Return the error that says why the program has ended: the refusal on its standard error,
+        or else all that it wrote there, with its status."""
         status = self._status()
         self._told.seek(0)
         told = self._told.read(MOST_TOLD).decode(errors="replace").strip()
@@ -239,8 +237,8 @@ class ProgramSession(Session):
         return _refusal(told) or SessionEnded(self.why_ended)
 
     def _status(self) -> int | None:
-        """The status of the program once it has ended. A program that goes on without reading or
-        writing lines is killed, and gives None."""
+        """Return the status of the program once it has ended. A program that keeps running without
+        reading or writing lines is killed, and its status is None."""
         try:
             return self.process.wait(SECONDS)
         except subprocess.TimeoutExpired:
@@ -250,7 +248,7 @@ class ProgramSession(Session):
 
 
 def _pieces(groups: Iterable[list[str]]) -> Iterator[list[list[str]]]:
-    """Groups of lines, as many together as are sent at once."""
+    """Yield groups of lines, each as long as what is sent at once."""
     piece: list[list[str]] = []
     size = 0
     for lines in groups:
@@ -265,12 +263,12 @@ def _pieces(groups: Iterable[list[str]]) -> Iterator[list[list[str]]]:
 
 
 def _shown(told: str) -> str:
-    """What a program wrote on standard error, as it can be shown."""
+    """Return what a program wrote on standard error in a form that can be shown."""
     return "\n".join(map(display, told.split("\n")))
 
 
 def _refusal(told: str) -> Refused | None:
-    """The refusal of a problem that a program wrote on standard error, if it is one."""
+    """Return the refusal of a problem that a program wrote on standard error, if it is one."""
     found = _TOLD.fullmatch(told)
     if not found or not found[1] and found[2] not in Refused.kinds:
         return None
@@ -278,8 +276,8 @@ def _refusal(told: str) -> Refused | None:
 
 
 def _begun(fields: list[bytes], command: str, begin: list[bytes], at: object = None) -> list[bytes]:
-    """The fields of the first line of a reply, which begins with these words. Raises a `Refused`,
-    and a ValueError for another reply."""
+    """Return the fields of the first line of a reply, which must begin with these words. Raises a
+    `Refused`, or a ValueError for another reply."""
     if fields[:2] == [b"c", b"refused"]:
         raise refused(display(b" ".join(fields[3:]).decode()), command, at)
     if fields[: len(begin)] != begin:
@@ -290,14 +288,14 @@ def _begun(fields: list[bytes], command: str, begin: list[bytes], at: object = N
 def answer_to(
     file: IO[bytes], program: FilePath, words: list[str], begun: Begun | None = None
 ) -> bytes:
-    """What the program answers to a problem's file, from its present place on. `begun` is told its
-    process. Raises what `start` raises."""
+    """Return the program's answer to a problem's file, read from its present position. `begun` is
+    called with the process. Raises what `start` raises."""
     used = os.fspath(program)
     executable.refuse_other_version(used)
     pipe = subprocess.PIPE
     try:
-        # In a session of its own: Ctrl-C at a terminal is for the caller alone, who then ends the
-        # program.
+        # In a session of its own, since Ctrl-C at a terminal is meant for the caller alone, who
+        # then ends the program.
         process = subprocess.Popen(
             [used, *words], stdin=file, stdout=pipe, stderr=pipe, start_new_session=True
         )
@@ -327,8 +325,8 @@ def answer_to(
 
 
 def _end(process: subprocess.Popen[bytes], told: IO[bytes], owner: int) -> None:
-    """Ends a program: ends its input, and kills it if that is not enough. Only the owner process
-    does so."""
+    """End a program: close its input, and kill it if that is not enough. Only the process that owns
+    it does so."""
     if os.getpid() != owner:
         return
     assert process.stdin and process.stdout
@@ -344,22 +342,22 @@ def _end(process: subprocess.Popen[bytes], told: IO[bytes], owner: int) -> None:
 
 
 def session_words(most: int) -> list[str | bytes]:
-    """The words for a session in which so many changes can be undone, and whose replies to solves
-    are brief."""
+    """Return the words for a session in which at most `most` changes can be undone, and whose
+    replies to solves are brief."""
     words: list[str | bytes] = ["session", "--brief"]
     return words if most == MOST_KEPT else [*words, "--history", str(most)]
 
 
 def start_program(path: str, program: FilePath, words: list[str | bytes]) -> ProgramSession:
-    """A session with these words, on the problem's file, once it has read the problem. Raises a
-    `Refused` if the problem has a fault, `SessionEnded` if the program fails, and `NoProgram` if
-    this package cannot use it."""
+    """Begin a session with these words on the problem's file, and wait until it has read the
+    problem. Raises a `Refused` if the problem has a fault, `SessionEnded` if the program fails, and
+    `NoProgram` if this package cannot use it."""
     used = os.fspath(program)
     executable.refuse_other_version(used)
     try:
         child = ProgramSession([used, *words], path)
     except OSError as error:
-        # A temporary file may not be had either.
+        # A temporary file may also be impossible to make.
         if error.filename == used:
             executable.refuse_unrun(used, error)
         raise

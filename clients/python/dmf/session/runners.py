@@ -1,5 +1,5 @@
-"""The two ways in which a session runs, by the C library in this process or by the program behind a
-pipe: which one is taken, and how a session begins by it."""
+"""Choose what runs a session, the C library in this process or the program behind a pipe, and begin
+the session."""
 
 from __future__ import annotations
 
@@ -20,11 +20,11 @@ if TYPE_CHECKING:
 
 PACKAGE = os.path.dirname(os.path.dirname(os.path.realpath(__file__)))
 NAME = "libdmf.so.0"
-# Where pip puts the library, below this package.
+# Where pip puts the library inside this package.
 OWN = f"bin/{NAME}"
 REPOSITORY = ("clients", "python", "dmf")
-# Where this package lies where `./install` and Debian put it, with the place of the library above
-# that.
+# Where this package lies in an install by `./install` and in Debian's packages, each with the
+# library's path from the root of that place.
 PLACES = {
     ("share", "dmf", "python", "dmf"): f"lib/{NAME}",
     (
@@ -37,24 +37,28 @@ PLACES = {
 
 
 def library() -> str | None:
-    """The path of the C library by which networks run in this process if their caller names no
-    program; None if they run a program. It is what the environment variable DMF_LIBRARY names; or,
-    unless DMF names a program, what pip installed inside this package, or what lies in the
-    repository or install in which the package lies. An empty DMF_LIBRARY means none. Raises
-    `NoProgram` if DMF_LIBRARY names one that cannot be used."""
+    """Return the path of the C library that runs networks in this process if their caller names no
+    program, or None if they run a program.
+
+    That is the library that the environment variable DMF_LIBRARY names; or else, unless DMF names a
+    program, the one that pip installed inside this package, or that of the repository or install
+    that contains the package. An empty DMF_LIBRARY means none. Raises `NoProgram` if DMF_LIBRARY
+    names a library that cannot be used.
+    """
     found = _library()
     return None if found is None else found.path
 
 
 def chosen(program: Program) -> Way:
-    """What runs a session: the program that the caller names; or the library; or the program that
-    is found without it. Raises `NoProgram`."""
+    """Choose what runs a session: the program that the caller names, or else the library, or else
+    the program that is found. Raises `NoProgram`."""
     found = _library() if program is None else None
     return program_of(program) if found is None else found
 
 
 def program_of(program: Program) -> FilePath:
-    """The program that the caller names, or the one that is found. Raises `NoProgram`."""
+    """Return the program that the caller names, or else the one that is found. Raises
+    `NoProgram`."""
     if program is not None:
         return os.fspath(program)
     from .executable import program as found_program
@@ -72,14 +76,14 @@ def _library() -> Library | None:
     if named:
         return load(path)
     with contextlib.suppress(NoProgram):
-        # One that this machine cannot load is left alone, and the program is asked.
+        # A library that this machine cannot load is ignored, and the program is used.
         return load(path)
     return None
 
 
 @functools.cache
 def _found() -> str | None:
-    """The path of the library that lies inside this package or beside it."""
+    """Return the path of the library that lies inside this package or beside it."""
     own = os.path.join(PACKAGE, OWN)
     if os.path.isfile(own):
         return own
@@ -96,7 +100,7 @@ def _found() -> str | None:
 
 
 def _of_repository(root: str) -> str | None:
-    """The library of a repository, which is of the present sources."""
+    """Return the library of a repository, if it is up to date with the sources."""
     path, take = os.path.join(root, "crates/dmf_c/out", NAME), os.path.join(root, "tools/prebuilt")
     if os.path.isfile(path) and not _is_older(path, root):
         return path
@@ -115,7 +119,8 @@ def _of_repository(root: str) -> str | None:
 
 
 def _is_older(path: str, root: str) -> bool:
-    """Whether a source, or a folder of sources, has changed since the library was put there."""
+    """Return True if a source file, or a folder of sources, has changed since the library was put
+    there."""
     put, crates = os.stat(path).st_mtime_ns, os.path.join(root, "crates")
     places = [os.path.join(root, name) for name in ("crates.txt", "tools/library", "tools/dmf.map")]
     places += [
@@ -131,7 +136,7 @@ def _is_older(path: str, root: str) -> bool:
 
 
 def _has_newer(folder: str, than: int) -> bool:
-    """Whether something in a folder has changed since a time."""
+    """Return True if anything in a folder has changed since a time."""
     with os.scandir(folder) as entries:
         return any(
             it.stat().st_mtime_ns > than or it.is_dir() and _has_newer(it.path, than)
@@ -140,8 +145,8 @@ def _has_newer(folder: str, than: int) -> bool:
 
 
 class Startable(Protocol):
-    """What a session is begun for: a first problem, and the commands after which it has a value. At
-    most `most` changes can be undone."""
+    """What a session is begun for: a first problem, and the commands after which it has this value.
+    At most `most` changes can be undone."""
 
     @property
     def value(self) -> int:
@@ -160,7 +165,7 @@ class Startable(Protocol):
 
 @contextlib.contextmanager
 def problem_file(kept: Startable) -> Iterator[str]:
-    """The path of a file with the first problem of what is kept, for as long as the block takes."""
+    """Write the first problem to a temporary file, and give its path to the block."""
     with scratch() as file:
         file.writelines(problem_pieces(kept.problem()))
         file.flush()
@@ -168,9 +173,9 @@ def problem_file(kept: Startable) -> Iterator[str]:
 
 
 def start(kept: Startable, way: Way, path: str | None = None) -> Session:
-    """A session that is in the state of what is kept, whose first problem is in the file at this
-    path, if that is given. Raises a `Refused` if the problem has a fault, `NoProgram` if the
-    program cannot be used, and `SessionEnded` if it fails, or comes to another value."""
+    """Begin a session in the state that `kept` describes. If a path is given, the file there has
+    the first problem. Raises a `Refused` if the problem has a fault, `NoProgram` if the program
+    cannot be used, and `SessionEnded` if it fails or ends with another value."""
     session: Session
     if isinstance(way, PROGRAM):
         from .process import session_words, start_program
@@ -182,16 +187,15 @@ def start(kept: Startable, way: Way, path: str | None = None) -> Session:
     value = session.carry_out(kept.commands())
     if value != kept.value:
         session.kill(
-            f"the session was ended: begun anew, it came to the value {value}, and not to "
-            f"{kept.value}"
+            f"the session was ended: after a restart its value was {value} instead of {kept.value}"
         )
         raise session.ended()
     return session
 
 
 def started_on(text: bytes, way: Way, most: int) -> Session:
-    """A session on the text of a problem, in which so many changes can be undone. Raises what
-    `start` raises."""
+    """Begin a session on the text of a problem, in which at most `most` changes can be undone.
+    Raises what `start` raises."""
     if not isinstance(way, PROGRAM):
         return way.begin_text(text, most)
     from .process import session_words, start_program

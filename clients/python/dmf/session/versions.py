@@ -4,13 +4,13 @@ from __future__ import annotations
 
 from ..errors import NoProgram
 
-# The number of the C library's interface, which `dmf_abi` answers and its file's name ends with.
+# The number of the C library's interface, which `dmf_abi` returns and its file's name ends with.
 ABI = 0
 
 
 def fits(version: str) -> bool:
-    """Return whether a program or library of this version has all that this package asks of it: one
-    of the same minor version."""
+    """Return True if a program or library of this version has all that this package asks of it: its
+    minor version is the same."""
     from .. import __version__
 
     return version.split(".")[:2] == __version__.split(".")[:2]

@@ -1,4 +1,4 @@
-"""Calls of the library in threads beside that of their caller, who may cease to wait for one."""
+"""Calls of the library in other threads than their caller's, which can stop waiting for them."""
 
 from __future__ import annotations
 
@@ -10,50 +10,50 @@ import weakref
 from collections.abc import Callable
 from typing import Any, Generic, TypeVar
 
-# How many threads that run calls are kept for later ones.
+# How many idle threads are kept for later calls.
 MOST_THREADS = 8
 
 Given = TypeVar("Given")
 
 
 class Handle:
-    """The address of a session of the library, which is freed when nothing refers to this any more.
-    A call at it does, so that it is never freed while a call goes on; no lock is needed, in whose
-    middle Ctrl-C might come."""
+    """The address of a session of the library, which is freed when nothing refers to this object
+    any more. Every call refers to it, so that the session is never freed during a call. That needs
+    no lock, which Ctrl-C could interrupt."""
 
     def __init__(self, free: Callable[[int], int], address: int) -> None:
         self.address = address
-        # The system frees all at once when the interpreter ends, also where a call goes on.
+        # When the interpreter ends, the system frees everything at once, even while a call is
+        # running.
         weakref.finalize(self, _free, free, address, os.getpid()).atexit = False
 
 
 def _free(free: Callable[[int], int], address: int, owner: int) -> None:
-    """Frees a session, in the process that began it."""
+    """Free a session, in the process that began it."""
     if os.getpid() == owner:
         free(address)
 
 
 class Threads:
-    """The threads that run calls beside those of their callers. Each takes one call after
-    another."""
+    """The threads that run calls on behalf of other threads. Each takes one call after another."""
 
     def __init__(self) -> None:
-        # Only large networks need it.
+        # Imported here, since only large networks need it.
         from queue import SimpleQueue
 
         self._jobs: SimpleQueue[Job[Any]] = SimpleQueue()
-        # One entry for each thread that waits for a job, or is about to. Ctrl-C may leave one too
-        # few, and then one thread more begins.
+        # One entry for each thread that waits for a job, or is about to. Ctrl-C may leave one entry
+        # too few; then one more thread is started.
         self._waiting: list[None] = []
 
     def begin(self, job: Job[Any]) -> None:
-        """Begins a job at once."""
+        """Begin a job at once."""
         if not self._take_one():
             _thread.start_new_thread(self._run, ())
         self._jobs.put(job)
 
     def _take_one(self) -> bool:
-        """Takes a thread that waits out of those. Returns whether there was one."""
+        """Claim a waiting thread. Returns False if none is waiting."""
         try:
             self._waiting.pop()
         except IndexError:
@@ -67,7 +67,7 @@ class Threads:
             job.run()
             self._waiting.append(None)
             job.leave()
-            # Nothing of it is held while the thread waits.
+            # Nothing of the job is held while the thread waits.
             del job
             is_kept = len(self._waiting) <= MOST_THREADS or not self._take_one()
 
@@ -77,13 +77,13 @@ def threads() -> Threads:
     return Threads()
 
 
-# A process that was forked off has none of them.
+# A forked process has none of these threads.
 os.register_at_fork(after_in_child=threads.cache_clear)
 
 
 class Job(Generic[Given]):
-    """Calls at a session in a thread beside that of their caller, which waits for what they give,
-    and may cease to wait."""
+    """Calls at a session in another thread. The caller's thread waits for the result, and can stop
+    waiting."""
 
     def __init__(self, work: Callable[..., Given], held: Handle, words: tuple[Any, ...]) -> None:
         self._work = work
@@ -91,30 +91,30 @@ class Job(Generic[Given]):
         self._words = words
         self._given: list[Given] = []
         self._error: BaseException | None = None
-        # Who waits for this lock waits for the work.
+        # To wait for this lock is to wait for the work.
         self._is_going_on = _thread.allocate_lock()
         self._is_going_on.acquire()
 
     def wait(self) -> None:
-        """Begins the work, and waits until it is done, or until `leave` is called. Ctrl-C breaks
-        off the waiting alone."""
+        """Begin the work, and wait until it is done or `leave` is called. Ctrl-C interrupts only
+        the waiting."""
         threads().begin(self)
         self._is_going_on.acquire()
 
     def leave(self) -> None:
-        """Has whoever waits wait no more."""
+        """Let the waiting thread go on."""
         with contextlib.suppress(RuntimeError):
             self._is_going_on.release()
 
     def run(self) -> None:
-        """Does the work."""
+        """Do the work."""
         try:
             self._given.append(self._work(self._held, *self._words))
         except BaseException as error:
             self._error = error
 
     def given(self) -> Given:
-        """What the work gave. Raises what it raised."""
+        """Return the result of the work, or raise what it raised."""
         if self._error is not None:
             raise self._error
         return self._given[0]

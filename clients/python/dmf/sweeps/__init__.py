@@ -1,4 +1,6 @@
-"""Many changes, each tried alone on a solved copy of a network, here or by an executor.
+"""Try many changes, each alone on a solved copy of a network, here or in the processes of an
+executor.
 
-It must not know tables or a desk.
-Entrances: `cases` (`sweep` and what makes its cases); `pool` and `copies` try them."""
+This package must not know tables or a desk.
+Entrances: `cases` (`sweep` and the functions that make cases); `pool` and `copies` try them.
+"""

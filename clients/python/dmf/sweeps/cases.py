@@ -1,4 +1,4 @@
-"""Sweeps: many cases in a row, each tried on a solved copy of a network and taken back."""
+"""Sweeps: many cases in a row, each tried on a solved copy of a network and undone there."""
 
 from __future__ import annotations
 
@@ -27,17 +27,29 @@ if TYPE_CHECKING:
 
 # What is tried: a list of commands, or a function that is given a network to change.
 Case = Union[Iterable[Command], Callable[[Network[Any]], object]]
-# The cases of a sweep, or a function that makes them of its network.
+# The cases of a sweep, or a function that makes them from the network.
 Cases = Union[Iterable[Case], Callable[[Network[Any]], Iterable[Case]]]
 COMMANDS = {"cap": 2, "close": 1, "open": 1, "shut": 1, "add": 3}
 
 
 @dataclass(frozen=True)
 class SweepResult(Generic[Node]):
-    """The result of a case: the greatest value after it, and its difference to the network's value
-    before the sweep; and the arcs of the smallest minimum cut, if they were wanted. If the case was
-    refused, `refusal` is the error, and the others are None. An arc of the cut that the case added
-    has a handle that no network knows."""
+    """The result of one case of a sweep.
+
+    Attributes
+    ----------
+    case
+        The case, as it was given.
+    value
+        The greatest value after the case, or None if it was refused.
+    difference
+        The value minus the network's value before the sweep, or None.
+    cut
+        The arcs of the smallest minimum cut if they were wanted, or None. An arc that the case
+        added has a handle that no network knows.
+    refusal
+        The error for which the case was refused, or None.
+    """
 
     __module__ = "dmf"
 
@@ -49,8 +61,8 @@ class SweepResult(Generic[Node]):
 
 
 class _Each(Iterator[Case]):
-    """A case for each of these things, made when it is needed. The number of cases left is known if
-    that of the things is."""
+    """Cases that are made from these things one by one, when they are needed. Their number is known
+    if that of the things is."""
 
     def __init__(self, make: Callable[[Any], Case], things: Iterable[Any]) -> None:
         self._cases = map(make, things)
@@ -68,7 +80,20 @@ class _Each(Iterator[Case]):
 def each_arc_closed(
     arcs: Iterable[Hashable] | None = None,
 ) -> Callable[[Network[Any]], Iterator[Case]]:
-    """For each open arc, or for each of these, the case in which it is closed."""
+    """Return the cases of a sweep that each close one arc.
+
+    Parameters
+    ----------
+    arcs
+        The arcs to close, by their keys, ends or handles: by default all open arcs.
+
+    Examples
+    --------
+    >>> with Network([("a", "b", 3), ("b", "c", 2)], source="a", sink="c") as network:
+    ...     value = network.solve().value
+    ...     [result.difference for result in sweep(network, each_arc_closed())]
+    [-2, -2]
+    """
     return lambda network: _Each(
         lambda arc: [("close", arc)], network.arcs if arcs is None else arcs
     )
@@ -77,8 +102,20 @@ def each_arc_closed(
 def each_node_shut(
     nodes: Iterable[Hashable] | None = None,
 ) -> Callable[[Network[Any]], Iterator[Case]]:
-    """For each node but the source and the sink, or for each of these, the case in which it is
-    shut."""
+    """Return the cases of a sweep that each shut one node.
+
+    Parameters
+    ----------
+    nodes
+        The nodes to shut: by default all nodes except the sources and the sinks.
+
+    Examples
+    --------
+    >>> with Network([("a", "b", 3), ("b", "c", 2)], source="a", sink="c") as network:
+    ...     value = network.solve().value
+    ...     [result.value for result in sweep(network, each_node_shut(["b"]))]
+    [0]
+    """
 
     def cases(network: Network[Any]) -> Iterator[Case]:
         ends = network._ends()
@@ -93,12 +130,26 @@ def each_node_shut(
 def each_capacity_raised(
     by: Whole, arcs: Iterable[Hashable] | None = None
 ) -> Callable[[Network[Any]], Iterator[Case]]:
-    """For each open arc, or for each of these, the case in which its capacity is raised by so
-    much."""
+    """Return the cases of a sweep that each raise the capacity of one arc.
+
+    Parameters
+    ----------
+    by
+        How much is added to the capacity.
+    arcs
+        The arcs to raise, by their keys, ends or handles: by default all open arcs.
+
+    Examples
+    --------
+    >>> with Network([("a", "b", 3), ("b", "c", 2)], source="a", sink="c") as network:
+    ...     value = network.solve().value
+    ...     [result.value for result in sweep(network, each_capacity_raised(4))]
+    [2, 3]
+    """
 
     def cases(network: Network[Any]) -> Iterator[Case]:
         more = network._whole(by, "each_capacity_raised")
-        # The network as it is now, whatever becomes of it while the cases are taken.
+        # A copy, since the network may change while the cases are taken.
         kept, measure = network._kept.copy(), network._measure
         quantity: Any = int if measure is None else measure.quantity
         return _Each(
@@ -112,8 +163,24 @@ def each_capacity_raised(
 def each_pair_added(
     pairs: Iterable[tuple[Hashable, Hashable]], capacity: Whole
 ) -> Callable[[Network[Any]], Iterator[Case]]:
-    """For each of these pairs of nodes the case that adds an arc of this capacity from the first to
-    the second. The sweep raises `NotAnArc` for a pair without an order, such as a set."""
+    """Return the cases of a sweep that each add one arc.
+
+    Parameters
+    ----------
+    pairs
+        The tail and the head of each arc to add. The sweep raises `NotAnArc` for a pair without an
+        order, such as a set.
+    capacity
+        The capacity of each.
+
+    Examples
+    --------
+    >>> with Network([("a", "b", 3), ("b", "c", 2)], source="a", sink="c") as network:
+    ...     value = network.solve().value
+    ...     cases = each_pair_added([("b", "c"), ("a", "c")], 5)
+    ...     [result.value for result in sweep(network, cases)]
+    [3, 7]
+    """
 
     def case(pair: tuple[Hashable, Hashable]) -> Case:
         if is_unordered(pair):
@@ -133,29 +200,55 @@ def sweep(
     progress: bool = False,
     anew: bool = False,
 ) -> Generator[SweepResult[Node], None, None]:
-    """Yields the result of each case in order, as it comes. Tries each case on a solved copy of the
-    network as it is now, and undoes it there; the network itself does not change, and can be used
-    meanwhile. Cases are taken when they are needed, so there may be any number.
+    """Try many cases, each on a solved copy of the network, and yield their results in order.
 
-    A case is a list of commands, as in `[("close", "canal"), ("add", "lake", "sea", 7)]`, or a
-    function that gets a network and changes it. If a case is refused, or its function raises an
-    error of this package, its result says so.
+    The network itself does not change, and can be used meanwhile: the cases are tried on the
+    network as it is when the sweep begins. Cases are taken when they are needed, so there may be
+    any number of them.
 
-    Any other error ends the sweep. An error in making the cases comes after the results of the
-    cases before it. If a program is killed, another takes its place, and tries its case once more.
+    If a case is refused, or if its function raises an error of this package, its result says so.
+    Any other exception ends the sweep. An exception while the cases are made is raised after the
+    results of the cases before it. If a program is killed, another one takes its place and tries
+    the case once more.
 
-    Without an `executor` each of so many `jobs` (as many as there are processors) has a session
-    here. Raises `JobsOutOfRange` if that is not a whole number of at least 1. An `executor` is
-    anything of the form of `concurrent.futures`, as `Client.get_executor()` of dask.distributed:
-    each of its processes is sent the network, and begins sessions of its own: by the program that
-    the network was made with, if that was named, or else by what it finds itself. There functions
-    are pickled, and name arcs by their keys or ends. `progress` shows a bar of tqdm, where that is
-    there.
+    Parameters
+    ----------
+    network
+        The network on which the cases are tried.
+    cases
+        The cases, or a function that makes them from the network. A case is a list of commands,
+        such as `[("close", "canal"), ("add", "lake", "sea", 7)]`, or a function that is given a
+        network and changes it.
+    executor
+        What tries the cases, if not this process: anything in the form of `concurrent.futures`,
+        such as `Client.get_executor()` of dask.distributed. Each of its processes is sent the
+        network, and begins its own sessions with the program that was named for the network, or
+        else with what it finds itself. Functions are pickled there, and must name arcs by their
+        keys or ends.
+    want_cut
+        Whether to find the arcs of the smallest minimum cut after each case.
+    jobs
+        How many sessions of this process try cases, if there is no executor: by default one for
+        each processor.
+    progress
+        Whether to show a progress bar, if the package tqdm is installed.
+    anew
+        Whether to solve each case from nothing, as `dmf solve --brief` does. The results are the
+        same. It is faster if paths are long, or if a case changes much of the network. A function
+        can then ask for values and cuts, but not for flows.
 
-    With `anew` each case is a network of its own, which `dmf solve --brief` solves from nothing:
-    sooner where paths are long, or where a case changes much, and the results are the same. A
-    function then learns values and cuts, and no flows.
+    Returns
+    -------
+    Generator[SweepResult]
+        A result for each case.
 
+    Raises
+    ------
+    JobsOutOfRange
+        If `jobs` is not a whole number of at least 1.
+
+    Examples
+    --------
     >>> with Network([("a", "b", 3, "x"), ("a", "b", 4, "y")], source="a", sink="b") as network:
     ...     value = network.solve().value
     ...     [(result.value, result.difference) for result in sweep(network, each_arc_closed())]
@@ -186,7 +279,7 @@ def sweep(
 
 
 def _programs(jobs: int | None) -> int:
-    """How many programs try cases. Raises `JobsOutOfRange`."""
+    """Return how many sessions try cases. Raises `JobsOutOfRange`."""
     if jobs is None:
         return len(os.sched_getaffinity(0))
     try:
@@ -201,8 +294,8 @@ def _programs(jobs: int | None) -> int:
 
 
 class _Swept(Generic[Node]):
-    """A network as it is at the start of a sweep, whatever becomes of it meanwhile. In the copies
-    any number of changes can be undone."""
+    """A network as it is at the start of a sweep, which later changes to the network do not touch.
+    In its copies any number of changes can be undone."""
 
     def __init__(self, network: Network[Node]) -> None:
         self.opened = network._kept.opened()
@@ -212,12 +305,12 @@ class _Swept(Generic[Node]):
         self.kind = network._class_of_copies()
         self.measure = network._measure
         self._whole = network._whole
-        # The arcs that are not of the network's table, if it has one.
+        # The arcs that the network's table does not have, if there is a table.
         described = self.kept.columns.described
         self._inner = described.roles if described else {}
 
     def plain(self, case: Case) -> Plain | Error:
-        """A case as a copy takes it, or why it is refused."""
+        """Return a case as a copy takes it, or the error for which it is refused."""
         if callable(case):
             return case
         try:
@@ -230,7 +323,7 @@ class _Swept(Generic[Node]):
             return error
 
     def _plain_command(self, command: Command) -> Command:
-        """A command, with its arc by number."""
+        """Return a command with its arc by number."""
         if (
             not isinstance(command, (tuple, list))
             or not command
@@ -245,7 +338,7 @@ class _Swept(Generic[Node]):
         return (word, *rest)
 
     def told(self, case: Case, answer: CaseAnswer) -> SweepResult[Node]:
-        """The result of a case."""
+        """Return the result of a case."""
         if answer.refusal is not None:
             return SweepResult(case, refusal=answer.refusal)
         cut: tuple[Arc[Node], ...] | None = None
@@ -280,8 +373,8 @@ def _results(
 
 
 def _piece(cases: Iterator[Case], size: int) -> tuple[list[Case], Exception | None]:
-    """The next cases, so many, and the error that came in place of one: the results of the cases
-    before it come first."""
+    """Return at most `size` further cases, and the exception that was raised in place of one, if
+    any. The results of the cases before it are yielded first."""
     piece: list[Case] = []
     try:
         piece.extend(islice(cases, size))
@@ -293,8 +386,8 @@ def _piece(cases: Iterator[Case], size: int) -> tuple[list[Case], Exception | No
 def _shown(
     results: Generator[SweepResult[Node], None, None], total: int | None
 ) -> Generator[SweepResult[Node], None, None]:
-    """The results, with a bar that shows how many there are, of how many where that is known, where
-    tqdm is there."""
+    """Yield the results under a progress bar, if tqdm is installed. The bar shows the total if it
+    is known."""
     with contextlib.closing(results):
         try:
             bar = import_package("tqdm", "a bar")

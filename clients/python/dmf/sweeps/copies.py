@@ -1,4 +1,4 @@
-"""Solved copies of a network, on which the cases of a sweep are tried and taken back."""
+"""Solved copies of a network, on which the cases of a sweep are tried and undone."""
 
 from __future__ import annotations
 
@@ -28,8 +28,8 @@ TRIES = 2
 
 
 class CaseAnswer(NamedTuple):
-    """What a copy tells of a case: its value and the arcs of its cut, by their numbers or, where
-    they were added, as they are."""
+    """A copy's answer to a case: its value, and the arcs of its cut, by number, or as they are if
+    the case added them."""
 
     value: int = 0
     cut: tuple[int | Arc[Any], ...] | None = None
@@ -37,11 +37,11 @@ class CaseAnswer(NamedTuple):
 
 
 def _try(network: Network[Any], case: Plain, want_cut: bool) -> CaseAnswer:
-    """What comes of a case on a solved network, which is then as it was."""
+    """Try a case on a solved network, which is afterwards as it was."""
     known = network._kept.arc_count
     with network.try_out():
         if callable(case):
-            # A case makes nothing again that another one has undone.
+            # A case does not redo what was undone before it.
             network._kept.forget_undone()
             case(network)
         else:
@@ -64,7 +64,8 @@ def _try(network: Network[Any], case: Plain, want_cut: bool) -> CaseAnswer:
 def _try_together(
     network: Network[Any], cases: list[list[Numbered]], answers: list[CaseAnswer]
 ) -> None:
-    """Tries cases at once, and adds what comes of each. Raises `SessionEnded` if one is refused."""
+    """Try cases together, and append the answer to each. Raises `SessionEnded` if one is
+    refused."""
     values: list[int] = []
     try:
         network._try_cases(cases, values)
@@ -73,9 +74,11 @@ def _try_together(
 
 
 class SolvedCopy:
-    """A solved copy of a network, which is begun when a case comes, and anew where its session
-    ends. Its problem may be in a file that several programs read. With `anew` it is not solved, and
-    each case is, from nothing, by this program.
+    """A solved copy of a network. It begins when the first case comes, and again after its session
+    has ended.
+
+    Several programs may read its problem from one file. With `anew` the copy is not solved; this
+    program solves each case from nothing instead.
     """
 
     def __init__(
@@ -91,18 +94,19 @@ class SolvedCopy:
         self._anew = anew
         self._way = way
         self._path = path
-        # How long it took to begin, in seconds, each time counted.
+        # How long the copy took to begin, in seconds, over all its beginnings.
         self.begin_seconds = 0.0
         self._is_over = False
         self._lock = threading.Lock()
-        # What may be added to the capacities.
+        # How much may be added to the capacities.
         self._room = LARGEST - sum(kept.first_capacities())
         self.network: Network[Any] | None = None
         self.used = time.monotonic()
 
     def answers(self, cases: list[Plain | Error], want_cut: bool) -> list[CaseAnswer]:
-        """What comes of cases. Sends those together that no session refuses, so that a program need
-        not wait for the next one. If it ends at one of these, tries that once more."""
+        """Return the answers to cases. Cases that no session can refuse are sent together, so that
+        a program need not wait for the next one. If the program ends during one of these, that case
+        is tried once more."""
         answers: list[CaseAnswer] = []
         while len(answers) < len(cases):
             together: list[list[Numbered]] = []
@@ -120,7 +124,8 @@ class SolvedCopy:
         return answers
 
     def _answer(self, case: Plain | Error, want_cut: bool, tries: int) -> CaseAnswer:
-        """What comes of a case. If the session ends, tries it once more, if a try is left."""
+        """Return the answer to a case. If the session ends, the case is tried once more, if it may
+        be."""
         if isinstance(case, Error):
             return CaseAnswer(refusal=case)
         for left in reversed(range(tries)):
@@ -137,8 +142,8 @@ class SolvedCopy:
         raise AssertionError
 
     def _commands(self, case: Plain | Error) -> list[Numbered]:
-        """The commands of a case that a session can refuse for want of memory alone, and none for
-        another case."""
+        """Return the commands of a case that a session can refuse only for lack of memory, or an
+        empty list for another case."""
         if not isinstance(case, list) or len(case) > MOST_COMMANDS:
             return []
         changed: set[int] = set()
@@ -164,8 +169,8 @@ class SolvedCopy:
         )
 
     def _in_numbers(self, word: str, *rest: Any) -> Numbered:
-        """A command with its nodes by number, too. Raises a `Refused` if something in it is no node
-        or no capacity."""
+        """Return a command with its nodes by number, too. Raises a `Refused` if something in it is
+        not a node or not a capacity."""
         if word == "add":
             tail, head, capacity = rest
             return (
@@ -196,13 +201,14 @@ class SolvedCopy:
         return self.network
 
     def end(self) -> None:
-        """Ends the session."""
+        """End the session."""
         network, self.network = self.network, None
         if network:
             network._session.end()
 
     def break_off(self) -> None:
-        """Ends the session for another thread that waits for it, and lets it begin no more."""
+        """End the session on behalf of another thread, which may be waiting for it, and let it
+        begin no other one."""
         with self._lock:
             self._is_over = True
             if self.network:

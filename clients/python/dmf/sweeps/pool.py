@@ -1,5 +1,5 @@
-"""How the cases of a sweep are tried: by sessions of this process, or in the processes of an
-executor, which may be elsewhere."""
+"""Try the cases of a sweep in sessions of this process, or in the processes of an executor, which
+may run on other machines."""
 
 from __future__ import annotations
 
@@ -24,20 +24,21 @@ from .copies import CaseAnswer, Plain, SolvedCopy
 if TYPE_CHECKING:
     from concurrent.futures import Executor, Future
 
-# How many cases an executor is given at first, and how many such pieces wait for each of its
-# workers.
+# How many cases an executor is given at first, and how many pieces of that size wait for each of
+# its workers.
 PIECE, WAITING = 16, 2
-# Later as many cases are given at once as are tried in so many seconds, but no more than this.
+# Later, a piece has as many cases as are tried in SOON seconds, but at most MOST_AT_ONCE.
 SOON, MOST_AT_ONCE = 0.1, 256
-# How long a copy waits in the process of an executor for the next cases before it is ended, in
-# seconds.
+# How long a copy in an executor's process waits for the next cases before it is ended, in seconds.
 PATIENCE = 30.0
 
 
 class Tries:
-    """How cases are tried: `size` of them at once, and `most` such pieces before the first is
-    waited for. The size begins with `first`, and follows the time that cases take. After these, the
-    pieces that wait never have more cases than were answered before.
+    """How cases are tried: `size` cases at once, and `most` such pieces before the first answer is
+    waited for.
+
+    The size begins with `first` and then follows the time that cases take. Later, the waiting
+    pieces never have more cases than have been answered.
     """
 
     first = 1
@@ -48,17 +49,17 @@ class Tries:
         self._answered = 0
 
     def learn(self, count: int, seconds: float) -> None:
-        """Notes how long so many cases took."""
+        """Record how long `count` cases took."""
         self._answered += count
         soon = int(SOON * count / max(seconds, 1e-9))
         self.size = max(1, min(soon, max(self.first, self._answered // self.most), MOST_AT_ONCE))
 
     def begin(self, cases: list[Plain | Error]) -> Pending:
-        """Begins cases; what is returned waits for their answers."""
+        """Begin cases, and return a function that waits for their answers."""
         raise NotImplementedError
 
     def close(self) -> None:
-        """Ends all that was begun."""
+        """End all that was begun."""
         raise NotImplementedError
 
 
@@ -66,11 +67,14 @@ Pending = Callable[[], "list[CaseAnswer]"]
 
 
 class LocalPool(Tries):
-    """Sessions of this process, each with a thread that waits for it. Programs read one file. The
-    first tries the cases alone, and another one begins when those that are there have tried cases
-    for as long as it took them to begin, and will for as long again, if it is known how many cases
-    there are. So all sessions together take about half as long again as one would, at most. The
-    first cases of a session count to its beginning, since it makes then what all cases use."""
+    """Sessions of this process, each with a thread that waits for it. All programs read one file.
+
+    The first session tries the cases alone. Another one begins once the present ones have tried
+    cases for as long as they took to begin, and will need as long again, if the number of cases is
+    known. So all sessions together take at most about half as long again as one session would. The
+    first cases of a session count as part of its beginning, since it then computes what all cases
+    use.
+    """
 
     def __init__(
         self,
@@ -82,9 +86,9 @@ class LocalPool(Tries):
         anew: FilePath | None = None,
         kind: type[Network[Any]] = Network,
     ) -> None:
-        """`count` is how many cases there are, if that is known. `anew` is the program that solves
-        each from nothing, if one does. `kind` is the class of the copies."""
-        # It takes 1 MB, and nothing else needs it.
+        """`count` is the number of cases, if it is known. `anew` is the program that solves each
+        case from nothing, if one does. `kind` is the class of the copies."""
+        # Imported here: it takes 1 MB, and nothing else needs it.
         from concurrent.futures import ThreadPoolExecutor
 
         super().__init__(4 * jobs)
@@ -98,10 +102,10 @@ class LocalPool(Tries):
         )
         self._path: str | None = None
         self._copies: list[SolvedCopy] = []
-        # The copies that no thread has. Whoever waits for a copy waits for a change.
+        # The copies that no thread uses. A thread that waits for a copy waits for a change of this.
         self._free: list[SolvedCopy] = []
-        # How many copies have begun, and in how many seconds; how many cases were tried so far, and
-        # in how many seconds; and how long each of the last ones took.
+        # How many copies have begun, and in how many seconds; how many cases were tried, and in how
+        # many seconds; and how long each of the latest took.
         self._begun_count, self._begun = 0, 0.0
         self._tried_count, self._tried = 0, 0.0
         self._pace = 0.0
@@ -126,7 +130,7 @@ class LocalPool(Tries):
             self.learn(len(cases), seconds)
 
     def _note(self, count: int, seconds: float, begin_seconds: float, is_first: bool) -> None:
-        """Notes how long so many cases took, and how long their copy took to begin before them."""
+        """Record how long `count` cases took, and how long their copy took to begin before them."""
         self._tried_count += count
         self._tried += seconds
         self._begun += begin_seconds + (seconds if is_first else 0)
@@ -134,8 +138,8 @@ class LocalPool(Tries):
         self._pace = seconds / count
 
     def _take(self) -> SolvedCopy:
-        """A copy that no other thread has: one that has begun, or another one if that is worth
-        it."""
+        """Return a copy that no other thread uses: one that has begun, or another one if beginning
+        it is worthwhile."""
         with self._changed:
             self._changed.wait_for(lambda: self._free or self._is_worth_another())
             if self._free:
@@ -171,8 +175,8 @@ class LocalPool(Tries):
 
 
 def _workers(executor: Any) -> int:
-    """How many processes or threads an executor has, as far as it says; the client of
-    dask.distributed says it."""
+    """Return how many processes or threads an executor has, as far as it says; the client of
+    dask.distributed does."""
     workers = getattr(executor, "_max_workers", None)
     if isinstance(workers, int):
         return workers
@@ -182,8 +186,8 @@ def _workers(executor: Any) -> int:
 
 @dataclass(eq=False)
 class _Batch:
-    """Cases that an executor was given, what it promises of them, and the error for which it takes
-    them no more."""
+    """Cases that an executor was given, its future for them, and the error for which it accepts no
+    more."""
 
     asked: Any
     future: Future[Any]
@@ -191,23 +195,24 @@ class _Batch:
 
 
 class ExecutorPool(Tries):
-    """Processes of an executor, which may be on other machines."""
+    """The processes of an executor, which may run on other machines."""
 
     first = PIECE
 
     def __init__(self, sent: RemoteCopy, executor: Executor, want_cut: bool) -> None:
-        # It takes 4 MB, and nothing else needs it.
+        # Imported here: it takes 4 MB, and nothing else needs it.
         import hashlib
 
         self._executor = executor
         self._want_cut = want_cut
         self._sent = pickle.dumps(sent)
         self._name = hashlib.sha256(self._sent).hexdigest()
-        # At first one piece for each of the workers, with which the network is sent.
+        # At first one piece for each worker, which is sent with the network.
         self._workers = _workers(executor)
         super().__init__(self._workers)
         self._futures: list[Future[Any]] = []
-        # The pieces that go out again, with the network, if their process has it not yet.
+        # The pieces that are sent again, with the network, because their process did not have it
+        # yet.
         self._first: list[_Batch] = []
 
     def begin(self, cases: list[Plain | Error]) -> Pending:
@@ -221,8 +226,8 @@ class ExecutorPool(Tries):
         return lambda: self._answers(piece)
 
     def _answers(self, piece: _Batch) -> list[CaseAnswer]:
-        """The answers of a piece. While it waits for them, it sends the network with every piece
-        whose process lacks it, so that all processes begin at once."""
+        """Return the answers to a piece. While it waits, it sends the network with each piece whose
+        process lacks it, so that all processes begin at once."""
         from concurrent.futures import FIRST_COMPLETED, wait
 
         while piece in self._first:
@@ -240,14 +245,14 @@ class ExecutorPool(Tries):
         return answers
 
     def _send_again(self, piece: _Batch) -> None:
-        """Sends a piece once more, with the network, if its process had that not yet, or died."""
+        """Send a piece once more, with the network, if its process did not have it yet, or died."""
         try:
             error = piece.future.exception()
             if _is_lost(error) if error is not None else piece.future.result() is None:
                 self._futures.remove(piece.future)
                 piece.future = self._submit(self._sent, piece.asked)
         except Exception as error:
-            # It is told in its turn.
+            # This error is reported when its piece's turn comes.
             piece.error = error
 
     def _submit(self, sent: bytes | None, asked: Any) -> Future[Any]:
@@ -261,7 +266,8 @@ class ExecutorPool(Tries):
 
 
 def _is_lost(error: BaseException) -> bool:
-    """Whether an executor says that the process of a task died, and no error of the task's own."""
+    """Return True if an executor says that the process of a task died, and not that the task
+    failed."""
     return type(error).__name__ in (
         "KilledWorker",
         "BrokenProcessPool",
@@ -272,8 +278,8 @@ def _is_lost(error: BaseException) -> bool:
 
 @dataclass
 class RemoteCopy:
-    """A network as it is sent to another process, the program, where the caller named it, and
-    whether its cases are solved anew."""
+    """A network as it is sent to another process, with the program, if the caller named one, and
+    whether its cases are solved from nothing."""
 
     columns: Any
     capacities: Any
@@ -320,7 +326,7 @@ _free_lock = threading.Lock()
 
 
 def _forget_copies() -> None:
-    """In a process that was forked off: the copies are those of the process before it."""
+    """In a forked process, forget the copies: they belong to its parent."""
     global _free_lock
     _free.clear()
     _free_lock = threading.Lock()
@@ -332,8 +338,8 @@ os.register_at_fork(after_in_child=_forget_copies)
 def _answers_there(
     name: str, sent: bytes | None, asked: Any
 ) -> tuple[list[CaseAnswer], float] | None:
-    """What comes of cases in the process of an executor, and how many seconds that takes; None if
-    it needs the network first."""
+    """Answer cases in the process of an executor. Returns the answers and the seconds that they
+    took, or None if the process needs the network first."""
     with _free_lock:
         copies = _free.get(name, [])
         copy = copies.pop() if copies else None
@@ -365,7 +371,7 @@ def _answers_there(
 
 
 def _end_idle() -> None:
-    """Ends the copies that no case has used for a while."""
+    """End the copies that no case has used for some time."""
     now = time.monotonic()
     with _free_lock:
         for name, copies in list(_free.items()):

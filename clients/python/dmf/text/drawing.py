@@ -1,5 +1,4 @@
-"""A network, its flow and its cut as a text for Graphviz, and the picture that Graphviz makes of
-it."""
+"""Write a network, its flow and its cut as a text for Graphviz, and let Graphviz draw it."""
 
 from __future__ import annotations
 
@@ -19,10 +18,13 @@ FULL, UNUSED, CUT, SIDE = "2.5", "#8f8f8f", "#c62828", "#d3e4f5"
 
 @dataclass
 class Drawing:
-    """The contents of a picture: the arcs as they are, the flow on each if it is known, the nodes
-    on the source's side of the cut (none if there is no cut), the nodes that are shut, and notes.
-    Arcs have the problem's whole numbers, unless `has_quantities` says that capacities and flows
-    are quantities. What is not of the problem's table is drawn at the places that it is about.
+    """The contents of a picture: the arcs with their present capacities, the flow on each arc if it
+    is known, the nodes on the source side of the cut (empty if there is no cut), the nodes that are
+    shut, and notes.
+
+    Capacities and flows are the problem's whole numbers, or quantities if `has_quantities` is true.
+    Arcs that the problem's table does not have are drawn as labels of the places that they belong
+    to.
     """
 
     problem: Problem
@@ -32,7 +34,7 @@ class Drawing:
     shut: set[int] = field(default_factory=set)
     notes: list[str] = field(default_factory=list)
     has_quantities: bool = False
-    # The places of sources and sinks to which a limit was given that had none.
+    # The places of the sources and sinks that had no limit in the table and were given one.
     limited: Collection[int] = ()
 
     def __post_init__(self) -> None:
@@ -45,7 +47,7 @@ class Drawing:
 
     @cached_property
     def drawn(self) -> list[int]:
-        """The places of the arcs that are drawn as arcs."""
+        """The positions of the arcs that are drawn as arcs."""
         every = range(len(self.arcs))
         return (
             [place for place in every if not self.folding.role(*self.arcs[place][:2])]
@@ -55,8 +57,8 @@ class Drawing:
 
     @cached_property
     def roles(self) -> dict[int, list[int]]:
-        """By the node of a place: the places of the arcs that stand for what it gives, takes or
-        lets through."""
+        """For the node of each place, the positions of the arcs that stand for what the place
+        gives, takes or lets through."""
         found: dict[int, list[int]] = defaultdict(list)
         for place, arc in enumerate(self.arcs) if self.folding.has_roles else ():
             if role := self.folding.role(*arc[:2]):
@@ -65,7 +67,7 @@ class Drawing:
 
     @cached_property
     def unlimited(self) -> set[int]:
-        """The places of the arcs that are unlimited sources or sinks."""
+        """The positions of the arcs that stand for unlimited sources or sinks."""
         roles = (
             (place, self.folding.role(*self.arcs[place][:2]))
             for places in self.roles.values()
@@ -78,7 +80,7 @@ class Drawing:
         }
 
     def ends(self, place: int) -> tuple[int, int]:
-        """The nodes between which an arc is drawn."""
+        """Return the nodes between which an arc is drawn."""
         arc = self.arcs[place]
         return self.folding.place(arc.tail), self.folding.place(arc.head)
 
@@ -86,15 +88,15 @@ class Drawing:
         return arc.tail in self.side and arc.head not in self.side and not arc.is_closed
 
     def terminals(self) -> set[int]:
-        """The nodes of the sources and the sinks."""
+        """Return the nodes of the sources and the sinks."""
         return {*self.folding.ends(self.problem.source), *self.folding.ends(self.problem.sink)}
 
     def nodes(self) -> list[int]:
-        """The nodes that are drawn, if all are."""
+        """Return all nodes that a whole picture shows."""
         return self.folding.places(range(1, self.problem.node_count + 1))
 
     def amount(self, place: int, before: str = "") -> str:
-        """What flows on an arc, and its capacity: `14.7/20`, or the capacity alone if the flow is
+        """Return an arc's flow and capacity as in `14.7/20`, or only its capacity if the flow is
         not known."""
         arc, flow = self.arcs[place], self.flows[place]
         if arc.is_closed:
@@ -116,15 +118,15 @@ class Drawing:
 
 
 def nearest(drawing: Drawing, most: int) -> list[int]:
-    """The places of the nearest arcs: those of the cut first, and then those that are fewest steps
-    away from them."""
+    """Return the positions of at most `most` arcs: the arcs of the cut, then those that are the
+    fewest steps away from them."""
     at_node: dict[int, list[int]] = defaultdict(list)
     for place in drawing.drawn:
         for node in drawing.ends(place):
             at_node[node].append(place)
     chosen = [place for place in drawing.drawn if drawing.is_cut(drawing.arcs[place])]
-    # A limit that is at a place is nearest to the arcs there, and a cut without arcs to those at
-    # its ends.
+    # If the cut passes through a place, the arcs at that place are nearest. If the cut has no arcs,
+    # those at the sources and sinks are.
     at_places = {
         node
         for node, roles in drawing.roles.items()
@@ -142,7 +144,8 @@ def spread(
     ends: Callable[[int], tuple[int, int]],
     at_node: Callable[[int], Iterable[int]],
 ) -> list[int]:
-    """These arcs, and then those that are fewest steps away from them, in their order."""
+    """Return the first arcs and then those that are the fewest steps away, at most `most`, in
+    ascending order."""
     chosen = list(first)
     known = set(chosen)
     for arc in chosen:
@@ -156,13 +159,13 @@ def spread(
 
 
 def quoted(*parts: str) -> str:
-    """A label of these lines, shown as they are: Graphviz would read entities, backslashes and
-    quotation marks otherwise."""
+    """Return a label with these lines, in quotes. Entities, backslashes and quotation marks are
+    escaped, since Graphviz would interpret them."""
     shown = (
         display(part).replace("\\", "\\\\").replace('"', '\\"').replace("&", "&amp;")
         for part in parts
     )
-    # A line feed in a label is written as a backslash and an n.
+    # In a label, a line feed is written as a backslash and an n.
     return '"' + "\\n".join(shown) + '"'
 
 
@@ -195,7 +198,7 @@ def node_line(drawing: Drawing, node: int, is_whole: bool) -> str:
 
 
 def _role_of(drawing: Drawing, place: int) -> tuple[str, str]:
-    """The kind of a role, and its amounts."""
+    """Return the kind of the role that an arc stands for, and its amount."""
     role = drawing.folding.role(*drawing.arcs[place][:2])
     assert role
     return role.kind, drawing.amount(place, "at most ")
@@ -218,8 +221,8 @@ def arc_line(drawing: Drawing, place: int) -> str:
 
 
 def picture(drawing: Drawing, most: int) -> Iterator[str]:
-    """The lines of the picture's text. If there are more arcs than `most`, it has those nearest the
-    cut."""
+    """Yield the lines of the text for Graphviz. If there are more than `most` arcs, only those
+    nearest the cut are drawn."""
     arcs = drawing.drawn
     is_whole = len(arcs) <= most
     places: Sequence[int] = arcs if is_whole else nearest(drawing, most)
@@ -249,11 +252,12 @@ def picture(drawing: Drawing, most: int) -> Iterator[str]:
 
 
 def graphviz(text: bytes, engine: str, *words: str, patience: int = 20) -> bytes:
-    """What an engine of Graphviz makes of a text with these words. Raises a FileNotFoundError where
-    Graphviz is not there, an OSError where it does not start, and a RuntimeError for what it says,
-    or if it takes more than so many seconds.
+    """Return what a Graphviz engine makes of a text, called with these words.
+
+    Raises FileNotFoundError if Graphviz is not installed, OSError if it does not start, and
+    RuntimeError if it fails or takes more than `patience` seconds.
     """
-    # A text for Graphviz needs neither.
+    # Imported here, since a text for Graphviz needs neither.
     import shutil
     import subprocess
 
@@ -271,7 +275,7 @@ def graphviz(text: bytes, engine: str, *words: str, patience: int = 20) -> bytes
             start_new_session=True,
         )
     except subprocess.TimeoutExpired:
-        raise RuntimeError(f"Graphviz has drawn nothing in {patience} seconds") from None
+        raise RuntimeError(f"Graphviz did not finish in {patience} seconds") from None
     if ran.returncode:
         told = ran.stderr.decode(errors="replace").strip().splitlines()
         raise RuntimeError(

@@ -1,6 +1,8 @@
-"""Answers of the tools in JSON, an object a line, whose schema is docs/events.schema.json. Amounts
-have the number of the table and the whole number that stands for it in the program: `{"told":
-"47.3", "raw": 473}`."""
+"""Write the tools' answers as JSON, an object a line; docs/events.schema.json is the schema.
+
+Each amount has the number as the table shows it, and the whole number that stands for it in the
+program: `{"told": "47.3", "raw": 473}`.
+"""
 
 from __future__ import annotations
 
@@ -20,18 +22,18 @@ Json = dict[str, Any]
 
 
 def event_line(event: str, said: Json) -> str:
-    """An event as a line."""
+    """Return an event as a line of JSON."""
     return json.dumps({"event": event, **said}) + "\n"
 
 
 def event_number(amount: Quantity, measure: Measure) -> Json:
-    """An amount as the table has it, and as the program has it."""
+    """Return an amount as the table shows it and as the program has it."""
     return {"told": plain_text(amount), "raw": measure.whole(amount)}
 
 
 def ends(role: Role | None, tail: int, head: int, node: Callable[[int], str]) -> Json:
-    """The ends of an arc, or what one stands for that is none of the table: who reads this knows no
-    node that is none."""
+    """Return the ends of an arc. An arc that the table does not have gets its role instead, since a
+    reader of the table does not know its nodes."""
     if role:
         return {"from": None, "to": None, "role": {"kind": role.kind, "place": node(role.node)}}
     return {"from": node(tail), "to": node(head), "role": None}
@@ -52,14 +54,14 @@ class NameSource(Protocol):
 
 
 class JsonWriter:
-    """Tells the events of an answer of the program."""
+    """Writes each event of the program's answer as a line of JSON."""
 
     def __init__(self, names: NameSource, follower: TranscriptReader) -> None:
         self.names = names
         self.follower = follower
 
     def tell(self, event: Event) -> Iterator[str]:
-        """The line that tells an event, without its end."""
+        """Yield the line for an event, without its line feed."""
         kind, said = self._said(event)
         yield event_line(kind, said)[:-1]
 
@@ -123,8 +125,8 @@ class JsonWriter:
 
 
 def case_line(row: Sequence[str], measure: Measure) -> str:
-    """A row of a sweep as a line: its number, its commands, the name of its first arc, the value,
-    the difference and why it was refused."""
+    """Return a row of a sweep as a line: its number, its commands, the name of its first arc, the
+    value, the difference, and why it was refused."""
 
     def amount(cell: str) -> Json | None:
         if not cell:

@@ -1,18 +1,17 @@
-"""Lines, fields and numbers of texts, the bounds of what a problem may have, and how a text is
-shown.
+"""The lines, fields and numbers of texts, the bounds of a problem, and how texts are shown.
 
-A text is bytes. Its lines end at line feeds alone, and its fields at spaces and tabs alone,
-whatever else Unicode or a terminal takes for an end or a space."""
+A text is bytes. Only line feeds end its lines, and only spaces and tabs separate its fields, even
+where Unicode or a terminal sees other line ends or spaces.
+"""
 
 from __future__ import annotations
 
 import functools
 import re
 
-# The types of the columns: numbers of nodes, and capacities and flows.
+# The array types of the columns: node numbers; capacities and flows.
 NODES, AMOUNTS = "I", "Q"
-# The type of a column whose entry may be the number that stands for no node, which no column of
-# nodes accepts.
+# The array type of a column that may have NO_NODE as an entry. No column of nodes accepts it.
 NUMBERS, NO_NODE = "i", -1
 
 LARGEST = 2**64 - 1
@@ -20,23 +19,23 @@ LONGEST = len(str(LARGEST))
 MOST_NODES = 16_777_216
 MOST_ARCS = 134_217_728
 NODE, ARC = "node", "arc"
-# A network with more arcs than these is shown as a table, since nobody would find an arc in a
-# picture of it.
+# A network with more arcs than this is shown as a table, since nobody would find an arc in its
+# picture.
 MOST_DRAWN = 300
 
 
 @functools.cache
 def _unshown() -> re.Pattern[str]:
-    """Control characters of a terminal, ends of lines, and marks that turn the direction in which
-    text is shown; halves of characters."""
+    """Return a pattern for what cannot be shown: control characters, line separators, marks that
+    change the direction of the text, and lone surrogates."""
     return re.compile(
         "[\x00-\x1f\x7f-\x9f\u061c\u200e\u200f\u2028-\u202e\u2066-\u2069\ud800-\udfff]"
     )
 
 
 def display(name: str) -> str:
-    """A text in a form that can be shown: a character that would steer a terminal, end a line or
-    turn the direction of the text is written as `\x1b`, and so on."""
+    """Return a text that is safe to show: a character that would control a terminal, end a line or
+    change the direction of the text is written as `\x1b`, and so on."""
     return name if name.isascii() and name.isprintable() else _unshown().sub(_escaped, name)
 
 
@@ -49,8 +48,8 @@ FIELD = re.compile(rb"[^ \t]+")
 
 
 class Fault(Exception):
-    """Why a field or a line is refused: `reason` is the text that `dmf` has for it, and `field` the
-    faulty field, if there is one."""
+    """Why a field or a line is refused: `reason` is the text that `dmf` prints for it, and `field`
+    is the faulty field, if there is one."""
 
     def __init__(self, reason: str, about: bytes = b"") -> None:
         super().__init__(reason)
@@ -62,7 +61,7 @@ class Fault(Exception):
 
 
 class TextFault(Fault):
-    """The first fault of a text, in its line, which is counted from 1: `line 4: not a number`."""
+    """The first fault of a text with the number of its line, from 1: `line 4: not a number`."""
 
     def __init__(self, line: int, reason: str, about: bytes = b"") -> None:
         super().__init__(reason, about)
@@ -73,8 +72,8 @@ class TextFault(Fault):
 
 
 def lines(text: bytes) -> list[bytes]:
-    """The lines of a text, without their line feeds and without one carriage return directly before
-    a line feed. What follows the last line feed is a line unless it is empty."""
+    """Return the lines of a text, each without its line feed and a carriage return directly before
+    it. What follows the last line feed is a line too unless it is empty."""
     pieces = text.split(b"\n")
     rest = pieces.pop()
     if b"\r" in text:
@@ -83,13 +82,13 @@ def lines(text: bytes) -> list[bytes]:
 
 
 def fields(line: bytes) -> list[bytes]:
-    """The longest runs of bytes other than space and tab."""
+    """Return the longest runs of bytes that are neither space nor tab."""
     return FIELD.findall(line)
 
 
 def read_number(digits: bytes) -> int:
-    """The number in a field, from 0 to 2^64 - 1. Raises a `Fault` that says `not a number` or
-    `number too large`."""
+    """Return the number in a field, from 0 to 2^64 - 1. Raises a `Fault` with the reason `not a
+    number` or `number too large`."""
     if not digits.isdigit():
         raise Fault("not a number", digits)
     if len(digits) < LONGEST:

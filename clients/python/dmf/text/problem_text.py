@@ -1,6 +1,7 @@
-"""Problem texts as `dmf` reads them, whole or in pieces, and the problem that a picture carries.
+"""Read problem texts as `dmf` does, whole or in pieces, and the problem that a picture carries.
 
-docs/FORMATS.md has the format and the order in which a line is judged."""
+docs/FORMATS.md has the format and the order in which a line is checked.
+"""
 
 from __future__ import annotations
 
@@ -17,13 +18,13 @@ from .lexical import FIELD, LARGEST, MOST_ARCS, MOST_NODES, Fault, TextFault, li
 from .spelling import read_names
 from .table_comments import TableComments, described
 
-# The longest problem that is unpacked, in bytes: that of some 30,000,000 arcs.
+# The longest problem that is unpacked from a picture, in bytes. It has some 30,000,000 arcs.
 LONGEST = 1 << 30
 MARK = b"dmf-problem:"
 _SAID = MARK + rb"([A-Za-z0-9+/=]+);"
 _PNG, _HEADER = b"\x89PNG\r\n\x1a\n", 33
-# Where each form carries it, by how a file of that form begins. Names and notes of the network's
-# owner may look like it, but cannot stand there.
+# Where a file of each form carries the problem, by the bytes with which the file begins. The
+# owner's names and notes may look like a problem, but cannot stand at these places.
 _PLACES = {
     _PNG: re.compile(rb"tEXtComment\0" + _SAID),
     b"// " + MARK: re.compile(rb"\A// " + _SAID + rb"\r?\n"),
@@ -33,7 +34,8 @@ _PLACES = {
 
 
 def carrying(data: bytes, problem: str) -> bytes:
-    """A picture or a page that carries a problem. One of another form stays as it is."""
+    """Return a picture or a page with a problem embedded. Data in another form is returned
+    unchanged."""
     said = MARK + base64.b64encode(zlib.compress(problem.encode("utf-8", "surrogateescape"))) + b";"
     if data.startswith(_PNG):
         chunk = b"tEXtComment\0" + said
@@ -52,8 +54,8 @@ def carrying(data: bytes, problem: str) -> bytes:
 
 
 def problem_in(data: bytes) -> bytes:
-    """The problem that the content of a picture's or a page's file carries. Any other content is
-    given back. Raises a `TableFault` if only a part of the problem is there."""
+    """Return the problem that the contents of a picture or page carry. Any other contents are
+    returned unchanged. Raises a `TableFault` if a part of the problem is missing."""
     place = next((place for begin, place in _PLACES.items() if data.startswith(begin)), None)
     if place is None or MARK not in data:
         return data
@@ -68,8 +70,8 @@ def problem_in(data: bytes) -> bytes:
         text = b""
     if not unpacked.eof:
         raise TableFault(
-            f"only a part is left of the problem that it carries, or it has more than {LONGEST} "
-            "bytes"
+            "a part of the problem that it carries is missing, or the problem has more than "
+            f"{LONGEST} bytes"
         )
     return text
 
@@ -79,10 +81,10 @@ FIELD_COUNTS = {b"p": 4, b"n": 3, b"a": 4}
 
 @dataclass
 class Problem:
-    """A problem as its text has it. Arc number j is `arcs[j - 1]`: its tail, its head and its
-    capacity. Nodes are counted from 1 too. A node or an arc that no comment names is not in the
-    names, nor is a name of one that is not there. `described` is what comments say of the table
-    that the problem was made of."""
+    """A problem as its text gives it. Arc number j is `arcs[j - 1]`: its tail, its head and its
+    capacity. Nodes are counted from 1 too. `node_names` and `arc_names` have only the nodes and
+    arcs that exist and that a comment names. `described` is what the comments say about the table
+    that the problem was made from."""
 
     node_count: int
     source: int
@@ -94,17 +96,17 @@ class Problem:
 
 
 def told_scale(described: TableComments) -> str:
-    """The scale of a problem as it is told: nothing if it changes no number."""
+    """Return the scale of a problem as it is shown: empty if it is 1."""
     return "" if described.measure.scale == 1 else f"{described.measure.scale:f}"
 
 
 def read_problem(text: bytes) -> Problem:
-    """The problem that a text stands for, with its names. Raises a `TextFault` for its first fault,
-    the one that `dmf` reports."""
+    """Return the problem that a text describes, with its names. Raises a `TextFault` for the first
+    fault, the one that `dmf` reports."""
     reading = _ProblemReader()
     read = lines(text)
-    # If none of these bytes is in the text, fields stand between what `split` takes for white
-    # space, which is faster.
+    # If the text has none of these bytes, `split` separates fields exactly at spaces and tabs, and
+    # is faster.
     is_plain = not any(odd in text for odd in (b"\r", b"\x0b", b"\x0c"))
     line = 0
     try:
@@ -128,7 +130,7 @@ def read_problem(text: bytes) -> Problem:
 
 
 class _ProblemReader:
-    """What the lines of a problem text have said so far."""
+    """The lines of a problem text that were read so far."""
 
     def __init__(self) -> None:
         self.node_count = 0
@@ -138,7 +140,7 @@ class _ProblemReader:
         self.arcs: list[tuple[int, int, int]] = []
 
     def take(self, found: list[bytes]) -> None:
-        """Takes in the fields of a line. Raises the fault of the line."""
+        """Take in the fields of a line. Raises the line's `Fault`."""
         kind = found[0]
         if kind not in FIELD_COUNTS:
             raise Fault("unknown line", kind)

@@ -1,7 +1,9 @@
-"""The command lines of a session: what each asks for, or why its form alone gets it refused; and a
-network tracked through them.
+"""Read the command lines of a session, or say why their form alone gets them refused, and track a
+network through the commands.
 
-docs/SESSION.md has the commands. Flows are not kept, only the value of each."""
+docs/SESSION.md describes the commands. A tracked network has no flows, only the value after each
+command.
+"""
 
 from __future__ import annotations
 
@@ -18,7 +20,7 @@ PRINT_PROBLEM, PRINT_FLOW, PRINT_CUT = "print problem", "print flow", "print cut
 # tests/commands.py has the commands:
 # /usr/bin/python3 -m pytest --write tests/test_commands.py makes these lists.
 
-# How many fields may stand after each command's word.
+# How many fields may follow each command's word.
 FIELD_COUNTS = {
     b"cap": (2,),
     b"add": (3,),
@@ -30,14 +32,14 @@ FIELD_COUNTS = {
     b"print": (1,),
 }
 PRINTED = (b"problem", b"flow", b"cut")
-# The commands whose replies tell the value.
+# The commands whose replies contain the value.
 CHANGES = (b"cap", b"add", b"close", b"shut", b"undo", b"redo")
-# Here these lists end.
+# End of these lists.
 
 
 class Command(NamedTuple):
-    """What a line asks for: the command's word, or two words of `print`, and its numbers. `undo`
-    alone has the number 1."""
+    """What a line asks for: the command's word, or two words for `print`, and its numbers. `undo`
+    without a number has the number 1."""
 
     word: str
     numbers: tuple[int, ...] = ()
@@ -47,13 +49,15 @@ class Command(NamedTuple):
 
 
 def ended_line(line: bytes) -> bytes:
-    """A line as it was read, without its line feed and a carriage return directly before that."""
+    """Return a line as it was read, without its line feed and a carriage return directly before
+    it."""
     return line[:-1].removesuffix(b"\r") if line.endswith(b"\n") else line
 
 
 def read_command(line: bytes) -> Command | None:
-    """What a line asks for; it may still have its line feed. None for a blank line and a comment.
-    Raises the `Fault` for which a session refuses it whatever its network is."""
+    """Return what a line asks for, or None for a blank line or a comment. The line may still have
+    its line feed. Raises the `Fault` for which every session refuses the line, whatever its network
+    is."""
     if len(line.removesuffix(b"\n")) > LONGEST_LINE:
         raise Fault("line too long")
     found = fields(ended_line(line))
@@ -74,8 +78,9 @@ def read_command(line: bytes) -> Command | None:
 
 
 class TrackedNetwork(History):
-    """A network, and the changes that led to it or were undone. `begins_known` says whether the
-    first of them is the first of all: if not, more can be undone than is known here."""
+    """A network with its history: the changes that led to it, and those that were undone. If
+    `begins_known` is false, the session knows earlier changes than the history does, so more can be
+    undone."""
 
     def __init__(self, problem: Problem, value: int = 0, begins_known: bool = True) -> None:
         super().__init__(sys.maxsize)
@@ -87,12 +92,12 @@ class TrackedNetwork(History):
 
     @property
     def serial(self) -> object:
-        """What tells the present state from others: that of the change that led to it. It comes
-        back after an undo and a redo."""
+        """An object that identifies the present state: the change that led to it, or the start. It
+        is the same object again after an undo and a redo."""
         return self._changes[self.place - 1] if self.place else self._start
 
     def shut_nodes(self) -> set[int]:
-        """The nodes that are shut and that no open arc leaves or enters."""
+        """Return the nodes that were shut and that no open arc leaves or enters now."""
         shut = {numbers[0] for word, *numbers in self.commands()[: self.place] if word == "shut"}
         if shut:
             shut -= {
@@ -101,13 +106,13 @@ class TrackedNetwork(History):
         return shut
 
     def begin_anew(self, value: int) -> None:
-        """Forgets the changes, since something unknown may have been one of them."""
+        """Forget all changes, since an unknown change may be among them."""
         self.begin_with(value)
         self.begins_known = False
 
     def refusal(self, command: Command) -> str | None:
-        """Why this network refuses a command, if it does; if earlier changes are unknown, an undo
-        or a redo may be accepted."""
+        """Return why this network refuses a command, or None. If earlier changes are unknown, an
+        undo or a redo may be accepted."""
         word, numbers = command
         if word in ("cap", "close") and not 1 <= numbers[0] <= len(self.arcs):
             return "no such arc"
@@ -132,14 +137,14 @@ class TrackedNetwork(History):
         return self.arcs[command.numbers[0] - 1].capacity if command.word == "cap" else 0
 
     def knows(self, command: Command) -> bool:
-        """Whether the changes that an undo or a redo steps over are known; any other command needs
-        none."""
+        """Return True if all changes that an undo or a redo steps over are known. No other command
+        needs any."""
         known = {UNDO: self.place, REDO: len(self._changes) - self.place}.get(command.word)
         return known is None or command.numbers[0] <= known
 
     def carry_out(self, command: Command, value: int) -> None:
-        """Makes a change that is not refused, or steps, after which the flow has this value. Raises
-        a `Fault` if it cannot."""
+        """Make a change that is not refused, or step, if the flow's value is `value` after it.
+        Raises a `Fault` if the value is impossible."""
         word, numbers = command
         if word in (UNDO, REDO):
             step, by = (self.undo, -numbers[0]) if word == UNDO else (self.redo, numbers[0])
@@ -190,7 +195,7 @@ class TrackedNetwork(History):
             self._put(number, before)
 
     def _put(self, number: int, capacity: int | None) -> None:
-        """Gives an arc a capacity, or closes it."""
+        """Give an arc this capacity, or close it if the capacity is None."""
         arc = self.arcs[number - 1]
         self.arcs[number - 1] = arc._replace(capacity=capacity or 0, is_closed=capacity is None)
         self.capacity_sum += (capacity or 0) - arc.capacity

@@ -1,4 +1,4 @@
-"""The replies of a session, and of `dmf solve`: their kinds, and how they are read line by line."""
+"""The kinds of replies of a session and of `dmf solve`, and how they are read line by line."""
 
 from __future__ import annotations
 
@@ -12,7 +12,7 @@ from .lexical import MOST_ARCS, Fault, TextFault, display, read_number
 from .problem_text import ArcRecord, Problem, read_problem
 from .session_commands import CHANGES, FIELD_COUNTS, Command, ended_line, read_command
 
-# The kinds of a line, by its form alone.
+# The kinds of a line, judged by its form alone.
 Kind = Enum("Kind", "VALUE FLOW CUT SIDE PROBLEM TERMINAL ARC CHANGED SOLVED REFUSED COMMAND OTHER")
 
 _BY_FIRST_FIELD = {
@@ -25,7 +25,7 @@ _BY_FIRST_FIELD = {
 
 
 def kind_of(found: list[bytes]) -> Kind:
-    """The kind of a line of these fields."""
+    """Return the kind of a line with these fields."""
     if not found:
         return Kind.OTHER
     if found[0] in _BY_FIRST_FIELD:
@@ -52,22 +52,22 @@ def kind_of(found: list[bytes]) -> Kind:
 
 @dataclass(frozen=True)
 class OneLine:
-    """What one line says."""
+    """An event that one line tells."""
 
     line: bytes
 
 
 class Other(OneLine):
-    """A line that is no reply and no command."""
+    """A line that is neither a reply nor a command."""
 
 
 class Asked(OneLine):
-    """A command line of a transcript."""
+    """A command line in a transcript."""
 
 
 @dataclass(frozen=True)
 class ChangedReply(OneLine):
-    """A change that was made, and the value after it. The command is None if it is not known."""
+    """A change that was made, and the value after it. `command` is None if it is not known."""
 
     command: Command | None
     value: int
@@ -82,10 +82,13 @@ class RefusedReply(OneLine):
 
 @dataclass(frozen=True)
 class SolutionReply:
-    """The flows on the open arcs, in their order: the arcs' numbers, the arcs as they were, and the
-    flows. If the lines of the flows were left out, as in the brief reply to a solve, or have not
-    come yet, of a network that is not known, the three are empty and `is_told` is false. `serial`
-    tells the state with this flow from others."""
+    """The flows on the open arcs, in order: the arcs' numbers, the arcs as they were, and the
+    flows.
+
+    If the flows are missing, the three are empty and `is_told` is false: as in a brief reply to a
+    solve, or while the flows of an unknown network have not been read. `serial` identifies the
+    state with this flow.
+    """
 
     value: int
     is_told: bool
@@ -97,7 +100,7 @@ class SolutionReply:
 
 @dataclass(frozen=True)
 class FlowReply:
-    """The flow on an arc, of which only the ends are known."""
+    """The flow on an arc of which only the ends are known."""
 
     tail: int
     head: int
@@ -106,10 +109,9 @@ class FlowReply:
 
 @dataclass(frozen=True)
 class CutReply:
-    """The smallest minimum cut: its capacity, the nodes on the source's side, and its arcs by their
-    numbers, which are None if the network is not known. `line` is its first line, and `serial`
-    tells the state with this cut from others.
-    """
+    """The smallest minimum cut: its capacity, the nodes on the source side, and the numbers of its
+    arcs, or None if the network is not known. `line` is the number of its first line, and `serial`
+    identifies the state with this cut."""
 
     capacity: int
     side: list[int]
@@ -120,8 +122,8 @@ class CutReply:
 
 @dataclass(frozen=True)
 class PrintedReply:
-    """A printed problem: the lines, and the number that each of its arcs has in the session; None
-    if these are not known."""
+    """A printed problem: its lines, and the number that each of its arcs has in the session, or
+    None if these are not known."""
 
     lines: list[bytes]
     problem: Problem
@@ -134,7 +136,7 @@ Event = Union[
 
 
 class SolutionReading:
-    """The lines of a solution of a known network."""
+    """A solution of a known network while its lines are read."""
 
     GOES_ON = (Kind.FLOW,)
 
@@ -146,14 +148,14 @@ class SolutionReading:
         self.flows: list[int] = []
 
     def is_whole_with(self, more: int) -> bool:
-        """Whether no flow is missing after so many more are read."""
+        """Return True if no flow is missing once `more` further flows are read."""
         return len(self.flows) + more == len(self.arcs)
 
     def is_whole(self) -> bool:
         return self.is_whole_with(0)
 
     def take(self, found: list[bytes]) -> None:
-        """Takes in a line of a flow. Raises a `Fault` if it does not belong to the next open
+        """Take in a flow line. Raises a `Fault` if the line does not belong to the next open
         arc."""
         tail, head, flow = flow_of(found)
         number, arc = self.numbers[len(self.flows)], self.arcs[len(self.flows)]
@@ -161,18 +163,17 @@ class SolutionReading:
             if not any((tail, head) == (other.tail, other.head) for other in self.arcs):
                 raise Fault(f"no such arc: {tail} to {head}")
             raise Fault(
-                f"arc {number} leads from {arc.tail} to {arc.head}, and not from {tail} to {head}"
+                f"arc {number} leads from {arc.tail} to {arc.head}, not from {tail} to {head}"
             )
         if flow > arc.capacity:
             raise Fault(
                 f"over capacity: arc {number}, from {tail} to {head}, carries at most "
-                f"{arc.capacity}, and not {flow}"
+                f"{arc.capacity}, not {flow}"
             )
         self.flows.append(flow)
 
     def judge(self, source: int, sink: int) -> None:
-        """Raises a `Fault` if the flows are not a flow of this value from the source to the
-        sink."""
+        """Raise a `Fault` unless the flows are a flow of this value from the source to the sink."""
         excesses: Counter[int] = Counter()
         for arc, flow in zip(self.arcs, self.flows):
             if flow:
@@ -183,13 +184,13 @@ class SolutionReading:
             raise Fault(f"flow not conserved at node {min(unbalanced)}")
         if excesses[source] != self.value:
             raise Fault(
-                f"value differs: {excesses[source]} flows out of the source, and not {self.value}"
+                f"value differs: {excesses[source]} flows out of the source, not {self.value}"
             )
 
 
 class CutReading:
-    """The lines of a cut. In a known network the end of its side is known at once: the smallest
-    minimum cut has no smaller minimum cut inside it."""
+    """A cut while its lines are read. If the network is known, so is the end of the side: no
+    smaller minimum cut lies inside the smallest one."""
 
     GOES_ON = (Kind.SIDE,)
 
@@ -202,7 +203,7 @@ class CutReading:
         self.arcs = arcs
         self.side: dict[int, None] = {}
         self.carried = 0
-        # The places of the arcs at each node, made when they are first needed.
+        # The positions of the arcs at each node, computed when they are first needed.
         self.at_node: dict[int, list[int]] = {}
 
     def is_whole(self) -> bool:
@@ -210,7 +211,7 @@ class CutReading:
         return self.arcs is not None and is_cut and self.carried == self.capacity
 
     def take(self, found: list[bytes]) -> None:
-        """Takes in a node of the side."""
+        """Take in a node of the side."""
         node = read_number(found[2])
         if not 1 <= node <= self.problem.node_count:
             raise Fault(f"no such node: {node}")
@@ -221,7 +222,7 @@ class CutReading:
             self._carry(node, self.arcs)
 
     def _carry(self, node: int, arcs: list[ArcRecord]) -> None:
-        """Adds the arcs that leave the side now, and removes those that no longer leave it."""
+        """Add the arcs that now leave the side, and remove those that no longer leave it."""
         if not self.at_node:
             self.at_node = defaultdict(list)
             for place, arc in enumerate(arcs):
@@ -236,15 +237,16 @@ class CutReading:
                 self.carried -= capacity
 
     def judge(self) -> None:
-        """Raises a `Fault` if the side is not that of a cut, or if the capacity of its arcs differs
-        from the one in the reply."""
+        """Raise a `Fault` unless the side is that of a cut whose arcs have the capacity in the
+        reply."""
         if self.problem.source not in self.side or self.problem.sink in self.side:
-            raise Fault("the side of this cut has not the source, or has the sink")
+            raise Fault("the side of this cut lacks the source or contains the sink")
         if self.arcs is not None and self.carried != self.capacity:
-            raise Fault(f"the arcs of this cut carry {self.carried}, and not {self.capacity}")
+            raise Fault(f"the arcs of this cut carry {self.carried}, not {self.capacity}")
 
     def crossing(self) -> list[int] | None:
-        """The numbers of the open arcs that leave the side."""
+        """Return the numbers of the open arcs that leave the side, or None if the network is not
+        known."""
         if self.arcs is None:
             return None
         return [
@@ -255,7 +257,7 @@ class CutReading:
 
 
 class ProblemReading:
-    """The lines of a printed problem."""
+    """A printed problem while its lines are read."""
 
     GOES_ON = (Kind.TERMINAL, Kind.ARC)
 
@@ -270,7 +272,8 @@ class ProblemReading:
         return len(self.lines) == self.line_count
 
     def read(self) -> Problem:
-        """The problem. Raises its `TextFault`, with the number of the line in the whole answer."""
+        """Return the problem. Raises its `TextFault`, with the number of the line in the whole
+        answer."""
         try:
             return read_problem(b"\n".join(self.lines))
         except TextFault as fault:
@@ -278,15 +281,15 @@ class ProblemReading:
 
 
 def flow_of(found: list[bytes]) -> tuple[int, int, int]:
-    """The tail, the head and the flow of a line."""
+    """Return the tail, the head and the flow in a line."""
     if len(found) != 4:
         raise Fault("wrong number of fields")
     return read_number(found[1]), read_number(found[2]), read_number(found[3])
 
 
 class TranscriptFault(TextFault):
-    """Commands and replies, or a reply and the network, do not fit together. Names the text,
-    `answer` or `commands`, and the line."""
+    """Commands and replies, or a reply and the network, that do not match. `text` is `answer` or
+    `commands`, and `line` the number of the line in it."""
 
     def __init__(self, text: str, line: int, reason: str, about: bytes = b"") -> None:
         super().__init__(line, reason, about)
@@ -295,8 +298,8 @@ class TranscriptFault(TextFault):
 
 @dataclass(frozen=True)
 class Pending:
-    """A command without a reply so far: the text that it stands in, its line there, that line's
-    content, and what it asks for, or why its form gets it refused."""
+    """A command that has no reply yet: the text it stands in, its line number there, the line's
+    content, and what it asks for or why its form gets it refused."""
 
     text: str
     line: int
@@ -306,7 +309,7 @@ class Pending:
 
     @staticmethod
     def of(text: str, line: int, read: bytes) -> Pending | None:
-        """The command of a line, or None if it is a comment or blank."""
+        """Return the command in a line, or None for a comment or a blank line."""
         content = display(ended_line(read)[:80].decode(errors="replace"))
         try:
             command = read_command(read)

@@ -1,5 +1,5 @@
-"""How names are spelled: in comments of a problem text, as people type them, and which are near to
-one that does not exist."""
+"""How names are spelled in the comments of a problem text and as people type them, and which
+existing names resemble one that does not exist."""
 
 from __future__ import annotations
 
@@ -15,27 +15,28 @@ from typing import Any, NamedTuple
 from ..errors import NameNotWritable, NoSuchArc, NoSuchNode, shown_value
 from .lexical import ARC, LONGEST, NODE, display
 
-# How many names a message names; among how many a near one is looked for, and how long a name is
-# for which one is.
+# How many names a message lists; among how many names similar ones are looked for; and the longest
+# name for which that is done.
 MOST_TOLD = 10
 MOST_COMPARED = 20_000
 LONGEST_COMPARED = 200
 
 
 def cleaned(text: str) -> str:
-    """A text without white space around it, and with one space for each run of white space in it. A
-    byte order mark, which each of several joined files may have, is white space too."""
+    """Return a text without white space around it, and with one space for each run of white space
+    inside. A byte order mark, which each of several joined files may have, counts as white space.
+    """
     return " ".join(text.replace("\ufeff", " ").split())
 
 
 def quoted_name(text: str) -> str:
-    """A text in quotes as messages show it: on one line, without control characters, and cut if it
-    is long."""
+    """Return a text in quotes as messages show it: on one line, without control characters, and
+    shortened if it is long."""
     return repr(text if len(text) <= 60 else text[:57] + "...")
 
 
 def near(name: str, places: Iterable[str]) -> str:
-    """The words of a message about the places whose names are near to one that no place has."""
+    """Return the end of a message about an unknown name: the places with similar names, if any."""
     if len(name) > LONGEST_COMPARED:
         return ""
     folded = {
@@ -48,7 +49,7 @@ def near(name: str, places: Iterable[str]) -> str:
 
 
 def folded(text: str) -> str:
-    """A text by which it is found: without case and accents."""
+    """Return a text without case and accents, as names are compared in a search."""
     if text.isascii():
         return text.casefold()
     return "".join(
@@ -58,24 +59,24 @@ def folded(text: str) -> str:
     )
 
 
-# Among how many names a near one is looked for. Whoever asks for many nodes that are not there
-# should not wait.
+# Among how many names a similar one is looked for, so that a caller with many unknown nodes does
+# not have to wait.
 MOST_NAMES = 2_000
 
 
 def no_such_node(node: Hashable, numbers: Mapping[Any, int]) -> NoSuchNode:
-    """The refusal of a node that is not there."""
+    """Return the refusal of a node that does not exist."""
     try:
         return NoSuchNode(shown_value(node) + near_node(node, numbers))
     except TypeError:
-        # It cannot be hashed.
+        # The node cannot be hashed.
         return NoSuchNode(shown_value(node))
 
 
 def no_such_arc(
     key: Hashable, numbers: Mapping[Any, int], keys: Mapping[int, Hashable], is_arc: Any
 ) -> NoSuchArc:
-    """The refusal of a key, or of a pair of ends, that no arc has."""
+    """Return the refusal of a key, or a pair of ends, that no arc has."""
     try:
         return NoSuchArc(shown_value(key) + near_arc(key, numbers, keys, is_arc))
     except TypeError:
@@ -83,8 +84,8 @@ def no_such_arc(
 
 
 def near_node(node: Hashable, numbers: Mapping[Any, int]) -> str:
-    """The words about a node that is not there: the same one as a number or as a text, or those of
-    near names."""
+    """Return the end of a message about a node that does not exist: the same node as a number or as
+    a text, or similar names."""
     if isinstance(node, str):
         text = node.strip()
         if text.isascii() and text.isdigit() and len(text) < 20 and int(text) in numbers:
@@ -96,9 +97,8 @@ def near_node(node: Hashable, numbers: Mapping[Any, int]) -> str:
 def near_arc(
     key: Hashable, numbers: Mapping[Any, int], keys: Mapping[int, Hashable], is_arc: Any
 ) -> str:
-    """The words about an arc that is not there: that between the same nodes in the other direction,
-    if `is_arc` says of a pair that there is one; or those of near keys, or of a near node at an
-    end."""
+    """Return the end of a message about an arc that does not exist: the arc in the other direction,
+    if `is_arc` says that this pair exists; similar keys; or a node similar to an unknown end."""
     if isinstance(key, str):
         return near(key, _texts(keys.values()))
     if isinstance(key, tuple) and len(key) == 2:
@@ -111,7 +111,7 @@ def near_arc(
 
 
 def _texts(names: Any) -> list[str]:
-    """The names that are texts, if there are not too many names."""
+    """Return the names that are texts, or nothing if there are too many names."""
     return (
         [name for name in islice(names, MOST_NAMES) if isinstance(name, str)]
         if len(names) <= MOST_NAMES
@@ -119,10 +119,11 @@ def _texts(names: Any) -> list[str]:
     )
 
 
-# A line feed, and then a comment that names something: what, its number, and the rest of the line,
-# which may be blank.
+# A line feed, and then a naming comment: the kind, the number, and the rest of the line, which may
+# be blank.
 _NAMING = re.compile(rb"\n[ \t]*c[ \t]+(node|arc)[ \t]+([0-9]+)([ \t][^\n]*|\r?(?=\n)|\Z)")
-# The same for nodes or for arcs, in a text without carriage returns, if the name is not blank.
+# The same for nodes alone or for arcs alone, in a text without carriage returns, if the name is not
+# blank.
 _NAMED = {
     kind: re.compile(
         rf"^[ \t]*c[ \t]+{kind}[ \t]+0*([0-9]{{1,19}})[ \t]+([^ \t\n](?:[^\n]*[^ \t\n])?)",
@@ -130,13 +131,13 @@ _NAMED = {
     )
     for kind in (NODE, ARC)
 }
-# The size of the pieces that are searched for names, in bytes.
+# The size of the pieces in which a text is searched for names, in bytes.
 PIECE = 1 << 16
 
 
 class Naming(NamedTuple):
-    """A comment that gives a name: to what, `node` or `arc`, by which number's field, and which.
-    `start` is the place in the text at which its line begins."""
+    """A naming comment: the kind that it names, `node` or `arc`, the digits of the number, and the
+    name. `start` is the position in the text at which its line begins."""
 
     start: int
     kind: str
@@ -145,8 +146,8 @@ class Naming(NamedTuple):
 
 
 def namings(text: bytes) -> Iterator[Naming]:
-    """The comments of the form that names nodes and arcs, `c node 3 Reservoir` and `c arc 5 Mill
-    Lane`, also those whose name is blank or whose number is too large, in their order."""
+    """Yield the naming comments of a text in order, such as `c node 3 Reservoir` and `c arc 5 Mill
+    Lane`, including those with a blank name or a number that is too large."""
     for found in _NAMING.finditer(b"\n" + text):
         kind, digits, rest = found.groups()
         if rest.endswith(b"\r") and found.end() <= len(text):
@@ -157,14 +158,14 @@ def namings(text: bytes) -> Iterator[Naming]:
 
 
 def read_names(text: bytes) -> tuple[dict[int, str], dict[int, str]]:
-    """The names that the comments of a problem text give to nodes and to arcs. If one gets two
-    names, the last counts. The rest of the text is not judged. A comment of another form gives no
-    name, nor does one whose number is past 10^19, since nothing has such a number."""
+    """Return the names that the comments of a problem text give to nodes and to arcs. If a node or
+    an arc is named twice, the last name counts. The rest of the text is not checked. Comments of
+    other forms are ignored, and so are numbers past 10^19, which no node or arc has."""
     return names_in(naming_pieces(text, NODE), NODE), names_in(naming_pieces(text, ARC), ARC)
 
 
 def naming_pieces(text: bytes, kind: str) -> list[bytes]:
-    """Pieces of whole lines of a text that together have all comments that name nodes, or arcs."""
+    """Return pieces of whole lines that together contain all comments that name nodes, or arcs."""
     found, begin = [], 0
     while begin < len(text):
         end = text.find(b"\n", begin + PIECE) + 1 or len(text)
@@ -176,11 +177,12 @@ def naming_pieces(text: bytes, kind: str) -> list[bytes]:
 
 
 def names_in(pieces: Iterable[bytes], kind: str) -> dict[int, str]:
-    """The names that the comments of such pieces give to nodes, or to arcs, except blank ones."""
+    """Return the names that the comments in these pieces give to nodes, or to arcs, without blank
+    ones."""
     names: dict[int, str] = {}
     for piece in pieces:
         if b"\r" not in piece:
-            # Without a carriage return one search finds all, which is several times as fast.
+            # Without carriage returns one search finds all names, several times as fast.
             for significant, name in _NAMED[kind].findall(piece.decode(errors="replace")):
                 names[int(significant)] = name
             continue
@@ -194,10 +196,12 @@ def names_in(pieces: Iterable[bytes], kind: str) -> dict[int, str]:
 def name_comments(
     nodes: Mapping[int, Hashable], arcs: Mapping[int, Hashable], *, escapes: bool = False
 ) -> str:
-    """The comments that give nodes and arcs their names. The names come by number, and each is
-    written by `str`. A node whose name is its own number gets no comment, nor does a blank name.
-    Raises `NameNotWritable` if a name would come back as another one; with `escapes` such a name is
-    written with `\\x0a` for what it cannot have there."""
+    """Return the comments that name nodes and arcs. The names are given by number and are written
+    with `str`. A node whose name is its own number gets no comment, nor does a blank name.
+
+    Raises `NameNotWritable` if a name would be read back as another name. With `escapes`, such a
+    name is written with `\\x0a` and the like in the places that cannot be written.
+    """
     node_names = {
         number: str(name)
         for number, name in nodes.items()
@@ -224,7 +228,7 @@ def name_comments(
 
 
 def written(kind: str, number: int, name: str) -> str:
-    """A name as the comment of this node or arc can have it: as it is, or escaped."""
+    """Return a name as the comment for this node or arc can hold it: unchanged, or escaped."""
     with contextlib.suppress(NameNotWritable):
         _judge(kind, number, name)
         return name
@@ -242,7 +246,7 @@ def _comment(kind: str, number: int, name: str) -> str:
 
 
 def _judge(kind: str, number: int, name: str) -> None:
-    """Raises `NameNotWritable` if the comment of a name would be read as another name."""
+    """Raise `NameNotWritable` if the comment for a name would be read as another name."""
     if name.isprintable() and name == name.strip():
         return
     try:
@@ -251,9 +255,8 @@ def _judge(kind: str, number: int, name: str) -> None:
         node_names, arc_names = {}, {}
     if (node_names if kind == NODE else arc_names) != {number: name}:
         why = (
-            "a name in a comment has no line feed, no half of a character, and no blank or "
-            "carriage "
-            "return at an end"
+            "a name in a comment cannot contain a line feed or half of a character, nor begin or "
+            "end with a blank or a carriage return"
         )
         raise NameNotWritable(
             f"name not writable: that of {kind} {number}, {shown_value(name)}: {why}"
@@ -263,7 +266,7 @@ def _judge(kind: str, number: int, name: str) -> None:
 def picture_names(
     nodes: Iterable[Hashable], keys: Mapping[int, Hashable]
 ) -> tuple[dict[int, str], dict[int, str]]:
-    """The names of nodes and of arcs by their numbers, as a picture shows them."""
+    """Return the names of nodes and of arcs by number, as a picture shows them."""
     return {number: str(name) for number, name in enumerate(nodes, 1)}, {
         place: str(key) for place, key in keys.items()
     }

@@ -1,4 +1,4 @@
-"""What a problem text says of the table that it was made of, in comments of a fixed form:
+"""What a problem text says about the table that it was made from, in comments of fixed forms:
 
     c capacities are those of the table times 10
     c unit l/s
@@ -11,14 +11,14 @@
     c inner arc ARC demand PLACE unlimited
     c inner arc ARC limit PLACE
 
-An inner node or arc is not of the table. A node joins several sources, or sinks, or is the second
-half of a place with a limit. An arc carries what a source gives, what a sink takes, or what a place
-lets through. Each is named by its number, and a place by that of its node. An unlimited arc carries
-as much as those at the place.
+The table does not have the inner nodes and arcs. An inner node joins several sources or sinks, or
+is the second half of a place with a limit. An inner arc carries what a source gives, what a sink
+takes, or what a place lets through. Nodes and arcs are given by number, and a place by the number
+of its node. An unlimited arc can carry as much as the arcs at its place.
 
-Each stands before the problem line and begins its line, with one blank between its words; the scale
-may stand anywhere. Of two that say the same thing the first counts. `extra` has the comments of the
-table's other columns.
+Each comment stands before the problem line, at the beginning of its line, with one blank between
+its words; only the scale may stand anywhere. If two comments say the same thing, the first counts.
+`extra` reads the comments about the table's other columns.
 """
 
 from __future__ import annotations
@@ -32,7 +32,7 @@ from ..quantity import SIGNS, Measure, Quantity
 
 SOURCES, SINKS = "sources", "sinks"
 SUPPLY, DEMAND, LIMIT = "supply", "demand", "limit"
-# A comment that tells the scale of all numbers of a problem.
+# The words of the comment that gives the scale of all numbers in a problem.
 SCALE_WORDS = "c capacities are those of the table times"
 UNIT_WORDS, TABLE_WORDS, SIGN_WORDS, INNER_WORDS = (
     "c unit ",
@@ -41,7 +41,7 @@ UNIT_WORDS, TABLE_WORDS, SIGN_WORDS, INNER_WORDS = (
     "c inner ",
 )
 
-# How the comment begins that tells the title of another column.
+# The first words of a comment with the title of another column.
 COLUMN_WORDS = b"c column "
 
 _SCALE = re.compile(rf"[ \t]*{SCALE_WORDS} ([0-9]+(?:\.[0-9]+)?)[ \t]*\r?(?:\n|\Z)".encode())
@@ -58,9 +58,9 @@ _INNER = re.compile(
 
 @dataclass(frozen=True)
 class Role:
-    """What an arc that is not of the table carries: what a source gives (`supply`), a sink takes
-    (`demand`) or a place lets through (`limit`); and the node of the place, its first half if it
-    has two. The capacity of an unlimited one is as much as the arcs at the place carry."""
+    """What an inner arc carries: what a source gives (`supply`), what a sink takes (`demand`) or
+    what a place lets through (`limit`). `node` is the node of the place, or the first of its two.
+    The capacity of an unlimited arc is what the arcs at its place can carry."""
 
     kind: str
     node: int
@@ -69,10 +69,10 @@ class Role:
 
 @dataclass(frozen=True)
 class TableComments:
-    """How the whole numbers of a problem stand for quantities, and what is not of its table: by the
-    node's number, what it joins, `sources` or `sinks`; by the number of a second half, the first;
-    by the arc's number, its role.
-    """
+    """How the whole numbers of a problem stand for quantities, and which nodes and arcs its table
+    does not have. `joints` gives the number of a joining node, with `sources` or `sinks`; `halves`
+    the number of each second half, with that of the first; `roles` the number of an inner arc, with
+    its role."""
 
     measure: Measure = Measure()
     joints: Mapping[int, str] = field(default_factory=dict)
@@ -80,7 +80,7 @@ class TableComments:
     roles: Mapping[int, Role] = field(default_factory=dict)
 
     def within(self, nodes: int, arcs: int) -> TableComments:
-        """What is said of the nodes and arcs from 1 to so many."""
+        """Return the comments about nodes 1 to `nodes` and arcs 1 to `arcs` alone."""
 
         def are_nodes(*numbers: int) -> bool:
             return all(1 <= number <= nodes for number in numbers)
@@ -98,8 +98,8 @@ class TableComments:
 
 
 def described(text: bytes) -> TableComments:
-    """What the comments of a problem text say of its table; the rest is not judged. Raises
-    nothing."""
+    """Return what the comments of a problem text say about its table. The rest of the text is not
+    checked, and nothing is raised."""
     problem_line = 0 if text.startswith(b"p") else text.find(b"\np")
     head = text[:problem_line] if problem_line >= 0 else text
     said = {words: _said(head, words) for words in _SAID}
@@ -123,14 +123,14 @@ def described(text: bytes) -> TableComments:
 
 
 def tells_columns(text: bytes) -> bool:
-    """Whether a problem's text may have comments of other columns of its table, as `extra` reads
-    them."""
+    """Return True if a problem text may have comments about other columns of its table, as `extra`
+    reads them."""
     return text.startswith(COLUMN_WORDS) or b"\n" + COLUMN_WORDS in text
 
 
 def between(text: bytes, words: bytes) -> bytes:
-    """The lines of a text from the first of these words to the last: to look for words is many
-    times as fast as to look for a pattern."""
+    """Return the lines from the first occurrence of these words to the last. A search for words is
+    many times as fast as a search for a pattern."""
     begin = text.find(words)
     if begin < 0:
         return b""
@@ -154,7 +154,8 @@ def _scale(text: bytes) -> Decimal:
 
 
 def table_comments(described: TableComments) -> str:
-    """The comments that say so; what is as it is without a comment has none."""
+    """Return the comments that describe this table. What is the default without a comment gets
+    none."""
     return "".join(line + "\n" for line in _lines(described))
 
 
@@ -178,15 +179,15 @@ def _lines(described: TableComments) -> Iterable[str]:
 
 
 def _written(text: str) -> str:
-    """A text as a comment has it: without blanks around it, and with `\\x0a` for what no line
-    has."""
+    """Return a text as a comment holds it: without blanks around it, and with `\\x0a` and the like
+    for what a line cannot hold."""
     return "".join(
         letter if letter.isprintable() else letter.encode("unicode_escape").decode()
         for letter in text.strip(" \t")
     )
 
 
-# What a place does in a role, and in short beside its numbers.
+# The verb for what a place does in each role, and a shorter one beside its numbers.
 DOES = {SUPPLY: "gives at most", DEMAND: "takes at most", LIMIT: "lets through"}
 AT_PLACE = {SUPPLY: "gives", DEMAND: "takes", LIMIT: "lets through"}
 MOST_ENDS = 6
@@ -210,20 +211,21 @@ class TableRoles:
 
     @property
     def has_roles(self) -> bool:
-        """Whether an arc can be none of a table."""
+        """True if the problem may have arcs that its table does not have."""
         return bool(self._joints or self._first)
 
     @property
     def has_unlimited(self) -> bool:
-        """Whether a source or a sink is unlimited whose arc is none of the table."""
+        """True if an inner arc stands for an unlimited source or sink."""
         return bool(self._unlimited)
 
     def is_unlimited(self, kind: str, node: int) -> bool:
-        """Whether the source or the sink of a place is unlimited whose arc is none of the table."""
+        """Return True if an inner arc of this kind at the place stands for an unlimited source or
+        sink."""
         return (kind, node) in self._unlimited
 
     def known_roles(self) -> Iterator[tuple[str, int]]:
-        """What places give, take and let through: the kinds, with the nodes of the places."""
+        """Yield the roles that places have: the kind and the node of the place."""
         for joint, nodes in self._at_joints.items():
             yield from (
                 (SUPPLY if self._joints[joint] == SOURCES else DEMAND, node) for node in nodes
@@ -234,23 +236,24 @@ class TableRoles:
         return node in self._joints
 
     def place(self, node: int) -> int:
-        """The node of a node's place, its first one if it has two."""
+        """Return the node of the place that a node belongs to: the first one if the place has
+        two."""
         return self._first.get(node, node)
 
     def second(self, node: int) -> int:
-        """The node that arcs out of a place leave, by the one that arcs into it enter."""
+        """Return the node that arcs leave at a place, given the node that arcs enter there."""
         return self._second.get(node, node)
 
     def places(self, nodes: Iterable[int]) -> list[int]:
-        """The places that these nodes are, each once, in their order."""
+        """Return the places that these nodes belong to, each once, in order."""
         return list(dict.fromkeys(self.place(node) for node in nodes if node not in self._joints))
 
     def ends(self, node: int) -> list[int]:
-        """The places that the source of a problem stands for, or its sink."""
+        """Return the places that the problem's source or sink stands for."""
         return self._at_joints[node] if node in self._joints else [self.place(node)]
 
     def role(self, tail: int, head: int) -> Role | None:
-        """What an arc with these ends stands for, if it is none of a table."""
+        """Return the role of an arc with these ends, or None if the table has the arc."""
         if tail in self._joints or head in self._joints:
             kind, node = (
                 (SUPPLY, self.place(head)) if tail in self._joints else (DEMAND, self.place(tail))
@@ -259,7 +262,8 @@ class TableRoles:
         return Role(LIMIT, tail) if self._first.get(head) == tail and tail != head else None
 
     def at_role(self, role: Role, tail: int, head: int) -> bool:
-        """Whether an arc with these ends carries what the place of a role gives, or takes."""
+        """Return True if an arc of the table with these ends carries what the place in a role gives
+        or takes."""
         if self.role(tail, head):
             return False
         return tail == self.second(role.node) if role.kind == SUPPLY else head == role.node
@@ -270,11 +274,14 @@ class TableRoles:
         arcs: Iterable[tuple[int, int, Quantity]],
         limited: Collection[int] = (),
     ) -> set[int]:
-        """The side of a minimum cut in which no arc of an unlimited source or sink is, by a side of
-        the smallest one and the open arcs with their capacities. An unlimited source that the side
-        lacks comes to it, and an unlimited sink in it goes, since the arcs there carry no more than
-        was counted for the place. Where such an arc carries less than the arcs of its place, it
-        stays, and so does that of a place that has got a limit."""
+        """Return the source side of a minimum cut without arcs of unlimited sources and sinks, made
+        from the side of the smallest one and the open arcs with their capacities.
+
+        An unlimited source that is not on the side is added, and an unlimited sink on it is
+        removed: the arcs at that place carry no more than was counted for the place itself. If an
+        inner arc carries less than the arcs at its place, or if the place was given a limit, the
+        arc stays in the cut.
+        """
         crossing: dict[Role, Quantity] = {}
         opened = list(arcs) if self._unlimited else []
         for tail, head, capacity in opened:
@@ -298,7 +305,7 @@ class TableRoles:
         return told
 
     def roles(self, ends: Iterable[tuple[int, int]]) -> Iterator[tuple[int, Role]]:
-        """The roles of arcs with these ends, by their numbers from 1 on."""
+        """Yield the roles of arcs with these ends, by their numbers from 1."""
         return (
             (number, role)
             for number, (tail, head) in enumerate(ends, 1)
@@ -307,20 +314,20 @@ class TableRoles:
 
 
 def role_words(role: Role, label: Callable[[int], str]) -> str:
-    """What an arc that is none of a table stands for: `what Mill gives at most`."""
+    """Return what an inner arc stands for: `what Mill gives at most`."""
     return f"what {role_phrase(role, label)}"
 
 
 def role_phrase(role: Role, label: Callable[[int], str]) -> str:
-    """The beginning of a sentence about it: `Mill gives at most`."""
+    """Return the beginning of a sentence about an inner arc: `Mill gives at most`."""
     return f"{label(role.node)} {DOES[role.kind]}"
 
 
 def renumbered(
     described: TableComments, ends: Iterable[tuple[int, int]], limited: Collection[int] = ()
 ) -> TableComments:
-    """The same of a problem with other arcs, which have these ends, and where sources and sinks of
-    these places have got limits."""
+    """Return the same description for a problem with other arcs, which have these ends, after the
+    sources and sinks at `limited` were given limits."""
     if not described.joints and not described.halves:
         return described
     roles = {
@@ -331,7 +338,7 @@ def renumbered(
 
 
 def listed(names: Iterable[str], most: int = MOST_ENDS) -> str:
-    """Names in a sentence: `Mill, Weir and Town`."""
+    """Return names as in a sentence: `Mill, Weir and Town`."""
     found = list(names)
     rest = len(found) - most
     if rest > 0:

@@ -1,9 +1,9 @@
-"""Follows a session by its commands and its replies: the network after each reply, and the contents
+"""Follow a session through its commands and replies: the network after each reply, and the contents
 of each reply.
 
-The commands come beside the replies, or stand among them, as a terminal shows a session. An answer
-of `dmf solve` is a session without commands. If commands and replies do not fit together, a
-`TranscriptFault` says where: nothing is guessed.
+The commands are given beside the replies, or stand among them, as a terminal shows a session. An
+answer of `dmf solve` is a session without commands. If commands and replies do not match, a
+`TranscriptFault` says where; nothing is guessed.
 """
 
 from __future__ import annotations
@@ -46,19 +46,22 @@ from .session_replies import (
 )
 
 ANSWER, COMMANDS = "answer", "commands"
-# Why a command may be refused whatever is known about the network: by what the history forgot, and
-# by what no text shows.
+# Reasons for a refusal that no known network explains: what the history has dropped, and what the
+# texts do not show.
 UNFORESEEN = {UNDO: {"nothing to undo"}, PRINT_CUT: {"flow is not greatest"}}
 Reading = Union[SolutionReading, CutReading, ProblemReading]
 
 
 class TranscriptReader:
-    """Takes the lines of an answer one after the other. `timeline` has the present network, unless
-    `is_known` is false: then unknown commands changed it. `is_numbered` is false if only a printed
-    problem is known of the network, in which the arcs may have other numbers. `solution` and `cut`
-    are the last ones. The solution is None if its flows are not known, as after the brief reply to
-    a solve, or do not belong to a known network. `solves_are_brief` says whether the reply to a
-    solve is only its value (`--brief`), and is None if that is not known."""
+    """Reads the lines of an answer one after the other.
+
+    `timeline` is the present network; if `is_known` is false, unknown commands have changed it.
+    `is_numbered` is false if the network is known only from a printed problem, in which arcs may
+    have other numbers. `solution` and `cut` are the latest ones. `solution` is None if its flows
+    are not known, as after the brief reply to a solve, or if the network is not known.
+    `solves_are_brief` is true if replies to solves give only the value (`--brief`), and None if
+    that is not known.
+    """
 
     def __init__(self, problem: Problem, commands: Iterator[bytes] | None = None) -> None:
         self.timeline = TrackedNetwork(problem)
@@ -71,14 +74,15 @@ class TranscriptReader:
         self._command_line = 0
         self._waiting: deque[Pending] = deque()
         self._reading: Reading | None = None
-        # Whether a cut comes with each solve (`--cut`), if that is known; whether the last reply
-        # was that of a `solve`, so that its cut may follow; and whether a cut was read as that of a
-        # solve although it may be the reply to `print cut`.
+        # `_solves_have_cuts`: whether a cut follows each solve (`--cut`), None while that is not
+        # known. `_awaits_cut`: the last reply was to a `solve`, so that its cut may follow.
+        # `_is_in_doubt`: a cut was read as that of a solve, and may be the reply to `print cut`
+        # instead.
         self._solves_have_cuts: bool | None = None
         self._awaits_cut = self._is_in_doubt = False
 
     def take(self, line: bytes) -> list[Event]:
-        """The contents of a line, which may still have its line feed. Raises a
+        """Return the events of a line, which may still have its line feed. Raises a
         `TranscriptFault`."""
         self.line += 1
         reading = self._reading
@@ -88,7 +92,7 @@ class TranscriptReader:
                 and line.startswith(b"f ")
                 and not reading.is_whole_with(1)
             ):
-                # Most lines of a large answer.
+                # Handled first, since most lines of a large answer are flows.
                 reading.take(fields(ended_line(line)))
                 return []
             return list(self._take(ended_line(line), line))
@@ -96,8 +100,8 @@ class TranscriptReader:
             raise self._located(fault) from None
 
     def end(self) -> list[Event]:
-        """What the end of the answer completes. Raises a `TranscriptFault` if something is
-        missing."""
+        """Return the events that the end of the answer completes. Raises a `TranscriptFault` if
+        something is missing."""
         self.line += 1
         try:
             return list(self._end())
@@ -130,7 +134,7 @@ class TranscriptReader:
     def _begin(
         self, kind: Kind, content: bytes, found: list[bytes], line: bytes
     ) -> Iterator[Event]:
-        """Begins the reply, or the command, that stands in a line of this kind."""
+        """Begin the reply or the command that a line of this kind starts."""
         if kind is Kind.COMMAND:
             pending = Pending.of(ANSWER, self.line, line)
             self._waiting.extend([pending] if pending else [])
@@ -150,16 +154,16 @@ class TranscriptReader:
             self._asked(PRINT_PROBLEM)
             self._reading = ProblemReading(content, found, self.line)
         elif kind is Kind.FLOW:
-            raise Fault("a flow before its value line, or one more than the network has arcs")
+            raise Fault("a flow before its value line, or more flows than the network has arcs")
         elif kind is Kind.SIDE:
-            raise Fault("a side before its cut, or one more than the cut has")
+            raise Fault("a side line before its cut, or more of them than the cut has")
         else:
             raise Fault(f"unknown line: {found[0].decode()}")
 
     # Commands and their replies.
 
     def _head(self) -> Pending | None:
-        """The oldest command without a reply."""
+        """Return the oldest command without a reply."""
         while not self._waiting and self._given is not None:
             line = next(self._given, b"")
             if not line:
@@ -170,10 +174,9 @@ class TranscriptReader:
         return self._waiting[0] if self._waiting else None
 
     def _settle(self, is_answered: Callable[[Pending], bool]) -> Pending | None:
-        """The oldest command without a reply, when another reply than a cut has come. It is then
-        known whether solves have cuts: a cut in doubt was the reply to `print cut` if one still
-        waits that this reply does not answer.
-        """
+        """Return the oldest command without a reply, given that a reply other than a cut has
+        arrived. By then it is known whether solves have cuts: a cut in doubt was the reply to
+        `print cut` if that command is still waiting and this reply does not answer it."""
         if self._awaits_cut and self._solves_have_cuts:
             raise Fault("the cut of this solve is missing")
         if self._awaits_cut:
@@ -193,13 +196,13 @@ class TranscriptReader:
         return head
 
     def _asked(self, *words: str) -> Command | None:
-        """The command that a reply answers, one of these words, or None if no commands are known.
-        Raises a `Fault` if the oldest command without a reply is another one, or should be refused.
-        """
+        """Return the command that a reply answers, which must begin with one of these words, or
+        None if no commands are known. Raises a `Fault` if the oldest command without a reply is
+        another one, or should be refused."""
         head = self._settle(lambda head: False) if words != (PRINT_CUT,) else self._head()
         if head is None:
             if self._given is not None:
-                raise Fault("no command is left that this answers")
+                raise Fault("no command is left that this could answer")
             return None
         if head.command is None or head.command.word not in words:
             raise Fault(f"this does not answer {head}")
@@ -210,12 +213,12 @@ class TranscriptReader:
         return head.command
 
     def _refuse(self, line: int, reason: str) -> None:
-        """Takes a refusal of the command line with this number as the reply to the oldest command
+        """Take a refusal of the command line with this number as the reply to the oldest command
         without one."""
         head = self._settle(lambda head: self._may_refuse(head, line, reason))
         if head is None:
             if self._given is not None:
-                raise Fault("no command is left that this answers")
+                raise Fault("no command is left that this could answer")
             return
         if self._may_refuse(head, line, reason):
             self._waiting.popleft()
@@ -223,8 +226,8 @@ class TranscriptReader:
             raise Fault(f"this does not answer {head}")
 
     def _may_refuse(self, head: Pending, line: int, reason: str) -> bool:
-        """Whether this may be the refusal of a command. A transcript may lack lines, so their
-        numbers are uncertain."""
+        """Return True if this may be the refusal of a command. A transcript may lack lines, so line
+        numbers are not reliable there."""
         if self._given is not None and line != head.line:
             return False
         if head.command is None:
@@ -239,7 +242,7 @@ class TranscriptReader:
         )
 
     def _is_sure(self) -> bool:
-        """Whether the network is known as the commands speak of it."""
+        """Return True if the network is known, with the arc numbers that the commands use."""
         return self.is_known and self.is_numbered
 
     def _changed(self, content: bytes, found: list[bytes]) -> ChangedReply:
@@ -256,14 +259,14 @@ class TranscriptReader:
     # Solutions, cuts and printed problems.
 
     def _answers_solve(self, is_brief: bool) -> None:
-        """Notes the form of the reply to a solve. Raises a `Fault` if an earlier one had the other
+        """Record the form of the reply to a solve. Raises a `Fault` if an earlier one had the other
         form."""
         if self.solves_are_brief not in (None, is_brief):
             raise Fault("brief and whole replies to solve in one answer")
         self.solves_are_brief = is_brief
 
     def _solved(self, value: int) -> SolutionReply:
-        """The brief reply to a solve: its flows are not known until they are printed."""
+        """Take the brief reply to a solve. Its flows are not known until they are printed."""
         command = self._asked(SOLVE)
         self._answers_solve(is_brief=True)
         if command is not None and self.is_known:
@@ -315,8 +318,8 @@ class TranscriptReader:
             yield self._printed(reading)
 
     def _break_off(self) -> Iterator[Event]:
-        """Ends what is being read before a line that does not belong to it. The flows of a solution
-        may have been left out."""
+        """Finish what is being read, because the next line does not belong to it. The flows of a
+        solution may have been left out."""
         reading = self._reading
         if isinstance(reading, SolutionReading):
             if reading.flows:
@@ -335,7 +338,7 @@ class TranscriptReader:
         is_told = reading.is_whole()
         if is_told:
             reading.judge(timeline.problem.source, timeline.problem.sink)
-        # If the replies to solves are brief, a solution answers `print flow`.
+        # If replies to solves are brief, a solution can only answer `print flow`.
         if reading.command is None and not self.solves_are_brief:
             timeline.begin_anew(reading.value)
         elif reading.command == Command(SOLVE):

@@ -1,15 +1,17 @@
-"""Shows a network as a page in the browser: what can be sent, what the limit is, and what each
-change would bring.
+"""Show a network as a page in the browser: what can be sent, what limits it,
+and what each change would bring.
 
     dmf-board pipes.csv
     dmf-board pipes.csv Reservoir Harbour
     dmf-board problem.max
     dmf-board pipes.dmf.json
 
-FILE is a table of arcs, as `dmf-problem` takes it, a problem's file, or a project, which keeps what
-was done. If you name no source of a table, it is the one place that no arc enters; if you name no
-sink, the one that no arc leaves. The browser shows the page, and the board prints its address,
-which only this machine can reach. The board ends when the page is closed, or at Ctrl-C.
+FILE is a table of arcs as `dmf-problem` reads it, a problem's file, or a
+project, which keeps what was done. If a table is given without a source, the
+source is the one place that no arc enters; without a sink, the sink is the one
+place that no arc leaves. The board opens the page in the browser and prints
+its address, which only this machine can reach. The board ends when the page is
+closed, or at Ctrl-C.
 """
 
 from __future__ import annotations
@@ -32,7 +34,7 @@ from .desk_options import add_project_words, close_desk, open_desk
 from .options import add_words, words_of
 
 NAME = "dmf-board"
-# How long an answer is waited for that is being made when the board ends, in seconds.
+# How long the board waits at its end for an answer that is being computed, in seconds.
 PATIENCE = 2
 
 
@@ -59,17 +61,17 @@ def options() -> argparse.Namespace:
     parser.add_argument(
         "--no-browser",
         action="store_true",
-        help="only print the address, and start no browser",
+        help="print the address, and do not start a browser",
     )
     parser.add_argument(
         "--port",
         metavar="NUMBER",
         type=port,
         default=0,
-        help="the port; without it a free one",
+        help="the port; by default any free one",
     )
     name = (
-        "answer at this name too, as in localhost:9000, if a tunnel leads from there; may be given "
+        "answer at this name too, such as localhost:9000, for a tunnel from there; may be given "
         "several times"
     )
     parser.add_argument(
@@ -83,8 +85,7 @@ def options() -> argparse.Namespace:
     parser.add_argument(
         "--map",
         metavar="FILE",
-        help="a table of places with columns x and y, or lon and lat: where each lies in the "
-        "picture",
+        help="a table of where the places lie in the picture, with columns x and y, or lon and lat",
     )
     add_words(parser)
     add_project_words(parser)
@@ -92,7 +93,7 @@ def options() -> argparse.Namespace:
 
 
 def opened(words: argparse.Namespace) -> Desk:
-    """The desk for what the words name."""
+    """Return the desk for the file and options in the arguments."""
     desk = open_desk(words, with_solve=True, may_follow=True)
     for note in desk.take_news():
         warn(NAME, note)
@@ -100,7 +101,8 @@ def opened(words: argparse.Namespace) -> Desk:
 
 
 def spots_of(words: argparse.Namespace, desk: Desk) -> dict[int, Spot]:
-    """Where the places lie, if there is a map: a table of places may have the columns of one."""
+    """Return where the places lie, if there is a map. A table of places may have the columns of a
+    map."""
     path = words.map or words.place_table
     if path is None:
         return {}
@@ -113,7 +115,7 @@ def spots_of(words: argparse.Namespace, desk: Desk) -> dict[int, Spot]:
             for line in (
                 []
                 if isinstance(fault, NoMap)
-                else [f"{path} is not taken as a map: {first}", *more]
+                else [f"{path} cannot be used as a map: {first}", *more]
             ):
                 warn(NAME, line)
             return {}
@@ -125,14 +127,14 @@ def spots_of(words: argparse.Namespace, desk: Desk) -> dict[int, Spot]:
 
 
 def show(server: Server) -> Door | None:
-    """Starts the browser, where this machine has a screen."""
+    """Start the browser, if this machine has a screen."""
     if (
         sys.platform not in ("darwin", "win32")
         and not os.environ.get("DISPLAY")
         and not os.environ.get("WAYLAND_DISPLAY")
     ):
         return None
-    # Most boards on a server need none.
+    # Imported here, since most boards on a server need no browser.
     import webbrowser
 
     try:
@@ -146,7 +148,7 @@ def show(server: Server) -> Door | None:
 
 def main() -> int:
     words = options()
-    # A session that has ended, or a page that has gone, breaks a pipe, and does not end this.
+    # If a session has ended or a page has gone, a write to it fails instead of ending the board.
     signal.signal(signal.SIGPIPE, signal.SIG_IGN)
     desk = opened(words)
     try:
@@ -167,8 +169,8 @@ def main() -> int:
 
     def interrupt(*_: object) -> None:
         is_interrupted.set()
-        # An error that is raised here could be taken for one of a request. The server's end waits
-        # for its loop, which runs here.
+        # An exception raised here could be taken for one of a request. The shutdown needs its own
+        # thread, since it waits for the server's loop, which runs in this one.
         Thread(target=server.shutdown, daemon=True).start()
 
     for number in signal.SIGINT, signal.SIGTERM, signal.SIGHUP:

@@ -1,5 +1,4 @@
-"""What the tools beside the program share: their statuses, writing, commands that come line by
-line, and ending."""
+"""What all tools share: their exit statuses, writing, reading commands line by line, and ending."""
 
 from __future__ import annotations
 
@@ -7,6 +6,7 @@ import os
 import signal
 import stat
 import sys
+import textwrap
 import time
 from collections.abc import Callable, Iterator, Sequence
 from enum import IntEnum
@@ -18,7 +18,7 @@ from ..text.lexical import display
 
 
 class Status(IntEnum):
-    """How a tool ends, whichever it is: docs/INSTALLED.md has the table."""
+    """The exit status of every tool; docs/INSTALLED.md has the table."""
 
     DONE = 0
     REFUSED = 1
@@ -37,17 +37,17 @@ class ToolFault(Exception):
         self.status = status
 
 
-# What a help says of them.
+# What each status means, as the help says it.
 MEANINGS = {
     Status.DONE: "all is well",
     Status.REFUSED: "a command of a script was refused",
     Status.USAGE: "invalid arguments",
-    Status.FAULTY: "what is read has a fault",
+    Status.FAULTY: "the input has a fault",
     Status.LOST: "something cannot be read, written or found",
     Status.NO_MEMORY: "no memory",
     Status.INTERRUPTED: "Ctrl-C",
 }
-# With which status a tool ends at an error that has none of its own: the first that fits.
+# The status for an error that has none of its own: the first entry that fits.
 ENDINGS: Sequence[tuple[type[BaseException], Status]] = [
     (MemoryError, Status.NO_MEMORY),
     (OptionFault, Status.USAGE),
@@ -57,21 +57,20 @@ ENDINGS: Sequence[tuple[type[BaseException], Status]] = [
     (Error, Status.FAULTY),
 ]
 EXPECTED: tuple[type[BaseException], ...] = (ToolFault, *(kind for kind, _ in ENDINGS))
-# How long to wait for the next line of a file, in seconds, if the file was written to within that
-# time.
+# If a file was written to within this time, in seconds, another line may follow.
 PATIENCE = 1.0
 
 
 def statuses(*, may_refuse: bool = False) -> str:
-    """The end of a tool's help."""
+    """Return the last line of a tool's help."""
     told = [f"{it.value} {MEANINGS[it]}" for it in Status if may_refuse or it is not Status.REFUSED]
-    return f"Status: {', '.join(told)}."
+    return textwrap.fill(f"Status: {', '.join(told)}.", 79)
 
 
 def run(name: str, main: Callable[[], int]) -> NoReturn:
-    """Runs a tool to its end. It ends with the result of `main`, or with the status of an error,
-    which it prints. If nobody reads its output any more, it ends by the signal for that, as other
-    filters do."""
+    """Run a tool, and exit with the result of `main`, or with the status of an error, which is
+    printed. If nobody reads its output any more, the signal for that ends it, as it ends other
+    filters."""
     signal.signal(signal.SIGPIPE, signal.SIG_DFL)
     if signal.getsignal(signal.SIGINT) is not signal.SIG_IGN:
         signal.signal(signal.SIGINT, _end_interrupted)
@@ -88,9 +87,9 @@ def _end_interrupted(*_: object) -> NoReturn:
 
 
 def raise_interrupts() -> None:
-    """Has the first Ctrl-C raise a KeyboardInterrupt, so that what was begun is ended, and a second
-    one end the tool at once. One that comes in a destructor, where no error can be raised, ends it
-    too."""
+    """Make the first Ctrl-C raise a KeyboardInterrupt, so that what was begun is ended, and the
+    second one end the tool at once. Ctrl-C in a destructor, where no exception can be raised, ends
+    it too."""
 
     def interrupt(*_: object) -> None:
         signal.signal(signal.SIGINT, _end_interrupted)
@@ -107,7 +106,7 @@ def raise_interrupts() -> None:
 
 
 def _status(name: str, main: Callable[[], int]) -> int:
-    """The status with which a tool ends."""
+    """Run `main`, report its error, and return the exit status."""
     try:
         status = main()
     except SystemExit as end:
@@ -125,14 +124,14 @@ def _status(name: str, main: Callable[[], int]) -> int:
 
 
 def status_of(error: BaseException) -> int:
-    """The status with which a tool ends at an error."""
+    """Return the exit status for an error."""
     if isinstance(error, ToolFault):
         return error.status
     return next(status for kind, status in ENDINGS if isinstance(error, kind))
 
 
 def _reasons(error: BaseException) -> Sequence[str]:
-    """What is said of an error, in lines."""
+    """Return the lines that describe an error."""
     if isinstance(error, TableFault):
         return error.lines()
     if isinstance(error, MemoryError) and not str(error):
@@ -148,34 +147,34 @@ def _tell(name: str, error: BaseException) -> None:
 
 
 def warn(name: str, text: str) -> None:
-    """Writes a line to standard error."""
+    """Write a line to standard error."""
     if sys.stderr:
         line = display(f"{name}: {text}").encode(errors="replace") + b"\n"
         try:
             sys.stderr.buffer.write(line)
             sys.stderr.flush()
         except OSError:
-            # What cannot be told does not end the work. The buffer would fail again at the end.
+            # A message that cannot be written does not end the work. A later flush of the buffer
+            # would fail again.
             sys.stderr = None  # type: ignore[assignment]
 
 
 def write(text: str) -> None:
-    """Writes a text to standard output, in UTF-8 whatever the locale, and at once."""
+    """Write a text to standard output at once, in UTF-8 whatever the locale."""
     if sys.stdout is None:
         raise FileFault("cannot write standard output: it is closed")
     try:
         sys.stdout.buffer.write(text.encode(errors="replace"))
         sys.stdout.buffer.flush()
     except OSError as error:
-        # The buffer keeps the text, and a flush at the end would fail and say so again.
+        # The buffer keeps the text, so a flush at the end would fail and report it again.
         sys.stdout = None  # type: ignore[assignment]
         raise cannot("write", "standard output", error) from None
 
 
 class CommandLines:
-    """The lines of a file of commands, each read when it is asked for, so that the file may still
-    be written to, as by `tee`, or be a pipe. `is_ended` says that nothing more will come.
-    """
+    """The lines of a file of commands, each read when it is needed, so that the file may be a pipe,
+    or may still be written to, for example by `tee`. Set `is_ended` when nothing more will come."""
 
     def __init__(self, path: str) -> None:
         self.path = path
@@ -199,7 +198,7 @@ class CommandLines:
         return line
 
     def _is_written(self) -> bool:
-        """Whether more may come from the file in a moment."""
+        """Return True if the file may get more text soon."""
         if self.is_ended or not self._file:
             return False
         now = os.fstat(self._file.fileno())

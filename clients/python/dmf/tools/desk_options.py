@@ -1,4 +1,4 @@
-"""The options of the tools that show a desk, and how such a tool opens and ends one."""
+"""The options of the tools that show a desk, and how these tools open and close it."""
 
 from __future__ import annotations
 
@@ -20,11 +20,11 @@ from .command import Status, ToolFault, status_of, warn
 
 
 def add_project_words(parser: argparse.ArgumentParser) -> None:
-    """Adds the options of the tools that open projects."""
+    """Add the options of the tools that open projects."""
     parser.add_argument(
         "--keep",
         action="store_true",
-        help=f"keep what is done in a new project beside the table, FILE{ENDING}",
+        help=f"keep all steps in a new project beside the table, FILE{ENDING}",
     )
     parser.add_argument(
         "--table",
@@ -34,15 +34,15 @@ def add_project_words(parser: argparse.ArgumentParser) -> None:
 
 
 def open_desk(words: argparse.Namespace, *, with_solve: bool, may_follow: bool = False) -> Desk:
-    """The desk of the table, the problem or the project that the words name. Its `news` are what
-    was taken for granted. The flows may follow where no project keeps them. Raises a `ToolFault`.
-    """
+    """Return the desk for the table, the problem or the project in the arguments. Its `news` say
+    what was assumed. With `may_follow`, and if no project keeps the steps, the flows may be
+    computed later. Raises a `ToolFault`."""
     try:
         if is_project(words.path):
             if says_table(words) or words.raw_names or words.keep:
                 raise ToolFault(
-                    f"{words.path} is a project, which says itself what its table is: of the "
-                    "options --table alone fits",
+                    f"{words.path} is a project, which already says what its table is: of the "
+                    "table options, only --table is allowed",
                     Status.USAGE,
                 )
             return project_desk(words.path, words.table or "")
@@ -52,7 +52,7 @@ def open_desk(words: argparse.Namespace, *, with_solve: bool, may_follow: bool =
                 Status.USAGE,
             )
         if words.keep and os.path.lexists(beside(words.path)):
-            # What the options ask for may be another network than that of the project.
+            # The options may describe another network than the project has.
             raise ToolFault(
                 f"{beside(words.path)} already exists; {_how_to_open(beside(words.path))}",
                 Status.LOST,
@@ -83,13 +83,13 @@ def open_desk(words: argparse.Namespace, *, with_solve: bool, may_follow: bool =
 
 
 def _how_to_open(path: str) -> str:
-    """Return how the tool that runs opens a project."""
+    """Return how the running tool opens a project."""
     tool = os.path.basename(sys.argv[0])
     return f"open it with: {tool if tool.startswith('dmf-') else 'dmf-plan'} {shlex.quote(path)}"
 
 
 def close_desk(name: str, desk: Desk) -> None:
-    """Ends the desk of a tool of this name. Raises a `ToolFault` if its project cannot be
+    """Close the desk of the tool with this name. Raises a `ToolFault` if its project cannot be
     written."""
     project = Scenarios.of(desk)
     try:
@@ -99,7 +99,7 @@ def close_desk(name: str, desk: Desk) -> None:
     except OSError as error:
         where = journal_of(project.file.path) if project else ""
         raise ToolFault(
-            f"the project could not be written ({error.strerror}); {where} has what was done, and "
-            "the next call takes it",
+            f"the project could not be written ({error.strerror}); {where} has the latest steps, "
+            "and the next call reads them",
             Status.LOST,
         ) from None

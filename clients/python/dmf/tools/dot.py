@@ -1,31 +1,36 @@
-"""Draws a maximum-flow problem, its solution and its cut, as a text for Graphviz.
+"""Draw a maximum-flow problem, its solution and its cut as a text for
+Graphviz.
 
-    dmf solve --cut <problem.max | tools/dmf-dot problem.max - | dot -Tsvg >picture.svg
+    dmf solve --cut <problem.max | dmf-dot problem.max - | dot -Tsvg >picture.svg
     dmf session problem.max <commands.txt |
-        tools/dmf-dot problem.max --commands commands.txt - | dot -Tsvg >picture.svg
+        dmf-dot problem.max --commands commands.txt - | dot -Tsvg >picture.svg
 
-PROBLEM is a problem text, and each ANSWER a text with the lines of a solution (`s`, `f`), of a cut
-(`c cut`, `c side`), or both; `-` is standard input. An arc shows what flows on it and its capacity.
-Full arcs are bold, those without flow are grey, and those of the cut are red; the nodes on the
-source's side of the cut are filled. Source and sink have two outlines. Numbers are those of the
-table that the problem was made of, and the title tells their unit. What a place gives, takes or
-lets through stands at the place.
+PROBLEM is a problem text. Each ANSWER is a text with the lines of a solution
+(`s`, `f`), of a cut (`c cut`, `c side`), or of both; `-` is standard input.
+Each arc is labelled with its flow and its capacity. Full arcs are bold, arcs
+without flow are grey, and arcs of the cut are red. The nodes on the source's
+side of the cut are filled, and the source and the sink have a double outline.
+The numbers are those of the table that the problem was made from, and the
+title shows their unit. What a place gives, takes or lets through is shown at
+the place.
 
-An ANSWER may also be what a session wrote. --commands names the file with its commands, or they
-stand among its replies as a terminal shows them. Then the picture has the last solution and the
-last cut, on the network as it is at the end: closed arcs are dashed, and nodes that are shut are
-grey. If the network changed after that solution or that cut, the picture says so.
+An ANSWER may also be the output of a session. Give its commands with
+--commands, or let them stand among the replies, as a terminal shows them. The
+picture then shows the last solution and the last cut on the network as it is
+at the end: closed arcs are dashed, and shut nodes are grey. If the network
+changed after that solution or that cut, the picture says so.
 
-Nodes and arcs have the names that comments of the problem give them, where they give any:
+If comments in the problem name nodes and arcs, the picture shows the names:
 
     c node 3 Reservoir
     c arc 5 Mill Street, 300 mm
 
-PROBLEM may also be a table of arcs, as `dmf-problem` takes it, with its options: `dmf-dot pipes.csv
---source Lake --sink Sea`.
+PROBLEM may also be a table of arcs as `dmf-problem` reads it, with its
+options: `dmf-dot pipes.csv --source Lake --sink Sea`.
 
-Of more arcs than --most the picture has those nearest the cut, and nodes of which arcs are left out
-have a dashed outline. Of more nodes than that it leaves out those without arcs.
+If there are more than --most arcs, the picture shows the arcs nearest to the
+cut, and gives a dashed outline to nodes whose other arcs are left out. If
+there are more than --most nodes, it leaves out those without arcs.
 """
 
 from __future__ import annotations
@@ -49,11 +54,11 @@ from .options import add_words, words_of
 NAME = "dmf-dot"
 MOST_DRAWN = 300
 LONGEST_TOLD = 60
-UNKNOWN = "commands that are not known changed the network; give them by --commands FILE"
+UNKNOWN = "unknown commands changed the network; give them with --commands FILE"
 
 
 def fault_in(path: str, fault: TextFault) -> ToolFault:
-    """The fault of a text, with the file and the field that it is about."""
+    """Return the fault of a text, with the file and the field that it is about."""
     name = "standard input" if path == "-" else path
     about = fault.field.decode(errors="replace")
     told = about if len(about) <= LONGEST_TOLD else about[:LONGEST_TOLD] + ".."
@@ -61,8 +66,8 @@ def fault_in(path: str, fault: TextFault) -> ToolFault:
 
 
 def judge_names(text: bytes, problem: Problem) -> None:
-    """Raises a `TextFault` where a comment names nothing, or what has a name, or what is not
-    there."""
+    """Raise a `TextFault` for a comment that gives no name, names something a second time, or names
+    something that does not exist."""
     line, counted = 1, 0
     named = set()
     for naming in namings(text):
@@ -82,7 +87,8 @@ def judge_names(text: bytes, problem: Problem) -> None:
 
 
 def problem_of(words: argparse.Namespace) -> Problem:
-    """The problem that the words name, whose names are judged too. Raises a `ToolFault`."""
+    """Return the problem that the arguments name, after checking its names. Raises a
+    `ToolFault`."""
     subject = read_subject(words, in_doubt=True)
     for note in subject.notes:
         warn(NAME, note)
@@ -95,8 +101,8 @@ def problem_of(words: argparse.Namespace) -> Problem:
 
 
 class ProblemAnswer:
-    """What the lines of solutions and cuts have said so far. Flows may be told in any order, and in
-    parts."""
+    """What the lines of solutions and cuts have said so far. The flows may come in any order, and
+    in parts."""
 
     def __init__(self, problem: Problem) -> None:
         self.problem = problem
@@ -108,12 +114,12 @@ class ProblemAnswer:
         self.has_value = False
         self.told: list[tuple[int, int, int]] = []
         self.flows: list[int] | None = None
-        # The capacity of the cut, and its line.
+        # The capacity of the cut, and the number of its line.
         self.cut: tuple[int, int] | None = None
         self.side: set[int] = set()
 
     def read(self, text: bytes) -> None:
-        """Takes in an answer. Raises a `TextFault`."""
+        """Read an answer. Raises a `TextFault`."""
         read = lines(text)
         line = 0
         try:
@@ -161,7 +167,7 @@ class ProblemAnswer:
                 raise Fault("second cut")
             self.cut = value, line
         elif self.cut is None:
-            raise Fault("a side before its cut")
+            raise Fault("a side line before its cut")
         elif not 1 <= value <= self.problem.node_count:
             raise Fault(f"no such node: {value}")
         else:
@@ -174,17 +180,17 @@ class ProblemAnswer:
             return
         capacity, line = self.cut
         if self.problem.source not in self.side or self.problem.sink in self.side:
-            raise TextFault(line, "the side of this cut has not the source, or has the sink")
+            raise TextFault(line, "the side of this cut lacks the source or contains the sink")
         carried = sum(
             arc.capacity for arc in self.arcs if arc.tail in self.side and arc.head not in self.side
         )
         if carried != capacity:
-            raise TextFault(line, f"the arcs of this cut carry {carried}, and not {capacity}")
+            raise TextFault(line, f"the arcs of this cut carry {carried}, not {capacity}")
 
     def flows_of_arcs(self) -> list[int]:
-        """The flow of each arc: that of its line where there is a line for each arc in order; and
-        else what its capacity allows of what the lines say of all arcs with its ends, the arcs
-        before it served first."""
+        """Return the flow on each arc. If the answer has one flow line for each arc in order, each
+        arc gets its own. Otherwise the flow between two nodes is shared out among the arcs between
+        them: each, in order, takes as much as its capacity allows."""
         told = self.told
         if len(told) == len(self.arcs) and all(
             one[:2] == arc[:2] and one[2] <= arc[2] for one, arc in zip(told, self.arcs)
@@ -203,7 +209,7 @@ class ProblemAnswer:
 
 
 def is_of_session(text: bytes) -> bool:
-    """Whether a text has commands, or replies to changes, or brief replies to solves."""
+    """Return True if a text has commands, replies to changes, or brief replies to solves."""
     return any(
         kind_of(fields(line)) in (Kind.COMMAND, Kind.CHANGED, Kind.SOLVED) for line in lines(text)
     )
@@ -212,7 +218,7 @@ def is_of_session(text: bytes) -> bool:
 def follow(
     problem: Problem, texts: list[tuple[str, bytes]], commands: str | None
 ) -> TranscriptReader:
-    """Takes in what a session wrote, in these texts one after the other. Raises a `ToolFault`."""
+    """Read the output of a session from these texts, one after the other. Raises a `ToolFault`."""
     follower = TranscriptReader(
         problem, None if commands is None else io.BytesIO(read_file(commands))
     )
@@ -233,20 +239,21 @@ def follow(
 
 
 def drawing_of_session(follower: TranscriptReader) -> Drawing:
-    """The last solution and the last cut, on the network as it is at the end."""
+    """Return a drawing of the last solution and the last cut, on the network as it is at the
+    end."""
     timeline, solution, cut = follower.timeline, follower.solution, follower.cut
     flows: list[int | None] = [None] * len(timeline.arcs)
     notes = []
     if solution:
         for at, flow in zip(solution.numbers, solution.flows):
-            # An arc whose addition was undone is not there any more.
+            # If the addition of an arc was undone, the arc no longer exists.
             if at <= len(flows) and not timeline.arcs[at - 1].is_closed:
                 flows[at - 1] = flow
         notes += ["the network was changed after these flows"] * (
             solution.serial != timeline.serial
         )
     elif follower.solves_are_brief:
-        notes += ["the flows of the last solve were not told; print flow tells them"]
+        notes += ["the flows of the last solve were not printed; `print flow` prints them"]
     if cut:
         notes += ["the network was changed after this cut"] * (cut.serial != timeline.serial)
     side = set(cut.side) if cut else set()
@@ -254,7 +261,7 @@ def drawing_of_session(follower: TranscriptReader) -> Drawing:
 
 
 def drawing_of(problem: Problem, paths: list[str], commands: str | None) -> Drawing:
-    """What is drawn of the answers in these files."""
+    """Return a drawing of the answers in these files."""
     texts = [(path, read_file(path)) for path in paths]
     if commands is None and not any(is_of_session(text) for _, text in texts):
         answer = ProblemAnswer(problem)
@@ -285,7 +292,7 @@ def options() -> argparse.Namespace:
         metavar="ARCS",
         type=int,
         default=MOST_DRAWN,
-        help=f"draw at most so many arcs ({MOST_DRAWN})",
+        help=f"draw at most this many arcs ({MOST_DRAWN})",
     )
     add_words(
         parser,
@@ -294,11 +301,11 @@ def options() -> argparse.Namespace:
     )
     words = words_of(parser, sys.argv[1:], ends_are_words=False)
     if words.most < 1:
-        parser.error("--most is at least 1")
+        parser.error("--most must be at least 1")
     if words.commands is not None and not words.others:
         parser.error("--commands needs an ANSWER")
     if [words.path, *words.others, words.commands].count("-") > 1:
-        parser.error("standard input is read once")
+        parser.error("standard input can be read only once")
     return words
 
 
@@ -308,9 +315,8 @@ def main() -> int:
     count = len(drawing.drawn)
     if count > words.most and not drawing.side:
         told = (
-            f"{count} arcs are too many to draw. With a cut, as of `dmf solve --cut`, those "
-            "nearest "
-            "it are drawn"
+            f"{count} arcs are too many to draw. With a cut, as from `dmf solve --cut`, the arcs "
+            "nearest the cut are drawn"
         )
         raise ToolFault(told)
     for note in drawing.notes:
@@ -318,7 +324,7 @@ def main() -> int:
     if count > words.most:
         warn(
             NAME,
-            f"of {count} arcs those nearest the cut are drawn, {words.most} of them",
+            f"of {count} arcs, only the {words.most} nearest the cut are drawn",
         )
     write("".join(f"{line}\n" for line in picture(drawing, words.most)))
     return Status.DONE

@@ -1,31 +1,36 @@
-"""Prints the answers of dmf with names.
+"""Print answers of dmf with the names of nodes and arcs.
 
     dmf solve --cut <PROBLEM | dmf-names PROBLEM
     dmf session PROBLEM <COMMANDS | dmf-names PROBLEM --commands COMMANDS
     dmf-names PROBLEM <TRANSCRIPT
 
-The names stand in comments of the file PROBLEM: 'c node 3 Reservoir', 'c arc 5 Mill Lane'. A node
-without a name has its number instead, and an arc its ends. Before each arc stands its number, by
-which commands name it:
+The names are read from comments in the file PROBLEM: 'c node 3 Reservoir', 'c
+arc 5 Mill Lane'. A node without a name is shown by its number, and an arc
+without a name by its ends. In front of each arc stands its number, which
+commands use:
 
     value 165
       10 Mill Lane, Mill -> Market: 45 of 45
 
-Numbers are those of the table that the problem was made of, with its unit, as far as comments tell
-them. A place with a limit is one, and what is not of the table goes by what it means: 'what Mill
-lets through', 'what Mill gives at most'.
+The numbers are those of the table that the problem was made from, with its
+unit, as far as comments give them. A place with a limit is shown as one place,
+and an arc that the table does not have by what it means: 'what Mill lets
+through', 'what Mill gives at most'.
 
-PROBLEM may also be the table itself, with the options by which dmf-problem made the problem of it:
+PROBLEM may also be the table itself, with the options with which dmf-problem
+made the problem from it:
 
-    dmf-problem Lake Sea <pipes.csv | dmf solve --cut | dmf-names pipes.csv Lake Sea
+    dmf-problem Lake Sea <pipes.csv | dmf solve --cut |
+        dmf-names pipes.csv Lake Sea
 
-Standard input has the answer: a solution and a cut, or a session's replies. COMMANDS has the
-session's commands, and may be written while it runs, as by 'tee COMMANDS | dmf session PROBLEM |
-dmf-names PROBLEM --commands COMMANDS'. In a transcript the commands stand among the replies, as a
-terminal shows them. If a session has changed the network and dmf-names has no commands, it prints
-flows without capacities, and cuts without their arcs. It adds names to a printed problem. It
-refuses an answer that does not fit the problem or the commands, and prints all other lines as they
-are.
+The answer is read from standard input: a solution and a cut, or the replies of
+a session. COMMANDS has the session's commands, and may still be written to:
+'tee COMMANDS | dmf session PROBLEM | dmf-names PROBLEM --commands COMMANDS'.
+In a transcript, the commands stand among the replies, as a terminal shows
+them. If a session has changed the network and dmf-names does not have the
+commands, it prints flows without capacities, and cuts without their arcs. It
+adds names to a printed problem. It refuses an answer that does not match the
+problem or the commands, and prints all other lines unchanged.
 """
 
 from __future__ import annotations
@@ -60,15 +65,13 @@ from .options import add_words, words_of
 
 NAME = "dmf-names"
 UNKNOWN = (
-    "commands that are not known changed the network, so capacities and the arcs of cuts are left "
-    "out from here on; "
-    "give the commands by --commands FILE"
+    "unknown commands changed the network, so capacities and the arcs of cuts are left out from "
+    "here on; give the commands with --commands FILE"
 )
 
 
 class AnswerNames:
-    """How the nodes and arcs of a problem are shown, and its numbers: as the table of the problem
-    has them."""
+    """How the nodes and arcs of a problem, and its numbers, are shown: as its table has them."""
 
     def __init__(self, problem: Problem, subject: LoadedProblem) -> None:
         self.subject = subject
@@ -84,18 +87,18 @@ class AnswerNames:
         return self.nodes.get(place, str(place))
 
     def ends(self, tail: int, head: int) -> str:
-        """The ends of an arc, or what one stands for that is not of the table."""
+        """Return the ends of an arc, or what the arc stands for if the table does not have it."""
         role = self.folding.role(tail, head)
         return role_words(role, self.node) if role else f"{self.node(tail)} -> {self.node(head)}"
 
     def arc(self, number: int, arc: ArcRecord) -> str:
-        """An arc's name and its ends."""
+        """Return an arc's name and its ends."""
         name, ends = self.arcs.get(number), self.ends(arc.tail, arc.head)
         return ends if name is None or self.folding.role(arc.tail, arc.head) else f"{name}, {ends}"
 
     def cut(self, cut: CutReply, arcs: list[ArcRecord]) -> tuple[list[int], list[int]]:
-        """The side of a cut and the numbers of its arcs, none of which is an unlimited source or
-        sink; no arcs if they are not known."""
+        """Return the side of a cut and the numbers of its arcs, without unlimited sources and
+        sinks. If the arcs are not known, there are none."""
         if cut.arcs is None or not self.folding.has_unlimited:
             return cut.side, cut.arcs or []
         opened = [(number, arc) for number, arc in enumerate(arcs, 1) if not arc.is_closed]
@@ -105,12 +108,12 @@ class AnswerNames:
         ]
 
     def places(self, side: list[int]) -> str:
-        """The places of a side."""
+        """Return the places on a side."""
         return ", ".join(map(self.node, self.folding.places(side)))
 
     def comments(self, printed: PrintedReply) -> Iterator[str]:
-        """The comments that give a printed problem what is said of its table and its columns, and
-        its names, by the numbers that its arcs have there."""
+        """Yield the comments that describe a printed problem's table and its columns, and its
+        names, with the numbers that the arcs have there."""
         yield from table_comments(
             renumbered(self.described, (arc[:2] for arc in printed.problem.arcs))
         ).splitlines()
@@ -124,14 +127,14 @@ class AnswerNames:
 
 
 class Telling:
-    """Tells the events of an answer."""
+    """Prints the events of an answer in words."""
 
     def __init__(self, names: AnswerNames, follower: TranscriptReader) -> None:
         self.names = names
         self.follower = follower
 
     def tell(self, event: Event) -> Iterator[str]:
-        """The lines that tell an event."""
+        """Yield the lines for an event."""
         text, told = self.names.measure.text, self.names.measure.told
         if isinstance(event, SolutionReply):
             yield f"value {told(event.value)}"
@@ -157,8 +160,8 @@ class Telling:
             yield display(event.line.decode(errors="replace")) + self.meaning(event)
 
     def meaning(self, event: Other | Asked | ChangedReply | RefusedReply) -> str:
-        """What the number of a reply to a change, or of a command, is in the table's terms, where
-        that is another one."""
+        """Return the number in a command or in the reply to a change as the table shows it, if that
+        differs."""
         number = (
             event.value
             if isinstance(event, ChangedReply)
@@ -175,7 +178,7 @@ class Telling:
 
     @staticmethod
     def amount(line: bytes) -> int | None:
-        """The capacity in a command."""
+        """Return the capacity in a command."""
         try:
             command = read_command(line)
         except Fault:
@@ -183,7 +186,7 @@ class Telling:
         return command.numbers[-1] if command and command.word in ("cap", "add") else None
 
     def arc(self, number: int, arc: ArcRecord) -> str:
-        """An arc with its number, where that is known."""
+        """Return an arc with its number, if the number is known."""
         if not self.follower.is_numbered:
             return f"  {self.names.ends(arc.tail, arc.head)}"
         width = len(str(len(self.follower.timeline.arcs)))
@@ -191,17 +194,17 @@ class Telling:
 
 
 def table(names: AnswerNames, follower: TranscriptReader) -> str:
-    """The arcs of the last solution as a table for a spreadsheet. Where its cut was not told,
-    nothing stands in its column."""
+    """Return the arcs of the last solution as a table for a spreadsheet. If the answer has no cut
+    of that solution, its column is empty."""
     solution, cut = follower.solution, follower.cut
     if solution is None and follower.is_known:
-        hint = "; `print flow` after the last solve tells them" if follower.solves_are_brief else ""
+        hint = "; `print flow` after the last solve prints them" * bool(follower.solves_are_brief)
         raise ToolFault(f"the answer ends without a solution and its flows{hint}")
     if solution is None or not follower.is_numbered:
         raise ToolFault(
-            "the arcs of the last solution are not known; give the commands by --commands FILE"
+            "the arcs of the last solution are not known; give the commands with --commands FILE"
         )
-    # The arcs of a cut are None if the network was not known then.
+    # The arcs of a cut are None if the network was not known at that point.
     is_known = cut is not None and cut.arcs is not None and cut.serial == solution.serial
     is_same = is_known and cut is not None and cut.serial == follower.timeline.serial
     crossing = (
@@ -232,7 +235,7 @@ def table(names: AnswerNames, follower: TranscriptReader) -> str:
 
 
 def events(follower: TranscriptReader, commands: CommandLines | None) -> Iterator[Event]:
-    """What the answer on standard input tells, line by line as it comes."""
+    """Yield the events of the answer on standard input as its lines come."""
     try:
         for line in standard_input():
             yield from follower.take(line)
@@ -264,23 +267,23 @@ def options() -> argparse.Namespace:
     parser.add_argument(
         "--json",
         action="store_true",
-        help="write the answer as objects in JSON, one a line",
+        help="write the answer as JSON objects, one a line",
     )
     add_words(
         parser,
         "PROBLEM [SOURCE SINK]",
-        "the problem that the answer is one to, or the table that it was made of",
+        "the problem that was solved, or the table that it was made from",
     )
     words = words_of(parser, sys.argv[1:])
     if words.csv and words.json:
-        parser.error("--csv writes a table, and --json objects")
+        parser.error("--csv and --json cannot be used together")
     if words.path == "-":
-        parser.error("PROBLEM is a file, since standard input has the answer")
+        parser.error("PROBLEM must be a file, since the answer is read from standard input")
     return words
 
 
 def problem_of(subject: LoadedProblem) -> Problem:
-    """The problem of what the words name. Raises a `ToolFault`."""
+    """Return the problem of what the arguments name. Raises a `ToolFault`."""
     for note in subject.notes:
         warn(NAME, note)
     try:

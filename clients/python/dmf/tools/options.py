@@ -1,4 +1,4 @@
-"""The options that say what a table is, in every tool, and the words that name its file."""
+"""The options that describe a table, in every tool, and the arguments that name its file."""
 
 from __future__ import annotations
 
@@ -14,11 +14,11 @@ from .questions import asker
 
 
 def encoding(word: str) -> str:
-    """The name of an encoding of text."""
+    """Return the name of a text encoding."""
     try:
         b"A".decode(word)
     except UnicodeDecodeError:
-        # It must be an encoding of text in which some byte is no character.
+        # It must be a text encoding in which this byte is not a character.
         pass
     except (LookupError, UnicodeError):
         raise argparse.ArgumentTypeError(f"not an encoding of text: {word}") from None
@@ -26,17 +26,18 @@ def encoding(word: str) -> str:
 
 
 def scale(word: str) -> Decimal:
-    """The factor by which decimal numbers are multiplied."""
+    """Return the factor by which numbers are multiplied."""
     if not re.fullmatch(r"[0-9]{1,20}(\.[0-9]{1,20})?", word) or not Decimal(word):
         raise argparse.ArgumentTypeError(f"not a decimal number above 0: {word}")
     return Decimal(word)
 
 
 def add_options(parser: argparse.ArgumentParser) -> None:
-    """Adds the options that say what a table is. tables.txt tells them, and not the tool's help."""
+    """Add the options that describe a table. Their help is in tables.txt instead of in each tool's
+    help."""
     group = parser.add_argument_group(
         "tables",
-        "The options that say what a table is: dmf help tables (or python3 -m dmf help tables).",
+        "dmf help tables (or python3 -m dmf help tables) lists the options for tables.",
     )
 
     def add(name: str, **how: Any) -> None:
@@ -62,15 +63,15 @@ def add_options(parser: argparse.ArgumentParser) -> None:
 def parsed(
     parser: argparse.ArgumentParser, given: list[str], fixed: int | None = 0
 ) -> argparse.Namespace:
-    """The arguments, of which `places` gets those that are no options: so many that are `fixed`,
-    and then the source and the sink. None says that all are fixed. Arguments that do not go
-    together are refused."""
+    """Return the arguments. The first `fixed` words that are not options, or all if it is None, are
+    `fixed`; `places` are the source and the sink after them. Arguments that contradict each other
+    are refused."""
     end = given.index("--") if "--" in given else len(given)
     words, unknown = parser.parse_known_intermixed_args(given[:end])
     if unknown:
         options = [name for name in parser._option_string_actions if name.startswith("--")]
         parser.error(f"unrecognized arguments: {' '.join(unknown)}{near(unknown[0], options)}")
-    # After -- no argument is an option, so a place there may begin with a dash.
+    # After -- no argument is an option, so the name of a place may begin with a dash there.
     places = [*words.places, *given[end + 1 :]]
     fixed = len(places) if fixed is None else fixed
     words.fixed, words.places = places[:fixed], places[fixed:]
@@ -100,7 +101,7 @@ def add_words(
     form: str = "FILE [SOURCE SINK]",
     what: str = "a table of arcs, or a problem's file",
 ) -> None:
-    """Adds the words that name the file, and what a table in it is."""
+    """Add the arguments that name the file, and the options that describe a table in it."""
     parser.add_argument("places", metavar=form, nargs="*", help=what)
     add_options(parser)
 
@@ -108,8 +109,8 @@ def add_words(
 def words_of(
     parser: argparse.ArgumentParser, given: list[str], *, ends_are_words: bool = True
 ) -> argparse.Namespace:
-    """The words that were given, with the path of the file. After it stand the source and the sink,
-    or else other words: `others`."""
+    """Return the arguments, with the path of the file. The words after the file are the source and
+    the sink, or `others` unless `ends_are_words`."""
     words = parsed(parser, given, 1 if ends_are_words else None)
     if not words.fixed:
         parser.error("name the file of a table or a problem")

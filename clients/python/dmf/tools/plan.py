@@ -1,21 +1,22 @@
-"""Plans a network by its names: close, widen or add an arc, shut a place, solve, and step back and
-forth.
+"""Plan changes to a network by its names: close, widen or add an arc, shut a
+place, solve, and step back and forth.
 
     dmf-plan pipes.csv
     dmf-plan pipes.csv Reservoir Harbour
     dmf-plan problem.max <COMMANDS
     dmf-plan pipes.dmf.json
 
-FILE is a table of arcs, as `dmf-problem` takes it, a problem's file, or a project, which keeps what
-was done. If you name no source of a table, it is the one place that no arc enters; if you name no
-sink, the one that no arc leaves. On a terminal the tab key completes names, and `help` lists the
-commands:
+FILE is a table of arcs as `dmf-problem` reads it, a problem's file, or a
+project, which keeps what was done. If a table is given without a source, the
+source is the one place that no arc enters; without a sink, the sink is the one
+place that no arc leaves. At a terminal, the tab key completes names, and
+`help` lists the commands:
 
     value 165 litres per second, the greatest
     165, greatest> close "Mill Lane"
 
-Off a terminal each line of standard input is a command. Blank lines and lines that begin with # are
-skipped.
+Otherwise each line of standard input is a command. Blank lines and lines that
+begin with # are skipped.
 """
 
 from __future__ import annotations
@@ -49,13 +50,13 @@ def options() -> argparse.Namespace:
     parser.add_argument(
         "--json",
         action="store_true",
-        help="answer each command of a script by objects in JSON, one a line",
+        help="answer each command of a script with JSON objects, one a line",
     )
     return words_of(parser, sys.argv[1:])
 
 
 def opened(words: argparse.Namespace) -> Desk:
-    """The desk for what the words name."""
+    """Return the desk for the file and options in the arguments."""
     desk = open_desk(words, with_solve=False)
     for note in desk.take_news():
         warn(NAME, note)
@@ -65,7 +66,7 @@ def opened(words: argparse.Namespace) -> Desk:
 def main() -> int:
     words = options()
     is_typed = sys.stdin is not None and sys.stdin.isatty() and not words.json
-    # A session that has ended, or a page that has gone, breaks a pipe, and does not end this.
+    # If a session has ended or a page has gone, a write to it fails instead of ending the tool.
     signal.signal(signal.SIGPIPE, signal.SIG_IGN)
     desk = opened(words)
     offer = (
@@ -83,7 +84,7 @@ def main() -> int:
     )
     try:
         if is_typed:
-            # At a terminal Ctrl-C breaks off a command, and not the session.
+            # At a terminal, Ctrl-C interrupts a command, and not the session.
             signal.signal(signal.SIGINT, signal.default_int_handler)
             plan.run_typed()
             return Status.DONE

@@ -1,23 +1,26 @@
-"""Makes a problem of a table of arcs: a CSV file, or a sheet of a workbook.
+"""Make a problem from a table of arcs: a CSV file, or a sheet of a workbook.
 
     dmf-problem SOURCE SINK <TABLE >PROBLEM
 
-Each row is an arc: its tail, its head, its capacity and, if there is one, its name. Usual titles in
-English, German, French and Spanish may stand in any order; else columns stand in this one. Nodes
-have numbers in the order in which they first appear in the table, and arcs in the order of their
-rows. Comments in the problem have the names, and dmf-names finds them there. If a table has faults,
-standard error names their lines, and dmf-problem writes no problem. If something only looks like a
-mistake, there is a warning.
+Each row is an arc: its tail, its head, its capacity and, if there is one, its
+name. Columns with the usual titles in English, German, French or Spanish may
+stand in any order; otherwise they must stand in this one. Nodes are numbered
+in the order in which they first appear in the table, and arcs in the order of
+their rows. The names are kept in comments of the problem, where dmf-names
+finds them. If a table has faults, dmf-problem lists them with their lines on
+standard error, and writes no problem. If something only looks like a mistake,
+it prints a warning.
 
-A table, and one of places with the most that may pass through each; and two sheets of a workbook:
+A table of arcs with a table of the most that may pass through each place; and
+two sheets of a workbook:
 
     dmf-problem --table pipes.csv --node-limits pumps.csv Lake Town >town.max
-    dmf-problem --table net.xlsx#Rohre --places net.xlsx#Orte Lake Town >town.max
+    dmf-problem --table net.xlsx#Rohre --places net.xlsx#Orte Lake Town
 
-Two mills, the second of which gives at most 20, and towns that towns.csv lists with the most that
-each takes:
+Two mills, the second of which gives at most 20, and the towns in towns.csv,
+which lists the most that each takes:
 
-    dmf-problem --source Mill --source "New Mill=20" --sinks towns.csv <roads.csv >roads.max
+    dmf-problem --source Mill --source "Mill 2=20" --sinks towns.csv <roads.csv
 """
 
 from __future__ import annotations
@@ -38,7 +41,7 @@ NAME = "dmf-problem"
 
 
 def parser() -> argparse.ArgumentParser:
-    """What reads the words."""
+    """Return the parser of the arguments."""
     made = argparse.ArgumentParser(
         NAME,
         usage="%(prog)s [OPTION..] SOURCE SINK <TABLE >PROBLEM",
@@ -50,10 +53,10 @@ def parser() -> argparse.ArgumentParser:
         "places",
         metavar="SOURCE SINK",
         nargs="*",
-        help="the places that flow comes from and goes to",
+        help="the places where flow comes from and goes to",
     )
     made.add_argument(
-        "--table", metavar="FILE", help="the table of arcs, in place of standard input"
+        "--table", metavar="FILE", help="the table of arcs; by default standard input"
     )
     add_options(made)
     return made

@@ -1,4 +1,4 @@
-"""Asks at a terminal what a table leaves open."""
+"""Ask at a terminal what a table leaves open."""
 
 from __future__ import annotations
 
@@ -15,20 +15,20 @@ Ask = Callable[[ColumnQuestion], Optional[str]]
 
 
 def asker(words: argparse.Namespace) -> Ask | None:
-    """What asks for a column; None where nobody is there to answer."""
+    """Return the function that asks for a column, or None if nobody is there to answer."""
     is_typed = all(stream and stream.isatty() for stream in (sys.stdin, sys.stderr))
     return ask if is_typed and not getattr(words, "json", False) else None
 
 
 def ask(question: ColumnQuestion) -> str | None:
-    """The title of the column that is chosen; None if none is."""
+    """Return the title of the chosen column, or None if none is chosen."""
     _tell(question.told().partition("; ")[0])
     width = max(len(name) for name, _ in question.choices)
     for number, (name, cells) in enumerate(question.choices, 1):
         _tell(f"  {number}  {name:{width}}  {shown_cells(cells)}")
     titles = [name for name, _ in question.choices]
     while True:
-        sys.stderr.write("Its number or title: ")
+        sys.stderr.write("Number or title: ")
         sys.stderr.flush()
         answer = sys.stdin.readline().strip()
         if not answer:
@@ -37,7 +37,7 @@ def ask(question: ColumnQuestion) -> str | None:
         if chosen in titles:
             _tell(f"next time: --{question.sought} {shlex.quote(chosen)}")
             return chosen
-        _tell(f"there is no column {answer!r} among these")
+        _tell(f"{answer!r} is not one of these columns")
 
 
 def _is_number(answer: str, most: int) -> bool:

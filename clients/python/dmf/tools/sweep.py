@@ -1,25 +1,25 @@
-"""Tries many cases on a problem, each on its solved network and taken back, and writes a table of
-what each costs.
+"""Try many cases on a problem, each on its solved network and undone afterwards, and write a table
+of what each costs.
 
-    tools/dmf-sweep problem.max --close-each --of cut --top 20 >table.csv
-    tools/dmf-sweep pipes.csv Lake Sea --cases cases.txt >table.csv
+    dmf-sweep problem.max --close-each --of cut --top 20 >table.csv
+    dmf-sweep pipes.csv Lake Sea --cases cases.txt >table.csv
 
-With --close-each each case closes one arc: one of the smallest minimum cut, or any arc. With
---cases each line of FILE is a case: commands of a session, with a `;` between two, as in `close 5;
-add 1 4 7`. The table has a line for each case in order: its number, its commands, the name of its
-first arc or node if comments of the problem give one, the greatest value after it, the difference
-from the value before, and why it was refused, if it was. With --top N it has only the N cases with
-the greatest losses, the greatest first, once all are tried.
+With --close-each, each case closes one arc: one of the smallest minimum cut, or any arc. With
+--cases, each line of FILE is a case: commands of a session, separated by `;`, as in `close 5; add 1
+4 7`. The table has a line for each case in order: its number, its commands, the name of its first
+arc or node if comments of the problem give one, the greatest value after it, the difference from
+the value before, and why it was refused, if it was. With --top N it has only the N cases with the
+greatest losses, the greatest first, once all are tried.
 
-If --table FILE is there from a run that broke off, the sweep goes on after its last whole line. In
-FILE each line has one more field, `problem`, the same for all lines of one problem; the table of
-another problem is refused, and so is one without this field, which an older version wrote. Two
-sweeps cannot write one FILE at once. On a terminal a bar on standard error shows how far it is, if
-the package tqdm is installed.
+If --table FILE exists because an earlier run was interrupted, the sweep goes on after its last
+whole line. In FILE each line has one more field, `problem`, which is the same for all lines of one
+problem. A table of another problem is refused, and so is one without this field, which an older
+version wrote. Two sweeps cannot write one FILE at the same time. On a terminal, a bar on standard
+error shows the progress if the package tqdm is installed.
 
-Values and differences are as the table of the problem has its numbers, and their titles tell the
-unit; commands have the whole numbers of the problem. A name that a spreadsheet would run as a
-formula has an apostrophe before it, unless --raw-names is given.
+Values and differences are in the numbers of the problem's table, and their titles show the unit;
+commands have the problem's whole numbers. A name that a spreadsheet would run as a formula gets an
+apostrophe in front, unless --raw-names is given.
 """
 
 from __future__ import annotations
@@ -48,8 +48,8 @@ def arguments() -> argparse.Namespace:
     parser = argparse.ArgumentParser(
         NAME,
         usage="%(prog)s [OPTION..] {--close-each | --cases FILE} PROBLEM [SOURCE SINK]",
-        description="Tries many cases on a problem, or on a table of arcs as dmf-problem takes it, "
-        "and writes a table of what each costs.",
+        description="Try many cases on a problem, or on a table of arcs as dmf-problem reads it, "
+        "and write a table of what each costs.",
         epilog=statuses(),
         allow_abbrev=False,
     )
@@ -58,18 +58,18 @@ def arguments() -> argparse.Namespace:
     wanted.add_argument(
         "--cases",
         metavar="FILE",
-        help="each line is a case: commands with a ; between two",
+        help="each line is a case: commands separated by ;",
     )
     parser.add_argument(
         "--of",
         choices=["cut", "all"],
         default="all",
-        help="which arcs are closed: of the cut, or all (default)",
+        help="which arcs are closed: those of the cut, or all (default)",
     )
     parser.add_argument(
         "--anew",
         action="store_true",
-        help="solve each case from nothing: sooner where paths are long; the table is the same",
+        help="solve each case from nothing: faster if paths are long; the table is the same",
     )
     parser.add_argument(
         "--top",
@@ -81,7 +81,7 @@ def arguments() -> argparse.Namespace:
         "--jobs",
         metavar="N",
         type=whole,
-        help="how many programs run at once; by default one a processor",
+        help="how many programs run at once; by default one for each processor",
     )
     parser.add_argument(
         "--table",
@@ -91,17 +91,17 @@ def arguments() -> argparse.Namespace:
     parser.add_argument(
         "--json",
         action="store_true",
-        help="write objects in JSON, one a line, in place of a table; not with --table",
+        help="write JSON objects, one a line, instead of a table; not with --table",
     )
     parser.add_argument(
         "--plot",
         metavar="FILE",
-        help="draw the losses in order, where matplotlib is there",
+        help="draw the losses in order; needs the package matplotlib",
     )
     add_words(parser, "PROBLEM [SOURCE SINK]", "a problem text, or a table of arcs")
     words = words_of(parser, sys.argv[1:])
     if words.json and words.table is not None:
-        parser.error("--json writes to standard output, and --table a table to go on with")
+        parser.error("--json and --table cannot be used together")
     return words
 
 
@@ -112,7 +112,7 @@ def whole(text: str) -> int:
 
 
 def plot(sweep: SweepRun, rows: list[list[str]], path: str) -> None:
-    """Draws the losses of rows, the greatest first."""
+    """Draw the losses of rows, the greatest first."""
     try:
         import matplotlib
 
@@ -167,7 +167,8 @@ def carry_out(words: argparse.Namespace, network: Network[Any], text: bytes) -> 
 
 
 def network_of(words: argparse.Namespace) -> tuple[Network[Any], bytes]:
-    """The network that the words name, and the text of its problem. Raises a `ToolFault`."""
+    """Return the network that the arguments name, and the text of its problem. Raises a
+    `ToolFault`."""
     subject = read_subject(words, in_doubt=True)
     for note in subject.notes:
         warn(NAME, note)
@@ -179,9 +180,9 @@ def network_of(words: argparse.Namespace) -> tuple[Network[Any], bytes]:
 
 def main() -> int:
     words = arguments()
-    # Ctrl-C comes as an exception, so that each program is ended.
+    # Ctrl-C raises an exception, so that each program is ended.
     raise_interrupts()
-    # A program that has ended is told by its status, and not by a signal here.
+    # A program that has ended is reported by its status; a write to it must not end this process.
     signal.signal(signal.SIGPIPE, signal.SIG_IGN)
     try:
         network, text = network_of(words)

@@ -1,5 +1,4 @@
-"""A sweep of dmf-sweep: its cases, of which the commands have numbers, the names of what they speak
-of, and its rows."""
+"""A sweep of dmf-sweep: its cases by number, the names of what they change, and its rows."""
 
 from __future__ import annotations
 
@@ -28,11 +27,10 @@ CHANGES = {"cap", "close", "shut", "add"}
 
 
 class CaseNames:
-    """Cases whose commands have numbers, as the client takes them, and the names of what they speak
-    of."""
+    """Cases in numbers as commands that the client takes, and the names of what they change."""
 
     def __init__(self, network: Network[Any], text: bytes) -> None:
-        """The names are those that comments of the problem's text give."""
+        """Read the names from the comments in the problem's text."""
         self.arcs = network.arcs
         self.nodes = network.nodes
         said = described(text)
@@ -46,7 +44,7 @@ class CaseNames:
 
     def command(self, word: str, *numbers: int) -> tuple[Any, ...]:
         if word in ("cap", "close"):
-            # Of a number without an arc the client says that there is none.
+            # The client refuses None as it refuses an arc that does not exist.
             arc = self.arcs[numbers[0] - 1] if 1 <= numbers[0] <= len(self.arcs) else None
             return (word, arc, *numbers[1:])
         ends = [self.node(number) for number in numbers[: 2 if word == "add" else 1]]
@@ -56,14 +54,14 @@ class CaseNames:
         return self.nodes[number - 1] if 1 <= number <= len(self.nodes) else None
 
     def text(self, word: str, *numbers: int) -> str:
-        """A command, and what its capacity is in the table's terms, where that is another
-        number."""
+        """Return a command, with its capacity as the table shows it if that differs."""
         text = " ".join(map(str, (word, *numbers)))
         is_told = word in ("cap", "add") and self.measure.text(numbers[-1]) != str(numbers[-1])
         return f"{text} ({self.measure.told(numbers[-1])})" if is_told else text
 
     def name(self, numbered: list[tuple[Any, ...]]) -> str:
-        """What the first command of a case speaks of. What is not there has no name."""
+        """Return the name of what the first command of a case changes, or nothing if that does not
+        exist."""
         if not numbered:
             return ""
         word, *numbers = numbered[0]
@@ -97,7 +95,7 @@ class CaseNames:
 
 
 def case_of(line: bytes, number: int) -> list[tuple[Any, ...]]:
-    """The commands of a line. Raises a `ToolFault` where it has others than changes."""
+    """Return the commands in a line. Raises a `ToolFault` for a command that is not a change."""
     commands = []
     for part in line.split(b";"):
         try:
@@ -106,7 +104,7 @@ def case_of(line: bytes, number: int) -> list[tuple[Any, ...]]:
             raise ToolFault(f"line {number} of the cases: {fault}") from None
         if command is None or command.word not in CHANGES:
             raise ToolFault(
-                f"line {number} of the cases: a case has cap, add, close and shut alone"
+                f"line {number} of the cases: a case can only have cap, add, close and shut"
             )
         commands.append((command.word, *command.numbers))
     return commands
@@ -127,7 +125,7 @@ def cases_of_arcs(network: Network[Any], of: str) -> list[list[tuple[Any, ...]]]
 
 
 class SweepRun:
-    """A sweep that was asked for: the network, its cases, and the form of its rows."""
+    """A sweep as it was asked for: the network, its cases, and the form of its rows."""
 
     def __init__(self, network: Network[Any], text: bytes, words: argparse.Namespace) -> None:
         self.network = network
@@ -148,7 +146,7 @@ class SweepRun:
         self._raw_names: bool = words.raw_names
 
     def begin_of_row(self, at: int) -> list[str]:
-        """What the row of a case has whatever comes of it."""
+        """Return the fields of a case's row that do not depend on its result."""
         numbered = self.cases[at - 1]
         commands = "; ".join(self._named.text(*command) for command in numbered)
         return [
@@ -173,19 +171,19 @@ class SweepRun:
         return "" if number is None else number_cell(self.measure.quantity(number), self.measure)
 
     def line(self, row: list[str]) -> str:
-        """A row as a line of a table."""
+        """Return a row as a line of a table."""
         return line(row, self.measure)
 
     def difference(self, row: list[str]) -> Decimal:
-        """The difference in a row that has one."""
+        """Return the difference in a row that has one."""
         return Decimal(row[4].replace(self.measure.sign or POINT, POINT))
 
     def losses(self, rows: list[list[str]]) -> list[list[str]]:
-        """The rows with a value, the greatest loss first; of equal ones the first."""
+        """Return the rows with a value, the greatest loss first; equal losses stay in order."""
         return sorted((row for row in rows if row[4]), key=self.difference)
 
     def rows(self, done: int) -> Iterator[list[str]]:
-        """The rows of the cases after so many."""
+        """Yield the rows of the cases after the first `done` ones."""
         asked = [self._named.case(numbered) for numbered in self.cases[done:]]
         is_watched = sys.stderr is not None and sys.stderr.isatty()
         for at, result in enumerate(
@@ -196,12 +194,12 @@ class SweepRun:
 
 
 class JsonSweep(SweepRun):
-    """A sweep whose rows are told as objects of JSON."""
+    """A sweep whose rows are written as JSON objects."""
 
     def __init__(self, network: Network[Any], text: bytes, words: argparse.Namespace) -> None:
         super().__init__(network, text, words)
         self._raw_names = True
 
     def line(self, row: list[str]) -> str:
-        """A row as an object; nothing for the titles."""
+        """Return a row as an object, and nothing for the titles."""
         return "" if row is self.head else case_line(row, self.measure)

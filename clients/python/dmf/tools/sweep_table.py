@@ -1,4 +1,5 @@
-"""The file in which dmf-sweep writes its table, and goes on where a run has left it."""
+"""The file in which dmf-sweep writes its table, and in which it goes on after an interrupted
+run."""
 
 from __future__ import annotations
 
@@ -18,15 +19,13 @@ from .sweep_run import NAME, SweepRun
 
 
 class ResultFile:
-    """The file of a table, which no other sweep writes meanwhile. Its rows have one field more:
-    what the rows of one problem have in common, a digest of the problem and its names.
-    """
+    """The file of a table, locked against other sweeps. Each row has one more field, which is the
+    same for all rows of one problem: a digest of the problem and its names."""
 
     def __init__(self, path: str, sweep: SweepRun, problem: str) -> None:
-        """Takes what a run left. What is after its last whole row is cut off. Raises a `ToolFault`
-        for what is no file, for a file that another sweep writes, for another file, and for the
-        table of another problem or of other cases.
-        """
+        """Read what an earlier run left, and cut off what follows its last whole row. Raises a
+        `ToolFault` if this is not a regular file, if another sweep is writing it, if it is not such
+        a table, or if it belongs to another problem or to other cases."""
         self.path = path
         self.sweep = sweep
         self.head = [*sweep.head, "problem"]
@@ -47,14 +46,14 @@ class ResultFile:
             raise ToolFault(f"{path} is not a table of {NAME}") from None
 
     def _locked(self) -> int:
-        """The file, open and locked. The system takes the lock away when the process ends, however
-        it does."""
+        """Return the file, open and locked. The system releases the lock when the process ends,
+        however it ends."""
         path = self.path
         try:
             if os.path.exists(path) and not stat.S_ISREG(os.stat(path).st_mode):
                 raise ToolFault(
-                    f"{path} is not a file in which a sweep can go on; without --table the table "
-                    "goes to standard output",
+                    f"{path} is not a regular file, so no sweep can go on in it; without --table "
+                    "the table goes to standard output",
                     Status.LOST,
                 )
             file = os.open(path, os.O_RDWR | os.O_CREAT | os.O_APPEND, 0o666)
@@ -70,13 +69,13 @@ class ResultFile:
         except OSError as error:
             warn(
                 NAME,
-                f"{path} cannot be locked: {error.strerror}. Let no other sweep write it meanwhile",
+                f"{path} cannot be locked: {error.strerror}. Let no other sweep write to it",
             )
         return file
 
     def _read(self, text: str, problem: str) -> tuple[list[list[str]], str]:
-        """The rows of the text that a run left, without their mark, and the part of the text that
-        has them."""
+        """Return the rows in the text that an earlier run left, without their digests, and the part
+        of the text that has them."""
         rows: list[list[str]] = []
         kept = ""
         whole_lines = io.StringIO(text[: text.rfind("\n") + 1], newline="")
@@ -85,17 +84,17 @@ class ResultFile:
             kept += self.sweep.line(cells)
         if rows[:1] == [self.head[:-1]]:
             raise ToolFault(
-                f"{self.path} does not say of which problem it is: an older {NAME} wrote it"
+                f"{self.path} does not say which problem it belongs to: an older {NAME} wrote it"
             )
         while rows and len(rows[-1]) != len(self.head):
             kept = kept[: -len(self.sweep.line(rows.pop()))]
-        # In another unit the numbers have other titles.
+        # In another unit, the columns of numbers have other titles.
         titles = [[title.partition(" (")[0] for title in head] for head in (self.head, *rows[:1])]
         is_begun = self.sweep.line(self.head).startswith(text) or titles[1:] == titles[:1]
         if not is_begun or not text.startswith(kept):
             raise ToolFault(f"{self.path} is not a table of {NAME}")
         if rows and rows[0] != self.head or any(row[-1] != self.mark for row in rows[1:]):
-            raise ToolFault(f"{self.path} is the table of another problem than {problem}")
+            raise ToolFault(f"{self.path} is the table of another problem, not of {problem}")
         return [row[:-1] for row in rows[1:]], kept
 
     def _judge_cases(self, sweep: SweepRun) -> None:
@@ -106,17 +105,16 @@ class ResultFile:
             raise ToolFault(f"{self.path} is the table of other cases")
         if [row[:3] for row in self.rows] != begins:
             raise ToolFault(
-                f"{self.path} has names of the other form: it was begun with --raw-names, or "
-                "without"
+                f"{self.path} has names in another form: only one of the two runs has --raw-names"
             )
 
     def write(self, row: list[str]) -> None:
-        """Adds a row, or where that fails nothing of it. Raises a `ToolFault`."""
+        """Add a row. If that fails, no part of it is left in the file. Raises a `ToolFault`."""
         self.rows.append(row)
         self._write(self.sweep.line([*row, self.mark]))
 
     def write_head(self) -> None:
-        """Adds the titles, if the file has none."""
+        """Write the titles, if the file is empty."""
         if not self._size:
             self._write(self.sweep.line(self.head))
 
@@ -134,7 +132,7 @@ class ResultFile:
 
 
 def holder(file: int) -> str:
-    """The process that has locked a file, as far as the system tells it."""
+    """Return the process that has locked a file, as far as the system knows it."""
     it = os.fstat(file)
     place = f"{os.major(it.st_dev):02x}:{os.minor(it.st_dev):02x}:{it.st_ino}"
     with contextlib.suppress(OSError):
