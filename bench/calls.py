@@ -1,4 +1,4 @@
-"""What bench/client measures of the client, and the same by scipy and igraph: each row of its
+"""What bench/client measures about the client, and the same with scipy and igraph: each row of its
 table, by the number of arcs."""
 
 from __future__ import annotations
@@ -18,14 +18,14 @@ from setting import BENCH, CACHE, DMF
 
 sys.path.insert(0, str(BENCH.parent / "clients" / "python"))
 os.environ.setdefault("DMF", str(DMF))
-# The program is measured, unless `by_library` is called.
+# The program is measured unless `by_library` is called.
 os.environ["DMF_LIBRARY"] = ""
 CASES = 50
 
 
 class Took(NamedTuple):
-    """What a row took: processor seconds, the peak memory of Python in bytes, and what of it was
-    there before; and the value that was found, or the sum of several."""
+    """The cost of a row: processor seconds, the peak memory of Python in bytes, and how much of it
+    was in use before; and the value that was found, or the sum of several."""
 
     seconds: float
     memory: int = 0
@@ -34,7 +34,7 @@ class Took(NamedTuple):
 
 
 def by_library() -> None:
-    """Has networks of this process run by the C library."""
+    """Let the C library run the networks of this process."""
     told = subprocess.run(
         [BENCH.parent / "tools/prebuilt", "library"], stdout=subprocess.PIPE, text=True, check=True
     )
@@ -42,8 +42,8 @@ def by_library() -> None:
 
 
 def drawn(arcs: int) -> Iterator[tuple[int, int, int]]:
-    """A random network as bench/generate.cpp makes it in form: 5 arcs for each node, capacities
-    from 1 to 1,000."""
+    """Return a random network in the form that bench/generate.cpp makes: 5 arcs for each node,
+    capacities from 1 to 1,000."""
     draw = random.Random(1990)
     nodes = arcs // 5
     for _ in range(arcs - nodes // 10):
@@ -55,7 +55,7 @@ def drawn(arcs: int) -> Iterator[tuple[int, int, int]]:
 
 
 def arrays_of(arcs: int) -> list[Any]:
-    """The columns as arrays of numpy, which are drawn once."""
+    """Return the columns as numpy arrays, which are drawn once."""
     import numpy
 
     file = CACHE / f"drawn-{arcs}.npy"
@@ -74,13 +74,14 @@ def rows_of(arcs: int) -> list[tuple[int, int, int]]:
 
 
 def in_memory(name: str) -> int:
-    """A line of /proc/self/status, in bytes."""
+    """Return a line of /proc/self/status, in bytes."""
     lines = Path("/proc/self/status").read_text().splitlines()
     return next(int(line.split()[1]) * 1024 for line in lines if line.startswith(name))
 
 
 def spent(child: int = 0) -> float:
-    """Processor seconds of this process, of its children that have ended, and of one that runs."""
+    """Return the processor seconds of this process, of its children that have ended, and of one
+    that is running."""
     seconds = sum(
         sum(resource.getrusage(who)[:2]) for who in (resource.RUSAGE_SELF, resource.RUSAGE_CHILDREN)
     )
@@ -91,14 +92,14 @@ def spent(child: int = 0) -> float:
 
 
 def child_of(made: Any) -> int:
-    """The process of a network's session; 0 if that runs by the library."""
+    """Return the process of a network's session, or 0 if the library runs it."""
     process = getattr(made._session, "process", None)
     return int(process.pid) if process else 0
 
 
 def measured(act: Callable[[], object], child: int = 0) -> Took:
-    """What a call takes, and the whole number that it returns, if it does. The peak of memory is
-    counted from here on."""
+    """Measure a call, and return the whole number that it returns, if it does. The peak of memory
+    is counted from here on."""
     with contextlib.suppress(OSError):
         Path("/proc/self/clear_refs").write_text("5")
     before, began = in_memory("VmRSS"), spent(child)
@@ -113,7 +114,7 @@ def source_and_sink(arcs: int) -> tuple[int, int]:
 
 
 def picked(arcs: int) -> list[int]:
-    """The numbers of the arcs that are closed, each in a case."""
+    """Return the numbers of the arcs that are closed, each in its own case."""
     return random.Random(7).sample(range(1, arcs), CASES)
 
 
@@ -143,8 +144,8 @@ def named_path(arcs: int) -> Path:
 
 
 def named_file(arcs: int) -> Path:
-    """A file with a name for each node and arc. It is made in a process of its own, whose memory is
-    not counted."""
+    """Make a file with a name for each node and arc, in a process of its own, whose memory is not
+    counted."""
     path = named_path(arcs)
     if not path.exists():
         subprocess.run(
@@ -317,8 +318,8 @@ def igraph_cases(arcs: int) -> Took:
 
 
 class Row(NamedTuple):
-    """A row of the table: what is measured, how dmf, scipy and igraph do it, and the part of the
-    arcs that it has."""
+    """A row of the table: what is measured, how dmf, scipy and igraph do it, and the share of the
+    arcs that it uses."""
 
     name: str
     dmf: Callable[[int], Took]
@@ -337,5 +338,5 @@ ROWS: dict[str, Row] = {
     "solved": Row("arrays to flows", solved, scipy_solved, igraph_solved),
     "cases": Row(f"{CASES} cases, a tenth of the arcs", cases, scipy_cases, igraph_cases, 10),
 }
-# The row whose memory stands in a row of its own.
+# The row whose memory is shown in a row of its own.
 LARGEST = "solved"

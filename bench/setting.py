@@ -14,7 +14,8 @@ DMF = BENCH.parent / "crates/dmf/out/dmf"
 CACHE = Path(os.environ.get("DMF_BENCH_CACHE") or Path.home() / ".cache/dmf-bench")
 SEED = 1990
 
-# By driver: the Debian package that it needs, a file of it, and what it is linked with.
+# For each driver: the Debian package that it needs, a file of the package, and what it is linked
+# with.
 PACKAGES: dict[str, tuple[str, str, list[str]]] = {
     "lemon": ("liblemon-dev", "/usr/include/lemon/preflow.h", []),
     "boost": ("libboost-graph-dev", "/usr/include/boost/graph/push_relabel_max_flow.hpp", []),
@@ -33,7 +34,7 @@ PACKAGES: dict[str, tuple[str, str, list[str]]] = {
 
 
 def is_there(driver: str) -> bool:
-    """Whether a driver's package is installed. A root user gets it installed."""
+    """Return True if a driver's package is installed. Root installs it."""
     package, file, _ = PACKAGES[driver]
     if not Path(file).exists() and os.geteuid() == 0 and shutil.which("apt-get"):
         print(f"installing {package}", file=sys.stderr)
@@ -49,7 +50,7 @@ def is_there(driver: str) -> bool:
 
 
 def build(name: str) -> Path:
-    """Compiles a program of this folder, as a packager would, and returns its path."""
+    """Compile a program of this folder, as a packager would, and return its path."""
     source, program = BENCH / f"{name}.cpp", CACHE / name
     sources = [source, *BENCH.glob("*.hpp")]
     if (
@@ -65,8 +66,8 @@ def build(name: str) -> Path:
 
 
 def network(family: str, arcs: int) -> Path:
-    """The file of a network. Makes it if it is missing or its maker has changed."""
-    # It takes 4 MB, which bench/client would count to Python.
+    """Return the file of a network. It is made if it is missing or its generator has changed."""
+    # Imported here: it takes 4 MB, which bench/client would count as Python's.
     import hashlib
 
     makers = b"".join((BENCH / name).read_bytes() for name in ("generate.cpp", "dimacs.hpp"))

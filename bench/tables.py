@@ -1,4 +1,4 @@
-"""The tables of a run, in Markdown."""
+"""Write the tables of a run, in Markdown."""
 
 from __future__ import annotations
 
@@ -55,7 +55,7 @@ def time_cell(took: Took | None, best: float, limit: int, name: str) -> str:
 
 
 def solving(best: Best, name: str) -> float | None:
-    """The seconds of a run that solved the network, if it did."""
+    """Return the seconds of a run that solved the network, if it did."""
     took = best.get(name, LATE)
     return took[0] if name != "dmf check" and took != LATE else None
 
@@ -83,7 +83,7 @@ def memory_rows(results: Results, names: Sequence[str]) -> Iterator[list[str]]:
 
 
 def text(results: Results, names: Sequence[str], repeat: int, limit: int, patience: int) -> str:
-    """The tables of the measurements, by family and number of arcs and then by solver."""
+    """Return the tables of the measurements, by family and number of arcs and then by solver."""
     parts = [
         f"Measured on {machine()}",
         f"Seconds to read, solve and write, the least of {repeat} runs (one, where it took more "
@@ -98,6 +98,6 @@ def text(results: Results, names: Sequence[str], repeat: int, limit: int, patien
 
 
 def put(file: Path, text: str, begin: str, end: str) -> None:
-    """Puts a text between two marks in a file."""
+    """Put a text between two marks in a file."""
     before, _, rest = file.read_text().partition(begin)
     file.write_text(f"{before}{begin}\n\n{text}\n\n{end}{rest.partition(end)[2]}")
