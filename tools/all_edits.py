@@ -1,17 +1,17 @@
 #!/usr/bin/env python3
-"""Tries all must-fail edits, also those that the gate leaves out: crates/*/more-must-fail/ beside
-crates/*/must-fail/.
+"""Try all must-fail edits, including those that the gate leaves out: crates/*/more-must-fail/ as
+well as crates/*/must-fail/.
 
     python3 tools/all_edits.py [CRATE..]
 
-In a copy of the checkout, `rt must-fail` tries the edits of each crate that has more than the gate
-tries, or of the crates that are named. Several crates are tried side by side, as many as processors
-and memory allow. What was said of an edit is printed once its crate is done. The last line is 'N
-passed, M failed', and the status is 0 only if nothing failed.
+`rt must-fail` tries, in a copy of the checkout, the edits of each crate that has more than the gate
+tries, or of the crates that are named. Several crates are tried in parallel, as many as processors
+and memory allow. The results for a crate are printed once it is done. The last line is 'N passed, M
+failed', and the status is 0 only if nothing failed.
 
 An edit passes if the prover refuses it at a goal, which is then printed (tools/must_fail.py). It
-fails if the prover takes it or cannot read it, if it cannot be made, or if it is refused by a
-limit, or for a lost name.
+fails if the prover accepts it or cannot read it, if it cannot be made, or if it is refused because
+of a limit or a lost name.
 """
 
 from __future__ import annotations
@@ -33,7 +33,8 @@ MEMORY = 3.5
 
 
 def crates_with_more() -> list[str]:
-    """The crates that have edits that the gate leaves out, the one with the most edits first."""
+    """Return the crates with edits that the gate leaves out, the crate with the most edits
+    first."""
     crates = {folder.parent for folder in ROOT.glob(f"crates/*/{MORE}")}
     return [
         crate.name for crate in sorted(crates, key=lambda crate: (-len(all_of(crate)), crate.name))
@@ -41,19 +42,19 @@ def crates_with_more() -> list[str]:
 
 
 def all_of(crate: Path) -> list[Path]:
-    """The edits of a crate, those that the gate tries first."""
+    """Return the edits of a crate, those that the gate tries first."""
     return [*edits_of(crate, KEPT, MORE)]
 
 
 def copy_checkout(to: Path) -> None:
-    """Copies the files of the checkout, new ones too, and the libraries that are built, and puts
-    all edits of a crate side by side."""
+    """Copy the files of the checkout, new ones too, and the libraries that are built, and put all
+    edits of a crate into one folder."""
     listed = ["git", "ls-files", "-z", "--cached", "--others", "--exclude-standard"]
     names = subprocess.run(
         listed, cwd=ROOT, capture_output=True, text=True, check=True
     ).stdout.split("\0")
     for name in {*filter(None, names)}:
-        # A file that is removed and still tracked is not there.
+        # A tracked file may have been removed.
         if (ROOT / name).is_file():
             place = to / name.replace(f"/{MORE}/", f"/{KEPT}/")
             if place.exists():
@@ -65,13 +66,13 @@ def copy_checkout(to: Path) -> None:
 
 
 def at_once() -> int:
-    """How many crates may be tried side by side."""
+    """Return how many crates may be tried in parallel."""
     memory = os.sysconf("SC_PAGE_SIZE") * os.sysconf("SC_PHYS_PAGES") / 2**30
     return max(1, min(len(os.sched_getaffinity(0)), int(memory / MEMORY)))
 
 
 def tried(crate: str, root: Path) -> str:
-    """What `rt must-fail` says of the crate's edits."""
+    """Return what `rt must-fail` says about the crate's edits."""
     ran = subprocess.run(
         ["rt", "must-fail", crate],
         cwd=root,
@@ -84,14 +85,14 @@ def tried(crate: str, root: Path) -> str:
 
 
 def verdicts(crate: str, said: str) -> list[Verdict]:
-    """What became of each edit of a crate, by what `rt` said of them."""
+    """Return the verdict on each edit of a crate, from what `rt` said."""
     found = judge_all(said)
     names = [name_of(edit) for edit in all_of(ROOT / "crates" / crate)]
     return [found.get(name, Verdict(name, "", "it was not tried")) for name in names]
 
 
 def try_all(crates: list[str]) -> int:
-    """Tries the edits of these crates, and returns the status."""
+    """Try the edits of these crates, and return the status."""
     judged: list[Verdict] = []
     with tempfile.TemporaryDirectory(prefix="dmf-edits-") as room, ThreadPoolExecutor(
         at_once()

@@ -1,17 +1,17 @@
 #!/usr/bin/env python3
-"""Proves and builds the program `dmf`, for the scripts dmf and tools/prebuilt.
+"""Prove and build the program `dmf`, for the scripts dmf and tools/prebuilt.
 
     python3 tools/build.py
 
-A crate begins once the crates below it are built, the one with the longest chain above it first.
-Several are built side by side, as many as processors and memory allow. Standard error shows which
-are in work and which are built, how long it has taken, and how long the rest is likely to take: on
-a terminal in one line, which is rewritten, and elsewhere in a line for each crate.
+A crate begins when the crates below it are built, and the crate with the longest chain above it
+begins first. Several are built in parallel, as many as processors and memory allow. Standard error
+shows which crates are being built and which are done, the time so far, and an estimate of the time
+left: on a terminal in one line, which is rewritten, otherwise in a line for each crate.
 
 Each crate is built in a folder of its own, with links to the crates below it, since no two calls of
-`rt` may work on one crate. The result moves to the crate's out/ once it is whole, so an interrupt
-leaves nothing half made, and the next call goes on with the crates that are missing. Of two calls
-at once, one waits for the other.
+`rt` may work on one crate. The result is moved to the crate's out/ once it is complete, so an
+interrupt leaves nothing half done, and the next call goes on with the missing crates. If two calls
+run at the same time, one waits for the other.
 
 The status is 0 if the program is built, 70 if a crate fails, and 130 after an interrupt.
 """
@@ -38,9 +38,9 @@ PROGRAM = "dmf"
 FAILED, INTERRUPTED = 70, 130
 # The most memory that proving one crate takes, in GiB.
 MEMORY = 3.5
-# The processor seconds that each crate takes by one job, from nothing (`/usr/bin/time rt lib --jobs
-# 1`): they say which begins first, and how long the rest takes. On processors of 2.5 GHz on
-# 2026-11-25; those of half of the crates are estimates by the size of their proofs.
+# The processor seconds that each crate takes with one job, from nothing (`/usr/bin/time rt lib
+# --jobs 1`). They decide which crate begins first, and give the time left. Measured on processors
+# of 2.5 GHz on 2026-11-25; for half of the crates they are estimates from the size of their proofs.
 SECONDS = {
     "dmf_node": 2,
     "dmf_arguments": 75,
@@ -62,17 +62,17 @@ SECONDS = {
     "dmf": 95,
 }
 UNKNOWN_SECONDS = 60
-# A crate that delays nothing though it takes this many times its seconds more is built by one job,
-# which takes a quarter less processor time than several.
+# A crate that could take this many times its seconds longer without delaying the program is built
+# with one job, which takes a quarter less processor time than several.
 ROOM_FOR_ONE_JOB = 2
-# How much nicer a crate is than the one with the next longer chain. It then gets a third of that
-# one's processor time where both want all.
+# How much nicer a crate is than the one with the next longer chain. If both want all processors, it
+# gets a third of that one's processor time.
 NICER = 5
 NICEST = 19
 
 
 class Failure(Exception):
-    """A crate could not be built. Has the output of `rt` on it."""
+    """A crate could not be built. The exception has the output of `rt`."""
 
 
 @dataclass
@@ -89,7 +89,7 @@ class Crate:
 
     @property
     def is_kept(self) -> bool:
-        """Whether it is a library that an earlier call has built."""
+        """Return True if an earlier call has built this library."""
         return (self.folder / "out" / "rlib").is_dir()
 
     @property
@@ -98,17 +98,16 @@ class Crate:
 
     @property
     def command(self) -> list[str]:
-        """The command that builds it. `rt run` also runs the program, so it gets a session without
-        commands, which ends with 0. One job builds the program in two thirds of the time of
-        several, which each load all crates below.
-        """
+        """Return the command that builds the crate. `rt run` also runs the program, so it gets a
+        session without commands, which ends with status 0. One job builds the program in two thirds
+        of the time that several need, since each of them loads all crates below."""
         if self.name == PROGRAM:
             return ["rt", "run", "--jobs", "1", "--", "session", str(ROOT / "examples/a.max")]
         return ["rt", "lib"]
 
 
 def read_crates() -> dict[str, Crate]:
-    """The program's crate and all crates below it, the lowest first."""
+    """Return the program's crate and all crates below it, the lowest first."""
     lines = (
         line.partition("#")[0].partition(":")
         for line in (ROOT / "crates.txt").read_text().splitlines()
@@ -132,13 +131,13 @@ def read_crates() -> dict[str, Crate]:
 
 
 def at_once() -> int:
-    """How many crates may be built side by side."""
+    """Return how many crates may be built in parallel."""
     memory = os.sysconf("SC_PAGE_SIZE") * os.sysconf("SC_PHYS_PAGES") / 2**30
     return max(1, min(len(os.sched_getaffinity(0)), int(memory / MEMORY)))
 
 
 def duration(seconds: float) -> str:
-    """A time in words: 40 s, 3 min 5 s, 12 min."""
+    """Return a time in words: 40 s, 3 min 5 s, 12 min."""
     minutes, rest = divmod(round(seconds), 60)
     if minutes >= 10:
         return f"{minutes + (rest >= 30)} min"
@@ -146,7 +145,7 @@ def duration(seconds: float) -> str:
 
 
 class Told:
-    """What standard error shows of the build."""
+    """What standard error shows about the build."""
 
     def __init__(self) -> None:
         self.is_terminal = sys.stderr.isatty()
@@ -156,7 +155,7 @@ class Told:
         print(f"dmf: {text}", file=sys.stderr, flush=True)
 
     def status(self, text: str) -> None:
-        """Writes the line of a terminal anew, as far as the width allows."""
+        """Rewrite the line on a terminal, cut to its width."""
         if self.is_terminal:
             width = shutil.get_terminal_size().columns - 1
             print(f"\r{f'dmf: {text}'[:width]}\x1b[K", end="", file=sys.stderr, flush=True)
@@ -168,7 +167,8 @@ class Told:
 
 @dataclass
 class Work:
-    """A crate that is being built: its process, in a folder of its own, and its output."""
+    """A crate that is being built: its process, which runs in a folder of its own, and its
+    output."""
 
     crate: Crate
     folder: Path
@@ -181,7 +181,7 @@ class Work:
         return time.monotonic() - self.begun
 
     def keep(self) -> None:
-        """Moves the result to the crate's own folder, in place of an earlier call's."""
+        """Move the result to the crate's own folder, where it replaces that of an earlier call."""
         made, out = self.folder / "crates" / self.crate.name / "out", self.crate.folder / "out"
         old = self.folder / "old"
         if out.exists():
@@ -189,13 +189,13 @@ class Work:
         shutil.move(made, out)
 
     def be_nice(self, niceness: int) -> None:
-        """Gives the crate this niceness, where the system has one for each session: the crate is
-        built in a session of its own."""
+        """Set the crate's niceness, if the system has one for each session: the crate is built in
+        its own session."""
         with contextlib.suppress(OSError):
             Path(f"/proc/{self.process.pid}/autogroup").write_text(str(niceness))
 
     def end(self) -> None:
-        """Ends the process, with all that it began, and removes its folder."""
+        """End the process and all that it started, and remove its folder."""
         with contextlib.suppress(ProcessLookupError):
             os.killpg(self.process.pid, signal.SIGKILL)
         self.process.wait()
@@ -204,7 +204,7 @@ class Work:
 
 
 def link(source: str, to: str) -> None:
-    """A link to a file, or a copy of it if the two places are on different file systems."""
+    """Make a link to a file, or a copy if the two places are on different file systems."""
     try:
         os.link(source, to)
     except OSError:
@@ -212,20 +212,21 @@ def link(source: str, to: str) -> None:
 
 
 def lay_out(crate: Crate, place: Path, parts: list[str]) -> None:
-    """Puts links to the files of these folders of a crate at a place."""
+    """Put links to the files in these folders of a crate below a path."""
     for part in parts:
         if (crate.folder / part).is_dir():
             shutil.copytree(crate.folder / part, place / part, copy_function=link)
 
 
 def command_of(crate: Crate, slack: float) -> list[str]:
-    """What builds a crate that can be this many seconds late without delaying the program."""
+    """Return the command that builds a crate that can be this many seconds late without delaying
+    the program."""
     has_room = slack >= ROOM_FOR_ONE_JOB * crate.seconds
     return [*crate.command, *(["--jobs", "1"] if has_room else [])]
 
 
 def begin(crate: Crate, crates: dict[str, Crate], place: Path, slack: float) -> Work:
-    """Begins to build a crate that has this slack."""
+    """Begin to build a crate that has this slack."""
     folder = Path(tempfile.mkdtemp(prefix="dmf-build-", dir=place))
     names = [*crate.below, crate.name]
     (folder / "crates.txt").write_text(
@@ -253,7 +254,7 @@ def begin(crate: Crate, crates: dict[str, Crate], place: Path, slack: float) -> 
 
 
 class Build:
-    """The build of all crates: which are built, and which are in work."""
+    """The build of all crates: which are done, and which are being built."""
 
     def __init__(self, crates: dict[str, Crate], place: Path, told: Told) -> None:
         self.crates = crates
@@ -264,12 +265,13 @@ class Build:
         self.running: list[Work] = []
 
     def chain(self, crate: Crate, left: dict[str, float]) -> float:
-        """The seconds left for a crate and for the longest chain of crates that wait for it."""
+        """Return the seconds left for a crate and for the longest chain of crates that wait for
+        it."""
         above = (it for it in self.crates.values() if crate.name in it.libraries)
         return left[crate.name] + max((self.chain(it, left) for it in above), default=0.0)
 
     def left(self) -> dict[str, float]:
-        """The seconds left for each crate, on the machine of the table."""
+        """Return the seconds left for each crate, on the machine of the table."""
         left = {it.name: 0.0 if it.name in self.took else it.seconds for it in self.crates.values()}
         for work in self.running:
             left[work.crate.name] = max(
@@ -278,18 +280,18 @@ class Build:
         return left
 
     def pace(self) -> float:
-        """How many times as long as in the table this machine takes, by the crates that are
-        built."""
+        """Return how many times as long as in the table this machine takes, judging by the crates
+        that are done."""
         known = sum(self.crates[name].seconds for name in self.took)
         return (sum(self.took.values()) + UNKNOWN_SECONDS) / (known + UNKNOWN_SECONDS)
 
     def rest(self) -> float:
-        """How many seconds the rest is likely to take."""
+        """Return how many seconds the rest is likely to take."""
         left = self.left()
         return self.pace() * max((self.chain(it, left) for it in self.crates.values()), default=0.0)
 
     def ready(self) -> list[Crate]:
-        """The crates that can be begun, the one with the longest chain first."""
+        """Return the crates that can begin, the one with the longest chain first."""
         begun = {*self.took, *(it.crate.name for it in self.running)}
         ready = [
             it
@@ -300,7 +302,8 @@ class Build:
         return sorted(ready, key=lambda it: -self.chain(it, left))
 
     def begin_more(self) -> None:
-        """Begins crates as long as there is room. The longest chain gets the processors first."""
+        """Begin crates as long as resources are left. The longest chain gets the processors
+        first."""
         left = self.left()
         longest = max(self.chain(it, left) for it in self.crates.values())
         for crate in self.ready()[: at_once() - len(self.running)]:
@@ -309,8 +312,8 @@ class Build:
             )
 
     def rank(self) -> None:
-        """Gives processor time to the crates in the order of their chains, the longest first. What
-        is done of a crate counts for nothing, since a nice one may have had no time."""
+        """Give processor time to the crates in the order of their chains, the longest first. Work
+        done so far does not count, since a nice crate may have had no time."""
         left = {it.name: 0.0 if it.name in self.took else it.seconds for it in self.crates.values()}
         for rank, work in enumerate(
             sorted(self.running, key=lambda it: -self.chain(it.crate, left))
@@ -318,7 +321,7 @@ class Build:
             work.be_nice(min(rank * NICER, NICEST))
 
     def take_ended(self) -> None:
-        """Keeps the results, and fails if a crate did not succeed."""
+        """Store the results of the crates that ended, and fail if one did not succeed."""
         for work in [it for it in self.running if it.process.poll() is not None]:
             self.running.remove(work)
             try:
@@ -365,7 +368,7 @@ class Build:
 
 
 def wait_for_one(running: list[Work]) -> None:
-    """Waits a moment, or until one of the processes has ended."""
+    """Wait a moment, or until one of the processes has ended."""
     until = time.monotonic() + 1
     while time.monotonic() < until and all(it.process.poll() is None for it in running):
         time.sleep(0.05)
@@ -373,7 +376,7 @@ def wait_for_one(running: list[Work]) -> None:
 
 @contextlib.contextmanager
 def alone(told: Told) -> Iterator[None]:
-    """Keeps other builds of this repository out. If one is at work, this one waits for it."""
+    """Lock out other builds of this repository. If another build is running, wait for it."""
     folder = os.open(ROOT / "crates", os.O_RDONLY)
     try:
         try:
@@ -387,13 +390,14 @@ def alone(told: Told) -> Iterator[None]:
 
 
 def number_of(file: Path) -> int | None:
-    """The number by which the system knows the file. A file that replaces it has another."""
+    """Return the number by which the system knows the file. A file that replaces it has another
+    number."""
     return file.stat().st_ino if file.exists() else None
 
 
 def build(told: Told) -> None:
-    """Builds the program, except what is built already, and gives it the time at which the build
-    began: a source that is edited meanwhile is newer."""
+    """Build the program, except what is built already, and give it the time at which the build
+    began, so that a source file that is edited meanwhile is newer."""
     program = ROOT / "crates" / PROGRAM / "out" / PROGRAM
     before = number_of(program)
     with alone(told):

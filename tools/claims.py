@@ -1,17 +1,17 @@
 #!/usr/bin/env python3
-"""Prints what is claimed: each contract of the calls that callers have, and each definition and
-type that these contracts rest on.
+"""Print what is claimed: each contract of the calls that callers have, and each definition and type
+that these contracts rest on.
 
-    python3 tools/claims.py            prints it
-    python3 tools/claims.py --write    writes it to docs/CLAIMS.txt
+    python3 tools/claims.py            print it
+    python3 tools/claims.py --write    write it to docs/CLAIMS.txt
 
 The calls are those of the fronts `dmf_net`, `dmf_text`, `dmf_session` and `dmf_run`, those of
-`dmf_program`, by which `main` runs what its words ask for, the functions of `main`'s crate with
-contracts, and the calls of C in `dmf_c`. Of a call stand here its signature and its clauses, of a
-type its members and what contracts see of it, of a definition its text: without comments and
-bodies. So whatever makes a claim weaker or stronger changes a line of that file, and what only
-changes code or a proof changes none. The definitions of std and of the toolchain's other libraries
-are not followed.
+`dmf_program`, through which `main` runs what the arguments ask for, the functions with contracts in
+`main`'s crate, and the C functions in `dmf_c`. For a call the list has its signature and its
+clauses, for a type its members and what contracts see of it, and for a definition its text: without
+comments and bodies. So whatever makes a claim weaker or stronger changes a line of that file, and
+changes of code or proofs alone change none. The definitions of std and of the toolchain's other
+libraries are not followed.
 """
 
 from __future__ import annotations
@@ -32,7 +32,8 @@ OF_C, OF_MAIN = "dmf_c", "dmf"
 PLACE = CRATES.parent / "docs" / "CLAIMS.txt"
 
 COMMENT = re.compile(r"^ *(?://.*|#!?\[[^\n]*\])\n|(?<=[;,{}]) *// [^\n]*$", re.MULTILINE)
-# An item of a file, at its left edge: of one line, or up to the bracket there that closes it.
+# An item of a file, which begins in the first column: one line, or up to the bracket in the first
+# column that closes it.
 VISIBLE = r"(?:pub(?:\(crate\))? )?(?:const )?(?:unsafe )?(?:extern \"C\" )?"
 ITEM = re.compile(
     rf"^{VISIBLE}(?P<kind>fn|struct|enum|trait|impl|[A-Z_]+(?=:))\b"
@@ -40,8 +41,8 @@ ITEM = re.compile(
     re.MULTILINE | re.DOTALL,
 )
 NAME = re.compile(r"\b(?:fn|struct|enum|trait|const) (\w+)")
-# A function with a body, at any depth: what stands before the body, without the last line's
-# bracket.
+# A function with a body, at any depth: what stands before the body, without the bracket of the last
+# line.
 FUNCTION = re.compile(
     rf"^(?P<indent> *)(?P<head>{VISIBLE}fn [^\n]*(?:\n(?!(?P=indent)[{{}}])[^\n]*)*?)"
     r"(?:\n(?P=indent)\{(?:\}|.*?\n(?P=indent)\})$| \{(?:\}|\n.*?\n(?P=indent)\})$)",
@@ -51,8 +52,8 @@ GHOST_USE = re.compile(
     r"^ *(?:pub )?(?:ghost )?use Rattle\.(\w+)\.specs\.([\w.]+?)(?:\.\{([^}]*)\}| as (\w+));",
     re.MULTILINE,
 )
-# A member of an impl that contracts see. How a model is made of private fields, and what these
-# keep, they do not see; laws are proofs.
+# A member of an impl that contracts see. They do not see how a model is made from private fields,
+# nor the invariants of these; laws are proofs.
 GHOST = re.compile(
     r"^    ghost (?!use |laws|view|invariant).*?\};(?=\n(?: {4}\S|\}|\n))", re.MULTILINE | re.DOTALL
 )
@@ -62,8 +63,7 @@ WORD = re.compile(r"[\w◌']+")
 
 
 class Item(NamedTuple):
-    """Something that is claimed: where it stands, its name, and its text without comments and
-    bodies."""
+    """Something that is claimed: the file, the name, and the text without comments and bodies."""
 
     file: Path
     name: str
@@ -75,7 +75,7 @@ def without_comments(text: str) -> str:
 
 
 def heads(text: str, indent: str, public_only: bool) -> Iterator[str]:
-    """The functions of a text at this depth, each with its clauses and without its body."""
+    """Return the functions of a text at this depth, each with its clauses and without its body."""
     for function in FUNCTION.finditer(text):
         if function["indent"] == indent and (
             function["head"].startswith("pub ") or not public_only
@@ -84,13 +84,13 @@ def heads(text: str, indent: str, public_only: bool) -> Iterator[str]:
 
 
 def shown(item: str, kind: str) -> str:
-    """What an item claims: of a function its head, of an impl the heads of its calls and its ghost
-    members, of the rest all of it."""
+    """Return what an item claims: for a function its head, for an impl the heads of its calls and
+    its ghost members, for anything else all of it."""
     first = item.partition("{")[0].rstrip()
     if kind == "fn":
         return next(heads(f"{item}\n", "", False), item)
     if kind == "impl":
-        # A call of a trait has the trait's clauses, and in an impl at times more.
+        # A call of a trait has the trait's clauses, and in an impl sometimes more.
         is_own = " for " not in first
         calls = [
             head
@@ -111,7 +111,7 @@ def shown(item: str, kind: str) -> str:
 
 @lru_cache(maxsize=None)
 def items_of(file: Path) -> list[Item]:
-    """The items of a file of code, each under the name that it is about."""
+    """Return the items of a file of code, each under the name that it is about."""
     found = []
     for match in ITEM.finditer(without_comments(file.read_text())):
         name = NAME.search(match[0])
@@ -137,7 +137,7 @@ def code_of(crate: str) -> list[Path]:
 
 @lru_cache(maxsize=None)
 def named(crate: str, name: str) -> list[Item]:
-    """All that a crate says of a name: the item, and the impls of a type."""
+    """Return all that a crate says about a name: the item, and the impls of a type."""
     return [item for file in code_of(crate) for item in items_of(file) if item.name == name]
 
 
@@ -146,7 +146,7 @@ def calls_of_c() -> list[Item]:
 
 
 def calls_of_main() -> list[Item]:
-    """The functions of the program's crate that promise something."""
+    """Return the functions of the program's crate that promise something."""
     return [
         item
         for file in code_of(OF_MAIN)
@@ -156,7 +156,7 @@ def calls_of_main() -> list[Item]:
 
 
 def claimed() -> dict[str, list[Item]]:
-    """What each front exports."""
+    """Return what each front exports."""
     found = {
         front: [it for _, name in exports(front) for it in named(home_of(front, name), name)]
         for front in FRONTS
@@ -166,7 +166,7 @@ def claimed() -> dict[str, list[Item]]:
 
 @lru_cache(maxsize=None)
 def brought_by(file: Path) -> dict[str, Definition]:
-    """The definitions that a file of code brings by `ghost use`, by the names that it gives
+    """Return the definitions that a file of code imports by `ghost use`, by the names that it gives
     them."""
     found = {}
     for crate, path, names, short in GHOST_USE.findall(file.read_text()):
@@ -184,20 +184,20 @@ def is_ours(definition: Definition) -> bool:
 
 
 def types_named(text: str, crate: str) -> Iterator[Item]:
-    """The types of this crate that a text names, without their calls."""
+    """Return the types of this crate that a text names, without their calls."""
     for word in {*re.findall(r"\b[A-Z]\w+\b", text)}:
         yield from (item for item in named(crate, word) if is_type(item))
 
 
 def is_type(item: Item) -> bool:
-    """Whether an item is a type, or what contracts see of one."""
+    """Return True if an item is a type, or what contracts see of one."""
     first = item.text.partition("{")[0]
     return " fn " not in f" {first}" and (" for " in first or not first.startswith("impl"))
 
 
 def declared(definition: Definition) -> list[Item]:
-    """The type of the code that a definition stands for: `specs/declared/module/Type.antt` is made
-    of `src/module.rt`."""
+    """Return the type in the code that a definition stands for: `specs/declared/module/Type.antt`
+    is made from `src/module.rt`."""
     crate, _, kind, *path = definition.file.relative_to(CRATES).with_suffix("").parts
     if kind not in ("declared", "contracts"):
         raise ValueError(f"{definition.file} is not there")
@@ -207,7 +207,7 @@ def declared(definition: Definition) -> list[Item]:
 
 
 def in_own_file(definition: Definition) -> Iterator[tuple[str, str]]:
-    """The definition, or the one to which a constructor belongs, with its text."""
+    """Return the definition, or the one that a constructor belongs to, with its text."""
     texts = module_of(definition.file).texts
     if definition.name in texts:
         yield definition.name, texts[definition.name]
@@ -217,7 +217,7 @@ def in_own_file(definition: Definition) -> Iterator[tuple[str, str]]:
 
 
 def below(starts: list[Item]) -> list[Item]:
-    """All definitions and types on which these items rest, and which are not among them."""
+    """Return all definitions and types that these items rest on, without the items themselves."""
     found: set[Item] = set()
     waiting = [*starts]
     while waiting:
@@ -229,7 +229,7 @@ def below(starts: list[Item]) -> list[Item]:
 
 
 def rests_on(item: Item) -> Iterator[Item]:
-    """The definitions and types that an item names."""
+    """Return the definitions and types that an item names."""
     crate = item.file.relative_to(CRATES).parts[0]
     if item.file.suffix == ".rt":
         brought = brought_by(item.file)
@@ -250,12 +250,12 @@ def rests_on(item: Item) -> Iterator[Item]:
 
 
 def without_dashes(text: str) -> str:
-    """The text of a definition without its comments."""
+    """Return the text of a definition without its comments."""
     return re.sub(r"^\s*--.*\n|[ ]+-- .*$", "", text, flags=re.MULTILINE).strip("\n")
 
 
 def lines() -> Iterator[str]:
-    """The lines of the list."""
+    """Return the lines of the list."""
     yield (
         "What is claimed: the contracts of all calls that callers have, and what these rest on. "
         "`python3 tools/claims.py --write` writes this file."
@@ -274,7 +274,7 @@ def lines() -> Iterator[str]:
 
 
 def told(items: list[Item]) -> Iterator[str]:
-    """The texts of items, under the files in which they stand."""
+    """Return the texts of items, under the files in which they stand."""
     last = None
     for item in items:
         if item.file != last:

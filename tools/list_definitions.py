@@ -1,12 +1,13 @@
 #!/usr/bin/env python3
-"""Lists what a definition rests on: the definitions that it names, those that they name, and so on,
-by the files that have them.
+"""List what a definition rests on: the definitions that it names, those that they name, and so on,
+by the files that contain them.
 
     python3 tools/list_definitions.py [NAME]
 
-NAME is by default `RunsWords`, which says what the program makes of its words. A line has a file,
-how many of its definitions are among these, and how many lines they have with their comments. The
-last line adds up. Types that stand beside the code and the definitions of std are not followed.
+NAME is by default `RunsWords`, which says what the program does with its arguments. Each line has a
+file, how many of its definitions are among these, and how many lines these have with their
+comments. The last line has the sums. Types that stand beside the code and the definitions of std
+are not followed.
 """
 
 from __future__ import annotations
@@ -30,8 +31,8 @@ class Definition(NamedTuple):
 
 
 class Module(NamedTuple):
-    """A file of definitions: the text of each definition, and where a name comes from that a `use`
-    line brings."""
+    """A file of definitions: the text of each definition, and where each name comes from that a
+    `use` line imports."""
 
     texts: dict[str, str]
     brought: dict[str, Definition]
@@ -39,7 +40,7 @@ class Module(NamedTuple):
 
 
 def blocks(text: str) -> Iterator[tuple[str, str]]:
-    """The definitions of a file, each with its text: up to the comment, or the blank line, before
+    """Return the definitions of a file, each with its text, up to the comment or blank line before
     the next one."""
     for block in re.split(r"\n\s*\n", text):
         heads = [match for match in map(HEAD.match, block.split("\n")) if match]
@@ -61,7 +62,7 @@ def module_of(file: Path) -> Module:
 
 
 def named_in(text: str, module: Module, file: Path) -> Iterator[Definition]:
-    """The definitions that a text names: of its own file, and of others."""
+    """Return the definitions that a text names: those of its own file, and others."""
     for word in WORD.findall(re.sub(r"--.*$", "", text, flags=re.MULTILINE)):
         first, _, rest = word.partition(".")
         if word in module.texts or first in module.texts:
@@ -73,7 +74,7 @@ def named_in(text: str, module: Module, file: Path) -> Iterator[Definition]:
 
 
 def below(start: Definition) -> dict[Definition, str]:
-    """The definition and all that it rests on, with their texts."""
+    """Return the definition and all that it rests on, with their texts."""
     modules: dict[Path, Module] = {}
     found: dict[Definition, str] = {}
     waiting = [start]

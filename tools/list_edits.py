@@ -1,19 +1,19 @@
 #!/usr/bin/env python3
-"""Prints for each call of the libraries that callers use which must-fail edit breaks each clause of
-its contract.
+"""Print, for each call of the libraries that callers use, which must-fail edit breaks each clause
+of its contract.
 
     python3 tools/list_edits.py [CALL..]
 
 The calls are the functions, the methods of types and the methods of traits that `dmf_net`,
-`dmf_text`, `dmf_session` and `dmf_run` export, and `dmf_program`, by which `main` runs what its
-words ask for, and the functions of C's in `dmf_c`; the clauses are what they ensure. An edit names
-the clauses that it breaks, itself or in a call below, in lines of the form
+`dmf_text`, `dmf_session` and `dmf_run` export, those of `dmf_program`, through which `main` runs
+what its arguments ask for, and the C functions in `dmf_c`. The clauses are what they ensure. An
+edit names the clauses that it breaks, in the call itself or in one below it, in lines of the form
 
     covers: CALL (CLAUSE, ..), CALL, ..
 
-where CALL without clauses means the one clause without a name. The gate tries the edits of
-must-fail/; those of more-must-fail/ are in brackets. Where the gate tries none, the table says why,
-or MISSING.
+where CALL without clauses means its only clause, which has no name. The gate tries the edits of
+must-fail/; those of more-must-fail/ are in brackets. If the gate tries none, the table says why, or
+MISSING.
 """
 
 from __future__ import annotations
@@ -81,7 +81,7 @@ REASONS = {
         for name in ("told", "drained")
     },
 }
-# Clauses so plain that the gate leaves their edits out.
+# Clauses that are so simple that the gate leaves out their edits.
 ONE_FIELD = "left out, since the body gives or sets one field"
 LEFT_OUT = {
     *(f"State::{field} (value)" for field in ("nodes", "source", "sink", "arcs", "flows")),
@@ -107,22 +107,21 @@ LEFT_OUT = {
         "Direction::cap",
     ),
 }
-# Clauses that are broken as those of another call are, for which the gate tries an edit.
+# Clauses that are broken like those of another call, for which the gate tries an edit.
 AS_ANOTHER = "left out, since the gate tries the like for another call"
 LIKE_OTHERS = {
     "dmf_session_flows (answer)",
     *(f"dmf_session_capacities ({name})" for name in ("answer", "filled", "refused")),
     *(f"dmf_session_{call} (unchanged)" for call in ("side", "problem", "solution")),
 }
-# A clause which tells that the value that a call reads is one of its type.
+# A clause which says that the value that a call reads is one of its type.
 INVARIANT = re.compile(
     r"ensures (\w+) \{ (?:IsState self\.now|IsTimeline \((?:H\.)?timeline self\.now\)) \}"
 )
 
 
 class Clause(NamedTuple):
-    """A clause of a call's contract, by its name, which is empty if the contract has no name for
-    it."""
+    """A clause of a call's contract. Its name is empty if the contract gives it none."""
 
     call: str
     name: str
@@ -146,7 +145,8 @@ class Edits(NamedTuple):
 
 
 def exports(crate: str) -> Iterator[tuple[str, str]]:
-    """What a crate exports: the crate or module that it takes each name from, and the name."""
+    """Return what a crate exports: the crate or module that it takes each name from, and the
+    name."""
     for use in USE.finditer((CRATES / crate / "src" / "lib.rt").read_text()):
         for name in (use[2] or use[3]).split(","):
             if name.strip():
@@ -154,13 +154,13 @@ def exports(crate: str) -> Iterator[tuple[str, str]]:
 
 
 def home_of(crate: str, name: str) -> str:
-    """The crate that defines a name which this crate exports."""
+    """Return the crate that defines a name which this crate exports."""
     source = next(source for source, exported in exports(crate) if exported == name)
     return home_of(source, name) if (CRATES / source).is_dir() else crate
 
 
 def type_of(about: str) -> str:
-    """The name of the type or the trait that a block is about, by the block's head."""
+    """Return the name of the type or the trait that a block is about, from the block's head."""
     about = about.rpartition(" for ")[2]
     while "<" in about:
         about = re.sub(r"<[^<>]*>", "", about)
@@ -168,7 +168,7 @@ def type_of(about: str) -> str:
 
 
 def functions(text: str, indent: str, is_public: bool) -> Iterator[tuple[str, str]]:
-    """The names and heads of the functions of a text at this depth: of those that are public, or of
+    """Return the names and heads of the functions of a text at this depth: the public ones, or
     all."""
     for function in FUNCTION.finditer(text):
         if function[1] == indent and (function[2] or not is_public):
@@ -176,8 +176,7 @@ def functions(text: str, indent: str, is_public: bool) -> Iterator[tuple[str, st
 
 
 def calls_of(file: Path, name: str) -> Iterator[tuple[str, str]]:
-    """The calls, with their heads, that stand in a file and that whoever knows this name can
-    make."""
+    """Return the calls in a file, with their heads, that a user of this name can make."""
     text = file.read_text()
     yield from ((name, head) for function, head in functions(text, "", True) if function == name)
     for kind, about, inside in BLOCK.findall(text):
@@ -190,13 +189,13 @@ def calls_of(file: Path, name: str) -> Iterator[tuple[str, str]]:
 
 
 def c_calls() -> Iterator[tuple[Path, str, str]]:
-    """The functions of C's: the file, the name and the head of each."""
+    """Return the C functions: the file, the name and the head of each."""
     for file in sorted((CRATES / C_FRONT / "src").glob("*.rt")):
         yield from ((file, name, head) for name, head in C_FUNCTION.findall(file.read_text()))
 
 
 def front_clauses() -> dict[Clause, Home]:
-    """The clauses of all calls of the fronts."""
+    """Return the clauses of all calls of the fronts."""
     found = {
         Clause(name, clause): Home(file, head)
         for file, name, head in c_calls()
@@ -213,7 +212,7 @@ def front_clauses() -> dict[Clause, Home]:
 
 
 def covered_by(edit: Path) -> Iterator[Clause]:
-    """The clauses that an edit says that it breaks."""
+    """Return the clauses that an edit says that it breaks."""
     for line in COVERS.findall(edit.read_text()):
         at = 0
         for match in COVERED.finditer(line):
@@ -226,7 +225,7 @@ def covered_by(edit: Path) -> Iterator[Clause]:
 
 
 def covering() -> dict[Clause, Edits]:
-    """The edits that break each clause."""
+    """Return the edits that break each clause."""
     found: dict[Clause, Edits] = {}
     for part, is_kept in ((KEPT, True), (MORE, False)):
         for edit in sorted(CRATES.glob(f"*/{part}/*.edit")):
@@ -237,7 +236,7 @@ def covering() -> dict[Clause, Edits]:
 
 
 def reason(clause: Clause, home: Home, has_edit: bool) -> str:
-    """Why the gate tries no edit for a clause; empty if it should."""
+    """Return why the gate tries no edit for a clause, or '' if it should."""
     if has_edit:
         return (
             ONE_FIELD
@@ -254,8 +253,8 @@ def reason(clause: Clause, home: Home, has_edit: bool) -> str:
 
 
 def told(clause: Clause, home: Home, edits: Edits) -> str:
-    """The edits that break a clause, those that the gate leaves out in brackets. Where it tries
-    none, why, or that one is missing."""
+    """Return the edits that break a clause, in brackets those that the gate leaves out. If it tries
+    none, return why, or that an edit is missing."""
     names = [*edits.kept, *(f"[{edit}]" for edit in edits.more)]
     if not edits.kept:
         names.append(reason(clause, home, bool(edits.more)) or "MISSING")
@@ -265,7 +264,7 @@ def told(clause: Clause, home: Home, edits: Edits) -> str:
 def rows(
     clauses: dict[Clause, Home], edits: dict[Clause, Edits], wanted: list[str]
 ) -> Iterator[str]:
-    """The lines of the table, for these calls or for all."""
+    """Yield the lines of the table, for these calls or for all."""
     for clause, home in clauses.items():
         if not wanted or clause.call in wanted:
             yield (

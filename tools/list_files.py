@@ -1,11 +1,11 @@
 #!/usr/bin/env python3
-"""Prints the contents of each file of definitions and of lemmas, by the comment at its head, as
+"""Print the contents of each file of definitions and of lemmas, from the comment at its head, as
 tables in Markdown.
 
     python3 tools/list_files.py [CRATE..]
 
-A file of definitions is public if public contracts use it: who asks what is proved has to read
-these. A private one serves contracts inside the crate, the crates above it, and proofs.
+A file of definitions is public if public contracts use it: to know what is proved, read these. A
+private one serves contracts inside the crate, the crates above it, and proofs.
 """
 
 from __future__ import annotations
@@ -21,7 +21,8 @@ CRATES = Path(__file__).resolve().parents[1] / "crates"
 
 
 def first_words(file: Path) -> tuple[str, str]:
-    """The comment at the head of a file: its contents, and 'public' or 'private' if it says so."""
+    """Return the comment at the head of a file, which says what the file contains, and 'public' or
+    'private' if the comment says so."""
     head = takewhile(lambda line: line.startswith("--"), file.read_text().splitlines())
     what, *kind = re.split(
         r"\s*\b(Public|Private): ", " ".join(line.removeprefix("--").strip() for line in head)
@@ -30,8 +31,8 @@ def first_words(file: Path) -> tuple[str, str]:
 
 
 def says_something(file: Path) -> bool:
-    """Whether it has definitions or lemmas: it is no proof of one function, and no list of other
-    files."""
+    """Return True if the file has definitions or lemmas, and is not the proof of one function or a
+    list of other files."""
     return (
         file.stem not in ("Lib", "Answers", "Invariants", "Proof")
         and not file.with_suffix("").is_dir()
@@ -39,7 +40,7 @@ def says_something(file: Path) -> bool:
 
 
 def tables(crate: Path) -> Iterator[str]:
-    """The lines of a crate's tables: its definitions, and then its lemmas."""
+    """Yield the lines of a crate's tables: its definitions, and then its lemmas."""
     for part, head in ("specs", "| Definitions | What | |\n| --- | --- | --- |"), (
         "proofs",
         "| Lemmas | What |\n| --- | --- |",

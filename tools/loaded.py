@@ -1,13 +1,13 @@
 #!/usr/bin/env python3
-"""Counts in the log of ./prove what was not done in that run, but loaded from work of before.
+"""Count in the log of ./prove what that run did not do itself, but loaded from earlier work.
 
     python3 tools/loaded.py LOG
 
-A check says how many modules of each library it loaded, and, if it began with kept work, how many
-of its own. Modules of this repository may be loaded only from a library that this run has proved.
-`rt` also says which crates and edits it kept, and whose work a check began with. The last line but
-the list says how many modules were loaded from before. The status is 0 if there were none, and
-nothing was kept.
+A check says how many modules of each library it loaded and, if it began with stored work, how many
+of its own. Modules of this repository may be loaded only from a library that the same run has
+proved. `rt` also says which crates and edits it did not repeat, and whose work a check began with.
+After the list, one line says how many modules were loaded from earlier work. The status is 0 if
+there were none and nothing else was taken from an earlier run.
 """
 
 from __future__ import annotations
@@ -20,7 +20,7 @@ from pathlib import Path
 CRATES = Path(__file__).resolve().parents[1] / "crates"
 PROVED = re.compile(r"^rt: (\w+) proved$")
 LOADED = re.compile(r"^(crate|library|statements) (\w+): modules loaded=(\d+) checked=(\d+)")
-# What else says that something is believed that this run did not do.
+# Other lines which say that this run relied on something that it did not do itself.
 KEPT = re.compile(
     r"^rt: \w+ is kept:|were tried by an earlier run|: begins with what a check kept in "
     r"|the others are kept from earlier runs"
@@ -28,8 +28,8 @@ KEPT = re.compile(
 
 
 def from_before(lines: list[str], own: set[str]) -> Iterator[tuple[int, str]]:
-    """Yield what was loaded from before: how many modules, and the line that says so, given the
-    names of the repository's crates."""
+    """Yield what was loaded from earlier work: how many modules, and the line that says so. The
+    argument has the names of the repository's crates."""
     proved: set[str] = set()
     for line in lines:
         if done := PROVED.match(line):

@@ -1,9 +1,10 @@
-"""What a must-fail edit is, and what the prover says of it: shared by the scripts that try them.
+"""Must-fail edits, and what the prover says about them, for the scripts that try them.
 
 An edit shows that a contract forbids a body only if the prover refuses that body at a goal: at a
 promise of the function that was changed, or at one that a caller makes with it. It shows nothing if
-it cannot be made, compiled or read, if it changes what is promised, if a proof only names what it
-took away, or if the prover reached a limit of steps, time or memory."""
+it cannot be made, compiled or read, if it changes what is promised, if a proof merely names what it
+took away, or if the prover reached a limit of steps, time or memory.
+"""
 
 from __future__ import annotations
 
@@ -14,12 +15,12 @@ from typing import NamedTuple
 
 KEPT, MORE = "must-fail", "more-must-fail"
 
-# What `rt` says of one edit: the crate with the edit's file, and the rest of the line.
+# What `rt` says about one edit: the crate with the edit's file, and the rest of the line.
 SAID = re.compile(r"^rt: must-fail (\S+/\S+\.edit): (.*)$")
 REFUSED = "refused, as it must be"
-# The first complaint of the prover, cut off where it is long: at a place of the code, that
+# The prover's first complaint, shortened if it is long: either at a place in the code, that
 # something is not proved, with the goal's name in brackets; or in the file that answers a
-# function's goals, with the name of the goal. `rt` passes over complaints of lost names.
+# function's goals, with the name of the goal. `rt` skips complaints about lost names.
 AT_CODE = re.compile(
     r"(?:note: )?(?:\./)?(src/\S+?):(\d+):\d+: it is not proved that .*?(?:\(`([^`)]+)|$)"
 )
@@ -32,7 +33,7 @@ LOST_NAME = re.compile(
     r"|expected the end|cannot continue"
 )
 GAVE_UP = re.compile(r"`search` gave|gave up at one of its limits")
-# Why an edit that is not refused at a goal is not, by how the line begins.
+# Why an edit that is not refused at a goal is not, by the beginning of the line.
 REASONS = {
     "BAD EDIT": "it cannot be made, compiled or read",
     "NOT REFUSED": "the crate is proved with it",
@@ -43,7 +44,7 @@ REASONS = {
 
 
 class Verdict(NamedTuple):
-    """What became of an edit: the goal at which it was refused, with its place, or why it shows
+    """The verdict on an edit: the goal at which it was refused, with its place, or why it shows
     nothing."""
 
     edit: str
@@ -84,16 +85,16 @@ def judge(line: str) -> Verdict | None:
 
 
 def judge_all(said: str) -> dict[str, Verdict]:
-    """Return the verdicts in what `rt` said, by the edits' names."""
+    """Return the verdicts in what `rt` said, by the names of the edits."""
     return {verdict.edit: verdict for verdict in map(judge, said.splitlines()) if verdict}
 
 
 def name_of(edit: Path) -> str:
-    """Return the name by which `rt` speaks of an edit: its crate and its file."""
+    """Return the name that `rt` gives an edit: its crate and its file."""
     return f"{edit.parents[1].name}/{edit.name}"
 
 
 def edits_of(crate: Path, *parts: str) -> Iterator[Path]:
-    """Yield the edits of a crate, those of the first of these folders first."""
+    """Yield the edits of a crate, in the order of these folders."""
     for part in parts:
         yield from sorted((crate / part).glob("*.edit"))

@@ -1,15 +1,15 @@
 #!/usr/bin/env python3
-"""Proves each crate and its tests from nothing, and tries the must-fail edits of each: `rt ci
---anew`, with a stricter count of the edits.
+"""Prove each crate and its tests from nothing, and try the must-fail edits of each: `rt ci --anew`,
+with a stricter count of the edits.
 
     python3 tools/prove_crates.py
 
-What `rt` says is passed on. Then come lines that say when each crate was proved, in minutes and
-seconds from the beginning, and a line for each edit of crates/*/must-fail/: the goal at which the
-prover refused it, or why it shows nothing (tools/must_fail.py). `rt` itself lets edits pass that
-cannot be made, or that are refused by a limit or a lost name. Here these fail, and so does an edit
-that was not tried. The last line is 'N passed, M failed', and the status is 0 only if nothing
-failed.
+The output of `rt` is passed on. Then follow lines that say when each crate was proved, in minutes
+and seconds from the start, and a line for each edit of crates/*/must-fail/: the goal at which the
+prover refused it, or why it shows nothing (tools/must_fail.py). `rt` itself accepts edits that
+cannot be made, or that are refused because of a limit or a lost name. Here these fail, and so does
+an edit that was not tried. The last line is 'N passed, M failed', and the status is 0 only if
+nothing failed.
 """
 
 from __future__ import annotations
@@ -28,7 +28,7 @@ COUNT = re.compile(r"^(\d+) passed, (\d+) failed", re.MULTILINE)
 # The edits that `rt` counts as passed, and those that it counts as failed.
 PASSED = re.compile(rf"^rt: must-fail \S+: {REFUSED}", re.MULTILINE)
 FAILED = re.compile(r"^rt: must-fail \S+: NOT (?:REFUSED|TRIED)", re.MULTILINE)
-# What tells where the time goes.
+# Lines that show where the time goes.
 STEP = re.compile(
     r"^rt: \w+(?:: its tests are)? (?:NOT )?(?:PROVED|proved)$"
     r"|^rt: \w+: (?:trying its must-fail edits|its tests )|^rt: \w+ ran"
@@ -36,8 +36,8 @@ STEP = re.compile(
 
 
 def run(command: list[str]) -> tuple[int, str]:
-    """Run a command at the root, passing on what it says, and return its status and what it said.
-    Then print when each step was done."""
+    """Run a command at the root, passing on its output, and return its status and its output. Then
+    print when each step was done."""
     begun = time.monotonic()
     said: list[str] = []
     steps: list[str] = []
@@ -61,7 +61,7 @@ def run(command: list[str]) -> tuple[int, str]:
 
 
 def verdicts(said: str) -> list[Verdict]:
-    """Return what became of each edit that stands in the checkout."""
+    """Return the verdict on each edit in the checkout."""
     found = judge_all(said)
     names = [
         name_of(edit) for crate in sorted(ROOT.glob("crates/*")) for edit in edits_of(crate, KEPT)
@@ -70,8 +70,8 @@ def verdicts(said: str) -> list[Verdict]:
 
 
 def count(status: int, said: str, judged: list[Verdict]) -> tuple[int, int]:
-    """Return what passed and what failed: the proofs and runs as `rt` counts them, and the edits as
-    they were judged."""
+    """Return what passed and what failed: the proofs and runs as `rt` counts them, and the edits by
+    their verdicts."""
     counted = COUNT.findall(said)
     if not counted:
         print("prove_crates.py: rt ended without a count")
@@ -79,7 +79,7 @@ def count(status: int, said: str, judged: list[Verdict]) -> tuple[int, int]:
     refused = sum(bool(verdict.goal) for verdict in judged)
     passed = max(0, passed - len(PASSED.findall(said))) + refused
     failed = max(0, failed - len(FAILED.findall(said))) + len(judged) - refused
-    # A status that names no failure is one.
+    # A status other than 0 without a counted failure is one failure.
     return passed, failed or int(status != 0)
 
 

@@ -1,9 +1,9 @@
 #!/usr/bin/env python3
-"""Writes the version, which the file VERSION has, into all files that show it. `prebuilt/` shows it
-once `tools/prebuilt renew` has run.
+"""Write the version, which is in the file VERSION, into all files that show it. `prebuilt/` shows
+it once `tools/prebuilt renew` has run.
 
-    tools/set_version.py            writes it
-    tools/set_version.py --check    names the files that show another one, and ends with status 1
+    tools/set_version.py            write it
+    tools/set_version.py --check    list the files that show another version, and end with status 1
                                     if there are any
 
 The newest heading of CHANGELOG.md is written by hand, and is only checked.
@@ -17,8 +17,8 @@ from collections.abc import Iterator
 from pathlib import Path
 
 ROOT = Path(__file__).resolve().parents[1]
-# What stands before the version in each file, and what stands there after it. The C library answers
-# a number: 10,000 for each major version, and 100 for each minor one.
+# What stands before and after the version in each file. The C library returns a number: 10,000 for
+# each major version, and 100 for each minor one.
 TEXTS = {
     "clients/python/dmf/__init__.py": [('__version__ = "', '"')],
     "crates/dmf_arguments/src/help.rt": [('pub const VERSION: &str = "', '"')],
@@ -47,7 +47,7 @@ def number_of(version: str) -> str:
 
 
 def places(texts: dict[str, list[tuple[str, str]]]) -> Iterator[tuple[Path, re.Pattern[str]]]:
-    """Yield each file that shows the version, and the pattern of a place in it."""
+    """Yield each file that shows the version, and a pattern for the place in it."""
     for pattern, ends in texts.items():
         paths = sorted(ROOT.glob(pattern))
         if not paths:

@@ -1,8 +1,9 @@
-"""Builds the wheel of the package `dmf` for pip, which asks for it by the names of PEP 517. Nothing
-but Python is needed.
+"""Build the wheel of the package `dmf` for pip, which calls these functions by their names in PEP
+517. This needs only Python.
 
-The wheel has the executable and the C library, if there are such for this machine, and the tools as
-commands."""
+The wheel contains the executable and the C library, if this machine can use them, and the tools as
+commands.
+"""
 
 from __future__ import annotations
 
@@ -23,12 +24,12 @@ from typing import Any
 HERE = Path(__file__).resolve().parent
 # A source archive has beside this file what the repository has above it.
 ROOT = HERE if (HERE / "PKG-INFO").is_file() else HERE.parents[1]
-# The executable, the C library and its headers in the wheel and in a source archive.
+# The paths of the executable, the C library and its headers in the wheel and in a source archive.
 INSIDE, LIBRARY, HEADERS = "dmf/bin/dmf", "dmf/bin/libdmf.so.0", ("dmf.h", "dmf.hpp")
 
 
 def version() -> str:
-    """The version that the package itself has."""
+    """Return the version of the package."""
     (found,) = re.findall(
         r'^__version__ = "(.*)"$', (HERE / "dmf" / "__init__.py").read_text(), re.MULTILINE
     )
@@ -36,7 +37,7 @@ def version() -> str:
 
 
 def licence() -> bytes:
-    """The licence, which lies at the root."""
+    """Return the licence, which lies at the root."""
     try:
         return (ROOT / "LICENSE").read_bytes()
     except FileNotFoundError:
@@ -47,7 +48,7 @@ def licence() -> bytes:
 
 
 def metadata() -> bytes:
-    """What the package is."""
+    """Return the metadata of the package."""
     lines = [
         "Metadata-Version: 2.1",
         "Name: dmf",
@@ -67,7 +68,7 @@ def metadata() -> bytes:
 
 
 def package() -> dict[str, bytes]:
-    """The files of the package."""
+    """Return the files of the package."""
     files = sorted(
         file
         for file in (HERE / "dmf").rglob("*.*")
@@ -77,8 +78,8 @@ def package() -> dict[str, bytes]:
 
 
 def executable() -> dict[str, bytes]:
-    """The executable, if there is one that runs here: that of a source archive, or that of the
-    repository, which is built if need be."""
+    """Return the executable, if there is one that runs here: that of a source archive, or that of
+    the repository, which is built if necessary."""
     inside = HERE / INSIDE
     call, path = (
         (inside, inside) if inside.is_file() else (ROOT / "dmf", ROOT / "crates/dmf/out/dmf")
@@ -93,7 +94,7 @@ def executable() -> dict[str, bytes]:
         print("dmf: no program runs on this machine, so what is built has none", file=sys.stderr)
         return {}
     if not path.is_file():
-        # In a repository that cannot be written it is put elsewhere.
+        # If the repository cannot be written, the executable lies elsewhere.
         take = subprocess.run(
             [ROOT / "tools/prebuilt", "take"], stdout=subprocess.PIPE, text=True, check=True
         )
@@ -102,8 +103,8 @@ def executable() -> dict[str, bytes]:
 
 
 def library() -> dict[str, bytes]:
-    """The C library and its headers, if there is one of these sources: that of a source archive, or
-    that of the repository. Without it the package asks the executable."""
+    """Return the C library and its headers, if it is up to date with these sources: that of a
+    source archive, or that of the repository. Without it, the package runs the executable."""
     for path in HERE / LIBRARY, *(
         [] if (ROOT / "tools/prebuilt").is_file() else [ROOT / "crates/dmf_c/out/libdmf.so.0"]
     ):
@@ -123,7 +124,7 @@ def library() -> dict[str, bytes]:
 
 
 def headers() -> dict[str, bytes]:
-    """The headers, for programs in C and C++ that use the library of the wheel."""
+    """Return the headers, for programs in C and C++ that use the library in the wheel."""
     return {
         f"dmf/include/{name}": path.read_bytes()
         for name in HEADERS
@@ -133,7 +134,7 @@ def headers() -> dict[str, bytes]:
 
 
 def tools() -> dict[str, bytes]:
-    """The tools as commands, which pip has run by the Python of its environment."""
+    """Return the tools as commands, which pip runs with the Python of its environment."""
     return {
         tool.name: re.sub(rb"\A#!.*", b"#!python", tool.read_bytes())
         for tool in sorted((ROOT / "tools").glob("dmf-*"))
@@ -141,8 +142,8 @@ def tools() -> dict[str, bytes]:
 
 
 def tag(program: bytes) -> str:
-    """For which systems a wheel with this executable and library is: with glibc from the newest
-    version on whose symbols they name."""
+    """Return the tag for the systems on which a wheel with this executable and library works: those
+    with glibc in the latest version whose symbols they name, or later."""
     if not program:
         return "py3-none-any"
     needed = [int(minor) for minor in re.findall(rb"GLIBC_2\.(\d+)", program)]
@@ -154,7 +155,7 @@ def tag(program: bytes) -> str:
 def build_wheel(
     wheel_directory: str, config_settings: Any = None, metadata_directory: Any = None
 ) -> str:
-    """Writes the wheel, and returns its name. The same files give the same bytes."""
+    """Write the wheel, and return its name. The same files give the same bytes."""
     base, program = f"dmf-{version()}", executable()
     info, commands = f"{base}.dist-info", {
         f"{base}.data/scripts/{name}": content for name, content in tools().items()
@@ -195,8 +196,8 @@ def _sum(content: bytes) -> str:
 
 
 def build_sdist(sdist_directory: str, config_settings: Any = None) -> str:
-    """Writes the source archive, with the executable if there is one, and returns its name. The
-    same files give the same bytes."""
+    """Write the source archive, with the executable if there is one, and return its name. The same
+    files give the same bytes."""
     base, program = f"dmf-{version()}", executable()
     files = {**package(), **program, "PKG-INFO": metadata(), "LICENSE": licence()}
     files.update(

@@ -1,7 +1,7 @@
 #!/usr/bin/env python3
-"""The command `dmf` that pip installs. As the launcher of an install, it runs a tool in its own
-place if the first word names one, and else the executable inside the package. It loads none of the
-package."""
+"""The command `dmf` that pip installs. Like the launcher of an install, it runs a tool if the first
+argument names one, and otherwise the executable inside the package, which replaces it. It imports
+nothing of the package."""
 
 import os
 import signal
@@ -17,8 +17,8 @@ program = os.path.join(package, "bin", "dmf")
 
 
 def become(path: str, *words: str) -> NoReturn:
-    """Run a command in place of this one."""
-    # Python ignores these signals, and what runs in its place would too.
+    """Replace this process with a command."""
+    # Python ignores these signals, and so would the command.
     for number in signal.SIGPIPE, signal.SIGXFSZ:
         signal.signal(number, signal.SIG_DFL)
     try:
@@ -52,7 +52,7 @@ def main(words: list[str]) -> NoReturn:
     if len(words) == 2 and words[0] == "help" and words[1] in TOOLS:
         run_tool(words[1], "--help")
     if len(words) == 1 and words[0] in HELP and os.path.isfile(program):
-        # A help has the time for this import.
+        # Imported here, since only a help can afford the time.
         import subprocess
 
         status = subprocess.call([program, *words])
