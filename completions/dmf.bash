@@ -1,7 +1,7 @@
-# Completions of dmf and its tools for bash. What may be typed is read from the help of each, as it is
-# found by PATH.
+# Completions of dmf and its tools for bash. What can be typed is read from the help of each, which is
+# found on PATH.
 
-# The lines of a section of the help on a command, or of the whole help where none is given.
+# Prints the lines of a section of the help on a command, or of the general help.
 _dmf_section() {
     command dmf ${2:+"$2"} --help 2>/dev/null </dev/null | sed -n "/^$1:\$/,/^\$/s/^  *//p"
 }
@@ -18,12 +18,12 @@ _dmf_options() {
     _dmf_section Options "$1" | grep -oE '^-[^ ]+( --[^ ]+)?' | tr -s ', ' '\n'
 }
 
-# Whether an option of a command takes a value.
+# Succeeds if an option of a command takes a value.
 _dmf_takes_value() {
     _dmf_section Options "$1" | grep -qE -e "^(-., )?$2 <"
 }
 
-# How many of the words after a command name a file.
+# Prints how many of the words after a command name a file.
 _dmf_files() {
     local command=$1 count=0
     shift
@@ -38,7 +38,7 @@ _dmf_files() {
     echo "$count"
 }
 
-# The options of a tool, one a line, as the helps have them: `-h, --help`, `--table FILE`. The words are the tool: `dmf plan` or `dmf-plan`.
+# Prints the options of a tool, one a line, as in its help: `-h, --help`, `--table FILE`. The arguments are the tool: `dmf plan` or `dmf-plan`.
 _dmf_tool_options() {
     {
         command "$@" --help
@@ -47,18 +47,17 @@ _dmf_tool_options() {
     } 2>/dev/null </dev/null | sed -n '/^options:$/,/^$/s/^  \(-.*\)/\1/p' | sed 's/  .*//'
 }
 
-# What the value of an option is, where it takes one: the option, and the tool.
+# Prints what the value of an option is, if it takes one. The arguments are the option and the tool.
 _dmf_tool_value() {
     _dmf_tool_options "${@:2}" | sed -n -e "s/^\(.*, \)\{0,1\}$1 \([^ ,]*\).*/\2/p"
 }
 
-# Whether the words of a tool that are no options are files.
+# Succeeds if the arguments of a tool that are not options are files.
 _dmf_tool_takes_files() {
     command "$@" --help 2>/dev/null </dev/null | sed -n '/^positional arguments:$/,/^$/p' | grep -q -e '^  PROBLEM' -e '^  FILE'
 }
 
-# What may stand at the cursor in a call of a tool. Where nothing is put into COMPREPLY, bash completes the names of files, unless that is
-# turned off.
+# Completes the word at the cursor in a call of a tool. If COMPREPLY stays empty, bash completes file names, unless that is turned off.
 _dmf_complete_tool() {
     local current=${COMP_WORDS[COMP_CWORD]} before=${COMP_WORDS[COMP_CWORD - 1]} value=
     [[ $before != -* ]] || value=$(_dmf_tool_value "$before" "$@")
@@ -72,7 +71,7 @@ _dmf_complete_tool() {
     compopt +o default 2>/dev/null
 }
 
-# The same in a call of dmf itself.
+# Does the same in a call of dmf itself.
 _dmf_complete_program() {
     local current=${COMP_WORDS[COMP_CWORD]} before=${COMP_WORDS[COMP_CWORD - 1]} command=${COMP_WORDS[1]}
     if [[ $before == *[\<\>]* ]]; then

@@ -1,11 +1,11 @@
-# Completions of dmf and its tools for fish. What may be typed is read from the help of each, as it is found by PATH.
+# Completions of dmf and its tools for fish. What can be typed is read from the help of each, which is found on PATH.
 
-# The lines of a section of the help on a command, or of the whole help where none is given.
+# Prints the lines of a section of the help on a command, or of the general help.
 function __dmf_section
     command dmf $argv[2] --help 2>/dev/null </dev/null | sed -n "/^$argv[1]:\$/,/^\$/s/^  *//p"
 end
 
-# Each command and each tool with what it does.
+# Prints each command and each tool with what it does.
 function __dmf_commands
     begin
         __dmf_section Commands
@@ -13,18 +13,18 @@ function __dmf_commands
     end | string replace -r '^(\S+)\s+' '$1\t'
 end
 
-# The words that were typed after the program's name.
+# Prints the words that were typed after the program's name.
 function __dmf_words
     set -l words (commandline -opc)
     string join \n -- $words[2..]
 end
 
-# Whether an option of a command takes a value.
+# Succeeds if an option of a command takes a value.
 function __dmf_takes_value
     __dmf_section Options $argv[1] | string match -qr -- "^(-., )?$argv[2] <"
 end
 
-# The tool that is typed, in a word or two: `dmf-plan`, or `dmf` and `plan`. Fails if it is the program.
+# Prints the tool that was typed, in one word or two: `dmf-plan`, or `dmf` and `plan`. Fails if it is the program.
 function __dmf_tool
     set -l words (commandline -opc)
     set -l name (string split -r -m 1 / -- $words[1] | tail -n 1)
@@ -38,7 +38,7 @@ function __dmf_tool
     end
 end
 
-# The lines of a section of a tool's help. The options that say what a table is stand in a text of their own.
+# Prints the lines of a section of a tool's help. The options that say what a table is are in a text of their own.
 function __dmf_tool_section
     set -l tool (__dmf_tool)
     or return
@@ -49,7 +49,7 @@ function __dmf_tool_section
     end 2>/dev/null </dev/null | sed -n "/^$argv[1]:\$/,/^\$/s/^  //p"
 end
 
-# What the value of the tool's option before the cursor is, where it takes one.
+# Prints what the value of the tool's option before the cursor is, if it takes one.
 function __dmf_tool_value
     set -l words (commandline -opc)
     set -q words[2]
@@ -57,7 +57,7 @@ function __dmf_tool_value
     and __dmf_tool_section options | string replace -rf -- "^(?:.*, )?$words[-1] ([^ ,]+).*" '$1'
 end
 
-# Each option that may stand here, with what it does if the program has it.
+# Prints each option that may stand here, with what it does if the program has it.
 function __dmf_options
     if __dmf_tool >/dev/null
         set -l value (__dmf_tool_value)
@@ -77,7 +77,7 @@ function __dmf_options
     end
 end
 
-# Whether a file may be named here in a call of a tool.
+# Succeeds if a file may be named here in a call of a tool.
 function __dmf_tool_wants_file
     set -l value (__dmf_tool_value)
     if test -n "$value"
@@ -87,7 +87,7 @@ function __dmf_tool_wants_file
     end
 end
 
-# Whether a file may be named here: in a call of the program, if a command that takes one has none yet.
+# Succeeds if a file may be named here in a call of the program: if a command that takes one has none yet.
 function __dmf_wants_file
     if __dmf_tool >/dev/null
         __dmf_tool_wants_file
@@ -111,7 +111,7 @@ function __dmf_wants_file
     test $count -gt 0 -a $value_follows = no
 end
 
-# Whether a command may be named here.
+# Succeeds if a command may be named here.
 function __dmf_wants_command
     set -l words (__dmf_words)
     not set -q words[1]

@@ -1,4 +1,4 @@
-/* dmf.h: maximum flows, minimum cuts and what-if sessions, in a process of your own.
+/* dmf.h: maximum flows, minimum cuts and what-if sessions, in your own process.
  *
  * A session is a network with a flow on it, and the states before and after the present one. Nodes are numbered from 1,
  * and so are arcs, in the order in which they came in. Capacities and flows are whole numbers, in any unit. There may be
@@ -9,19 +9,19 @@
  * dmf_session_free. It is on the heap of malloc, and holds no file, thread or lock. Arrays and texts stay yours: a call
  * reads or writes the places that you lend it, and only while it runs.
  * Pointers.  No pointer may be NULL: not where a length is 0, and not in dmf_session_free. What a call writes may not
- * overlap anything else that the same call is given. A length counts elements, and has to be true.
+ * overlap anything else that the same call is given. A length counts elements, and must be true.
  * Threads.  One call at a time for a session; calls that take a const session count too. It need not be the same thread each
- * time. Calls for different sessions may run at once, if malloc may. No call waits, starts a thread, or may be made from a
- * signal handler. After a fork each process has the session, and changes its own alone; if other threads ran, the child
- * may make no call, since malloc may not.
- * Time.  A solve may take long, and so may cap, close and shut where many paths carry what flows, and steps over many states.
- * Any other call looks at each arc a few times at most. Nothing ends a call before it is done.
- * Memory.  A session takes some 35 bytes an arc, 80 from its first solve on, and 110 from the first change on that takes flow
- * off. Any call below may answer DMF_NO_MEMORY unless a comment says that it takes none; then free something and ask again.
+ * time. Calls for different sessions may run at the same time if malloc may. No call blocks or starts a thread, and none may
+ * be made from a signal handler. After a fork each process has its own copy of the session; if other threads were running,
+ * the child must not make any call, since it must not call malloc.
+ * Time.  A solve may take long, and so may cap, close and shut if the flow runs over many paths, and steps over many states.
+ * Every other call looks at each arc a few times at most. Nothing stops a call before it is done.
+ * Memory.  A session takes some 35 bytes an arc, 80 after its first solve, and 110 after the first change that takes flow
+ * off. Any call below may answer DMF_NO_MEMORY unless a comment says that it takes none; then free something and try again.
  * Limits.  2 to 16,777,216 nodes, up to 134,217,728 arcs, closed ones counted. The capacities add up to at most 2^64 - 1.
- * Refusals.  A call that returns anything but DMF_OK has left the session as it was, and so the arrays: only what the call
- * says beside it has been written. No call prints, aborts, or changes errno on purpose. Each comment names what the call
- * may answer beside DMF_OK and DMF_NO_MEMORY.
+ * Refusals.  A call that returns anything but DMF_OK has left the session as it was, and the arrays too: only what its
+ * comment says has been written. No call prints, aborts, or changes errno on purpose. Each comment names what the call may
+ * answer besides DMF_OK and DMF_NO_MEMORY.
  */
 #ifndef DMF_H
 #define DMF_H
@@ -51,18 +51,18 @@ enum dmf_status {
     DMF_NOT_GREATEST = 9,    /* some flow has a larger value */
     DMF_BAD_LENGTH = 10,     /* an array has another length than it should, or a text does not fit */
     DMF_BAD_NUMBER = 11,     /* the number of nodes, the source, the sink or the bound is out of range, or source and sink are one */
-    DMF_BAD_TEXT = 12,       /* the text is no problem text */
+    DMF_BAD_TEXT = 12,       /* the text is not a problem text */
     DMF_OVER_CAPACITY = 13,  /* the flow on an arc exceeds its capacity */
     DMF_NOT_CONSERVED = 14,  /* more flow enters a node than leaves it, or less */
     DMF_NEGATIVE = 15        /* more flow enters the source than leaves it */
 };
 
-/* The first fault of a problem text, as `dmf solve` tells it in words. The numbers never change. */
+/* The first fault of a problem text, which `dmf solve` prints in words. The numbers never change. */
 enum dmf_fault {
     DMF_FAULT_PROBLEM_LINE_EXPECTED = 1,  /* a line before the line `p max NODES ARCS`, or no such line */
     DMF_FAULT_SECOND_PROBLEM_LINE = 2,
     DMF_FAULT_UNKNOWN_LINE = 3,           /* a line that begins with another letter than c, p, n and a */
-    DMF_FAULT_NOT_MAX = 4,                /* a problem, but none of maximum flow */
+    DMF_FAULT_NOT_MAX = 4,                /* a problem, but not of maximum flow */
     DMF_FAULT_FIELD_COUNT = 5,            /* too few fields, or too many */
     DMF_FAULT_NOT_A_NUMBER = 6,
     DMF_FAULT_TOO_LARGE = 7,              /* a number exceeds 2^64 - 1 */
@@ -92,12 +92,12 @@ uint32_t dmf_abi(void);
 /* ---- To open and to free ------------------------------------------------------------------------------------------- */
 
 /* Opens a session on a network of `nodes` nodes. Arc i + 1 leaves node tails[i], enters heads[i], and has
- * capacities[i]; the flow is 0. The three lengths have to be the same, or the answer is DMF_BAD_LENGTH. The session keeps
+ * capacities[i]; the flow is 0. The three lengths must be the same, or the answer is DMF_BAD_LENGTH. The session keeps
  * up to `past` states before the present one, from 0 to DMF_MAX_PAST. DMF_BAD_NUMBER, DMF_NO_SUCH_NODE, DMF_TOO_MANY_ARCS,
  * DMF_SUM_TOO_LARGE.
  *
  * On DMF_OK *session is the new session, and *bad_arc is unchanged. Otherwise *session is unchanged, and *bad_arc is the index
- * of the first arc that is refused, if one of the last three is the answer; else it may be any number. */
+ * of the first arc that is refused, if one of the last three is the answer; otherwise it may be any number. */
 enum dmf_status dmf_session_new(uint32_t nodes, uint32_t source, uint32_t sink,
                                 const uint32_t *tails, size_t tail_count,
                                 const uint32_t *heads, size_t head_count,
@@ -111,7 +111,7 @@ enum dmf_status dmf_session_new(uint32_t nodes, uint32_t source, uint32_t sink,
 enum dmf_status dmf_session_read(const uint8_t *text, size_t length, uint32_t past,
                                  dmf_session **session, uint64_t *line, uint32_t *fault);
 
-/* Frees a session. It may not be used again, and not be freed again. Takes no memory. */
+/* Frees a session, which must not be used or freed again. Takes no memory. */
 void dmf_session_free(dmf_session *session);
 
 /* ---- Changes: each that is DMF_OK appends a state, drops the undone ones, and forgets the oldest past the bound -------- */
@@ -129,18 +129,18 @@ enum dmf_status dmf_session_close(dmf_session *session, uint64_t arc);
 /* Closes every open arc that leaves or enters a node, as one change. DMF_NO_SUCH_NODE. */
 enum dmf_status dmf_session_shut(dmf_session *session, uint64_t node);
 
-/* Augments the present flow to a maximum flow. Appends a state also if it was one. Refused only for want of memory. */
+/* Augments the present flow to a maximum flow. Appends a state even if it was one. Refused only if memory is short. */
 enum dmf_status dmf_session_solve(dmf_session *session);
 
 /* ---- Steps: all of them, or none; 0 steps are DMF_OK --------------------------------------------------------------------- */
 
-/* Steps so many states back: the state of then stands again, arc for arc. DMF_NOTHING_TO_UNDO. Takes no memory. */
+/* Steps back by this many states: the session is again in that state, arc for arc. DMF_NOTHING_TO_UNDO. Takes no memory. */
 enum dmf_status dmf_session_undo(dmf_session *session, uint64_t steps);
 
-/* Steps so many undone states forward. DMF_NOTHING_TO_REDO. Takes memory only where an added arc comes back. */
+/* Steps forward by this many undone states. DMF_NOTHING_TO_REDO. Takes memory only if an added arc comes back. */
 enum dmf_status dmf_session_redo(dmf_session *session, uint64_t steps);
 
-/* ---- The present state: none of these changes it; all but the side, the check and the texts take no memory ---------------- */
+/* ---- The present state: none of these changes it; only the side, the check and the texts take memory ---------------------- */
 
 uint64_t dmf_session_value(const dmf_session *session);  /* the value of the flow */
 uint32_t dmf_session_past(const dmf_session *session);   /* how many states undo can step back */
@@ -155,20 +155,20 @@ size_t dmf_session_arcs(const dmf_session *session);     /* how many arcs there 
 enum dmf_status dmf_session_flows(const dmf_session *session, uint64_t *flows, size_t count);
 enum dmf_status dmf_session_capacities(const dmf_session *session, uint64_t *capacities, size_t count);
 
-/* The side of the smallest minimum cut: side[v - 1] becomes 1 if every minimum cut has node v on the source's side, else 0.
+/* The side of the smallest minimum cut: side[v - 1] becomes 1 if every minimum cut has node v on the source's side, otherwise 0.
  * The arcs that leave the side are the limit: their capacities add up to the value. `count` is dmf_session_nodes(session), or
- * the answer is DMF_BAD_LENGTH. DMF_NOT_GREATEST if the present flow is no maximum flow: solve first. */
+ * the answer is DMF_BAD_LENGTH. DMF_NOT_GREATEST if the present flow is not a maximum flow: solve first. */
 enum dmf_status dmf_session_side(const dmf_session *session, uint8_t *side, size_t count);
 
 /* Judges `count` flows, one for each arc, of the present network; the session's own flow does not matter. DMF_OK: they are a
  * maximum flow. DMF_OVER_CAPACITY: *place is the number of the first arc with too much. DMF_NOT_CONSERVED: *place is the number
  * of the first node at which flow is lost or made. DMF_NEGATIVE. DMF_NOT_GREATEST: they are a flow, and some flow has a larger
- * value. DMF_BAD_LENGTH if `count` is not dmf_session_arcs(session). *place is 0 where none is named. */
+ * value. DMF_BAD_LENGTH if `count` is not dmf_session_arcs(session). *place is 0 if no place is named. */
 enum dmf_status dmf_session_check(const dmf_session *session, const uint64_t *flows, size_t count, uint64_t *place);
 
 /* The problem text of the open arcs, or the solution text, into `room` bytes. *length becomes the length of the whole text,
- * unless the answer is DMF_NO_MEMORY, which leaves it. If it exceeds `room`, the answer is DMF_BAD_LENGTH, and nothing is written: so ask with
- * a room of 1 byte, and then with that length. No 0 is added. */
+ * unless the answer is DMF_NO_MEMORY, which leaves it unchanged. If it exceeds `room`, the answer is DMF_BAD_LENGTH, and
+ * nothing is written: so ask first with a room of 1 byte, and then with that length. No 0 is added. */
 enum dmf_status dmf_session_problem(const dmf_session *session, uint8_t *text, size_t room, size_t *length);
 enum dmf_status dmf_session_solution(const dmf_session *session, uint8_t *text, size_t room, size_t *length);
 

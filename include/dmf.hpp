@@ -1,4 +1,4 @@
-// dmf.hpp: the calls of dmf.h for C++17 and later. Header only; a program links with libdmf as a program in C does.
+// dmf.hpp: the calls of dmf.h for C++17 and later. Header only; link with libdmf as from C.
 //
 //     dmf::session session(4, 1, 4, {1, 1, 2, 2, 3}, {2, 3, 3, 4, 4}, {3, 2, 5, 2, 3});
 //     session.solve();
@@ -11,11 +11,11 @@
 // arcs are numbered from 1; arc i + 1 is at index i of an array.
 //
 // Refusals.  A refused call throws, and the session and the caller's arrays are as they were before it: dmf::error, or
-// std::bad_alloc where memory is short. Functions marked noexcept neither throw nor allocate.
+// std::bad_alloc if memory is short. Functions marked noexcept neither throw nor allocate.
 // Arrays.  A dmf::span is made from a pointer and a size, or from anything with data() and size(): std::vector, std::array,
 // std::span in C++20. It may be empty. What a call writes may not overlap what it reads.
 // Threads.  One call at a time for each session, const functions too; different sessions are independent.
-// Cost.  Each function costs what its call costs, and a std::vector or std::string where it returns one.
+// Cost.  Each function costs what its call costs, plus a std::vector or std::string if it returns one.
 #ifndef DMF_HPP
 #define DMF_HPP
 
@@ -127,7 +127,7 @@ enum class fault : std::uint32_t {
     return "unknown fault";
 }
 
-/// Thrown by a call that is refused for any reason but memory.
+/// Thrown by a call that is refused for any reason except memory.
 class error : public std::runtime_error {
 public:
     explicit error(dmf::status status) : error(status, text(status)) {}
@@ -204,7 +204,7 @@ private:
 /// What session::check finds about flows.
 struct judgement {
     dmf::status status;  ///< ok for a maximum flow; not_greatest, over_capacity, not_conserved or negative
-    std::uint64_t place; ///< the arc after over_capacity and the node after not_conserved; else 0
+    std::uint64_t place; ///< the arc after over_capacity and the node after not_conserved; otherwise 0
 
     /// Returns true for a maximum flow.
     explicit operator bool() const noexcept { return status == dmf::status::ok; }
@@ -229,7 +229,7 @@ inline void expect_ok(dmf_status answer) {
         refuse(answer);
 }
 
-// The library takes no NULL, but the data() of what is empty may be one.
+// The library does not accept NULL, but the data() of something empty may be NULL.
 template <class Element> Element *pointer(span<Element> elements) noexcept {
     static std::remove_const_t<Element> nothing{};
     return elements.data() != nullptr ? elements.data() : &nothing;
@@ -245,8 +245,8 @@ struct closer {
 
 } // namespace detail
 
-/// A network with a flow on it, and the states before and after the present one. It frees itself. It moves and does not
-/// copy; one that was moved from may only be assigned to or destroyed.
+/// A network with a flow on it, and the states before and after the present one. It frees itself. It can be moved but
+/// not copied; after a move, the old one may only be assigned to or destroyed.
 class session {
 public:
     /// Opens a session on a network of `nodes` nodes, with the arcs of three arrays of the same size and no flow. It keeps
@@ -256,7 +256,7 @@ public:
             span<const std::uint32_t> heads, span<const std::uint64_t> capacities, std::uint32_t past = max_past)
         : handle_(opened(nodes, source, sink, tails, heads, capacities, past)) {}
 
-    /// Takes over a session that dmf_session_new or dmf_session_read gave, and frees it in the end.
+    /// Takes over a session that dmf_session_new or dmf_session_read returned, and frees it in the end.
     explicit session(dmf_session *handle) noexcept : handle_(handle) {}
 
     /// Opens a session on a problem text in the DIMACS format. Throws text_error with the line and what is wrong there,
@@ -276,7 +276,7 @@ public:
     [[nodiscard]] dmf_session *get() noexcept { return handle_.get(); }
     [[nodiscard]] const dmf_session *get() const noexcept { return handle_.get(); }
 
-    /// Gives the session up to the caller, who has to free it with dmf_session_free.
+    /// Hands the session over to the caller, who must free it with dmf_session_free.
     [[nodiscard]] dmf_session *release() noexcept { return handle_.release(); }
 
     // ---- Changes: each appends a state, drops the undone ones, and forgets the oldest past the bound
@@ -300,17 +300,17 @@ public:
     /// no_such_node, or std::bad_alloc.
     void shut(std::uint64_t node) { detail::expect_ok(dmf_session_shut(live(), node)); }
 
-    /// Augments the present flow to a maximum flow. May take long. Appends a state also if the flow was a maximum flow.
-    /// Throws std::bad_alloc alone.
+    /// Augments the present flow to a maximum flow. May take long. Appends a state even if the flow was a maximum
+    /// flow. Throws only std::bad_alloc.
     void solve() { detail::expect_ok(dmf_session_solve(live())); }
 
     // ---- Steps: all of them, or none
 
-    /// Steps back so many states, each as it was, arc for arc. Throws error with nothing_to_undo. Takes no memory.
+    /// Steps back by this many states, each as it was, arc for arc. Throws error with nothing_to_undo. Takes no memory.
     void undo(std::uint64_t steps = 1) { detail::expect_ok(dmf_session_undo(live(), steps)); }
 
-    /// Steps forward so many undone states. Throws error with nothing_to_redo. Takes memory, and may throw std::bad_alloc,
-    /// only where an added arc comes back.
+    /// Steps forward by this many undone states. Throws error with nothing_to_redo. Takes memory, and may throw
+    /// std::bad_alloc, only if an added arc comes back.
     void redo(std::uint64_t steps = 1) { detail::expect_ok(dmf_session_redo(live(), steps)); }
 
     // ---- The present state, which none of these changes
@@ -356,7 +356,7 @@ public:
     }
 
     /// Returns the source side of the smallest minimum cut: 1 at index v - 1 if every minimum cut has node v on the source
-    /// side, else 0. The capacities of the arcs that leave it add up to the value. Throws error with not_greatest before a
+    /// side, otherwise 0. The capacities of the arcs that leave it add up to the value. Throws error with not_greatest before a
     /// solve(), or std::bad_alloc.
     [[nodiscard]] std::vector<std::uint8_t> side() const {
         std::vector<std::uint8_t> found(nodes());
@@ -379,10 +379,10 @@ public:
         return {static_cast<status>(answer), place};
     }
 
-    /// Returns the problem text of the open arcs. Throws std::bad_alloc alone.
+    /// Returns the problem text of the open arcs. Throws only std::bad_alloc.
     [[nodiscard]] std::string problem() const { return written(dmf_session_problem); }
 
-    /// Returns the solution text of the present flow. Throws std::bad_alloc alone.
+    /// Returns the solution text of the present flow. Throws only std::bad_alloc.
     [[nodiscard]] std::string solution() const { return written(dmf_session_solution); }
 
 private:

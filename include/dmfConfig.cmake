@@ -1,5 +1,5 @@
-# For find_package(dmf): the imported target dmf::dmf, the shared library, and dmf::static if libdmf.a is beside it. Each
-# place is found from this file's, lib/cmake/dmf or lib/TRIPLE/cmake/dmf below a prefix, so that the prefix may be moved.
+# For find_package(dmf): the imported target dmf::dmf, the shared library, and dmf::static if libdmf.a is beside it. The
+# paths are found from this file's own, lib/cmake/dmf or lib/TRIPLE/cmake/dmf below a prefix, so that the prefix may be moved.
 get_filename_component(_dmf_here "${CMAKE_CURRENT_LIST_DIR}" REALPATH)
 get_filename_component(_dmf_libraries "${_dmf_here}/../.." ABSOLUTE)
 set(_dmf_headers "")

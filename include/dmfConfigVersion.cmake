@@ -1,5 +1,5 @@
-# For find_package(dmf VERSION): suitable is a version that is not older than the one that is asked for, or in the range that
-# is, with the same first number, for programs of 64 bits.
+# For find_package(dmf VERSION): this version is suitable if it is not older than the requested one, or in the requested range,
+# with the same first number, for programs of 64 bits.
 set(PACKAGE_VERSION "0.2.0")
 set(PACKAGE_VERSION_COMPATIBLE FALSE)
 set(PACKAGE_VERSION_EXACT FALSE)

@@ -1,4 +1,5 @@
-"""The same in Python without a compiler, by ctypes. Arrays go in and out without text.
+"""Do what limit.c does, in Python with ctypes and without a compiler. Arrays go in and out without
+text.
 
     python3 limit.py libdmf.so.0
 """

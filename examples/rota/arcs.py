@@ -1,4 +1,4 @@
-"""Makes a table of arcs of a rota: hours flow from the staff to the people, to their days, to
+"""Make the table of arcs of a rota: hours flow from the staff to the people, to their days, to the
 shifts, and to the rota.
 
     python3 arcs.py <rota.csv | dmf-problem Staff Rota >rota.max

@@ -1,10 +1,10 @@
 #!/usr/bin/env python3
-"""Reads the table of pipes with pandas, finds the ten pipes whose loss is the worst, tries three
-widenings, and draws the best.
+"""Read the table of pipes with pandas, find the ten pipes that are worst to lose, try three wider
+pipes, and draw the best.
 
     PYTHONPATH=../../clients/python python3 worst.py [PICTURE]    in this folder
 
-The picture, best.svg by default, is drawn where Graphviz is there. In a notebook each part is a
+The picture, best.svg by default, is drawn if Graphviz is installed. In a notebook, make each part a
 cell.
 """
 
@@ -14,7 +14,7 @@ import dmf
 import pandas
 
 LITRES = 40
-# Those of the cut: no others can help.
+# The pipes of the cut: no others can help.
 WIDENED = ["North rise", "Mill Lane", "South main"]
 
 pipes = pandas.read_csv("pipes.csv")
