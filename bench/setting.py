@@ -44,7 +44,7 @@ def is_there(driver: str) -> bool:
             command, stdout=subprocess.DEVNULL, stderr=subprocess.DEVNULL, env=environment
         )
     if not Path(file).exists():
-        print(f"skipped: {driver}, since {package} is not there", file=sys.stderr)
+        print(f"skipped: {driver}, since {package} is not installed", file=sys.stderr)
         return False
     return True
 

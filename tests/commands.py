@@ -219,27 +219,23 @@ OF_FORM = (
 # When each refusal comes, on the pages, in their order. In place of {} the pages have the commands
 # that may be refused so.
 REFUSALS = {
-    "line too long": "the line has more than 4,096 bytes before its line feed or its end, a "
-    "carriage return "
-    "counted; the rest is skipped",
-    "unknown command": "the first field is no command, or the one field after `print` is nothing "
-    "that is printed",
+    "line too long": "the line has more than 4,096 bytes before its line feed or its end, counting "
+    "a carriage return; the rest is skipped",
+    "unknown command": "the first field is not a command, or the one field after `print` does not "
+    "name anything that can be printed",
     "wrong number of fields": "there are too few fields, or too many",
-    "not a number": "the first wrong number from the left has a byte that is no digit",
+    "not a number": "the first wrong number from the left has a byte that is not a digit",
     "number too large": "the first wrong number from the left is past 18446744073709551615",
     "no such arc": "the arc of {} is 0 or past the last one",
     "arc is closed": "the arc of {} was closed",
     "no such node": "an end of `add` or the node of `shut` is 0 or past the last node",
-    "too many arcs": "{} would pass 134,217,728 arcs, closed ones counted",
+    "too many arcs": "{} would pass 134,217,728 arcs, counting closed ones",
     PAST: "the sum of all capacities after {} would be past 18446744073709551615",
-    "nothing to undo": "fewer than K changes stand before the present state, or some were "
-    "forgotten; nothing is "
-    "undone",
+    "nothing to undo": "there are fewer than K changes before the present state, or some were "
+    "forgotten; nothing is undone",
     "nothing to redo": "fewer than K changes were undone; nothing is redone",
-    "flow is not greatest": "`print cut` where some flow has a larger value; `solve` comes first",
-    "no memory": "a request for memory was refused during the command, which could not do without; "
-    "the "
-    "session goes on",
+    "flow is not greatest": "`print cut` although some flow has a larger value; `solve` first",
+    "no memory": "a request for memory that the command needed was refused; the session goes on",
 }
 # A command line as the documents list them: what is printed stands out.
 LISTED = [command.form for command in COMMANDS.values() if command.word != "print"]

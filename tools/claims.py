@@ -200,7 +200,7 @@ def declared(definition: Definition) -> list[Item]:
     is made from `src/module.rt`."""
     crate, _, kind, *path = definition.file.relative_to(CRATES).with_suffix("").parts
     if kind not in ("declared", "contracts"):
-        raise ValueError(f"{definition.file} is not there")
+        raise ValueError(f"{definition.file} does not exist")
     return [
         item for part in path if part[0].isupper() for item in named(crate, part) if is_type(item)
     ]

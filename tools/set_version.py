@@ -51,7 +51,7 @@ def places(texts: dict[str, list[tuple[str, str]]]) -> Iterator[tuple[Path, re.P
     for pattern, ends in texts.items():
         paths = sorted(ROOT.glob(pattern))
         if not paths:
-            raise SystemExit(f"there is no file {pattern}")
+            raise SystemExit(f"no file matches {pattern}")
         for path in paths:
             for before, after in ends:
                 yield path, re.compile(f"({re.escape(before)})([0-9.]+)(?={re.escape(after)})")
