@@ -40,7 +40,14 @@ def test_part(driver: Any, tmp_path: Path) -> None:
         assert page.driver.execute_script(
             "return [document.querySelectorAll('#picture g.arc').length, "
             "document.getElementById('trials').tBodies[0].rows.length]"
-        ) == [300, 300]
+        ) == [300, 20]
+        page.press("Show all 801")
+        assert (
+            page.driver.execute_script(
+                "return document.getElementById('trials').tBodies[0].rows.length"
+            )
+            == 799
+        )
         page.press("Try each pipe of the limit")
         page.wait(lambda: "limit" in page.text("#verdict"))
         assert page.text("#verdict").startswith(
