@@ -15,9 +15,18 @@ from types import ModuleType
 import pytest
 from client_shared import CLIENT, ROOT, dmf
 from dmf import errors
+from dmf.network_changes import ChangeableNetwork
+from dmf.presentation import Presentable
 from dmf.sweeps import cases as sweeping
 
-ONE_CALL = "value", "minimum_cut", "maximum_flow", "from_networkx", "from_scipy"
+ONE_CALL = (
+    "value",
+    "minimum_cut",
+    "maximum_flow",
+    "from_networkx",
+    "from_igraph",
+    "from_scipy",
+)
 SWEEPS = "sweep", "each_arc_closed", "each_node_shut", "each_capacity_raised", "each_pair_added"
 
 
@@ -31,7 +40,16 @@ def test_docstrings(module: ModuleType) -> None:
 
 # The calls of these have docstrings in numpy's style.
 CALLS = {
-    **{f"Network.{name}": getattr(dmf.Network, name) for name in vars(dmf.Network)},
+    **{
+        f"Network.{name}": getattr(dmf.Network, name)
+        for kind in (dmf.Network, ChangeableNetwork, Presentable)
+        for name in vars(kind)
+    },
+    **{
+        f"{kind.__name__}.{name}": getattr(kind, name)
+        for kind in (dmf.Solution, dmf.Cut)
+        for name in vars(kind)
+    },
     **{name: getattr(dmf, name) for name in (*ONE_CALL, *SWEEPS)},
 }
 PUBLIC_CALLS = {name: call for name, call in CALLS.items() if "._" not in name}

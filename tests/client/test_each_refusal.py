@@ -88,7 +88,8 @@ def test_networks() -> None:
     message = refuse(dmf.NotANumber, dmf.Network, [("a", "b", 1.5)], "a", "b")
     assert message == (
         "not a number: 1.5 in ('a', 'b', 1.5): a capacity is a whole number from 0 to 2^64 - 1; "
-        "for decimals use dmf.read_table"
+        "for decimals use dmf.read_table, or scale= of Network.from_arrays, Network.from_frame and "
+        "the calls on graphs"
     )
     refuse(dmf.NoSuchNode, dmf.Network, PIPES, "lake", "see")
 

@@ -54,7 +54,7 @@ def test_the_interpreter_ends() -> None:
 
 def test_it_is_killed() -> None:
     commands: list[Callable[[dmf.Network[str]], object]] = [
-        dmf.Network.solve,
+        lambda network: network.solve(),
         lambda network: network.cap(("lake", "mill"), 1),
     ]
     for command in commands:

@@ -61,7 +61,7 @@ def judge_flow(graph: Any, value: int, flows: dict[str, dict[str, int]]) -> None
 
 def judge(graph: Any) -> bool:
     """Compare all calls with networkx. Return whether the flow has a bound."""
-    calls = dmf.value, dmf.minimum_cut, dmf.maximum_flow
+    calls: list[Any] = [dmf.value, dmf.minimum_cut, dmf.maximum_flow]
     try:
         value = networkx.maximum_flow_value(graph, SOURCE, SINK)
     except networkx.NetworkXUnbounded:
@@ -145,7 +145,8 @@ def test_capacities_that_are_past_64_bits_themselves() -> None:
     graph = networkx.DiGraph(
         [("n0", "a", {"capacity": LARGEST}), ("a", "b", {}), ("b", "n1", {"capacity": 1})]
     )
-    for call in dmf.value, dmf.minimum_cut, dmf.maximum_flow:
+    calls: list[Any] = [dmf.value, dmf.minimum_cut, dmf.maximum_flow]
+    for call in calls:
         with pytest.raises(
             dmf.CapacitiesPast64Bits, match="^capacities past 64 bits: <Arc 3: 'b' to 'n1'>$"
         ):

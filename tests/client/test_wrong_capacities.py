@@ -16,7 +16,10 @@ from packages import load
 names = "numpy", "pandas", "networkx", "scipy.sparse"
 numpy, pandas, networkx, sparse = map(load, names)
 EXPECTED = "a capacity is a whole number from 0 to 2^64 - 1"
-DECIMALS = "; for decimals use dmf.read_table"
+DECIMALS = (
+    "; for decimals use dmf.read_table, or scale= of Network.from_arrays, Network.from_frame and "
+    "the calls on graphs"
+)
 
 
 def graph_of(capacity: object) -> Any:
@@ -36,7 +39,7 @@ def calls(capacity: Any) -> dict[str, Callable[[], object]]:
     frame = pandas.DataFrame({"tail": ["a"], "head": ["b"], "capacity": [capacity]}, dtype=object)
     network = pipes()
     arc = repr(network.arc(("mill", "sea")))
-    ends = {"source": "a", "sink": "b"}
+    ends: dict[str, Any] = {"source": "a", "sink": "b"}
     return {
         f"Network {row}": lambda: dmf.Network([("a", "b", capacity)], "a", "b"),
         f"from_arrays {row}": lambda: dmf.Network.from_arrays(*columns, **ends),
@@ -77,7 +80,8 @@ def test_arrays_and_matrices() -> None:
         with pytest.raises(dmf.NotANumber, match=said):
             dmf.Network.from_arrays(*ends, numpy.array([capacity]), source=0, sink=1)
         matrix = sparse.coo_matrix((numpy.array([capacity]), ends), shape=(2, 2))
-        for call in dmf.from_scipy, dmf.value, dmf.maximum_flow, dmf.minimum_cut:
+        given: list[Any] = [dmf.from_scipy, dmf.value, dmf.maximum_flow, dmf.minimum_cut]
+        for call in given:
             with pytest.raises(dmf.NotANumber, match=said):
                 call(matrix, 0, 1)
 

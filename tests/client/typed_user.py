@@ -1,5 +1,6 @@
 """A caller's file, which `mypy --strict` passes: what a network gives has the type of its nodes."""
 
+from decimal import Decimal
 from typing import Tuple
 
 import dmf
@@ -14,6 +15,39 @@ def limit(network: dmf.Network[str]) -> list[str]:
 def busiest(plan: dmf.Solution[str]) -> dmf.Arc[str]:
     """The arc on which most flows."""
     return max(plan, key=lambda arc: plan[arc])
+
+
+def changes(network: dmf.Network[str]) -> list[str]:
+    """The names of the arcs after every change that there is."""
+    with network.try_out() as tried:
+        values: list[int] = [tried.cap("canal", 3), tried.close("canal"), tried.shut("mill")]
+        again: dmf.Arc[str] = tried.open("canal")
+        values += [tried.undo(), tried.redo(), tried.undo(2), tried.value, network.capacity(again)]
+    first: dmf.Arc[str] = network.arcs[0]
+    print(values, first.is_open, first.flow, network.arc(first) is first, network.source)
+    with network.copy() as copy:
+        for result in dmf.sweep(copy, dmf.each_arc_closed(), jobs=1):
+            case: dmf.SweepResult[str] = result
+            print(case.value, case.difference, case.refusal)
+        for cases in (
+            dmf.each_node_shut(),
+            dmf.each_capacity_raised(1),
+            dmf.each_pair_added([("lake", "sea")], 2),
+        ):
+            print(sum(result.value or 0 for result in dmf.sweep(copy, cases, jobs=1)))
+    return sorted(arc.tail for arc in network.cut().arcs)
+
+
+def tables(path: str) -> None:
+    """A table, and a project of it."""
+    try:
+        with dmf.read_table(path, source="lake", sink="sea", columns={"tail": "from"}) as table:
+            print(table.solve().value, table.unit, table.notes, table.sources, table.limits)
+    except dmf.TableFault as fault:
+        print(fault.line, fault.column_name, [other.reason for other in fault.others])
+    with dmf.new_project(path) as project, dmf.open_project(project.path) as again:
+        compared: dmf.Comparison = again.compare("base", "first")
+        print(list(compared.lines()))
 
 
 def main() -> None:
@@ -57,6 +91,14 @@ def main() -> None:
         by_ends: dict[str, dict[str, int]] = copy.solve().flow_dict()
         others: frozenset[str] = copy.cut().other_side
         print(sent, banks, by_ends, others, network.begin_again() + 1)
+    exact: Decimal = dmf.value([("lake", "sea", 0.3)], "lake", "sea", scale=10)
+    most, (_, rest) = dmf.minimum_cut({"lake": {"sea": 0.3}}, "lake", "sea", scale=10)
+    columns = ["lake", "mill"], ["mill", "sea"], [0.5, 0.25]
+    with dmf.Network.from_arrays(*columns, source="lake", sink="sea", scale=100) as scaled:
+        if isinstance(scaled, dmf.ScaledNetwork):
+            answer: dmf.ScaledSolution[str] = scaled.solve()
+            print(exact + most, rest, answer.value, [arc.tail.upper() for arc in scaled.arcs[:2]])
+    changes(network)
     with dmf.read("problem.max") as read:
         sides: list[str] = sorted(map(str, read.cut().side))
         print(sides)

@@ -9,9 +9,9 @@
 help(dmf.Network)         a network: its changes, flows and cuts; undo
 help(dmf.Solution)        a flow: by arcs, as an array, a frame, a matrix, a dictionary
 help(dmf.Cut)             the limit: its capacity, its arcs, its two sides
-help(dmf.maximum_flow)    of a graph of networkx or a matrix of scipy in one call; also
-                          minimum_cut, and value alone
-help(dmf.read)            a network of a file; also from_networkx, from_scipy, and
+help(dmf.maximum_flow)    of a graph of networkx or igraph, or a matrix of scipy, in one call;
+                          also minimum_cut, and value alone
+help(dmf.read)            a network of a file; also from_networkx, from_igraph, from_scipy, and
                           Network.from_arrays, Network.from_frame
 help(dmf.open_project)    a project of dmf-plan: its scenarios, compared; its steps
 help(dmf.sweep)           thousands of changes, each alone; each_arc_closed,
@@ -82,14 +82,18 @@ if TYPE_CHECKING:
     from .errors import UsedByTwoProcesses as UsedByTwoProcesses
     from .errors import UsedByTwoThreads as UsedByTwoThreads
     from .errors import WrongNumberOfFields as WrongNumberOfFields
-    from .graphs import MatrixFlow as MatrixFlow
-    from .graphs import from_networkx as from_networkx
-    from .graphs import from_scipy as from_scipy
+    from .graph_flows import EdgeFlow as EdgeFlow
+    from .graph_flows import MatrixFlow as MatrixFlow
+    from .graph_networks import from_igraph as from_igraph
+    from .graph_networks import from_networkx as from_networkx
+    from .graph_networks import from_scipy as from_scipy
     from .graphs import maximum_flow as maximum_flow
     from .graphs import minimum_cut as minimum_cut
     from .graphs import value as value
     from .network import Network as Network
     from .network import Row as Row
+    from .network import ScaledNetwork as ScaledNetwork
+    from .scaled_solution import ScaledSolution as ScaledSolution
     from .session.executable import program as program
     from .session.runners import library as library
     from .solution import Cut as Cut
@@ -111,8 +115,11 @@ _NAMES = {
     "desk.project.comparison": ["Comparison"],
     "desk.project.open_project": ["OpenProject", "new_project", "open_project"],
     "desk.project.schema": ["ProjectFault"],
-    "graphs": ["MatrixFlow", "from_networkx", "from_scipy", "maximum_flow", "minimum_cut", "value"],
-    "network": ["Network", "Row"],
+    "graph_flows": ["EdgeFlow", "MatrixFlow"],
+    "graph_networks": ["from_igraph", "from_networkx", "from_scipy"],
+    "graphs": ["maximum_flow", "minimum_cut", "value"],
+    "network": ["Network", "Row", "ScaledNetwork"],
+    "scaled_solution": ["ScaledSolution"],
     "session.executable": ["program"],
     "session.runners": ["library"],
     "solution": ["Cut", "Solution"],

@@ -7,13 +7,17 @@ import functools
 import weakref
 from array import array
 from bisect import bisect_left
-from collections.abc import Hashable, Iterable, Iterator
+from collections.abc import Collection, Hashable, Iterable, Iterator, Sequence
 from itertools import compress
-from typing import Any, Generic, Protocol
+from typing import Any, Generic, Protocol, SupportsIndex, overload
 
 from .columns import Columns, Node
 from .errors import AmbiguousArc, NoSuchArc, SessionEnded, shown_value
 from .text.lexical import NODES
+
+# How many arcs of many are shown.
+MOST_SHOWN = 20
+_NONE = array(NODES)
 
 
 class Owner(Protocol):
@@ -178,26 +182,70 @@ def one_of(found: list[Arc[Node]], key: Hashable, state: str = "open") -> Arc[No
     return found[0]
 
 
-class OpenArcs(Generic[Node]):
+class OpenArcs(Sequence[Arc[Node]], Generic[Node]):
     """The open arcs of a network at one time, in their order: those of the problem that are not
-    closed, and then the added ones."""
+    closed, and then the added ones. It is a sequence of their handles, each made when it is first
+    asked for, and stays as it is when the network changes."""
 
     def __init__(
-        self, handles: Handles[Node], added: tuple[Arc[Node], ...], closed: Iterable[int]
+        self, handles: Handles[Node], added: tuple[Arc[Node], ...], closed: Collection[int]
     ) -> None:
         self.handles = handles
         self.columns = handles.columns
         self.added = added
         # In their order.
-        self.closed = array(NODES, sorted(closed))
+        self.closed = array(NODES, sorted(closed)) if closed else _NONE
 
     def __len__(self) -> int:
         return len(self.columns) + len(self.added) - len(self.closed)
 
+    @overload
+    def __getitem__(self, place: SupportsIndex) -> Arc[Node]:
+        ...
+
+    @overload
+    def __getitem__(self, place: slice) -> list[Arc[Node]]:
+        ...
+
+    def __getitem__(self, place: SupportsIndex | slice) -> Arc[Node] | list[Arc[Node]]:
+        places = range(len(self))[place]
+        if isinstance(places, range):
+            return [self.handle(self._number_at(it)) for it in places]
+        return self.handle(self._number_at(places))
+
+    def _number_at(self, place: int) -> int:
+        """The number of the open arc at a place, from 0 on."""
+        low, high = 0, len(self.closed)
+        while low < high:
+            middle = (low + high) // 2
+            # So many open arcs stand before this closed one.
+            if self.closed[middle] - 1 - middle <= place:
+                low = middle + 1
+            else:
+                high = middle
+        return place + 1 + low
+
+    def __contains__(self, arc: object) -> bool:
+        return isinstance(arc, Arc) and self.has(arc) and self.is_open(arc.number)
+
+    def __repr__(self) -> str:
+        more = [f".. {len(self) - MOST_SHOWN} more"] * (len(self) > MOST_SHOWN)
+        return f"[{', '.join([*map(repr, self[:MOST_SHOWN]), *more])}]"
+
     def __eq__(self, other: object) -> bool:
+        if isinstance(other, (list, tuple)):
+            return list(self) == list(other)
         if not isinstance(other, OpenArcs):
             return NotImplemented
         return (self.handles, self.added, self.closed) == (other.handles, other.added, other.closed)
+
+    __hash__ = None  # type: ignore[assignment]
+
+    def without(self, numbers: Collection[int]) -> OpenArcs[Node]:
+        """The same arcs without those of some numbers."""
+        if not numbers:
+            return self
+        return OpenArcs(self.handles, self.added, {*self.closed, *numbers})
 
     def numbers(self) -> Iterable[int]:
         """The numbers of the open arcs."""

@@ -8,33 +8,48 @@ from collections.abc import Hashable, Iterable, Mapping
 from typing import Any
 
 from .arcs import OpenArcs
+from .capacities import CapacityReader
 from .columns import Columns, Node, WholeNodes
 from .errors import NoCapacity, NotAnArc, NumberTooLarge, shown_value
-from .rows import LARGEST_NODE, columns_of, is_missing, is_unordered, refuse_node, whole
+from .rows import (
+    LARGEST_NODE,
+    columns_of,
+    is_missing,
+    is_unbounded,
+    is_unordered,
+    refuse_node,
+    whole,
+)
 from .session.base import import_package, kind_for
 from .text.lexical import AMOUNTS, MOST_NODES, NO_NODE, NODES, NUMBERS
 
 
 def columns_of_arrays(
-    tail: Any, head: Any, capacity: Any, key: Any, nodes: Iterable[Node], infinite: object
+    tail: Any,
+    head: Any,
+    capacity: Any,
+    key: Any,
+    nodes: Iterable[Node],
+    reader: CapacityReader,
 ) -> tuple[Columns[Node], array[int]]:
     """The columns of three sequences of one length, and their capacities. Numbers in arrays of
     numpy are taken as they are, all together, and everything else row by row. Raises `NotAnArc` for
     sequences of several lengths or with a node that is missing, and what `columns_of` raises."""
-    filled = None if infinite is None else whole(infinite, "infinite")
     tail, head, capacity, key = (_plain(column) for column in (tail, head, capacity, key))
     lengths = {len(column) for column in (tail, head, capacity, key) if column is not None}
     if len(lengths) > 1:
         raise NotAnArc(
             f"not an arc: the columns have several lengths: {', '.join(map(str, sorted(lengths)))}"
         )
+    if reader.measure is not None:
+        capacity = _scaled(tail, head, capacity, reader)
     if all(_kind(column) in ("i", "u") for column in (tail, head)) and _kind(capacity) in (
         "i",
         "u",
         "f",
     ):
         np = import_package("numpy", "arrays")
-        columns, capacities = _of_numbers(np, tail, head, capacity, nodes, filled)
+        columns, capacities = _of_numbers(np, tail, head, capacity, nodes, reader.infinite)
         if key is not None:
             columns.keys.update(
                 (at, value) for at, value in enumerate(_listed(key), 1) if not is_missing(value)
@@ -51,9 +66,7 @@ def columns_of_arrays(
         *map(_listed, (tail, head, capacity)), *([] if key is None else [map(_known, _listed(key))])
     )
     nodes = list(nodes)
-    columns, capacities = columns_of(
-        rows if filled is None else (with_infinite(row, filled) for row in rows), nodes
-    )
+    columns, capacities = columns_of(rows if reader.measure else reader.rows(rows), nodes)
     if None in columns.numbers and None not in nodes:
         refuse_node(columns, capacities, None)
     return columns, capacities
@@ -93,6 +106,19 @@ def _plain(column: Any) -> Any:
     return column if column is None or hasattr(column, "__len__") else list(column)
 
 
+def _scaled(tail: Any, head: Any, capacity: Any, reader: CapacityReader) -> Any:
+    """Return a column of capacities in whole numbers: an array if the ends are arrays, and none is
+    missing."""
+    # A number of an array of narrow floats has a shorter decimal form than the same float of
+    # Python.
+    is_narrow = _kind(capacity) == "f" and capacity.dtype.itemsize != 8
+    amounts = list(capacity) if is_narrow else _listed(capacity)
+    wholes = reader.column(zip(_listed(tail), _listed(head)), amounts)
+    if not _kind(tail) or any(map(is_unbounded, wholes)):
+        return wholes
+    return import_package("numpy", "arrays").array(wholes, "uint64")
+
+
 def _kind(column: Any) -> str:
     """The kind of numbers of an array of numpy, or nothing for another column."""
     return str(column.dtype.kind) if hasattr(column, "dtype") else ""
@@ -105,16 +131,6 @@ def _listed(column: Any) -> Any:
 def _known(value: Any) -> Any:
     """A value of a frame: None where it is missing, as pandas writes it."""
     return None if is_missing(value) else value
-
-
-def is_unbounded(capacity: object) -> bool:
-    """Whether a capacity is missing or has no bound: None, NaN, or infinite."""
-    return is_missing(capacity) or not hasattr(capacity, "__len__") and capacity == float("inf")
-
-
-def with_infinite(row: tuple[Any, ...], infinite: int) -> tuple[Any, ...]:
-    """A row of arcs, with a capacity where it has none."""
-    return (*row[:2], infinite, *row[3:]) if is_unbounded(row[2]) else row
 
 
 def _of_numbers(

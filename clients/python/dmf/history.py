@@ -34,17 +34,15 @@ class Change:
 
 
 class _Now:
-    """The present state: how many changes led to it, forgotten ones counted; the value of its flow;
-    and the way back from it to the state before the present call, if that has changed anything. It
-    is never changed, but another one takes its place.
+    """The present state: how many changes led to it, forgotten ones counted, and the value of its
+    flow. It is never changed, but another one takes its place.
     """
 
-    __slots__ = "place", "value", "back"
+    __slots__ = "place", "value"
 
-    def __init__(self, place: int = 0, value: int = 0, back: _Back | None = None) -> None:
+    def __init__(self, place: int, value: int) -> None:
         self.place = place
         self.value = value
-        self.back = back
 
 
 class _Back:
@@ -83,6 +81,8 @@ class History:
         """Takes the present state, with a flow of this value, as the first one."""
         self._changes: list[Change | Command] = []
         self._now = self._start = _Now(0, value)
+        # The way back to the state before the present call, if that has changed anything.
+        self._back: _Back | None = None
 
     def value_at(self, place: int) -> int:
         """The value of the flow after so many changes, of which the last one is not forgotten."""
@@ -129,9 +129,7 @@ class History:
     def begin_call(self) -> None:
         """Takes the present state as that to which `roll_back` leads, and forgets what the change
         past the bound did."""
-        place = self._now.place
-        if self._now.back is not None:
-            self._now = _Now(place, self._now.value)
+        self._back, place = None, self._now.place
         oldest = self._changes[place - self.most - 1] if place > self.most else None
         if isinstance(oldest, Change):
             self._changes[place - self.most - 1] = oldest.command
@@ -140,12 +138,11 @@ class History:
         """Notes a change that the session made, makes it here, and drops what was undone. The flow
         has this value then."""
         now = self._now
-        back = _Back(now, made=[change], dropped=self._changes[now.place :])
-        self._now = _Now(now.place, now.value, back)
+        self._back = _Back(now, made=[change], dropped=self._changes[now.place :])
         change.value = value
         self._changes[now.place :] = [change]
         self._make(change)
-        self._now = _Now(now.place + 1, value, back)
+        self._now = _Now(now.place + 1, value)
 
     def redo(self, count: int, value: int) -> None:
         """Redoes so many changes, which exist. The flow has this value then."""
@@ -155,11 +152,10 @@ class History:
             for change in self._changes[now.place : now.place + count]
             if isinstance(change, Change)
         ]
-        back = _Back(now, made=changes)
-        self._now = _Now(now.place, now.value, back)
+        self._back = _Back(now, made=changes)
         for change in changes:
             self._make(change)
-        self._now = _Now(now.place + count, value, back)
+        self._now = _Now(now.place + count, value)
 
     def undo(self, count: int, value: int) -> None:
         """Undoes so many changes, which exist. The flow has this value then."""
@@ -169,15 +165,14 @@ class History:
             for change in self._changes[now.place - count : now.place]
             if isinstance(change, Change)
         ]
-        back = _Back(now, unmade=changes)
-        self._now = _Now(now.place, now.value, back)
+        self._back = _Back(now, unmade=changes)
         for change in reversed(changes):
             self._unmake(change)
-        self._now = _Now(now.place - count, value, back)
+        self._now = _Now(now.place - count, value)
 
     def roll_back(self) -> None:
         """Goes back to the state before the present call, whatever of the call was done."""
-        back = self._now.back
+        back = self._back
         if back is not None:
             for change in reversed(back.made):
                 self._unmake(change)
@@ -186,6 +181,7 @@ class History:
             if back.dropped is not None:
                 self._changes[back.now.place :] = back.dropped
             self._now = back.now
+            self._back = None
 
     def _make(self, change: Change) -> None:
         raise NotImplementedError
@@ -200,7 +196,7 @@ class History:
             _with_own_arc(change, again) if isinstance(change, Change) else change
             for change in other._changes
         ]
-        self._now = _Now(other.place, other.value)
+        self._now, self._back = _Now(other.place, other.value), None
 
     def forget_undone(self) -> None:
         """Forgets what was undone, so that nothing of it can be made again."""
@@ -224,8 +220,9 @@ class History:
             raise NothingToUndo(f"undo {count}, of {made} changes that are tried out")
         # A session that began anew may have kept changes that are forgotten here.
         undone = self._changes[max(0, self.place - count) : self.place]
-        if not all(isinstance(change, Change) for change in undone):
-            raise NothingToUndo(f"undo {count}")
+        for change in undone:
+            if not isinstance(change, Change):
+                raise NothingToUndo(f"undo {count}")
 
     def judge_redo(self, count: int) -> None:
         """Raises `NothingToRedo` if fewer changes can be made again."""

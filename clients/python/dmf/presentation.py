@@ -26,12 +26,24 @@ class Presentable(SessionHolder[Node]):
 
     @property
     def source(self) -> Node:
-        """The source."""
+        """Return the source.
+
+        Examples
+        --------
+        >>> Network([("a", "b", 3)], "a", "b").source
+        'a'
+        """
         return self._kept.source
 
     @property
     def sink(self) -> Node:
-        """The sink."""
+        """Return the sink.
+
+        Examples
+        --------
+        >>> Network([("a", "b", 3)], "a", "b").sink
+        'b'
+        """
         return self._kept.sink
 
     def _ends(self) -> set[Node]:
@@ -40,28 +52,71 @@ class Presentable(SessionHolder[Node]):
 
     @property
     def scale(self) -> str:
-        """What the numbers of a table were multiplied by, as the problem that was read tells it;
-        empty if it tells none."""
+        """Return what the numbers of a table were multiplied by.
+
+        It is a text that the problem tells which was read, and empty if that tells none.
+
+        Examples
+        --------
+        >>> Network([("a", "b", 3)], "a", "b").scale
+        ''
+        """
         from .text.problem_text import told_scale
 
         return told_scale(self._kept.described)
 
     @property
     def nodes(self) -> list[Node]:
-        """All nodes: those in `nodes`, and then the ends of the arcs, in their order."""
+        """Return all nodes: those in `nodes`, and then the ends of the arcs, in their order.
+
+        Examples
+        --------
+        >>> Network([("a", "b", 3)], "a", "b", nodes=["c"]).nodes
+        ['c', 'a', 'b']
+        """
         return list(self._kept.columns.numbers)
 
     @exclusive
     def flow(self) -> Solution[Node]:
-        """The present flow."""
+        """Return the present flow.
+
+        Returns
+        -------
+        Solution
+            Its value, and the flow on each open arc.
+
+        Examples
+        --------
+        >>> network = Network([("a", "b", 3), ("b", "c", 2)], "a", "c")
+        >>> network.flow().value, network.solve() == network.flow()
+        (0, True)
+        """
         if not self._session.end.alive:
             raise self._session.ended()
-        return Solution(self._flows())
+        return self._solution(self._flows())
 
     @exclusive
     def cut(self) -> Cut[Node]:
-        """The smallest minimum cut. Raises `FlowIsNotGreatest` if some flow has a larger value than
-        the present one, as before `solve`."""
+        """Return the smallest minimum cut.
+
+        Returns
+        -------
+        Cut
+            Its capacity, its two sides, and its arcs.
+
+        Raises
+        ------
+        FlowIsNotGreatest
+            If some flow has a larger value than the present one, as before `solve`.
+
+        Examples
+        --------
+        >>> network = Network([("a", "b", 3), ("b", "c", 2)], "a", "c")
+        >>> value = network.solve().value
+        >>> cut = network.cut()
+        >>> cut.capacity, sorted(cut.side), sorted(cut.other_side)
+        (2, ['a', 'b'], ['c'])
+        """
         return self._cut()
 
     def _cut(self) -> Cut[Node]:
@@ -72,7 +127,7 @@ class Presentable(SessionHolder[Node]):
         names = self._kept.columns.names
         look = self._look(set(side)) if self._kept.open_count <= MOST_DRAWN else None
         return Cut(
-            capacity,
+            self._quantity(capacity),
             frozenset(names[node - 1] for node in side),
             tuple(self._kept.leaving(list(side))),
             names,
@@ -81,15 +136,35 @@ class Presentable(SessionHolder[Node]):
 
     @exclusive
     def problem(self, *, names: bool = True, escapes: bool = False) -> str:
-        """The problem of the open arcs as a text in the DIMACS format. With `names`, comments
-        before it name nodes and arcs: each node whose name is not its own number, and each key, as
-        `str` writes it. `dmf.read` reads the same names again, as texts, except blank ones. If the
-        network was read of a problem that tells the scale and the unit of its numbers, so do the
-        first comments.
+        """Return the problem of the open arcs as a text in the DIMACS format.
 
-        Raises `NameNotWritable` if `dmf.read` would read a name as another one: if it has a line
-        feed or blanks around it, or if two nodes have the same name. With `escapes` what cannot be
-        written of a name, such as a line feed, is written as `\\x0a`.
+        If the network was read of a problem that tells the scale and the unit of its numbers, so do
+        the first comments.
+
+        Parameters
+        ----------
+        names
+            Whether comments before it name nodes and arcs: each node whose name is not its own
+            number, and each key, as `str` writes it. `dmf.read` reads the same names again, as
+            texts, except blank ones.
+        escapes
+            Whether what cannot be written of a name, such as a line feed, is written as `\\x0a`.
+
+        Raises
+        ------
+        NameNotWritable
+            If `dmf.read` would read a name as another one: if it has a line feed or blanks around
+            it, or if two nodes have the same name.
+
+        Examples
+        --------
+        >>> print(Network([("a", "b", 3)], "a", "b").problem(), end="")
+        c node 1 a
+        c node 2 b
+        p max 2 1
+        n 1 s
+        n 2 t
+        a 1 2 3
         """
         from .text.spelling import name_comments
         from .text.table_comments import TableComments, table_comments
@@ -104,9 +179,20 @@ class Presentable(SessionHolder[Node]):
         return before + self._session.problem().decode()
 
     def to_networkx(self) -> Any:
-        """A MultiDiGraph of networkx with an edge for each open arc. Its key is the arc's number,
-        and its attributes are `capacity`, `flow`, and `name` if the arc has a key. Raises an
-        ImportError if networkx is not installed.
+        """Return a MultiDiGraph of networkx with an edge for each open arc.
+
+        Its key is the arc's number, and its attributes are `capacity`, `flow`, and `name` if the
+        arc has a key.
+
+        Raises
+        ------
+        ImportError
+            If networkx is not installed.
+
+        Examples
+        --------
+        >>> Network([("a", "b", 3, "bridge")], "a", "b").to_networkx().edges["a", "b", 1]
+        {'capacity': 3, 'flow': 0, 'name': 'bridge'}
         """
         graph = import_package("networkx", "a graph")
         flow = self.flow()
@@ -115,25 +201,83 @@ class Presentable(SessionHolder[Node]):
         for (arc, carried), capacity in zip(flow.items(), flow._flows.capacities()):
             given = {} if arc.given_key is None else {"name": arc.given_key}
             made.add_edge(
-                arc.tail, arc.head, key=arc.number, capacity=capacity, flow=carried, **given
+                arc.tail,
+                arc.head,
+                key=arc.number,
+                capacity=self._quantity(capacity),
+                flow=carried,
+                **given,
             )
         return made
 
     def write(self, path: FilePath, *, names: bool = True, escapes: bool = False) -> None:
-        """Writes the text of `problem` to a file, whole or not at all: `dmf.read` and the program
-        read it. Raises an OSError if it cannot be written, and what `problem` raises."""
+        """Write the text of `problem` to a file, whole or not at all.
+
+        `dmf.read` and the program read it.
+
+        Parameters
+        ----------
+        path
+            The path of the file.
+        names, escapes
+            As those of `problem`.
+
+        Raises
+        ------
+        OSError
+            If it cannot be written.
+        NameNotWritable
+            As `problem`.
+
+        Examples
+        --------
+        >>> import os, tempfile
+        >>> path = os.path.join(tempfile.mkdtemp(), "problem.max")
+        >>> Network([("a", "b", 3)], "a", "b").write(path)
+        >>> os.path.getsize(path) > 0
+        True
+        """
         from .files import write_file
 
         write_file(os.fsdecode(path), self.problem(names=names, escapes=escapes).encode())
 
     def plot(self, path: FilePath | None = None) -> Any:
-        """Draws the network with its flow, and with the smallest minimum cut if the flow is
-        greatest; of more than 300 arcs those nearest the cut. With a path, Graphviz writes a
-        picture of the form of its ending, such as `.svg`, `.png` or `.pdf`; an ending `.dot` needs
-        no Graphviz. Without one it returns axes of matplotlib, which show the picture of Graphviz,
-        or the nodes on a circle where that is not there. Raises an ImportError without matplotlib,
-        a FileNotFoundError without Graphviz where a path needs it, a RuntimeError for what Graphviz
-        says, and an OSError."""
+        """Draw the network with its flow.
+
+        If the flow is greatest it draws the smallest minimum cut too, and of more than 300 arcs
+        those nearest the cut.
+
+        Parameters
+        ----------
+        path
+            The file for the picture, which Graphviz writes in the form of its ending, such as
+            `.svg`, `.png` or `.pdf`. An ending `.dot` needs no Graphviz.
+
+        Returns
+        -------
+        matplotlib.axes.Axes or None
+            Without a path axes, which show the picture of Graphviz, or the nodes on a circle where
+            Graphviz is not installed.
+
+        Raises
+        ------
+        ImportError
+            If matplotlib is needed and not installed.
+        FileNotFoundError
+            If Graphviz is needed and not installed.
+        RuntimeError
+            If Graphviz fails.
+        OSError
+            If the file cannot be written.
+
+        Examples
+        --------
+        >>> import os, tempfile
+        >>> path = os.path.join(tempfile.mkdtemp(), "network.dot")
+        >>> Network([("a", "b", 3)], "a", "b").plot(path)
+        >>> os.path.getsize(path) > 0
+        True
+        """
         from .notebook import draw, plot
 
         look = self._look_with_cut()()
@@ -156,7 +300,10 @@ class Presentable(SessionHolder[Node]):
         from .notebook import table
 
         flow = self.flow()
-        rows = ((*row, capacity) for row, capacity in zip(flow._rows(), flow._flows.capacities()))
+        rows = (
+            (*row, self._quantity(capacity))
+            for row, capacity in zip(flow._rows(), flow._flows.capacities())
+        )
         return table(repr(self)[1:-1], ("arc", "tail", "head", "flow", "capacity"), len(flow), rows)
 
     @exclusive

@@ -204,6 +204,8 @@ class Measure:
         product = EXACT.multiply(number, self.divisor)
         if product != product.to_integral_value():
             most = decimals(1 / self.divisor) if self.divisor >= 1 else 0
+            if decimals(number) <= most:
+                raise QuantityFault(f"times {plain_text(self.scale)} is not a whole number")
             told = f"{decimals(number)} decimal{'s' * (decimals(number) != 1)}"
             raise QuantityFault(
                 f"has {told}, and {most} {'is' if most == 1 else 'are'} the most here"

@@ -18,6 +18,11 @@ from .text.lexical import AMOUNTS, LARGEST, NODES
 
 # A whole number, which may also come as a float without a fraction.
 Whole = Union[SupportsIndex, float]
+# What to do about a capacity with decimals.
+DECIMALS = (
+    "; for decimals use dmf.read_table, or scale= of Network.from_arrays, Network.from_frame and "
+    "the calls on graphs"
+)
 # How many rows are taken together: the objects that they refer to fit the processor's cache.
 PIECE = 1 << 8
 # How many rows are expected if nobody says so, and how large nodes that are whole numbers may be
@@ -32,6 +37,8 @@ WANTED = (
 def whole(number: Any, at: object, what: str = "a capacity") -> int:
     """Return a value as a whole number from 0 to 2^64 - 1. Raises `NotANumber` and
     `NumberTooLarge`, whose messages name what it stands in, `at`, and what it should be."""
+    if type(number) is int and 0 <= number <= LARGEST:
+        return number
     try:
         # A float of Python or of numpy, of any width.
         is_whole = getattr(number, "is_integer", bool)
@@ -43,7 +50,7 @@ def whole(number: Any, at: object, what: str = "a capacity") -> int:
     expected = f"{shown_value(at)}: {what} is a whole number from 0 to 2^64 - 1"
     if taken > LARGEST:
         raise NumberTooLarge(f"one of {taken.bit_length()} bits in {expected}")
-    hint = "; for decimals use dmf.read_table" if _has_fraction(number) else ""
+    hint = DECIMALS if _has_fraction(number) else ""
     raise NotANumber(f"{shown_value(number)} in {expected}{hint}")
 
 
@@ -90,6 +97,11 @@ def is_missing(value: object) -> bool:
     except ValueError:
         # An array, of which each value is compared.
         return False
+
+
+def is_unbounded(capacity: object) -> bool:
+    """Whether a capacity is missing or has no bound: None, NaN, or infinite."""
+    return is_missing(capacity) or not hasattr(capacity, "__len__") and capacity == float("inf")
 
 
 def _judge_nodes(columns: Columns[Any], capacities: array[int]) -> None:

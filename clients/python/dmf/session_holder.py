@@ -149,7 +149,7 @@ class SessionHolder(Generic[Node]):
     def _begin_call(self) -> None:
         if self._why_stopped or self._why_over:
             raise SessionEnded(self._why_stopped or self._why_over)
-        if self._is_broken or self._has_sent_much():
+        if self._is_broken or self._session.is_full_after(MOST_LINES) and self._is_shorter_anew():
             self._begin_anew()
         self._kept.begin_call()
 
@@ -175,10 +175,10 @@ class SessionHolder(Generic[Node]):
         else:
             kept.redo(place - kept.place, value)
 
-    def _has_sent_much(self) -> bool:
-        """Whether the session will soon have taken all the lines that it takes, and a new one would
-        take fewer to get here."""
-        return self._session.is_full_after(MOST_LINES) and self._kept.place < MOST_LINES // 2
+    def _is_shorter_anew(self) -> bool:
+        """Whether a new session would take fewer commands to get here than one that is nearly
+        full."""
+        return self._kept.place < MOST_LINES // 2
 
     def _begin_anew(self) -> None:
         """Has a new session carry out the commands that stand."""
@@ -243,6 +243,10 @@ class SessionHolder(Generic[Node]):
     def _ask_flow(self) -> Told:
         """The present flow, for a caller who looks at it later than it was returned."""
         return self._asked_flow()
+
+    def _solution(self, flows: Flows[Node]) -> Solution[Node]:
+        """What a caller gets of flows."""
+        return Solution(flows)
 
     def _lose_flows(self) -> None:
         """Notes that nobody can tell the present flow any more, if it was not asked for."""

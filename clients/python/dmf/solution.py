@@ -140,7 +140,14 @@ class Solution(Mapping[Arc[Node], int], Generic[Node]):
 
     @property
     def value(self) -> int:
-        """The value of the flow, from the source to the sink."""
+        """Return the value of the flow, from the source to the sink.
+
+        Examples
+        --------
+        >>> plan = Network([("a", "b", 3, "bridge"), ("b", "c", 2)], "a", "c").solve()
+        >>> plan.value
+        2
+        """
         return self._flows.value
 
     def __getitem__(self, arc: Hashable) -> int:
@@ -156,7 +163,26 @@ class Solution(Mapping[Arc[Node], int], Generic[Node]):
         ...
 
     def get(self, arc: Hashable, /, default: Any = None) -> Any:
-        """As `solution[arc]`, but returns `default` if that names no open arc."""
+        """Return `solution[arc]`, or `default` if that names no open arc.
+
+        Parameters
+        ----------
+        arc
+            A handle, a key, or the ends `(tail, head)`.
+        default
+            What is returned instead.
+
+        Raises
+        ------
+        AmbiguousArc
+            If it names several open arcs.
+
+        Examples
+        --------
+        >>> plan = Network([("a", "b", 3, "bridge"), ("b", "c", 2)], "a", "c").solve()
+        >>> plan.get("bridge"), plan.get("canal", 0)
+        (2, 0)
+        """
         try:
             return self[arc]
         except NoSuchArc:
@@ -182,33 +208,95 @@ class Solution(Mapping[Arc[Node], int], Generic[Node]):
         return self
 
     def values(self) -> ValuesView[int]:
-        """The flows, in the order of the arcs."""
+        """Return the flows, in the order of the arcs.
+
+        Examples
+        --------
+        >>> plan = Network([("a", "b", 3, "bridge"), ("b", "c", 2)], "a", "c").solve()
+        >>> list(plan.values())
+        [2, 2]
+        """
         return _Values(self)
 
     def items(self) -> ItemsView[Arc[Node], int]:
-        """Each arc with its flow."""
+        """Return each arc with its flow.
+
+        Examples
+        --------
+        >>> plan = Network([("a", "b", 3, "bridge"), ("b", "c", 2)], "a", "c").solve()
+        >>> [(arc.key, flow) for arc, flow in plan.items()]
+        [('bridge', 2), (('b', 'c'), 2)]
+        """
         return _Items(self)
 
     def between(self, tail: Node, head: Node) -> int:
-        """The flow on all arcs from one node to another together. Raises `NoSuchNode`."""
+        """Return the flow on all arcs from one node to another together.
+
+        Raises
+        ------
+        NoSuchNode
+            If the network does not have one of them.
+
+        Examples
+        --------
+        >>> plan = Network([("a", "b", 3, "bridge"), ("b", "c", 2)], "a", "c").solve()
+        >>> plan.between("a", "b"), plan.between("a", "c")
+        (2, 0)
+        """
         arcs = self._flows.arcs
         numbers = arcs.between(tail, head)
         flows = self._flows.numbers()
         return sum(flows[arcs.place(number)] for number in numbers)
 
     def array(self) -> Any:
-        """The flows as an array of numpy, in the order of the arcs: signed integers of 64 bits, or
-        unsigned ones if a flow is 2^63 or more. Raises an ImportError if numpy is not installed."""
+        """Return the flows as an array of numpy, in the order of the arcs.
+
+        Its numbers are signed, of 64 bits, or unsigned if a flow is 2^63 or more.
+
+        Raises
+        ------
+        ImportError
+            If numpy is not installed.
+
+        Examples
+        --------
+        >>> plan = Network([("a", "b", 3, "bridge"), ("b", "c", 2)], "a", "c").solve()
+        >>> plan.array().tolist()
+        [2, 2]
+        """
         return flow_array(self._flows.told(), len(self))
 
     def frame(self) -> Any:
-        """A frame of pandas with a row for each open arc: its number, tail, head and key, its flow,
-        and the capacity that it had. Raises an ImportError if pandas or numpy is not installed."""
+        """Return a frame of pandas with a row for each open arc.
+
+        Its index is the number of the arc, and its columns are the tail, the head and the key, the
+        flow, and the capacity that the arc had.
+
+        Raises
+        ------
+        ImportError
+            If pandas or numpy is not installed.
+
+        Examples
+        --------
+        >>> plan = Network([("a", "b", 3, "bridge"), ("b", "c", 2)], "a", "c").solve()
+        >>> plan.frame()["flow"].to_dict()
+        {1: 2, 2: 2}
+        """
         return arrays.frame(self._flows.arcs, self.array(), self._flows.capacities())
 
     def flow_dict(self) -> dict[Node, dict[Node, int]]:
-        """The flows as networkx has them: for each node, those to each node to which an open arc
-        leads, on all these arcs together."""
+        """Return the flows as networkx has them.
+
+        For each node they are those to each node to which an open arc leads, on all these arcs
+        together.
+
+        Examples
+        --------
+        >>> plan = Network([("a", "b", 3, "bridge"), ("b", "c", 2)], "a", "c").solve()
+        >>> plan.flow_dict()
+        {'a': {'b': 2}, 'b': {'c': 2}, 'c': {}}
+        """
         arcs = self._flows.arcs
         names = arcs.columns.names
         found: dict[Node, dict[Node, int]] = {node: {} for node in names}
@@ -218,10 +306,23 @@ class Solution(Mapping[Arc[Node], int], Generic[Node]):
         return found
 
     def flow_matrix(self) -> Any:
-        """A sparse matrix of scipy: row i and column j have the flow from node i to node j on all
-        arcs together. Nodes are counted from 0 in the order of `Network.nodes`. The numbers are
-        signed, or unsigned if one is 2^63 or more. Raises an ImportError if scipy or numpy is not
-        installed."""
+        """Return the flows as a sparse matrix of scipy.
+
+        Row i and column j have the flow from node i to node j on all arcs together. Nodes are
+        counted from 0 in the order of `Network.nodes`. The numbers are signed, or unsigned if one
+        is 2^63 or more.
+
+        Raises
+        ------
+        ImportError
+            If scipy or numpy is not installed.
+
+        Examples
+        --------
+        >>> plan = Network([("a", "b", 3, "bridge"), ("b", "c", 2)], "a", "c").solve()
+        >>> plan.flow_matrix().toarray().tolist()
+        [[0, 2, 0], [0, 0, 2], [0, 0, 0]]
+        """
         return arrays.flow_matrix(self._flows.arcs, self.array())
 
     def __repr__(self) -> str:
@@ -265,7 +366,15 @@ class Cut(Generic[Node]):
 
     @property
     def other_side(self) -> frozenset[Node]:
-        """The nodes on the side of the sink."""
+        """Return the nodes on the side of the sink.
+
+        Examples
+        --------
+        >>> network = Network([("a", "b", 3), ("b", "c", 2)], "a", "c")
+        >>> value = network.solve().value
+        >>> network.cut().other_side
+        frozenset({'c'})
+        """
         return frozenset(node for node in self._nodes if node not in self.side)
 
     def __eq__(self, other: object) -> bool:

@@ -7,25 +7,24 @@ from dataclasses import replace
 from functools import cached_property
 from typing import Any, Optional, cast
 
-from ..arcs import Arc
+from ..arcs import Arc, OpenArcs
 from ..errors import CapacitiesPast64Bits, shown_value
-from ..network import Network
+from ..network import Network, ScaledNetwork
 from ..notebook import table as html_table
-from ..quantity import Measure, Quantity
-from ..session.base import Session, import_package
+from ..quantity import Quantity
+from ..session.base import import_package
 from ..session_holder import exclusive
-from ..solution import Solution
-from ..state import NetworkState
+from ..solution import Flows
 from ..text.lexical import ARC, NODE
 from ..text.spelling import written
 from ..text.table_comments import Role, table_comments
 from .arcs_and_places import Term
 from .other_columns import Extra
-from .table_answers import FoldedColumns, InnerNode, TableCut, TableSolution, whole_of
+from .table_answers import FoldedColumns, InnerNode, TableCut, TableSolution
 from .titles import DEMAND, LIMIT, SUPPLY
 
 
-class TableNetwork(Network[str]):
+class TableNetwork(ScaledNetwork[str]):
     """A network of a table. `read_table` makes it. It is a `Network` of the table's places, whose
     numbers are those of the table: ints if all are whole, else Decimals. Calls take numbers of any
     kind, and texts as the table has them (`cap("Main", "47,3")`), with no more decimals than the
@@ -41,10 +40,8 @@ class TableNetwork(Network[str]):
     # the table.
     _load: Callable[[], Extra] = Extra
     _rows: Sequence[int] = ()
-
-    def _begin(self, session: Session, kept: NetworkState[Any]) -> None:
-        self._measure = kept.described.measure
-        super()._begin(session, kept)
+    # All open arcs, and those of them that are of the table.
+    _shown: tuple[OpenArcs[str], OpenArcs[str]] | None = None
 
     @staticmethod
     def _class_of_copies() -> type[Network[Any]]:
@@ -60,25 +57,9 @@ class TableNetwork(Network[str]):
         return self._columns.described.roles
 
     @property
-    def measure(self) -> Measure:
-        """How the program's whole numbers stand for the table's."""
-        return self._columns.described.measure
-
-    @property
     def unit(self) -> str:
         """The unit of the numbers; empty if the table names none."""
         return self.measure.unit
-
-    def _quantity(self, number: int) -> Any:
-        return self.measure.quantity(number)
-
-    def _whole(self, amount: Any, at: object) -> int:
-        return whole_of(self.measure, amount, at)
-
-    def begin_again(self) -> Any:
-        """As `Network.begin_again`, in the table's numbers."""
-        super().begin_again()
-        return self.value
 
     def _terms(self, kind: str) -> dict[str, Optional[Quantity]]:
         """The places that give, take or let through, each with how much that is at most."""
@@ -124,19 +105,17 @@ class TableNetwork(Network[str]):
         return _one(self.sinks)
 
     @property
-    def value(self) -> Any:
-        """The value of the present flow."""
-        return self._quantity(self._kept.value)
-
-    @property
     def nodes(self) -> list[str]:
         """The places, in their order."""
         return self._columns.places()
 
     @property
-    def arcs(self) -> list[Arc[str]]:
+    def arcs(self) -> Sequence[Arc[str]]:
         """The open arcs of the table, in their order, and those that were added."""
-        return [arc for arc in self._kept.opened() if arc.number not in self._roles]
+        opened = self._kept.opened()
+        if self._shown is None or self._shown[0] is not opened:
+            self._shown = opened, opened.without(self._roles)
+        return self._shown[1]
 
     @cached_property
     def _extra(self) -> Extra:
@@ -148,16 +127,6 @@ class TableNetwork(Network[str]):
         of an arc."""
         return self._extra.by_title(self._rows)
 
-    def capacity(self, arc: Any) -> Any:
-        """The capacity of an open arc."""
-        return self._quantity(super().capacity(arc))
-
-    def capacity_now(self, arc: Arc[Any]) -> Any:
-        return self._quantity(super().capacity_now(arc))
-
-    def flow_now(self, arc: Arc[Any]) -> Any:
-        return self._quantity(super().flow_now(arc))
-
     def cap(self, arc: Any, capacity: Any) -> Any:
         """As `Network.cap`, in the table's numbers."""
         found = self.arc(arc)
@@ -165,7 +134,7 @@ class TableNetwork(Network[str]):
             self._judge_room(
                 found.tail, found.head, self._whole(capacity, found) - self._kept.capacity(found)
             )
-        return self._quantity(super().cap(found, capacity))
+        return super().cap(found, capacity)
 
     def _add(
         self, tail: str, head: str, room: int, key: Hashable, replaced: int | None
@@ -173,34 +142,8 @@ class TableNetwork(Network[str]):
         self._judge_room(tail, head, room)
         return super()._add(tail, head, room, key, replaced)
 
-    def close(self, arc: Any) -> Any:
-        """As `Network.close`, in the table's numbers."""
-        return self._quantity(super().close(arc))
-
-    def shut(self, node: str) -> Any:
-        """As `Network.shut`, in the table's numbers."""
-        return self._quantity(super().shut(node))
-
-    def undo(self, count: int = 1) -> Any:
-        """As `Network.undo`, in the table's numbers."""
-        return self._quantity(super().undo(count))
-
-    def redo(self, count: int = 1) -> Any:
-        """As `Network.redo`, in the table's numbers."""
-        return self._quantity(super().redo(count))
-
-    @exclusive
-    def solve(self) -> TableSolution:
-        """As `Network.solve`, in the table's numbers."""
-        return self._told_solution(super().solve.__wrapped__(self))  # type: ignore[attr-defined]
-
-    @exclusive
-    def flow(self) -> TableSolution:
-        """As `Network.flow`, in the table's numbers."""
-        return self._told_solution(super().flow.__wrapped__(self))  # type: ignore[attr-defined]
-
-    def _told_solution(self, solution: Solution[str]) -> TableSolution:
-        return TableSolution(solution._flows, self.measure, self._roles)
+    def _solution(self, flows: Flows[str]) -> TableSolution:
+        return TableSolution(flows, self.measure, self._roles)
 
     @exclusive
     def cut(self) -> TableCut:
