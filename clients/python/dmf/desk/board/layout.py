@@ -1,8 +1,7 @@
 """Where the places of a picture lie.
 
 A place stays where it was put, whatever is drawn beside it: Graphviz puts the first picture as it
-does best, and later one new places near their neighbours. A project keeps the places, and a table
-of coordinates may name them."""
+does best, and later one new places near their neighbours. A table of coordinates may name them."""
 
 from __future__ import annotations
 
@@ -23,14 +22,18 @@ from ...tables.titles import PLACE, USUAL, title_of
 from ...tables.workbook import is_workbook, workbook_sheets
 from ...text.drawing import graphviz
 from ...text.spelling import cleaned, quoted_name
-from ..project.acts import place_name
-from ..project.scenarios import Scenarios
 from ..steps import DeskFault
 from ..workspace import Desk
 
 # How large a place is, about, in points, and how many spots are tried around the one where it would
 # lie best.
 WIDE, HIGH, MOST_SPOTS = 120.0, 50.0, 400
+# Of how many places layers are drawn, however long they are; how many times as long as high, or as
+# high as long, they are at most of more places; and what else pulls these and pushes them.
+MOST_LAYERED, MOST_LONG = 40, 2.3
+FORCES = "K=1; repulsiveforce=1.4; smoothing=triangle; overlap=true"
+# How many times as long as high a window is for a picture, which is stretched so far at most.
+WINDOW, MOST_STRETCHED = 1.4, 2.2
 # How far from all other places a part of the network is put that has no neighbour among them, in
 # points.
 APART = 200.0
@@ -85,6 +88,8 @@ class Places:
         found, drawn = laid_out("dot", text, "-Tsvg")
         # A drawing tells them in hundredths, and a layout in five digits.
         found.spots = {int(node): Spot(float(x), -float(y)) for node, x, y in _DRAWN.findall(drawn)}
+        if len(new) > MOST_LAYERED and not 1 / MOST_LONG < _form(found.spots.values()) < MOST_LONG:
+            found, drawn = Places(spread_out(text, ways)), ""
         right = max((spot.x for spot in self.spots.values()), default=-APART)
         left = min((spot.x for spot in found.spots.values()), default=0.0)
         by = right + APART - left if self.spots else 0.0
@@ -152,6 +157,38 @@ def _rough(text: str, known: Mapping[int, Spot], new: list[int]) -> dict[int, Sp
     return {node: found.spots[node] for node in new}
 
 
+def _form(spots: Iterable[Spot]) -> float:
+    """Return how many times as long as high a picture is."""
+    listed = list(spots)
+    wide, high = (
+        max(side) - min(side) + WIDE
+        for side in ([spot.x for spot in listed], [spot.y for spot in listed])
+    )
+    return wide / high
+
+
+def spread_out(text: str, ways: Iterable[Way]) -> dict[int, Spot]:
+    """Return where places lie that attract their neighbours, with most arcs from left to right, in
+    the form of a window. Layers of as many would be a strip."""
+    begun = text.rstrip().removesuffix("}") + f"  notranslate=true; splines=false; {FORCES}\n"
+    spots = laid_out("sfdp", begun + "}\n")[0].spots
+    right = sum(spots[head].x - spots[tail].x for tail, head, _ in ways)
+    up = sum(spots[head].y - spots[tail].y for tail, head, _ in ways)
+    turn = complex(right, -up) / (math.hypot(right, up) or 1.0)
+    turned = {
+        node: Spot((complex(*spot) * turn).real, (complex(*spot) * turn).imag)
+        for node, spot in spots.items()
+    }
+    by = min(MOST_STRETCHED, max(1 / MOST_STRETCHED, _form(turned.values()) / WINDOW))
+    pins = "".join(
+        f'  {node} [pos="{spot.x:.2f},{spot.y * by:.2f}"]\n' for node, spot in turned.items()
+    )
+    # Places that lie over one another go apart.
+    settings = '  overlap=prism; sep="+14"; notranslate=true; inputscale=72; splines=false\n'
+    apart = laid_out("neato", text.rstrip().removesuffix("}") + settings + pins + "}\n", "-n")[0]
+    return {node: Spot(round(it.x, 2), round(it.y, 2)) for node, it in apart.spots.items()}
+
+
 def laid_out(engine: str, text: str, *words: str) -> tuple[Places, str]:
     """The spots and routes that an engine of Graphviz finds, and what it writes by these words too.
     Nodes are numbers in the text, and arcs have their way as `class`."""
@@ -192,41 +229,6 @@ def run(text: str, engine: str, *words: str) -> str:
         raise NoPicture(f"Graphviz did not draw it: {error.strerror}") from None
     except RuntimeError as error:
         raise NoPicture(str(error)) from None
-
-
-DECIMALS = 2
-
-
-def kept_spots(desk: Desk) -> dict[int, Spot]:
-    """The spots that a project keeps, by the nodes of its places; those of places that are gone are
-    left out."""
-    project = Scenarios.of(desk)
-    if project is None:
-        return {}
-    places = desk.network.names.places
-    return {
-        places[name].entry: Spot(*spot)
-        for name, spot in project.project.positions.items()
-        if name in places
-    }
-
-
-def keep_spots(desk: Desk, spots: Mapping[int, Spot]) -> None:
-    """Has a project keep those of these spots that it does not have yet, unless it can only be
-    read. A place without a name of its own is put anew each time."""
-    project = Scenarios.of(desk)
-    if project is None or project.file.why_not:
-        return
-    before, found = project.project.positions, {}
-    for node, spot in spots.items():
-        name, at = place_name(desk.network, node), (
-            round(spot.x, DECIMALS),
-            round(spot.y, DECIMALS),
-        )
-        if isinstance(name, str) and before.get(name) != at:
-            found[name] = at
-    if found:
-        project.take_positions(found)
 
 
 # The usual titles of columns to the right and upwards: of a plane, and of the globe.

@@ -24,8 +24,9 @@ from ..steps import DeskFault, unforeseen
 from ..workspace import Desk
 from .actions import ACTS, SCENARIO_ACTS, BoardAct, Sweeps
 from .differences import Comparisons
-from .layout import NoPicture, Spot, keep_spots, kept_spots
+from .layout import NoPicture, Spot
 from .picture import Picture
+from .positions import keep_spots, kept_spots
 from .responses import (
     Fields,
     Json,

@@ -1,0 +1,44 @@
+"""Where the places of a picture lie, as a project keeps it."""
+
+from __future__ import annotations
+
+from collections.abc import Mapping
+
+from ..project.acts import place_name
+from ..project.scenarios import Scenarios
+from ..workspace import Desk
+from .layout import Spot
+
+DECIMALS = 2
+
+
+def kept_spots(desk: Desk) -> dict[int, Spot]:
+    """The spots that a project keeps, by the nodes of its places; those of places that are gone are
+    left out."""
+    project = Scenarios.of(desk)
+    if project is None:
+        return {}
+    places = desk.network.names.places
+    return {
+        places[name].entry: Spot(*spot)
+        for name, spot in project.project.positions.items()
+        if name in places
+    }
+
+
+def keep_spots(desk: Desk, spots: Mapping[int, Spot]) -> None:
+    """Has a project keep those of these spots that it does not have yet, unless it can only be
+    read. A place without a name of its own is put anew each time."""
+    project = Scenarios.of(desk)
+    if project is None or project.file.why_not:
+        return
+    before, found = project.project.positions, {}
+    for node, spot in spots.items():
+        name, at = place_name(desk.network, node), (
+            round(spot.x, DECIMALS),
+            round(spot.y, DECIMALS),
+        )
+        if isinstance(name, str) and before.get(name) != at:
+            found[name] = at
+    if found:
+        project.take_positions(found)
