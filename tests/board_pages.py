@@ -14,6 +14,14 @@ SECONDS = 60
 # How long it is waited before the page is asked again whether something is so, at first and at
 # most, in seconds.
 SOON, LATE = 0.01, 0.2
+# Opens the tab of the panel that has an element.
+REACH = """
+const part = arguments[0].closest("[role=tabpanel]");
+const isLow = part?.scrollHeight && part.clientHeight < 60;
+if (part && (part.hidden || isLow)) {
+  document.getElementById(part.getAttribute("aria-labelledby")).click();
+}
+"""
 
 
 def browser() -> Iterator[Any]:
@@ -98,20 +106,28 @@ class Page:
     def value(self) -> int:
         return int(self.text("#value strong"))
 
+    def reached(self, found: Any) -> Any:
+        """An element, once the tab of the panel is open that has it."""
+        self.driver.execute_script(REACH, found)
+        return found
+
+    def find(self, place: str) -> Any:
+        return self.reached(self.driver.find_element("css selector", place))
+
     def click(self, place: str) -> None:
-        self.driver.find_element("css selector", place).click()
+        self.find(place).click()
 
     def press(self, word: str) -> None:
-        """Presses the button of this text, once it is there."""
+        """Presses the button of this name, once it is there."""
         from selenium.common.exceptions import StaleElementReferenceException
 
-        found = f"//button[text()={word!r}]"
+        found = f"//button[text()={word!r} or @aria-label={word!r}]"
 
         def is_pressed() -> bool:
             buttons = self.driver.find_elements("xpath", found)
             try:
                 for button in buttons[:1]:
-                    button.click()
+                    self.reached(button).click()
             except StaleElementReferenceException:
                 # What stands there was shown anew meanwhile.
                 return False
@@ -120,7 +136,7 @@ class Page:
         self.wait(is_pressed)
 
     def write(self, place: str, text: str) -> None:
-        field = self.driver.find_element("css selector", place)
+        field = self.find(place)
         field.clear()
         field.send_keys(text)
 

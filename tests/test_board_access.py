@@ -126,12 +126,20 @@ def test_names_and_colours(driver: Any) -> None:
             page.wait(lambda: "9 rows" in page.text("#filter-told"))  # noqa: B023
             page.press("Choose all of these")
             page.wait(lambda: page.text("#many-told"))  # noqa: B023
-            page.write("#text", "mill")
-            page.wait(lambda: page.text("#found"))  # noqa: B023
+            judge_tree(driver)
             page.press("Try each pipe of the limit")
             page.wait(lambda: page.text("#verdict").startswith(("Worst", "None")))  # noqa: B023
-            judge_tree(driver)
-            texts, marks = driver.execute_script(CONTRAST)
+            texts = []
+            for tab in driver.find_elements("css selector", "[role=tab]"):
+                if tab.is_displayed():
+                    tab.click()
+                    judge_names(driver)
+                    texts += driver.execute_script(CONTRAST)[0]
+            page.write("#text", "mill")
+            page.wait(lambda: page.text("#found"))  # noqa: B023
+            judge_names(driver)
+            found, marks = driver.execute_script(CONTRAST)
+            texts += found
             low = [
                 (text, round(ratio, 2))
                 for text, ratio, is_large in texts
@@ -143,7 +151,15 @@ def test_names_and_colours(driver: Any) -> None:
 
 
 def judge_tree(driver: Any) -> None:
-    """What can be acted on has a name; what can have the focus has a role."""
+    """The table and its fields have their roles, and all has a name."""
+    assert {"button", "checkbox", "searchbox", "grid", "columnheader", "textbox", "tab"} <= {
+        role for role, *_ in judge_names(driver)
+    }
+
+
+def judge_names(driver: Any) -> list[tuple[str, str, set[str]]]:
+    """What can be acted on has a name; what can have the focus has a role. Returns the role, the
+    name and the properties of each."""
     driver.execute_cdp_cmd("Accessibility.enable", {})
     nodes = [
         node
@@ -158,9 +174,6 @@ def judge_tree(driver: Any) -> None:
         )
         for node in nodes
     ]
-    assert {"button", "checkbox", "searchbox", "grid", "columnheader", "textbox"} <= {
-        role for role, *_ in told
-    }
     nameless = [(role, name) for role, name, _ in told if role in ACTED_ON and not name.strip()]
     assert nameless == []
     roleless = [
@@ -170,6 +183,7 @@ def judge_tree(driver: Any) -> None:
     ]
     assert roleless == []
     driver.execute_cdp_cmd("Accessibility.disable", {})
+    return told
 
 
 def test_focus_stays(driver: Any) -> None:
@@ -182,16 +196,18 @@ def test_focus_stays(driver: Any) -> None:
             page.wait(
                 lambda: page.driver.find_elements("xpath", f"//button[text()={word!r}]")
             )  # noqa: B023
-            driver.find_element("xpath", f"//button[text()={word!r}]").send_keys(ENTER)
+            page.reached(driver.find_element("xpath", f"//button[text()={word!r}]")).send_keys(
+                ENTER
+            )
             page.settle()
             page.wait(lambda: focused(page) == then)  # noqa: B023
         for button in "undo", "undo":
-            driver.find_element("id", button).send_keys(ENTER)
+            page.find(f"#{button}").send_keys(ENTER)
             page.settle()
         # There is nothing more to undo.
         assert (focused(page), it.state()["at"]) == ("redo", 0)
         page.choose("arc-9", "Mill Lane")
-        field = driver.find_element("id", "capacity")
+        field = page.find("#capacity")
         field.clear()
         field.send_keys("40", ENTER)
         page.settle()
@@ -204,7 +220,7 @@ def test_focus_stays(driver: Any) -> None:
         page.wait(lambda: "Market link" in page.text("#way"))
         page.settle()
         assert focused(page) == place != "picture"
-        head = driver.find_element("css selector", "#grid th.capacity button")
+        head = page.find("#grid th.capacity button")
         head.send_keys(ENTER)
         page.wait(
             lambda: driver.find_element("css selector", "#grid th.capacity").get_attribute(
@@ -222,13 +238,13 @@ def test_escape(driver: Any) -> None:
     with board(PIPES) as it:
         page = Page(driver, it.address)
         page.choose("arc-9", "Mill Lane")
-        driver.find_element("id", "capacity").send_keys(ESCAPE)
+        page.find("#capacity").send_keys(ESCAPE)
         page.wait(lambda: page.text("#what").startswith("Click a pipe"))
         page.wait(lambda: focused(page) == "arc-9")
         assert driver.find_elements("css selector", "#picture .chosen") == []
-        driver.find_element("id", "grid").send_keys(" ")
+        page.find("#grid").send_keys(" ")
         page.wait(lambda: page.text("#many-told").startswith("1 chosen"))
-        driver.find_element("id", "many-capacity").send_keys(ESCAPE)
+        page.find("#many-capacity").send_keys(ESCAPE)
         page.wait(lambda: page.text("#many") == "" and focused(page) == "grid")
         driver.get("about:blank")
 
@@ -321,23 +337,20 @@ def test_narrow(driver: Any) -> None:
     with board(PIPES) as it:
         show(driver, 400, "light")
         page = Page(driver, it.address)
-        driver.execute_script("scrollTo(0, 120)")
-        before = driver.execute_script(
-            "return [scrollY, document.getElementById('picture').getBoundingClientRect().top]"
-        )
         page.choose("node-5", "Mill")
+        where = "return document.getElementById('node-5').getBoundingClientRect().top"
+        before = driver.execute_script(where)
         it.do(what="close", arc=10)
         page.wait(lambda: page.value() == without("Bridge pipe"))
-        after = driver.execute_script(
-            "return [scrollY, document.getElementById('picture').getBoundingClientRect().top]"
-        )
+        page.settle()
         # A sentence at the top may take another line, and what is looked at stays where it is.
-        assert after[1] == pytest.approx(before[1], abs=1)
-        box = "document.getElementById('{}').getBoundingClientRect()"
-        apart = driver.execute_script(
-            f"return {box.format('chosen')}.top - {box.format('drawn')}.bottom"
+        assert driver.execute_script(where) == pytest.approx(before, abs=1)
+        # What is told of it is seen without a scroll, below it.
+        box = "document.querySelector('{}').getBoundingClientRect()"
+        top, bottom = driver.execute_script(
+            f"return [{box.format('#what h3')}.top, {box.format('#what h3')}.bottom]"
         )
-        assert 0 <= apart < 40
+        assert before < top < bottom < 900
         assert driver.execute_script("return document.getAnimations().length") == 0
         assert driver.execute_script("return document.documentElement.scrollWidth") <= 400
         as_before(driver)
@@ -357,15 +370,20 @@ def test_long_names(driver: Any, tmp_path: Path) -> None:
             page = Page(driver, it.address)
             page.press("Try each pipe")
             page.wait(lambda: page.text("#verdict").startswith("Worst"))  # noqa: B023
-            page.click("#limit-table button")
-            page.wait(lambda: page.text("#what h3") == f"{word}2")  # noqa: B023
-            page.press("Choose all of these")
-            page.wait(lambda: page.text("#many-told"))  # noqa: B023
-            assert driver.execute_script("return document.documentElement.scrollWidth") <= width
             assert (
                 driver.execute_script("return document.querySelector('#trials td').offsetWidth")
                 >= 72
             )
+            page.click("#limit-table button")
+            page.wait(lambda: page.text("#what h3") == f"{word}2")  # noqa: B023
+            cut = (
+                "const it = document.getElementById('limit-table').parentElement; return "
+                "it.scrollWidth - it.clientWidth"
+            )
+            assert driver.execute_script(cut) <= 0
+            page.press("Choose all of these")
+            page.wait(lambda: page.text("#many-told"))  # noqa: B023
+            assert driver.execute_script("return document.documentElement.scrollWidth") <= width
             amounts = "[...document.querySelectorAll('#grid td.flow, #grid td.capacity')]"
             assert (
                 driver.execute_script(
@@ -374,9 +392,4 @@ def test_long_names(driver: Any, tmp_path: Path) -> None:
                 )
                 == []
             )
-            cut = (
-                "const it = document.getElementById('limit-table').parentElement; return "
-                "it.scrollWidth - it.clientWidth"
-            )
-            assert driver.execute_script(cut) <= 0
         as_before(driver)

@@ -241,8 +241,10 @@ def chosen(page: Page) -> list[str]:
 
 def click_row(page: Page, name: str, *keys: str) -> None:
     """Clicks a row, with these keys held."""
-    row = page.driver.find_element(
-        "xpath", f"//table[@id='grid']//td[@class='name'][text()={name!r}]"
+    row = page.reached(
+        page.driver.find_element(
+            "xpath", f"//table[@id='grid']//td[@class='name'][text()={name!r}]"
+        )
     )
     actions = page.actions()
     for key in keys:
@@ -307,7 +309,7 @@ def test_press(driver: Any) -> None:
         page = Page(driver, it.address)
         order = [pipe.name for pipe in water()]
         before = page.text("#row-0 .flow")
-        row = driver.find_element("css selector", "#row-0 .name")
+        row = page.find("#row-0 .name")
         page.actions().move_to_element(row).click_and_hold().perform()
         it.do(what="close-all", arcs=[3])
         page.wait(lambda: page.text("#row-0 .flow") != before)
@@ -344,7 +346,7 @@ def test_keys(driver: Any) -> None:
     with board(PIPES) as it:
         page = Page(driver, it.address)
         order = [pipe.name for pipe in water()]
-        table = driver.find_element("id", "grid")
+        table = page.find("#grid")
         table.send_keys(DOWN, " ")
         page.wait(lambda: chosen(page) == order[1:2])
         table.send_keys(DOWN, DOWN, SHIFT, DOWN)
@@ -376,6 +378,7 @@ def test_all_rows(driver: Any, tmp_path: Path) -> None:
     with board(str(table)) as it:
         page = Page(driver, it.address)
         assert page.value() == sum(row % 97 + 1 for row in range(count))
+        page.click("#tab-all")
         box = "const it = document.getElementById('rows'); "
         for place in 0, 50_000, 99_990, 12_345:
             driver.execute_script(box + "it.scrollTop = 32 * arguments[0]", place)

@@ -181,7 +181,7 @@ def judge_labels(page: Page) -> None:
         page.driver.find_elements("css selector", "#picture .node text, #picture .arc text")
     )
     shown = []
-    for key in "0-------0++++++++++++++":
+    for key in "0-------0" + 20 * "+":
         page.driver.find_element("id", "picture").send_keys(key)
         page.driver.execute_async_script(
             "requestAnimationFrame(() => requestAnimationFrame(arguments[0]))"
@@ -218,7 +218,7 @@ def test_labels_on_a_map(driver: Any, tmp_path: Path) -> None:
     with board(*city(tmp_path, 7)) as it:
         page = Page(driver, it.address)
         counts = []
-        for key in "0----0++++++++++":
+        for key in "0----0" + 20 * "+":
             page.driver.find_element("id", "picture").send_keys(key)
             page.driver.execute_async_script(
                 "requestAnimationFrame(() => requestAnimationFrame(arguments[0]))"
@@ -358,9 +358,6 @@ def test_show_near(driver: Any, tmp_path: Path) -> None:
         page.wait(lambda: page.text("#found button").startswith("right 30 2,"))
         page.click("#found button")
         page.wait(lambda: page.text("#what h3") == "right 30 2")
-        page.press("What is chosen")
-        assert page.text("#news") == "What is chosen is not in this picture."
-        page.press("Show it in the picture")
         page.wait(lambda: "what lies nearest to a place" in page.text("#drawn-note"))
         page.settle()
         page.wait(lambda: driver.find_elements("css selector", "#picture .arc.chosen"))

@@ -126,7 +126,7 @@ class Walk:
         self.page, self.it, self.chance, self.model = page, it, chance, Model()
 
     def click_row(self, place: int, shift: bool = False) -> None:
-        row = self.page.driver.find_element("css selector", f"#row-{place} .name")
+        row = self.page.find(f"#row-{place} .name")
         self.page.driver.execute_script("arguments[0].scrollIntoView({ block: 'center' })", row)
         actions = self.page.actions()
         if shift:
@@ -153,7 +153,7 @@ class Walk:
         if what == "cap":
             text, to = self.chance.choice(AMOUNTS)
             self.page.write("#capacity", text)
-            self.page.driver.find_element("id", "capacity").send_keys("\ue007")
+            self.page.find("#capacity").send_keys("\ue007")
             return f"{self.model.cap([place], to)} {text} {row}"
         {"close": self.model.close, "double": self.model.double}[what]([place])
         self.page.press({"close": "Close it", "double": "Put a second one beside it"}[what])
@@ -208,11 +208,12 @@ class Walk:
         by = to - self.model.at
         self.model.at = to
         if abs(by) == 1 and self.chance.random() < 0.5:
-            self.page.driver.find_element("id", "grid").send_keys("\ue009", "z" if by < 0 else "y")
+            self.page.find("#grid").send_keys("\ue009", "z" if by < 0 else "y")
         elif abs(by) == 1:
-            self.page.driver.find_element("id", "undo" if by < 0 else "redo").click()
+            self.page.click("#undo" if by < 0 else "#redo")
         else:
-            self.page.driver.find_elements("css selector", "#way button")[to].click()
+            steps = self.page.driver.find_elements("css selector", "#way button")
+            self.page.reached(steps[to]).click()
         return f"go to {to}"
 
     def other_tab(self) -> str:
@@ -328,7 +329,7 @@ def test_walk(driver: Any, request: pytest.FixtureRequest) -> None:
             if len(walk.model.rows) > 30:
                 # Rows past what is seen cannot be clicked.
                 walk.model.at = 0
-                walk.page.driver.find_elements("css selector", "#way button")[0].click()
+                walk.page.click("#way button")
                 walk.judge("back to the file")
             done.append(chance.choice(kinds)())
         for tab in driver.window_handles:

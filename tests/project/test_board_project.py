@@ -65,7 +65,7 @@ def test_keep_beside(driver: Any, tmp_path: Path) -> None:
         page.wait(lambda: page.text("#kept") == "Each step is kept in pipes.dmf.json.")
         assert it.turn() > turn and not driver.find_element("id", "keep").is_displayed()
         assert page.text("#news").startswith("The steps are kept in pipes.dmf.json: 155")
-        page.wait(lambda: driver.find_element("id", "scenarios").is_displayed())
+        page.wait(lambda: driver.find_element("id", "tab-scenarios").is_displayed())
         judge_colours(page, 400)
         assert it.do(what="close", arc=9)["value"] == str(without("Bridge pipe", "Mill Lane"))
         status, told = it.post("do", what="keep")

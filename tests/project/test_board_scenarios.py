@@ -62,7 +62,7 @@ class ScenarioPage(Page):
         from selenium.webdriver.support.select import Select
 
         select: Any = Select
-        select(self.driver.find_element("css selector", place)).select_by_value(value)
+        select(self.find(place)).select_by_value(value)
 
     def compare(self, one: str, two: str) -> None:
         self.choose_from("#compare-one", one)

@@ -6,7 +6,7 @@
  */
 import { choose, theChoice } from "./choice.js";
 import { at, button, form, make, replace } from "./elements.js";
-import { isPart, isShown, showNear } from "./picture.js";
+import { isPart, showNear } from "./picture.js";
 import { act, ask, noun, present, units } from "./state.js";
 import { upper } from "./words.js";
 
@@ -33,7 +33,6 @@ function aboutArc(arc) {
     + (arc.limit ? ", and part of the limit: a wider one may bring more." : ", and no part of the limit: a wider one brings nothing.");
   /** @type {HTMLElement[]} */
   const about = [make("h3", arc.short), make("p", `From ${arc.tail} to ${arc.head}. ${words}`)];
-  if (!isShown({ arc: arc.number })) about.push(button("Show it in the picture", () => showNear(arc.tail_node), "plain"));
   if (arc.closed) return [...about, button("Open it again", () => act({ what: "open", arc: arc.number }, `${arc.short} is open`))];
   return [...about,
     button("Close it", () => act({ what: "close", arc: arc.number }, `${arc.short} is closed`)),

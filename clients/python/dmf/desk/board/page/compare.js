@@ -8,6 +8,7 @@
 import { choose, pick } from "./choice.js";
 import { at, cell, field, fill, make, offer, onClick, replace } from "./elements.js";
 import { patiently } from "./messages.js";
+import { lower } from "./panel.js";
 import { ask, noun, units } from "./state.js";
 import { listed, sentence, upper } from "./words.js";
 
@@ -75,7 +76,6 @@ export function closeComparison() {
   asked += 1;
   shown = null;
   at("compared-shown").hidden = true;
-  at("main").classList.remove("compared");
   for (const watcher of watchers) watcher();
 }
 
@@ -87,7 +87,6 @@ function limitOf(it) {
 function showTable() {
   const told = /** @type {Comparison} */ (shown), { first, second, total } = told;
   at("compared-shown").hidden = false;
-  at("main").classList.add("compared");
   at("compare-old").hidden = true;
   const words = `one=${encodeURIComponent(first.name)}&two=${encodeURIComponent(second.name)}&turn=${told.turn}`;
   at("take-difference").setAttribute("href", `difference.svg?${words}`);
@@ -143,7 +142,9 @@ export function beginComparing() {
   at("comparing").addEventListener("submit", async (event) => {
     event.preventDefault();
     await compare(field("compare-one").value, field("compare-two").value);
-    if (shown) at("compared-head").focus();
+    if (!shown) return;
+    lower();
+    at("compared-head").focus();
   });
   onClick("compare-more", more);
   onClick("compare-again", () => shown && compare(shown.first.name, shown.second.name));

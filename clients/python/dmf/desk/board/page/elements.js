@@ -100,16 +100,6 @@ export function offer(id, pairs, usual) {
 const controls = (host) => [...host.querySelectorAll("button:enabled, input:enabled")];
 
 /**
- * Changes what stands above the picture, which pushes nothing away that is looked at.
- * @param {() => unknown} change
- */
-export function keepInSight(change) {
-  const top = scrollY > 0 ? at("picture").getBoundingClientRect().top : 0;
-  change();
-  if (top) scrollBy(0, at("picture").getBoundingClientRect().top - top);
-}
-
-/**
  * The fields of an element that say what they are of.
  * @param {Element} host
  */

@@ -1,5 +1,5 @@
 /** Places and arcs, found by their names as one types. */
-import { choose } from "./choice.js";
+import { choose, watchChoice } from "./choice.js";
 import { at, button, field, make } from "./elements.js";
 import { ask } from "./state.js";
 
@@ -26,7 +26,15 @@ async function find() {
   at("found").replaceChildren(...lines);
 }
 
+/** Takes the list away once something is chosen, which is told below it. */
+function close() {
+  typed += 1;
+  if (at("found").contains(document.activeElement)) at("what").focus();
+  at("found").replaceChildren();
+}
+
 export function beginFinding() {
+  watchChoice((chosen) => chosen && close());
   at("text").addEventListener("input", () => {
     search = find();
   });

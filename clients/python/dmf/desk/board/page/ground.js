@@ -8,7 +8,7 @@ import { choose, theChoice } from "./choice.js";
 import { at } from "./elements.js";
 import { isPicked } from "./many.js";
 import { ask } from "./state.js";
-import { scale, seenBox } from "./view.js";
+import { freeBox, scale, seenBox } from "./view.js";
 
 /** The look of an arc that is not there. */
 const NONE = " ";
@@ -161,7 +161,7 @@ export function nextPlace(node, [right, down]) {
 /** The place in the middle of what is seen, if names can be read there and the picture lacks some that lie around it. */
 export function middlePlace() {
   if (scale() < NAMES || !isGround()) return null;
-  const box = seenBox(), [x, y] = [box.x + box.width / 2, box.y + box.height / 2];
+  const box = freeBox(), [x, y] = [box.x + box.width / 2, box.y + box.height / 2];
   let best = null, least = Infinity, isWhole = true;
   for (const place of places.values()) {
     const far = Math.hypot(place.x - x, place.y - y);

@@ -1,5 +1,5 @@
 /** What the page says above the picture: news, trouble, and that something takes long. */
-import { at, keepInSight, make } from "./elements.js";
+import { at, make } from "./elements.js";
 
 const LONG = 1500;
 
@@ -9,19 +9,15 @@ const LONG = 1500;
  * @param {HTMLElement[]} acts
  */
 export function trouble(text, ...acts) {
-  keepInSight(() => {
-    at("trouble").replaceChildren(...(text ? [make("p", text), ...acts] : []));
-    at("trouble").hidden = !text;
-  });
+  at("trouble").replaceChildren(...(text ? [make("p", text), ...acts] : []));
+  at("trouble").hidden = !text;
 }
 
 export const hasTrouble = () => !at("trouble").hidden;
 
 /** @param {string} text */
 export function news(text) {
-  keepInSight(() => {
-    at("news").textContent = text;
-  });
+  at("news").textContent = text;
 }
 
 /**
@@ -30,9 +26,9 @@ export function news(text) {
  * @param {Promise<Told>} answer
  */
 export async function patiently(answer) {
-  const hide = (/** @type {boolean} */ isHidden) => keepInSight(() => {
+  const hide = (/** @type {boolean} */ isHidden) => {
     at("long").hidden = isHidden;
-  });
+  };
   const late = setTimeout(() => hide(false), LONG);
   try {
     return await answer;

@@ -39,7 +39,10 @@ export function paint() {
     stroke(pen, alike, ink, look === "l" ? 3 : look === "F" ? 2 : isFar() ? 0.6 : 1, look === "c" ? [5, 3] : []);
     if (scale() >= ARROWS && look !== "c") point(pen, alike, ink);
   }
-  paintPlaces(pen, box, colour);
+  const named = paintPlaces(pen, box, colour);
+  // Places that lie close would hide the limit, which is what is looked for from afar.
+  if (isFar()) stroke(pen, seen.filter((line) => line.look === "l"), colour("limit"), 3);
+  paintNames(pen, named, colour);
 }
 
 /** The page's colours, by their names. To ask for one takes longer than to draw with it. */
@@ -116,6 +119,7 @@ function point(pen, drawn, ink) {
 }
 
 /**
+ * Draws the places, and gives those that are named.
  * @param {CanvasRenderingContext2D} pen
  * @param {Box} box
  * @param {(name: string) => string} colour
@@ -142,7 +146,7 @@ function paintPlaces(pen, box, colour) {
       pen.fill();
     }
   }
-  paintNames(pen, isNear ? behind : seen.filter((place) => place.isEnd || isMarked(place)), colour);
+  return isNear ? behind : seen.filter((place) => place.isEnd || isMarked(place));
 }
 
 /**

@@ -5,17 +5,19 @@
  */
 import { choose, theChoice } from "./choice.js";
 import { boxOf, parts, show } from "./drawing.js";
-import { at, onClick } from "./elements.js";
-import { chooseNear, groundBox, isGround, lookAtGround, middlePlace, nextPlace, setBefore } from "./ground.js";
+import { at, make, onClick } from "./elements.js";
+import { chooseNear, groundBox, isGround, lookAtGround, middlePlace, setBefore } from "./ground.js";
 import { arrange, labelsOf } from "./labels.js";
 import { isPicked, pickedCount } from "./many.js";
 import { news } from "./messages.js";
 import { paint } from "./painting.js";
 import { ask, noun, present, units } from "./state.js";
-import { beginView, fit, move, reveal, scale, see, zoom } from "./view.js";
+import { beginView, fit, reveal, scale, see, zoom } from "./view.js";
 import { listed } from "./words.js";
 
-const LARGER = 1.4, STEP = 60, STILL = 300;
+/** How much larger a button or a key makes it. */
+export const LARGER = 1.4;
+const STILL = 300;
 let asked = 0, count = 0, pending = 0, moving = 0;
 /** The place that is shown with what lies near it, or nothing where that is the limit; and the one of the picture that is there. */
 let near = "", nearShown = "none";
@@ -29,7 +31,7 @@ export const isPart = () => count < present().arcs;
  * The part of the picture that is an arc or a place.
  * @param {import("./choice.js").Choice | null} choice
  */
-const partOf = (choice) => parts().find((part) => part.id === (choice?.arc ? `arc-${choice.arc}` : `node-${choice?.node}`));
+export const partOf = (choice) => parts().find((part) => part.id === (choice?.arc ? `arc-${choice.arc}` : `node-${choice?.node}`));
 
 /** @param {import("./choice.js").Choice} choice */
 export const isShown = (choice) => Boolean(partOf(choice));
@@ -55,7 +57,9 @@ export async function showPicture() {
   const where = near && theChoice()?.node ? "the chosen place" : near ? "a place" : "the limit";
   const part = isGround() ? `All ${present().arcs} are drawn. Move in to read their names and numbers. `
     : isPart() ? `${count} of ${present().arcs}: what lies nearest to ${where}. ` : "";
-  at("drawn-note").textContent = `${told.reason ? `${told.reason}. ` : part}Click a ${noun()} or a place to see more, and to change it.`;
+  at("drawn-note").classList.toggle("reason", Boolean(told.reason));
+  at("drawn-note").replaceChildren(told.reason ? `${told.reason}. ` : part,
+    make("span", `Click a ${noun()} or a place to see more, and to change it.`, { class: "hint" }));
   at("near-limit").hidden = !near;
   at("take-svg").setAttribute("href", `picture.svg?near=${near}&turn=${present().turn}`);
   draw(told.svg);
@@ -78,15 +82,11 @@ function draw(text) {
 }
 
 /**
- * Fits what is seen to a picture that shows what lies near another place than before. Its room follows its form, once, so that nothing
- * jumps at a step.
+ * Fits what is seen to a picture that shows what lies near another place than before, once, so that nothing jumps at a step.
  * @param {import("./view.js").Box} box
  */
 function takeRoom(box) {
-  const all = groundBox(".node, .arc") ?? box;
-  at("main").classList.toggle("long", all.width > 700 && all.width > 2.5 * all.height);
-  at("picture").style.setProperty("--form", String(all.width / Math.max(all.height, 1)));
-  fit(nearShown === "none" ? all : box);
+  fit(nearShown === "none" ? groundBox(".node, .arc") ?? box : box);
   nearShown = near;
 }
 
@@ -101,9 +101,16 @@ export function mark() {
   label();
 }
 
-/** Shows what is chosen, if it is not seen. */
-export function revealChosen() {
-  const box = partOf(theChoice())?.getBBox() ?? groundBox(".chosen");
+/** Moves the picture to what is chosen, and has it drawn first where it was not. */
+export async function revealChosen() {
+  const chosen = theChoice();
+  if (chosen && !isShown(chosen) && !isGround()) {
+    const node = chosen.node ?? (await ask(`arc?number=${chosen.arc}`, undefined, true))?.tail_node;
+    if (!node || chosen !== theChoice()) return;
+    await showNear(node);
+    if (chosen !== theChoice()) return;
+  }
+  const box = partOf(chosen)?.getBBox() ?? groundBox(".chosen");
   if (box) reveal(box);
 }
 
@@ -138,70 +145,12 @@ function fitTo(like, what) {
   fit({ x: left, y: top, width: right - left, height: bottom - top });
 }
 
-const fitAll = () => fitTo(".node, .arc", "The network");
+export const fitAll = () => fitTo(".node, .arc", "The network");
 
 /** @param {Element} part */
-function choosePart(part) {
+export function choosePart(part) {
   const [kind, digits] = part.id.split("-");
   return choose(kind === "arc" ? { arc: Number(digits) } : { node: Number(digits) });
-}
-
-/** @type {Record<string, [number, number]>} */
-const WAYS = { ArrowRight: [1, 0], ArrowLeft: [-1, 0], ArrowDown: [0, 1], ArrowUp: [0, -1] };
-
-/**
- * The nearest part in a direction, of those that are like this.
- * @param {Element} from
- * @param {[number, number]} way
- * @param {string} like
- */
-function nextPart(from, [right, down], like) {
-  const center = (/** @type {Element} */ part) => {
-    const box = (part.querySelector("ellipse, text") ?? part).getBoundingClientRect();
-    return [box.x + box.width / 2, box.y + box.height / 2];
-  };
-  const [x, y] = center(from);
-  let best = null, least = Infinity;
-  for (const part of parts()) {
-    const [toX, toY] = center(part), along = (toX - x) * right + (toY - y) * down;
-    const aside = Math.abs((toX - x) * down) + Math.abs((toY - y) * right);
-    if (part === from || !part.matches(like) || along <= 1 || along + 2 * aside >= least) continue;
-    [best, least] = [part, along + 2 * aside];
-  }
-  return best;
-}
-
-/**
- * Goes to the nearest part in a direction, or to the first. Where a place lies there that the picture does not have, it is shown.
- * @param {SVGGElement | undefined} from
- * @param {[number, number]} way
- * @param {string} like
- */
-async function goFrom(from, way, like) {
-  const node = like === ".node" && from?.matches(like) ? nextPlace(Number(from.id.slice("node-".length)), way) : null;
-  if (node && !isShown({ node })) await showNear(node, true);
-  const next = node ? partOf({ node }) : from ? nextPart(from, way, like) : parts().find((it) => it.matches(".node"));
-  next?.focus({ preventScroll: true });
-  if (next) reveal(next.getBBox());
-}
-
-/** @param {KeyboardEvent} event */
-function goByKeys(event) {
-  const part = parts().find((it) => it === document.activeElement), way = WAYS[event.key];
-  if (way && event.ctrlKey) {
-    move(way[0] * STEP, way[1] * STEP);
-  } else if (way) {
-    goFrom(part, way, event.shiftKey ? ".arc" : ".node");
-  } else if ("+=-".includes(event.key)) {
-    zoom(event.key === "-" ? 1 / LARGER : LARGER);
-  } else if (event.key === "0") {
-    fitAll();
-  } else if (part && (event.key === "Enter" || event.key === " ")) {
-    choosePart(part);
-  } else {
-    return;
-  }
-  event.preventDefault();
 }
 
 /**
@@ -220,11 +169,10 @@ export function beginPicture() {
     if (part) choosePart(part);
     else chooseNear(event);
   });
-  at("picture").addEventListener("keydown", goByKeys);
   onClick("larger", () => zoom(LARGER));
   onClick("smaller", () => zoom(1 / LARGER));
   onClick("fit-all", fitAll);
-  onClick("fit-limit", () => fitTo(".cut", "The limit"));
+  for (const id of ["fit-limit", "show-limit"]) onClick(id, () => fitTo(".cut", "The limit"));
   onClick("fit-chosen", () => (pickedCount() || theChoice() ? fitTo(".chosen", "What is chosen") : fitAll()));
   onClick("near-limit", () => {
     near = "";

@@ -7,6 +7,7 @@
 import { choose, theChoice } from "./choice.js";
 import { offerScenarios } from "./compare.js";
 import { at, button, field, make, offer, onClick, replace } from "./elements.js";
+import { offerTab } from "./panel.js";
 import { act, ask } from "./state.js";
 
 /** The network of the table, without a step. */
@@ -23,6 +24,7 @@ export async function showScenarios(state, before) {
   // An arc that was added in one scenario is none in another, or another one.
   if (before && before.scenario !== state.scenario && (theChoice()?.arc ?? 0) > state.given) choose(null);
   at("scenarios").hidden = !state.scenario;
+  offerTab("tab-scenarios", Boolean(state.scenario));
   if (!state.scenario) return;
   /** @type {{ base: string, scenarios: Scenario[] } | null | undefined} */
   const told = await ask("scenarios");

@@ -3,13 +3,13 @@
  * @typedef {import("./state.js").State} State
  */
 import { pick } from "./choice.js";
-import { at, fill, keepInSight, make, numberCell, onClick, replaceAlike } from "./elements.js";
+import { at, fill, make, numberCell, onClick, replaceAlike } from "./elements.js";
 import { act, caption, noun, present, units } from "./state.js";
 import { fileName, grouped, listed, upper } from "./words.js";
 
 /** @param {State} state */
 export function showSummary(state) {
-  keepInSight(() => tell(state));
+  tell(state);
   showLimit(state);
 }
 
@@ -22,6 +22,10 @@ function tell(state) {
   const since = state.at ? ` (${state.by} than at the beginning).`.replace("no change than", "as much as") : ".";
   at("value").replaceChildren(
     make("strong", state.value), `${units()} can be sent from ${state.source} to ${state.sink}, and not more${since}`);
+  at("show-limit").hidden = !state.limit_count;
+  // A limit may also be what a place gives, takes or lets through.
+  const word = state.limit.some((arc) => arc.node) ? "part" : noun();
+  at("show-limit").textContent = `Bottleneck: ${grouped(state.limit_count)} ${word}${state.limit_count === 1 ? "" : "s"}`;
   at("legend").textContent = `45/60: 45${units()} flow where 60 fit`;
   at("notes").hidden = !state.notes.length;
   at("notes").lastElementChild?.replaceChildren(...state.notes.map((note) => make("li", note)));

@@ -1,18 +1,18 @@
 /**
  * The table of all arcs. It holds the rows that can be seen, and asks for others as one scrolls.
- * @typedef {import("./state.js").Arc & { changed: boolean }} Arc
+ * @typedef {import("./rows.js").Arc} Arc
  * @typedef {{ total: number, first: number, rows: Arc[], reading: string, fault: string }} Part
  */
-import { choose } from "./choice.js";
+import { choose, theChoice } from "./choice.js";
 import { at, field, make, onClick, replace } from "./elements.js";
 import { isPicked, pickMore, pickThese, toggle, watchPicked } from "./many.js";
 import { trouble } from "./messages.js";
+import { COLUMNS, fill, HEIGHT, row, spacer, title } from "./rows.js";
 import { ask, caption, noun, units } from "./state.js";
 import { sentence, upper } from "./words.js";
 
-/** The height of a row in pixels, as the style has it; how many rows are asked for at once; how many a page of keys moves by. */
-const HEIGHT = 32, AT_ONCE = 36, PAGE = 10;
-const COLUMNS = [["name", ""], ["from", "From"], ["to", "To"], ["flow", "flows"], ["capacity", "fits"], ["use", "use"]];
+/** How many rows are asked for at once; how many a page of keys moves by. */
+const AT_ONCE = 36, PAGE = 10;
 /** @type {Part} */
 let part = { total: 0, first: 0, rows: [], reading: "", fault: "" };
 /**
@@ -69,8 +69,8 @@ async function scrolled() {
 }
 
 function draw() {
-  const heads = COLUMNS.map(([column, title]) => {
-    const sort = make("button", title || upper(noun()), { type: "button", class: "link" });
+  const heads = COLUMNS.map(([column, told]) => {
+    const sort = make("button", told || upper(noun()), { type: "button", class: "link" });
     sort.addEventListener("click", () => {
       order = order === column ? `-${column}` : order === `-${column}` ? "" : column;
       at("rows").scrollTop = 0;
@@ -96,60 +96,12 @@ function draw() {
   point();
 }
 
-/**
- * @param {string} column
- * @param {string} told words that stand for it where they are not seen
- */
-const title = (column, told) => make("th", make("span", told, { class: "unseen" }), { class: column, scope: "col" });
-
-/**
- * What stands for so many rows that cannot be seen.
- * @param {number} count
- */
-function spacer(count) {
-  const made = make("tr", [], { class: "spacer", "aria-hidden": "true" });
-  made.style.setProperty("height", `${Math.max(0, count) * HEIGHT}px`);
-  return made;
-}
-
-/**
- * An empty row at this place of the table.
- * @param {number} place
- */
-function row(place) {
-  const tick = make("input", [], { type: "checkbox", tabindex: "-1" });
-  const cells = [...COLUMNS.map(([column]) => column), "marks"].map((column) => make("td", [], { class: column }));
-  return make("tr", [make("td", tick, { class: "tick" }), ...cells], { id: `row-${place}`, "aria-rowindex": String(place + 2) });
-}
-
-/**
- * Which part of what an arc can carry is used.
- * @param {Arc} arc
- */
-function use(arc) {
-  const used = Number(arc.flow) / Number(arc.capacity);
-  return arc.closed || !Number.isFinite(used) ? "" : `${Math.round(100 * used)} %`;
-}
-
-/**
- * Has a row say what is so of an arc. The row stays where it is, since a click on one that is made anew under the pointer would be lost.
- * @param {HTMLTableRowElement} made
- * @param {Arc} arc
- */
-function fill(made, arc) {
-  const marks = [arc.closed && "closed", arc.full && "full", arc.limit && "limit", arc.changed && !arc.closed && "changed"];
-  const [tick, ...cells] = made.cells, flow = arc.closed ? "" : arc.flow;
-  const texts = [arc.name || arc.label, arc.tail, arc.head, flow, arc.capacity, use(arc), marks.filter(Boolean).join(", ")];
-  for (const [column, cell] of cells.entries()) if (cell.textContent !== texts[column]) cell.textContent = texts[column];
-  cells[0].title = arc.label;
-  tick.firstElementChild?.setAttribute("aria-label", `choose ${arc.label}`);
-}
-
 /** Marks the row that keys move from, and those that are chosen. */
 function point() {
   for (const [place, { number }] of part.rows.entries()) {
     const made = document.getElementById(`row-${part.first + place}`), is = isPicked(number), tick = made?.querySelector("input");
     made?.classList.toggle("current", part.first + place === current);
+    made?.classList.toggle("chosen", number === theChoice()?.arc);
     if (made && made.ariaSelected !== String(is)) made.ariaSelected = String(is);
     if (tick) tick.checked = is;
   }
@@ -167,6 +119,17 @@ async function go(place) {
   else if (top + HEIGHT > box.scrollTop + room) box.scrollTop = top + HEIGHT - room;
   await scrolled();
   point();
+}
+
+/** Goes to the row of the arc that is chosen, if the table is seen and the filter shows that. */
+export async function goToChosen() {
+  const number = theChoice()?.arc;
+  point();
+  if (at("part-all").hidden) return;
+  await scrolled();
+  if (!number || arcAt(current)?.number === number) return;
+  const told = await ask(`numbers?${words()}&first=0&count=${part.total}`), place = told?.numbers.indexOf(number) ?? -1;
+  if (place >= 0 && number === theChoice()?.arc) await go(place);
 }
 
 const arcAt = (/** @type {number} */ place) => part.rows[place - part.first];

@@ -3,9 +3,11 @@
  * @typedef {{ x: number, y: number, width: number, height: number }} Box
  */
 import { at } from "./elements.js";
+import { freePart } from "./room.js";
 
-/** The largest number of pixels for a unit of the picture, also where that is fitted; the smallest; what a drag is, in pixels; its rim. */
-const MOST = 6, MOST_FITTED = 1.33, LEAST = 0.004, DRAG = 4, RIM = 12;
+/** The largest number of pixels for a unit of the picture, also where that is fitted; the smallest; what a drag is, and
+ * the room for labels at each side, in pixels. */
+const MOST = 6, MOST_FITTED = 1.8, LEAST = 0.004, DRAG = 4, ASIDE = 60;
 /** @type {Box} */
 let seen = { x: 0, y: 0, width: 1, height: 1 };
 /** @type {Map<number, { x: number, y: number }>} */
@@ -49,13 +51,14 @@ function refresh() {
 }
 
 /**
- * Makes the picture larger about a point of the window, or its middle; below 1 smaller.
+ * Makes the picture larger about a point of the window, or the middle of its free part; below 1 smaller.
  * @param {number} by
  * @param {{ x: number, y: number }} [point]
  */
 export function zoom(by, point) {
   const box = at("picture").getBoundingClientRect(), pixels = Math.min(MOST, Math.max(LEAST, scale() * by));
-  const [right, down] = point ? [point.x - box.x - box.width / 2, point.y - box.y - box.height / 2] : [0, 0];
+  const free = freePart(), about = point ?? { x: box.x + (free.left + free.right) / 2, y: box.y + (free.top + free.bottom) / 2 };
+  const [right, down] = [about.x - box.x - box.width / 2, about.y - box.y - box.height / 2];
   show(middle().x + right / scale() - right / pixels, middle().y + down / scale() - down / pixels, pixels);
 }
 
@@ -68,16 +71,48 @@ export function move(right, down) {
   show(middle().x + right / scale(), middle().y + down / scale(), scale());
 }
 
-/** @param {Box} box */
-export function fit({ x, y, width, height }) {
-  const { clientWidth, clientHeight } = at("picture"), room = [clientWidth - 2 * RIM, clientHeight - 2 * RIM];
-  show(x + width / 2, y + height / 2, Math.min(MOST_FITTED, room[0] / Math.max(width, 1), room[1] / Math.max(height, 1)));
+/**
+ * The part of the picture that is seen and over which nothing lies.
+ * @returns {Box}
+ */
+export function freeBox() {
+  const { left, top, right, bottom } = freePart(), by = scale();
+  return { x: seen.x + left / by, y: seen.y + top / by, width: (right - left) / by, height: (bottom - top) / by };
 }
 
-/** @param {Box} box what is to be seen, at the present size if it is not */
+/**
+ * Shows a point in the middle of the free part, with as many pixels for a unit.
+ * @param {number} x
+ * @param {number} y
+ * @param {number} pixels
+ */
+function showFree(x, y, pixels) {
+  const { left, top, right, bottom } = freePart(), by = Math.min(MOST, Math.max(LEAST, pixels));
+  const { clientWidth, clientHeight } = at("picture");
+  show(x + (clientWidth - left - right) / 2 / by, y + (clientHeight - top - bottom) / 2 / by, by);
+}
+
+/** @param {Box} box what is seen whole, in the free part, with room for labels beside it */
+export function fit({ x, y, width, height }) {
+  const { left, top, right, bottom } = freePart(), aside = right - left > 5 * ASIDE ? 2 * ASIDE : 0;
+  const pixels = Math.min((right - left - aside) / Math.max(width, 1), (bottom - top) / Math.max(height, 1));
+  showFree(x + width / 2, y + height / 2, Math.min(MOST_FITTED, pixels));
+}
+
+/**
+ * How far a span has to be moved to lie in another one; one that is longer lies in its middle.
+ * @param {number} from
+ * @param {number} long
+ * @param {number} free where the other one begins
+ * @param {number} room how long that is
+ */
+const into = (from, long, free, room) =>
+  long > room ? free + room / 2 - from - long / 2 : Math.max(free - from, 0) + Math.min(free + room - from - long, 0);
+
+/** @param {Box} box what is to be seen: the picture is moved as far as is needed to have it in the free part */
 export function reveal({ x, y, width, height }) {
-  const isIn = x >= seen.x && y >= seen.y && x + width <= seen.x + seen.width && y + height <= seen.y + seen.height;
-  if (!isIn) show(x + width / 2, y + height / 2, scale());
+  const free = freeBox(), right = into(x, width, free.x, free.width), down = into(y, height, free.y, free.height);
+  if (right || down) show(middle().x - right, middle().y - down, scale());
 }
 
 /** @param {PointerEvent} event */

@@ -1,0 +1,58 @@
+/**
+ * The rows of the table of all arcs.
+ * @typedef {import("./state.js").Arc & { changed: boolean }} Arc
+ */
+import { make } from "./elements.js";
+
+/** The height of a row in pixels, as the style has it. */
+export const HEIGHT = 32;
+export const COLUMNS = [["name", ""], ["from", "From"], ["to", "To"], ["flow", "flows"], ["capacity", "fits"], ["use", "use"]];
+
+/**
+ * @param {string} column
+ * @param {string} told words that stand for it where they are not seen
+ */
+export const title = (column, told) => make("th", make("span", told, { class: "unseen" }), { class: column, scope: "col" });
+
+/**
+ * What stands for so many rows that cannot be seen.
+ * @param {number} count
+ */
+export function spacer(count) {
+  const made = make("tr", [], { class: "spacer", "aria-hidden": "true" });
+  made.style.setProperty("height", `${Math.max(0, count) * HEIGHT}px`);
+  return made;
+}
+
+/**
+ * An empty row at this place of the table.
+ * @param {number} place
+ */
+export function row(place) {
+  const tick = make("input", [], { type: "checkbox", tabindex: "-1" });
+  const cells = [...COLUMNS.map(([column]) => column), "marks"].map((column) => make("td", [], { class: column }));
+  return make("tr", [make("td", tick, { class: "tick" }), ...cells], { id: `row-${place}`, "aria-rowindex": String(place + 2) });
+}
+
+/**
+ * Which part of what an arc can carry is used.
+ * @param {Arc} arc
+ */
+function use(arc) {
+  const used = Number(arc.flow) / Number(arc.capacity);
+  return arc.closed || !Number.isFinite(used) ? "" : `${Math.round(100 * used)} %`;
+}
+
+/**
+ * Has a row say what is so of an arc. The row stays where it is, since a click on one that is made anew under the pointer would be lost.
+ * @param {HTMLTableRowElement} made
+ * @param {Arc} arc
+ */
+export function fill(made, arc) {
+  const marks = [arc.closed && "closed", arc.full && "full", arc.limit && "limit", arc.changed && !arc.closed && "changed"];
+  const [tick, ...cells] = made.cells, flow = arc.closed ? "" : arc.flow;
+  const texts = [arc.name || arc.label, arc.tail, arc.head, flow, arc.capacity, use(arc), marks.filter(Boolean).join(", ")];
+  for (const [column, cell] of cells.entries()) if (cell.textContent !== texts[column]) cell.textContent = texts[column];
+  cells[0].title = arc.label;
+  tick.firstElementChild?.setAttribute("aria-label", `choose ${arc.label}`);
+}
