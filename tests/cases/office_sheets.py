@@ -29,6 +29,14 @@ THOUSANDS: Arcs = (
     ("Mill", "Hill", 90),
 )
 TENTHS: Arcs = (THOUSANDS[0], ("Lake", "Hill", "1200.5"), *THOUSANDS[2:])
+# The valley by the coordinates of its places.
+CORNERS: Arcs = (
+    ("0,10", "10,20", 50),
+    ("0,10", "10,0", 30),
+    ("10,20", "20,10.5", 40),
+    ("10,0", "20,10.5", 25),
+    ("10,20", "10,0", 10),
+)
 NO_TOWN: Arcs = (*VALLEY[:2], ("Mill", "Town", 0), VALLEY[3], ("Mill", "Hill", 0))
 
 
@@ -323,6 +331,42 @@ READ: dict[str, Read] = {
         ),
         [VALLEY[0], VALLEY[1], VALLEY[4], VALLEY[2], VALLEY[3]],
     ),
+    # What programs write.
+    "valves.inp": Read(
+        "a network of EPANET: 5 pipes; capacity (in LPS, to 3 decimals) from the diameter (mm) at"
+        " 1.5 m/s",
+        [
+            # Litres in a second through 250, 200 and 150 mm at 1.5 m/s: 1.5 pi d^2 / 4.
+            ("Lake", "Mill", "73.631"),
+            ("Lake", "Hill", "47.124"),
+            ("Mill", "Town", "47.124"),
+            ("Hill", "Town", "26.507"),
+            ("Mill", "Hill", "26.507"),
+        ],
+        ["reservoirs supply without a limit: 'Lake'", "options name others"],
+        {"velocity": 1.5},
+    ),
+    "pipes.geojson": Read(
+        "from 'start of the line', to 'end of the line', capacity 'Qmax_lps' (lps), name 'pipe';"
+        " kept: 'fid', 'length', 'WKT'",
+        CORNERS,
+        ["10 ends are 4 places; only ends with the same coordinates are one place"],
+    ),
+    "qgis.csv": Read(
+        "from 'start of the line', to 'end of the line', capacity 'Qmax_lps' (lps), name 'pipe';"
+        " kept: 'WKT', 'fid', 'length'",
+        CORNERS,
+        ["10 ends are 4 places; only ends with the same coordinates are one place"],
+    ),
+    "roads.graphml": Read(
+        "from 'source', to 'target', capacity 'capacity'; kept: 'length'",
+        [VALLEY[0], VALLEY[1], VALLEY[2], VALLEY[4], VALLEY[3]],
+    ),
+    "roads.edgelist": Read(
+        "there are no titles: from column 1, to column 2, capacity column 3",
+        [VALLEY[0], VALLEY[1], VALLEY[2], VALLEY[4], VALLEY[3]],
+        ["rows lead from the first place of an edge to the second"],
+    ),
     "roster-long.csv": Read(
         "from 'Nurse', to 'Shift', capacity 'Max hours'",
         [("Anna", "Mon", 8), ("Anna", "Tue", 8), ("Ben", "Tue", 6), ("Ben", "Wed", 8)],
@@ -426,7 +470,28 @@ ASKED: dict[str, Asked] = {
         {"matrix": True},
         [VALLEY[0], VALLEY[1], VALLEY[4], VALLEY[2], VALLEY[3]],
     ),
-    "net.geojson": Asked(["it is a GeoJSON file"]),
+    "tank.inp": Asked(
+        ["how fast does water flow at most?", "(in LPS)", "--velocity 1.5"],
+        {"velocity": 1.5, "tanks": "none"},
+        [
+            ("Lake", "Mill", "73.631"),
+            ("Mill", "Lake", "73.631"),
+            ("Lake", "Hill", "47.124"),
+            ("Hill", "Lake", "47.124"),
+            ("Mill", "Town", "47.124"),
+            ("Town", "Mill", "47.124"),
+            ("Hill", "Town", "26.507"),
+            ("Town", "Hill", "26.507"),
+            ("Mill", "Hill", "26.507"),
+            ("Hill", "Mill", "26.507"),
+            ("Tower", "Hill", "26.507"),
+            ("Hill", "Tower", "26.507"),
+        ],
+    ),
+    "polygon.geojson": Asked(
+        ["line 10, column 'WKT': the geometry is a POLYGON, not a line; give the layer of lines"]
+    ),
+    "net.geojson": Asked(["the file has no feature"]),
     "net.shx": Asked(["it is the index of a shapefile (.shx); give the .shp"]),
-    "net.shp": Asked(["it is a shapefile"]),
+    "net.shp": Asked(["its table, 'net.dbf', does not stand beside it"]),
 }

@@ -68,10 +68,8 @@ OLD = b"\xd0\xcf\x11\xe0\xa1\xb1\x1a\xe1" + bytes(600)
         (b"<!DOCTYPE html><html>", "a page of HTML or XML"),
         (b'{"arcs": []}', "a JSON file"),
         (b"\x89PNG\r\n", "a picture"),
-        (b"[TITLE]\nTown\n\n[PIPES]\n", "a network of EPANET (.inp)"),
-        (b"; made by hand\n\n[JUNCTIONS]\r\n", "a network of EPANET (.inp)"),
-        (b'<?xml version="1.0"?><graphml xmlns="g">', "a GraphML file"),
-        (b'{"type": "FeatureCollection"}', "a GeoJSON file"),
+        (b'<?xml version="1.0"?><gexf version="1">', "a GEXF file"),
+        (b'<?xml version="1.0"?><kml xmlns="g">', "a KML file"),
     ],
 )
 def test_other_kinds(data: bytes, what: str) -> None:

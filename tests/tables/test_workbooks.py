@@ -17,7 +17,8 @@ import pytest
 from client_shared import dmf
 from dmf.quantity import plain_text
 from dmf.tables.sheet import Exact
-from dmf.tables.workbook import cell_text, workbook_sheets
+from dmf.tables.table_file import TableFile
+from dmf.tables.workbook import cell_text, sheets_of
 from dmf.tables.xlsx import Workbook, is_date, unescaped
 from hypothesis import given
 from hypothesis import strategies as some
@@ -351,7 +352,10 @@ def test_sheets_that_are_none() -> None:
     hidden = book.create_sheet("Hidden")
     hidden.append(["C", "D", 4])
     hidden.sheet_state = "hidden"
-    assert [sheet.path for sheet in workbook_sheets(saved(book), "t")] == ["t#Sheet", "t#Hidden"]
+    assert [sheet.path for sheet in sheets_of(TableFile(saved(book), "t"))] == [
+        "t#Sheet",
+        "t#Hidden",
+    ]
 
 
 def test_a_number_is_one() -> None:

@@ -94,6 +94,23 @@ def is_missing(cell: str) -> bool:
     return not isinstance(cell, Exact) and " ".join(cell.split()).casefold() in MISSING
 
 
+# What stands in the cell of a capacity that has no limit.
+LIMITLESS = {
+    "unlimited",
+    "unbegrenzt",
+    "unendlich",
+    "illimit\xe9",
+    "illimite",
+    "ilimitado",
+    "\u221e",
+}
+
+
+def is_limitless(cell: str) -> bool:
+    """Return True if a cell says that there is no limit."""
+    return not isinstance(cell, Exact) and cell.strip().casefold() in LIMITLESS
+
+
 def read_cell(cell: str) -> tuple[dict[str, Decimal], str]:
     """The readings of a cell by the decimal sign, as `readings` gives them, and its unit."""
     if isinstance(cell, Exact):
@@ -360,7 +377,7 @@ class Amounts:
             # Without a sign it makes no difference, or a fault was told.
             return found[self.sign or next(iter(found))]
         text = cell.strip()
-        if is_missing(cell):
+        if is_missing(cell) or is_limitless(cell):
             self.missing[place] = text
             return Decimal(0)
         if len(text) > LONGEST_NUMBER and text.isdigit():

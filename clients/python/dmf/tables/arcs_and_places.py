@@ -9,15 +9,15 @@ from typing import NamedTuple, Optional
 from ..errors import TableFault
 from ..quantity import LARGEST, plain_text
 from ..text.spelling import cleaned, quoted_name
-from .amount_columns import Amounts, no_number
+from .amount_columns import Amounts, is_limitless, no_number
 from .asides import MOST_WORDS, Aside, kind_of, told_aside
 from .headings import ARCS, PLACE_COLUMNS, Form, Layout
+from .line_ends import lines_of
 from .matrices import matrix_of
 from .readers import (
     LONGEST_CELL,
     Numbers,
     Reader,
-    ReadOptions,
     Said,
     Table,
     amounts_of,
@@ -28,6 +28,7 @@ from .readers import (
 )
 from .row_states import RowStates, closed_rows, told_lines, told_states
 from .sheet import Cells, Exact, Faults, Rows, Sheet, is_blank, name_in
+from .table_file import ReadOptions
 from .titles import CAPACITY, HEAD, LIMIT, NAME, PLACE, TAIL
 
 # What a missing capacity may be read as, beside 0.
@@ -327,6 +328,10 @@ class _ArcReader(Reader):
         amounts, lines = self.table.amounts, self.table.lines
         closed = {*closed_rows(self.states.settled(lines, Faults("")))}
         missing = {at: cell for at, cell in amounts.missing.items() if at not in closed}
+        limitless = [at for at, cell in missing.items() if is_limitless(cell)]
+        if limitless:
+            self._put_unlimited(limitless, "rows without a limit")
+        missing = {at: cell for at, cell in missing.items() if not is_limitless(cell)}
         if not missing:
             return
         first, *more = sorted(lines[place] for place in missing)
@@ -340,14 +345,25 @@ class _ArcReader(Reader):
             )
             self.faults.add(f"{told}. {how}", first, self.layout.at[CAPACITY] + 1, more)
             return
-        most = 0
         if self.reading.missing == UNLIMITED_WORD:
-            most = min(10 ** (len(str(sum(amounts.numbers))) + 1), LARGEST)
-            self.table.unlimited = sorted(missing)
-        amounts.put(missing, most)
-        shown = plain_text(amounts.quantity(next(iter(missing))))
-        what = f"as {shown}, which is more than all others together" if most else "as 0"
-        self.table.notes.append(f"missing capacities are read {what}: {told_lines([first, *more])}")
+            self._put_unlimited(missing, "missing capacities")
+        else:
+            amounts.put(missing, 0)
+            told = f"missing capacities are read as 0: {told_lines([first, *more])}"
+            self.table.notes.append(told)
+
+    def _put_unlimited(self, places: Iterable[int], what: str) -> None:
+        """Gives the capacities at these places more than all others have together."""
+        amounts, rows = self.table.amounts, sorted(places)
+        unlimited = {*self.table.unlimited}
+        others = (it for at, it in enumerate(amounts.numbers) if at not in unlimited)
+        amounts.put(rows, min(10 ** (len(str(sum(others))) + 1), LARGEST))
+        self.table.unlimited = sorted({*unlimited, *rows})
+        shown = plain_text(amounts.quantity(rows[0]))
+        self.table.notes.append(
+            f"{what} are read as {shown}, which is more than all others together: "
+            f"{told_lines([self.table.lines[at] for at in rows])}"
+        )
 
 
 def read_arcs(sheet: Sheet, reading: ReadOptions) -> Table:
@@ -356,6 +372,7 @@ def read_arcs(sheet: Sheet, reading: ReadOptions) -> Table:
     first_rows(sheet)
     if matrix := None if reading.titles else matrix_of(sheet, is_asked=reading.is_matrix):
         sheet = matrix
+    sheet = lines_of(sheet, reading)
     layout = layout_of_sheet(sheet, ARCS, reading.titles, reading.ignored)
     reader = _ArcReader(sheet, layout, reading)
     try:
@@ -367,7 +384,8 @@ def read_arcs(sheet: Sheet, reading: ReadOptions) -> Table:
             told.reason += ARCS.hint if is_first else ""
         raise
     table.begins_bare = not layout.line
-    table.heading = reader.heading if layout.line and not reading.titles else []
+    is_written = bool(layout.line) and not reading.titles and not sheet.taken
+    table.heading = reader.heading if is_written else []
     if not table.tails:
         raise TableFault("the table has titles, and no row below them")
     return table

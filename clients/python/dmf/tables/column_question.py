@@ -2,6 +2,7 @@
 
 from __future__ import annotations
 
+import argparse
 import shlex
 from collections.abc import Sequence
 
@@ -39,6 +40,10 @@ class ColumnQuestion(TableFault):
             (self.reason, self.line, self.sought, self.choices, self.is_arcs),
             self.__dict__,
         )
+
+    def settle(self, words: argparse.Namespace, answer: str) -> None:
+        """Put an answer among the arguments."""
+        words.titles = {**words.titles, self.sought: answer}
 
     def lines(self) -> list[str]:
         """The question, and a line for each column."""

@@ -116,7 +116,7 @@ class Layout:
         told = ", ".join(parts) + (
             f"; kept: {', '.join(names[:MOST_LISTED])}{rest}" if names else ""
         )
-        return told if self.line else f"there are no titles: {told}"
+        return told if self.titles else f"there are no titles: {told}"
 
 
 def name_of_column(titles: Sequence[Title], place: int) -> str:

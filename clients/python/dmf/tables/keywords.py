@@ -8,6 +8,7 @@ from collections.abc import Iterator
 
 from ..errors import TableFault
 from .column_question import ColumnQuestion
+from .setting_question import SettingQuestion
 
 # Each option as a fault names it, and the keyword that stands for it. What is in quotation marks,
 # such as a cell, stays as it is.
@@ -43,6 +44,6 @@ def naming_keywords() -> Iterator[None]:
         for it in (fault, *fault.others):
             it.reason = in_keywords(it.reason)
             it.args = (it.reason, *it.args[1:])
-            if isinstance(it, ColumnQuestion):
+            if isinstance(it, (ColumnQuestion, SettingQuestion)):
                 it.is_call = True
         raise

@@ -5,7 +5,7 @@ from __future__ import annotations
 
 import argparse
 import os
-from collections.abc import Callable, Iterator, Mapping, Sequence
+from collections.abc import Callable, Collection, Iterator, Mapping, Sequence
 from dataclasses import dataclass, field
 from decimal import Decimal
 from functools import cached_property
@@ -20,17 +20,18 @@ from ..text.spelling import MOST_TOLD, quoted_name
 from ..text.table_comments import TableComments, described
 from .arcs_and_places import Term, read_arcs, read_places, terms_of
 from .column_question import ColumnQuestion
-from .csv_file import csv_sheet
+from .file_kinds import has_table, kind_of, sheets_of
 from .headings import ARCS, PLACE_COLUMNS, STATES, Form, spoken
 from .other_columns import Extra, extra_in, extra_of, left_out
 from .problem_builder import KINDS, NetworkTables, ends_alone, net_of, problem_text, term_of
-from .readers import ReadOptions, Table
+from .readers import Table
 from .row_states import lead
+from .setting_question import SettingQuestion
 from .sheet import Faults, Sheet, naming
+from .table_file import ReadOptions, TableFile
 from .title_row import fits
 from .titles import CAPACITY, DEMAND, HEAD, LIMIT, NAME, PLACE, SUPPLY, TAIL
 from .warnings import warnings
-from .workbook import is_workbook, workbook_sheets
 
 # By the option of a table of places, what it says.
 PLACE_TABLES: dict[str, Sequence[str]] = {
@@ -44,8 +45,8 @@ PLACE_TABLES: dict[str, Sequence[str]] = {
 @dataclass(frozen=True)
 class TableOptions:
     """What is said of the tables: how they are read and encoded, the scale, whether rows go both
-    ways, words that name sources and sinks, the files of tables of places, by the option, and what
-    reads these."""
+    ways, words that name sources and sinks, the files of tables of places, by the option, what
+    reads these, and which kinds of terms are `named` elsewhere."""
 
     reading: ReadOptions = ReadOptions()
     encoding: Optional[str] = None
@@ -55,6 +56,14 @@ class TableOptions:
     sink: Sequence[str] = ()
     tables: Mapping[str, str] = field(default_factory=dict)
     read: Callable[[str], bytes] = read_file
+    named: Collection[str] = ()
+
+    @property
+    def kinds_named(self) -> set[str]:
+        """Of supplies, demands and limits those that these options name."""
+        given = [(SUPPLY, self.source), (DEMAND, self.sink)]
+        told = {kind for option in self.tables for kind in PLACE_TABLES[option]}
+        return {*self.named, *(kind for kind, words in given if words), *told}
 
 
 def split_path(path: str) -> tuple[str, str]:
@@ -72,8 +81,9 @@ def load_tables(wanted: TableOptions, path: Optional[str], data: bytes) -> Netwo
     """The plan of the table of arcs in these bytes. Raises a `TableFault`, and a `FileFault` if
     another file cannot be read."""
     told, name = split_path(path or "")
+    file = TableFile(data, told, wanted.encoding, wanted.reading, 3, wanted.read)
     with naming(told):
-        sheet, others = _arcs_sheet(data, told, name, wanted.encoding)
+        sheet, others = _arcs_sheet(file, name)
     return plan_of_sheet(wanted, sheet, others)
 
 
@@ -94,14 +104,30 @@ def plan_of_sheet(wanted: TableOptions, sheet: Sheet, others: Sequence[Sheet]) -
     faults = Faults(table.path)
     plan.terms += terms_of(table.said, table.layout, faults, wanted.reading.sign, table.amounts)
     faults.judge()
-    for other in [] if wanted.tables else others:
-        plan.notes.append(
-            f"the sheet {quoted_name(other.path.rpartition('#')[2])} says what places give, take "
-            "or "
-            "let through"
-        )
-        _add_places(plan, other, PLACE_COLUMNS, wanted)
+    for other in others:
+        _add_beside(plan, other, wanted)
     return plan
+
+
+def _add_beside(plan: NetworkTables, sheet: Sheet, wanted: TableOptions) -> None:
+    """Adds what a sheet of places in the file of the arcs says. If it gives way, it says nothing of
+    what options name; else it counts only if they name no table of places."""
+    if sheet.gives_way:
+        before, named = len(plan.terms), wanted.kinds_named
+        _add_places(plan, sheet, PLACE_COLUMNS, wanted)
+        # Nobody wrote these titles.
+        plan.headings.pop()
+        said = plan.terms[before:]
+        plan.terms[before:] = [term for term in said if term.kind not in named]
+        for kind, noun in (SUPPLY, "supplies"), (DEMAND, "demands"):
+            if kind in named and any(term.kind == kind for term in said):
+                plan.notes.append(f"the {noun} of the file are left out, since options name others")
+    elif not wanted.tables:
+        plan.notes.append(
+            f"the sheet {quoted_name(sheet.path.rpartition('#')[2])} says what places give, take or"
+            " let through"
+        )
+        _add_places(plan, sheet, PLACE_COLUMNS, wanted)
 
 
 def _told(table: Table) -> Iterator[str]:
@@ -119,13 +145,10 @@ def _add_file(plan: NetworkTables, wanted: TableOptions, option: str) -> None:
     """Adds what a table of places says."""
     path = wanted.tables[option]
     told, name = split_path(path)
-    data = wanted.read(told)
+    file = TableFile(wanted.read(told), told, wanted.encoding, wanted.reading, 2, wanted.read)
     with naming(told):
-        if is_workbook(data):
-            sheets = workbook_sheets(data, told)
-            sheet = _of_name(sheets, name) if name else _only(sheets, name)
-        else:
-            sheet = _csv(data, told, name, wanted.encoding, 2)
+        sheets = sheets_of(file)
+        sheet = _of_name(file, sheets, name) if name else _only(sheets, name)
     _add_places(plan, sheet, PLACE_TABLES[option], wanted)
 
 
@@ -138,35 +161,22 @@ def _add_places(
     plan.headings += headings
 
 
-def _arcs_sheet(
-    data: bytes, path: str, name: str, encoding: Optional[str]
-) -> tuple[Sheet, list[Sheet]]:
-    """The sheet of arcs, and those of places beside it in a workbook."""
-    if not is_workbook(data):
-        return _csv(data, path, name, encoding, 3), []
-    sheets = workbook_sheets(data, path)
+def _arcs_sheet(file: TableFile, name: str) -> tuple[Sheet, list[Sheet]]:
+    """The sheet of arcs, and those of places beside it in its file."""
+    sheets = sheets_of(file)
+    if len(sheets) == 1 and not name:
+        return sheets[0], []
     places = [
         sheet
         for sheet in sheets
         if _fits(sheet, Form((PLACE,), PLACE_COLUMNS)) and not _fits(sheet, ARCS)
     ]
     if name:
-        chosen = _of_name(sheets, name)
+        chosen = _of_name(file, sheets, name)
     else:
         fit = [sheet for sheet in sheets if _fits(sheet, ARCS)]
         chosen = _only(fit or [sheet for sheet in sheets if sheet not in places] or sheets, name)
     return chosen, [sheet for sheet in places if sheet is not chosen]
-
-
-def _csv(data: bytes, path: str, name: str, encoding: Optional[str], width: int) -> Sheet:
-    """The table in a CSV file, which has no sheet of a name."""
-    sheet = csv_sheet(data, path, encoding, width)
-    if name:
-        raise TableFault(
-            f"a CSV file has no sheets, and so none that is called {quoted_name(name)}; name the "
-            "file alone"
-        )
-    return sheet
 
 
 def _fits(sheet: Sheet, form: Form) -> bool:
@@ -175,8 +185,13 @@ def _fits(sheet: Sheet, form: Form) -> bool:
     return bool(sample.cells) and fits(sample, form)
 
 
-def _of_name(sheets: Sequence[Sheet], name: str) -> Sheet:
+def _of_name(file: TableFile, sheets: Sequence[Sheet], name: str) -> Sheet:
     """The sheet of a name, in whose case workbooks see no difference."""
+    if all("#" not in sheet.path for sheet in sheets):
+        raise TableFault(
+            f"{kind_of(file).what} has no sheets, and so none that is called {quoted_name(name)};"
+            " name the file alone"
+        )
     found = {sheet.path.rpartition("#")[2].casefold(): sheet for sheet in reversed(sheets)}
     if name.casefold() not in found:
         raise TableFault(f"no sheet is called {quoted_name(name)}; the sheets are {_names(sheets)}")
@@ -212,7 +227,9 @@ def says_table(words: argparse.Namespace) -> bool:
     return (
         names_terminals(words)
         or bool(words.titles or words.both_ways or words.decimal)
-        or bool(words.ignore or words.missing or words.matrix)
+        or bool(words.ignore or words.missing or words.matrix or words.tanks)
+        or words.velocity is not None
+        or words.tolerance is not None
         or any(it is not None for it in given)
     )
 
@@ -231,6 +248,9 @@ def wanted_of(words: argparse.Namespace) -> TableOptions:
         words.missing,
         tuple(words.ignore),
         words.matrix,
+        words.velocity,
+        words.tanks,
+        words.tolerance or Decimal(0),
     )
     return TableOptions(
         reading,
@@ -247,23 +267,22 @@ Read = TypeVar("Read")
 
 
 def answered(words: argparse.Namespace, read: Callable[[], Read]) -> Read:
-    """What is read with these arguments. Where somebody is there to answer, they are asked for a
-    column that cannot be settled, and the answer is one of the arguments from then on."""
+    """What is read with these arguments. Where somebody is there to answer, they are asked for what
+    cannot be settled, and the answer is one of the arguments from then on."""
     while True:
         try:
             return read()
-        except ColumnQuestion as question:
+        except (ColumnQuestion, SettingQuestion) as question:
             question.name_path(words.path or "")
             answer = words.ask(question) if words.ask and question.is_arcs else None
             if answer is None:
                 raise
-            words.titles = {**words.titles, question.sought: answer}
+            question.settle(words, answer)
 
 
 # In how many of its first lines the problem line of a file is looked for.
 MOST_HEAD_LINES = 100_000
-# How the name of a table's file ends, and what its first line has.
-ENDINGS = (".csv", ".tsv", ".xlsx", ".ods")
+# What the first line of a table has.
 MARKS = b",;|"
 
 
@@ -332,10 +351,8 @@ def is_problem(path: str, data: bytes, *, in_doubt: bool = False) -> bool:
     first = next((line for line in head if (found := fields(line)) and found[0] != b"c"), b"")
     if fields(first)[:2] == [b"p", b"max"] or path.endswith(".max"):
         return True
-    is_table = (
-        is_workbook(data)
-        or split_path(path)[0].endswith(ENDINGS)
-        or any(mark in first for mark in MARKS)
+    is_table = has_table(TableFile(data, split_path(path)[0])) or any(
+        mark in first for mark in MARKS
     )
     return in_doubt and not is_table
 

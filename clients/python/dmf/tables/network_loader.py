@@ -18,9 +18,10 @@ from .keywords import naming_keywords
 from .loader import TableOptions, complete, load_tables, plan_of_sheet, split_path
 from .other_columns import extra_of
 from .problem_builder import NetworkTables, net_of
-from .readers import ReadOptions
+from .setting_question import amount_of, tanks_of, velocity_of
 from .sheet import Rows, Sheet, naming
 from .table_answers import FoldedColumns, InnerNode, with_room
+from .table_file import ReadOptions
 from .table_network import TableNetwork
 from .titles import DEMAND, LIMIT, SUPPLY
 from .warnings import warnings
@@ -82,12 +83,15 @@ def read_table(
     missing: Union[str, int] = "",
     ignore: Iterable[str] = (),
     matrix: bool = False,
+    velocity: Union[Decimal, float, None] = None,
+    tanks: str = "",
+    tolerance: Union[Decimal, float] = 0,
     program: Program = None,
     history: Optional[int] = None,
 ) -> TableNetwork:
-    """The network of a table: of a CSV file or a workbook by its path, with a sheet as in
-    `net.xlsx#Rohre`, or of a frame of pandas or anything else that gives columns by their names.
-    The file is read as `tools/dmf-problem` reads it (`man dmf-problem`).
+    """The network of a table: of a CSV file, a workbook or another file of `man dmf-tables` by its
+    path, with a sheet as in `net.xlsx#Rohre`, or of a frame of pandas or anything else that gives
+    columns by their names. The file is read as `tools/dmf-problem` reads it (`man dmf-problem`).
 
     `source` and `sink` are a place, several, or a mapping to what each gives or takes at most, with
     None for no limit. Without them they are those of the table, or the only place that nothing
@@ -97,8 +101,10 @@ def read_table(
     sign, if the table leaves it open, and `scale` what numbers are multiplied by, if not the least
     power of ten that makes them whole. `missing` is what a capacity that is not there is read as, 0
     or "unlimited". `ignore` has the titles of columns that are read for nothing. `matrix` says that
-    rows are the tails, and the titles of the other columns the heads. The other arguments are those
-    of `Network`.
+    rows are the tails, and the titles of the other columns the heads. In a network of EPANET the
+    capacity of a pipe is its cross-section times `velocity`, in m/s, and `tanks` are "source" or
+    "none". Ends of lines on a map that lie no farther apart than `tolerance` are one place. The
+    other arguments are those of `Network`.
 
     Raises a `TableFault` that names all rows that cannot be read; an OSError if a file cannot be;
     and what `Network` raises.
@@ -107,7 +113,17 @@ def read_table(
     paths = {option: _path(option, path) for option, path in given.items() if path is not None}
     if str(missing) not in ("", "0", UNLIMITED_WORD):
         raise ValueError(f"a missing capacity is read as 0 or as {UNLIMITED_WORD!r}: {missing!r}")
-    reading = ReadOptions(dict(columns), decimal, raw_names, str(missing), tuple(ignore), matrix)
+    reading = ReadOptions(
+        dict(columns),
+        decimal,
+        raw_names,
+        str(missing),
+        tuple(ignore),
+        matrix,
+        None if velocity is None else velocity_of(str(velocity)),
+        tanks and tanks_of(tanks),
+        amount_of(str(tolerance)),
+    )
     wanted = TableOptions(
         reading,
         encoding,
@@ -117,6 +133,7 @@ def read_table(
         (),
         paths,
         _read,
+        {kind for kind, ends in ((SUPPLY, source), (DEMAND, sink)) if ends is not None},
     )
     if isinstance(table, (str, os.PathLike)):
         path = os.fspath(table)

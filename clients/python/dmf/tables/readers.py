@@ -18,6 +18,7 @@ from .amount_columns import Amounts
 from .column_finder import layout_of
 from .headings import Form, Layout, unit_of
 from .sheet import SAMPLE, Faults, Rows, Sheet, is_blank, name_in
+from .table_file import ReadOptions
 
 # The most characters of a cell. A longer one mostly has a quote that is not closed.
 LONGEST_CELL = 131_072
@@ -119,22 +120,6 @@ class Numbers:
         first = self.spellings.setdefault(name, cell if is_new else name)
         if first != cell:
             self.respelled.setdefault(name, cell if cell != name else first)
-
-
-@dataclass(frozen=True)
-class ReadOptions:
-    """How a table is read: `titles` has the title of each column that was named, by the column;
-    `sign` is the decimal sign, if it was given; `raw_names` says that no apostrophe protects a
-    name; `missing` is what a capacity that is not there is read as: `0` or `unlimited`;
-    `ignored` has the titles of columns that are read for nothing; and `is_matrix` says that rows
-    are the places where arcs begin, and columns those where they end."""
-
-    titles: Mapping[str, str] = field(default_factory=dict)
-    sign: str = ""
-    raw_names: bool = False
-    missing: str = ""
-    ignored: Sequence[str] = ()
-    is_matrix: bool = False
 
 
 class Said(NamedTuple):

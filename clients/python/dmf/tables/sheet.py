@@ -18,12 +18,12 @@ import contextlib
 import csv
 import re
 from array import array
-from collections.abc import Callable, Iterable, Iterator, Sequence
+from collections.abc import Callable, Iterable, Iterator, Mapping, Sequence
 from dataclasses import dataclass
 from decimal import Context
 from functools import cached_property
 from itertools import zip_longest
-from typing import Any, Optional, Protocol
+from typing import Any, NamedTuple, Optional, Protocol
 
 from ..errors import TableFault
 from ..quantity import COMMA, POINT, Measure, Quantity, plain_text, readings
@@ -270,16 +270,28 @@ class Rows:
         return len(self.lines)
 
 
+class Positions(NamedTuple):
+    """Where places lie on a map, to the right and upwards, by their names; `is_globe` says that
+    these are degrees."""
+
+    spots: Mapping[str, tuple[float, float]]
+    is_globe: bool = False
+
+
 @dataclass(frozen=True)
 class Sheet:
     """A table whose rows can be read again and again. `path` names it, with its sheet if it has
     one, `notes` say what was taken for granted, and `taken` says what was taken for what, if its
-    titles do not say it."""
+    titles do not say it. `positions` are those of its places, if it has them. What a table of
+    places that `gives_way` says of supplies counts only if no option names a source, and so with
+    demands."""
 
     path: str
     read: Callable[[], Iterator[Rows]]
     notes: tuple[str, ...] = ()
     taken: str = ""
+    positions: Optional[Positions] = None
+    gives_way: bool = False
 
     def sample(self, most: int = SAMPLE) -> Rows:
         """The first rows that are not blank. What is wrong with a quote is left for later."""

@@ -107,6 +107,11 @@ def _is_no_arc(rows: Sequence[Sequence[str]], titles: Sequence[Title]) -> bool:
     return bool(below) and texts.isdisjoint(below) and not paired(titles)
 
 
+def has_places(cells: Sequence[str], form: Form) -> bool:
+    """Return True if these titles say where all places are."""
+    return _has_all(list(map(title_of, cells)), form)
+
+
 def _has_all(titles: Sequence[Title], form: Form) -> bool:
     """Whether titles say where all places are."""
     if form is ARCS:

@@ -16,13 +16,17 @@ from ..text.spelling import cleaned
 TAIL, HEAD, CAPACITY, NAME = "tail", "head", "capacity", "name"
 PLACE, LIMIT, SUPPLY, DEMAND = "place", "limit", "supply", "demand"
 STATUS, DIRECTION = "status", "direction"
+# What the ends of the lines of a map are called as columns.
+START_OF_LINE, END_OF_LINE = "start of the line", "end of the line"
 # Usual titles, in the order of preference. A low line stands for a blank.
 _USUAL = {
     TAIL: (
+        "start_of_the_line "
         "from tail von de desde source start origin quelle origine origen startknoten "
         "anfangsknoten anfang ab depart amont inicio upstream src"
     ),
     HEAD: (
+        "end_of_the_line "
         "to head nach a vers hasta target sink destination end ziel senke destino endknoten "
         "zielknoten ende bis arrivee aval fin downstream dst"
     ),

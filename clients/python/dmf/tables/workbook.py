@@ -16,6 +16,7 @@ from typing import Any
 
 from ..errors import TableFault
 from .sheet import PIECE, Exact, Rows, Sheet, is_blank, shown_number
+from .table_file import TableFile
 from .xlsx import Workbook
 
 # The most bytes that a workbook may unpack to.
@@ -29,21 +30,13 @@ def is_workbook(data: bytes) -> bool:
     return data.startswith(b"PK\x03\x04")
 
 
-def workbook_sheets(data: bytes, path: str) -> list[Sheet]:
-    """The sheets of a workbook that have cells; the path of each ends with its name. Raises a
-    `TableFault`."""
-    kind = _kind(data)
-    try:
-        with _judging(kind):
-            sheets = _xlsx(data, path) if kind == XLSX else _ods(data, path)
-    except ImportError:
-        how = "pip install odfpy, or apt install python3-odf"
-        raise TableFault(
-            f"a workbook (.{kind}) needs the package odfpy, which is not installed ({how}); or "
-            "save "
-            "the "
-            "sheet as CSV"
-        ) from None
+def sheets_of(file: TableFile) -> list[Sheet]:
+    """Return the sheets of a workbook that have cells; the path of each ends with its name. Raises
+    a `TableFault`."""
+    kind = _kind(file.data)
+    with _judging(kind):
+        of_kind = _xlsx if kind == XLSX else _ods
+        sheets = of_kind(file.data, file.path)
     return [sheet for sheet in sheets if _has_cells(sheet)]
 
 

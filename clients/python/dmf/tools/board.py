@@ -23,12 +23,13 @@ import signal
 import sys
 from threading import Event, Thread
 
-from ..desk.board.layout import NoMap, Spot, placed, read_map
+from ..desk.board.layout import Map, NoMap, Spot, placed, read_map
 from ..desk.board.routes import Board
 from ..desk.board.server import Door, Server
 from ..desk.project.opener import beside, keep_project
 from ..desk.workspace import Desk
 from ..errors import TableFault
+from ..text.spelling import cleaned
 from .command import Status, ToolFault, statuses, warn, write
 from .desk_options import add_project_words, close_desk, open_desk
 from .options import add_words, words_of
@@ -101,29 +102,42 @@ def opened(words: argparse.Namespace) -> Desk:
 
 
 def spots_of(words: argparse.Namespace, desk: Desk) -> dict[int, Spot]:
-    """Return where the places lie, if there is a map. A table of places may have the columns of a
-    map."""
+    """Return where the places lie, if there is a map: one that was named, a table of places with the
+    columns of a map, or the file of the network itself."""
     path = words.map or words.place_table
-    if path is None:
-        return {}
     try:
-        spots, notes = placed(desk, read_map(path, words.decimal, words.encoding))
+        given = (
+            _map_of_file(desk) if path is None else read_map(path, words.decimal, words.encoding)
+        )
+        if given is None:
+            return {}
+        spots, notes = placed(desk, given)
     except TableFault as fault:
-        fault.name_path(path)
+        fault.name_path(path or words.path)
         if words.map is None:
             first, *more = fault.lines()
             for line in (
                 []
                 if isinstance(fault, NoMap)
-                else [f"{path} cannot be used as a map: {first}", *more]
+                else [f"{path or words.path} cannot be used as a map: {first}", *more]
             ):
                 warn(NAME, line)
             return {}
         close_desk(NAME, desk)
         raise
     for note in notes:
-        warn(NAME, f"{path}: {note}")
+        warn(NAME, f"{path or words.path}: {note}")
     return spots
+
+
+def _map_of_file(desk: Desk) -> Map | None:
+    """The map that the file of a network has itself."""
+    plan = desk.network.subject.plan
+    positions = plan.arcs.sheet.positions if plan else None
+    if positions is None or not positions.spots:
+        return None
+    spots = {cleaned(name): Spot(*spot) for name, spot in positions.spots.items()}
+    return Map(spots, positions.is_globe)
 
 
 def show(server: Server) -> Door | None:

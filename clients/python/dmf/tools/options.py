@@ -5,10 +5,12 @@ from __future__ import annotations
 import argparse
 import os
 import re
+from collections.abc import Callable
 from decimal import Decimal
 from typing import Any
 
 from ..tables.loader import COLUMNS, names_terminals
+from ..tables.setting_question import SETTINGS, Setting
 from ..text.spelling import cleaned, near
 from .questions import asker
 
@@ -30,6 +32,18 @@ def scale(word: str) -> Decimal:
     if not re.fullmatch(r"[0-9]{1,20}(\.[0-9]{1,20})?", word) or not Decimal(word):
         raise argparse.ArgumentTypeError(f"not a decimal number above 0: {word}")
     return Decimal(word)
+
+
+def read_by(setting: Setting) -> Callable[[str], Any]:
+    """Return what reads the word of an option."""
+
+    def read(word: str) -> Any:
+        try:
+            return setting.read(word)
+        except ValueError as fault:
+            raise argparse.ArgumentTypeError(str(fault)) from None
+
+    return read
 
 
 def add_options(parser: argparse.ArgumentParser) -> None:
@@ -56,6 +70,8 @@ def add_options(parser: argparse.ArgumentParser) -> None:
     for option in "sources", "sinks", "node-limits":
         add(f"--{option}", metavar="FILE")
     add("--places", metavar="FILE", dest="place_table")
+    for option, setting in SETTINGS.items():
+        add(f"--{option}", metavar=setting.metavar, type=read_by(setting))
     add("--raw-names", action="store_true")
     add("--encoding", metavar="NAME", type=encoding)
 

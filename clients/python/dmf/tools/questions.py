@@ -6,38 +6,66 @@ import argparse
 import shlex
 import sys
 from collections.abc import Callable
-from typing import Optional
+from typing import Optional, Union
 
 from ..tables.column_question import ColumnQuestion, shown_cells
+from ..tables.setting_question import SettingQuestion
 from ..text.lexical import display
 
-Ask = Callable[[ColumnQuestion], Optional[str]]
+Question = Union[ColumnQuestion, SettingQuestion]
+Ask = Callable[[Question], Optional[str]]
 
 
 def asker(words: argparse.Namespace) -> Ask | None:
-    """Return the function that asks for a column, or None if nobody is there to answer."""
+    """Return what asks what a table leaves open, or None if nobody is there to answer."""
     is_typed = all(stream and stream.isatty() for stream in (sys.stdin, sys.stderr))
     return ask if is_typed and not getattr(words, "json", False) else None
 
 
-def ask(question: ColumnQuestion) -> str | None:
+def ask(question: Question) -> str | None:
+    """Return the answer to a question, or None if there is no answer."""
+    if isinstance(question, SettingQuestion):
+        return _ask_setting(question)
+    return _ask_column(question)
+
+
+def _ask_setting(question: SettingQuestion) -> str | None:
+    setting = question.setting
+    _tell(question.told())
+    for word, what in setting.choices:
+        _tell(f"  {word}  {what}")
+    while answer := _typed(f"{question.option} ({setting.expected}): "):
+        try:
+            setting.read(answer)
+        except ValueError as fault:
+            _tell(str(fault))
+        else:
+            _tell(f"next time: --{question.option} {answer}")
+            return answer
+    return None
+
+
+def _ask_column(question: ColumnQuestion) -> str | None:
     """Return the title of the chosen column, or None if none is chosen."""
     _tell(question.told().partition("; ")[0])
     width = max(len(name) for name, _ in question.choices)
     for number, (name, cells) in enumerate(question.choices, 1):
         _tell(f"  {number}  {name:{width}}  {shown_cells(cells)}")
     titles = [name for name, _ in question.choices]
-    while True:
-        sys.stderr.write("Number or title: ")
-        sys.stderr.flush()
-        answer = sys.stdin.readline().strip()
-        if not answer:
-            return None
+    while answer := _typed("Number or title: "):
         chosen = titles[int(answer) - 1] if _is_number(answer, len(titles)) else answer
         if chosen in titles:
             _tell(f"next time: --{question.sought} {shlex.quote(chosen)}")
             return chosen
         _tell(f"{answer!r} is not one of these columns")
+    return None
+
+
+def _typed(prompt: str) -> str:
+    """Return the line that is typed after a prompt."""
+    sys.stderr.write(prompt)
+    sys.stderr.flush()
+    return sys.stdin.readline().strip()
 
 
 def _is_number(answer: str, most: int) -> bool:

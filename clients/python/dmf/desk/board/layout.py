@@ -15,11 +15,11 @@ from typing import NamedTuple
 from ...errors import TableFault
 from ...files import read_file
 from ...quantity import POINT, readings
-from ...tables.csv_file import csv_sheet
+from ...tables.file_kinds import sheets_of
 from ...tables.loader import split_path
 from ...tables.sheet import Faults, Sheet, naming
+from ...tables.table_file import TableFile
 from ...tables.titles import PLACE, USUAL, title_of
-from ...tables.workbook import is_workbook, workbook_sheets
 from ...text.drawing import graphviz
 from ...text.spelling import cleaned, quoted_name
 from ..steps import DeskFault
@@ -280,11 +280,9 @@ def read_map(path: str, sign: str = "", encoding: str | None = None) -> Map:
 
 
 def _sheet(data: bytes, path: str, name: str, encoding: str | None) -> Sheet:
-    if not is_workbook(data):
-        return csv_sheet(data, path, encoding, 3)
     found = [
         sheet
-        for sheet in workbook_sheets(data, path)
+        for sheet in sheets_of(TableFile(data, path, encoding))
         if not name or sheet.path.rpartition("#")[2] == name
     ]
     if len(found) != 1:

@@ -333,6 +333,9 @@ def new_project(
     missing: Union[str, int] = "",
     ignore: Iterable[str] = (),
     matrix: bool = False,
+    velocity: Union[Decimal, float, None] = None,
+    tanks: str = "",
+    tolerance: Union[Decimal, float, None] = None,
     program: Program = None,
 ) -> OpenProject:
     """Makes a project of the table or the problem in a file, as `dmf-plan TABLE --keep` does: in a
@@ -357,6 +360,9 @@ def new_project(
         missing=str(missing),
         ignore=list(ignore),
         matrix=matrix,
+        velocity=None if velocity is None else Decimal(str(velocity)),
+        tanks=tanks,
+        tolerance=None if tolerance is None else Decimal(str(tolerance)),
         ask=None,
         **{option: None if it is None else os.fspath(it) for option, it in tables.items()},
     )

@@ -27,7 +27,7 @@ from ...tables.loader import (
     subject_of,
 )
 from ...tables.other_columns import Extra
-from ...tables.readers import ReadOptions
+from ...tables.table_file import ReadOptions
 from ...text.lexical import TextFault, display
 from ...text.problem_text import problem_in, read_problem
 from ...text.spelling import cleaned, quoted_name
@@ -50,6 +50,8 @@ from .schema import (
 )
 from .storage import ProjectFile, created, read_project
 
+# The options that are decimal numbers.
+NUMBERS = ("scale", "velocity", "tolerance")
 # How many rows that differ are told.
 MOST_TOLD = 20
 
@@ -81,7 +83,7 @@ def kept_table(words: argparse.Namespace, subject: LoadedProblem, folder: str) -
     given = {
         **vars(words),
         **getattr(words, "titles", {}),
-        "scale": None if words.scale is None else f"{words.scale:f}",
+        **{name: f"{number:f}" for name in NUMBERS if (number := getattr(words, name)) is not None},
     }
     found = {**subject.found, "decimal": subject.measure.sign}
     for name in OPTIONS:
@@ -127,7 +129,9 @@ def read_again(table: KeptTable, folder: str) -> LoadedProblem:
     options = table.options
     titles = {column: options[column] for column in COLUMNS if column in options}
     places = {option: os.path.join(folder, file.path) for option, file in table.places.items()}
-    scale = Decimal(options["scale"]) if "scale" in options else None
+    scale, velocity, tolerance = (
+        Decimal(options[name]) if name in options else None for name in NUMBERS
+    )
     wanted = TableOptions(
         ReadOptions(
             titles,
@@ -136,6 +140,9 @@ def read_again(table: KeptTable, folder: str) -> LoadedProblem:
             options.get("missing", ""),
             tuple(options.get("ignore", ())),
             options.get("matrix", False),
+            velocity,
+            options.get("tanks", ""),
+            tolerance or Decimal(0),
         ),
         options.get("encoding"),
         scale,

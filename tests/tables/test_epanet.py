@@ -1,0 +1,427 @@
+"""Networks of EPANET: what each pipe carries by the formula, what leads which way, what is told and
+asked, and values by networkx from what a file was written of."""
+
+from __future__ import annotations
+
+import math
+import pickle
+import random
+import subprocess
+from dataclasses import dataclass, field
+from decimal import Decimal
+from pathlib import Path
+from typing import Any
+
+import pytest
+from client_shared import dmf
+from desk_shared import run
+from packages import load
+from terminals import Terminal
+
+networkx: Any = load("networkx")
+TOOL = Path(__file__).parents[2] / "tools" / "dmf-plan"
+
+VALLEY = """\
+[TITLE]
+A valley; by hand
+
+[JUNCTIONS]
+;ID          Elev  Demand  Pattern
+ Mill        12    0
+ "Long Hill" 30    5       ; in the morning
+ Town        4     80      Day ;
+ New         3
+[RESERVOIRS]
+ Lake        60
+[TANKS]
+ Tower       50 2 0 5 10 0
+[PIPES]
+ P1  Lake  Mill  1200  200  100  0  Open ;
+ P2  Lake  "Long Hill"  800  150  100  0  CV
+ P3  Mill  Town  900  250  100  0  Closed
+ P4  "Long Hill"  Town  650  100  100  OPEN
+ P5  Tower  Town  20  150  100  0
+ P6  Mill  New  20  150  100
+[PUMPS]
+ U1  Mill  Town  HEAD 1
+[VALVES]
+ V1  New  Town  150  FCV  12.5  0
+ V2  New  Town  80   TCV  2.5   0
+[STATUS]
+ P6  open
+ V2  Closed
+[DEMANDS]
+ New  2  ;household
+ New  1.5
+[COORDINATES]
+ Mill  0   0
+ Town  10  0.5
+[OPTIONS]
+ Units  LPS
+ Demand Multiplier  1.5
+[CONTROLS]
+ LINK P3 OPEN AT TIME 5
+[END]
+what stands here is not read
+"""
+# Litres in a second through a circle of so many millimetres at 1.5 m/s, by hand: for 200 mm it is
+# 1.5 * 3.141593 / 4 * 2^2 * 10 = 47.124.
+D200, D150, D100 = "47.124", "26.507", "11.781"
+# All that the others have together is 47.124 + 26.507 * 3 + 11.781 + 12.5, with three decimals.
+UNLIMITED = "10000"
+ARCS = [
+    ("Lake", "Mill", D200, "P1"),
+    ("Mill", "Lake", D200, "P1"),
+    ("Lake", "Long Hill", D150, "P2"),
+    ("Mill", "Town", 0, "P3"),
+    ("Town", "Mill", 0, "P3"),
+    ("Long Hill", "Town", D100, "P4"),
+    ("Town", "Long Hill", D100, "P4"),
+    ("Tower", "Town", D150, "P5"),
+    ("Town", "Tower", D150, "P5"),
+    ("Mill", "New", D150, "P6"),
+    ("New", "Mill", D150, "P6"),
+    ("Mill", "Town", UNLIMITED, "U1"),
+    ("New", "Town", "12.5", "V1"),
+    ("New", "Town", 0, "V2"),
+    ("Town", "New", 0, "V2"),
+]
+NOTES = [
+    "a network of EPANET: 6 pipes, 1 pump, 2 valves; capacity (in LPS, to 3 decimals) from the"
+    " diameter (mm) at 1.5 m/s",
+    "rows without a limit are read as 10000, which is more than all others together: line 22",
+    "rows are closed, and carry nothing, as 'status' says: lines 17 and 25",
+    "rows are read as two arcs each, as 'direction' says: lines 15, 17, 18, 19, 20 and 25",
+    "demands are multiplied by 1.5, as [OPTIONS] says",
+    "reservoirs supply without a limit: 'Lake'",
+    "tanks only let water through: 'Tower'",
+    "pumps lead one way, without a limit: 'U1'",
+    "demands are base demands; patterns are left out",
+    "[CONTROLS] open and close links in time, and are left out",
+]
+
+
+def opened(folder: Path, text: str, **given: Any) -> Any:
+    (folder / "t.inp").write_text(text)
+    return dmf.read_table(folder / "t.inp", **given)
+
+
+def told(folder: Path, text: str, **given: Any) -> list[str]:
+    given = {"velocity": 1.5, "tanks": "none", **given}
+    with pytest.raises(dmf.TableFault) as caught:
+        opened(folder, text, **given)
+    return [line.removeprefix(f"{folder}/t.inp") for line in caught.value.lines()]
+
+
+def test_a_valley(tmp_path: Path) -> None:
+    """Of the 73.631 that leave the Lake, 47.124 come over the Mill, of which the pump takes all
+    that New does not: 5.25 + 41.874. The Hill takes 7.5 of 26.507, and 11.781 go on."""
+    with opened(tmp_path, VALLEY, velocity=1.5, tanks="none") as network:
+        arcs = [(it.tail, it.head, network.capacity(it), it.key) for it in network.arcs]
+        assert arcs == [(tail, head, Decimal(most), name) for tail, head, most, name in ARCS]
+        assert network.solve().value == Decimal("47.124") + Decimal("7.5") + Decimal("11.781")
+        assert network.unit == "LPS"
+        assert network.notes[: len(NOTES)] == NOTES
+        assert network.extra["diameter"][0] == "200" and network.extra["kind"][-1] == "TCV"
+    # A tank of its own brings 26.507 more, and the Town takes 120.
+    with opened(tmp_path, VALLEY, velocity=1.5, tanks="source") as network:
+        assert network.solve().value == Decimal("66.405") + Decimal("26.507")
+        assert "tanks supply without a limit: 'Tower'" in network.notes
+
+
+def test_options_name_others(tmp_path: Path) -> None:
+    """A source that is named stands in place of the reservoirs, and so with sinks."""
+    with opened(tmp_path, VALLEY, velocity=1.5, tanks="none", source="Tower") as network:
+        assert network.solve().value == Decimal(D150)
+        said = "the supplies of the file are left out, since options name others"
+        assert said in network.notes
+    with opened(tmp_path, VALLEY, velocity=1.5, tanks="none", sink="Tower") as network:
+        assert network.solve().value == Decimal(D150)
+    (tmp_path / "d.csv").write_text("place,demand\nTown,20\n")
+    given = {"velocity": 1.5, "tanks": "none", "sinks": tmp_path / "d.csv"}
+    with opened(tmp_path, VALLEY, **given) as network:
+        assert network.solve().value == 20
+
+
+# Flows of a circle of 12 inches, or 300 mm, at 1 m/s, from the definitions of the units: a foot is
+# 0.3048 m, a gallon 3.785411784 litres, an imperial one 4.54609, an acre-foot 43,560 cubic feet.
+CIRCLES = {
+    "CFS": Decimal("2.577"),
+    "GPM": Decimal("1156.533"),
+    "MGD": Decimal("1.665"),
+    "IMGD": Decimal("1.387"),
+    "AFD": Decimal("5.111"),
+    "LPS": Decimal("70.686"),
+    "LPM": Decimal("4241.150"),
+    "MLD": Decimal("6.107"),
+    "CMH": Decimal("254.469"),
+    "CMD": Decimal("6107.256"),
+    "CMS": Decimal("0.070686"),
+}
+# What EPANET's own source multiplies cubic feet in a second by.
+PER_CUBIC_FOOT = {
+    "CFS": 1.0, "GPM": 448.831, "MGD": 0.64632, "IMGD": 0.5382, "AFD": 1.9837, "LPS": 28.317,
+    "LPM": 1699.0, "MLD": 2.4466, "CMH": 101.94, "CMD": 2446.6, "CMS": 0.028317,
+}  # fmt: skip
+
+
+def small(unit: str, diameter: str) -> str:
+    options = f"[OPTIONS]\nUNITS {unit}\n" if unit else ""
+    nodes = "[JUNCTIONS]\nB 0 9000\n[RESERVOIRS]\nA 9\n"
+    return f"{nodes}[PIPES]\nP A B 9 {diameter} 100\n{options}[END]\n"
+
+
+@pytest.mark.parametrize("unit", CIRCLES)
+def test_units(tmp_path: Path, unit: str) -> None:
+    is_metric = unit in ("LPS", "LPM", "MLD", "CMH", "CMD", "CMS")
+    with opened(tmp_path, small(unit, "300" if is_metric else "12"), velocity=1) as network:
+        value = network.solve().value
+    assert value == CIRCLES[unit]
+    metres = 0.3 if is_metric else 0.3048
+    cubic_feet = math.pi * metres**2 / 4 / 0.3048**3
+    assert float(value) == pytest.approx(cubic_feet * PER_CUBIC_FOOT[unit], rel=6e-4)
+
+
+def test_no_unit(tmp_path: Path) -> None:
+    with opened(tmp_path, small("", "12"), velocity=1) as network:
+        assert network.solve().value == CIRCLES["GPM"]
+        assert "[OPTIONS] names no UNITS, which EPANET reads as GPM" in network.notes
+
+
+FAULTS = [
+    (
+        " P6  Mill  New  20  150  100\n",
+        " P6  Mill  New  20\n",
+        ", line 20: 4 of the 5 fields that are " "needed: name, two nodes, length, diameter",
+    ),
+    (
+        " P6  Mill  New  20  150",
+        " P6  Mill  Nww  20  150",
+        ", line 20: 'Nww', where a pipe's end is, is " "not a node of the file; is it 'New'?",
+    ),
+    (" P6  Mill", " P1  Mill", ", line 20: 'P1' is the name of the pipe in line 15 too"),
+    (
+        " New         3\n",
+        " Town        3\n",
+        ", line 9: 'Town' is the name of a junction in line 8 too",
+    ),
+    (
+        "Units  LPS",
+        "Units  LPX",
+        ", line 36: 'LPX' is not a unit of EPANET, which are CFS, GPM, MGD, "
+        "IMGD, AFD, LPS, LPM, MLD, CMH, CMD, CMS",
+    ),
+    (" Mill  0   0\n", " Mill  nan  0\n", ", line 33: 'nan' is not a coordinate"),
+    (
+        " 650  100  100  OPEN",
+        " 650  100  100  OPENED",
+        ", line 18: 'OPENED' is not a status, which is " "OPEN, CLOSED or CV",
+    ),
+    (" 650  100  100  OPEN", " 650  -100  100  OPEN", ", line 18: the diameter '-100' is below 0"),
+    (" 650  100  100  OPEN", " 650  0  100  OPEN", ", line 18: the pipe has the diameter 0"),
+    (" 650  100  100  OPEN", " 650  10,5  100", ", line 18: '10,5' is not a diameter"),
+    (
+        "FCV",
+        "XCV",
+        ", line 24: 'XCV' is not a type of valve, which are FCV, GPV, PBV, PCV, PRV, PSV,",
+    ),
+    ("[PUMPS]", "[PUMBS]", ", line 21: EPANET has no section '[PUMBS]'"),
+    ('"Long Hill" 30', '"Long Hill 30', ", line 7: a quote is not closed"),
+    (" V2  Closed", " V9  Closed", ", line 28: 'V9' is not a link of the file"),
+    (
+        " New  1.5\n",
+        " Now  1.5\n",
+        ", line 31: 'Now', where a demand is, is not a node of the file; is " "it 'New'?",
+    ),
+    ("[TITLE]\n", "Mill\n[TITLE]\n", ", line 1: 'Mill' stands before the first section"),
+    ("P1  Lake  Mill", "P1  Mill  Mill", ", line 15: the pipe begins and ends at one node"),
+]
+
+
+@pytest.mark.parametrize(("old", "new", "said"), FAULTS)
+def test_faults(tmp_path: Path, old: str, new: str, said: str) -> None:
+    """Each fault is told with its line, and nothing is read."""
+    assert VALLEY.count(old) == 1
+    lines = told(tmp_path, VALLEY.replace(old, new))
+    assert any(line.startswith(said) for line in lines), lines
+
+
+def test_a_file_that_is_cut(tmp_path: Path) -> None:
+    """A file without an end is told; one that is cut in its pipes has a fault."""
+    with opened(tmp_path, VALLEY.partition("[CONTROLS]")[0], velocity=1, tanks="none") as network:
+        assert "the file has no [END]; is it whole?" in network.notes
+    cut = VALLEY[: VALLEY.index(" 650")]
+    assert told(tmp_path, cut)[0].startswith(", line 18: 3 of the 5 fields that are needed")
+    cut = VALLEY[: VALLEY.index("[PIPES]")]
+    assert told(tmp_path, cut) == [
+        ": the network has no pipe: the section [PIPES] is missing or empty"
+    ]
+
+
+def test_questions_in_a_script(tmp_path: Path) -> None:
+    path = tmp_path / "t.inp"
+    path.write_text(VALLEY)
+    ran = run("dmf-plan", str(path), typed="solve\n")
+    assert (ran.returncode, ran.stdout, ran.stderr.splitlines()) == (
+        3,
+        "",
+        [
+            f"dmf-plan: {path}: how fast does water flow at most? The file has diameters, and no "
+            "capacities (in LPS)",
+            "dmf-plan:   --velocity 1.5  m/s, or another velocity",
+        ],
+    )
+    ran = run("dmf-plan", str(path), "--velocity", "1.5", typed="solve\n")
+    assert ran.returncode == 3 and ran.stderr.splitlines() == [
+        f"dmf-plan: {path}: what are the tanks ('Tower')? A tank gives water and takes it in",
+        "dmf-plan:   --tanks source  they give water without a limit, as reservoirs do",
+        "dmf-plan:   --tanks none    they are places that water only passes",
+    ]
+    ran = run("dmf-plan", str(path), "--velocity", "1.5", "--tanks", "none", typed="solve\n")
+    assert (ran.returncode, ran.stdout.startswith("value 66.405 LPS")) == (0, True)
+    ran = run("dmf-plan", str(path), "--velocity", "0", typed="solve\n")
+    assert ran.returncode == 2 and "a velocity is above 0" in ran.stderr
+
+
+def test_questions_of_a_call(tmp_path: Path) -> None:
+    with pytest.raises(dmf.TableFault, match="how fast does water flow") as caught:
+        opened(tmp_path, VALLEY)
+    assert str(caught.value).splitlines()[1:] == ["  velocity=1.5  m/s, or another velocity"]
+    again = pickle.loads(pickle.dumps(caught.value))
+    assert (type(again), str(again)) == (type(caught.value), str(caught.value))
+    with pytest.raises(dmf.TableFault, match="what are the tanks") as caught:
+        opened(tmp_path, VALLEY, velocity=2)
+    assert str(caught.value).splitlines()[2].startswith("  tanks='none'    they are places")
+    with pytest.raises(ValueError, match="not source or none: all"):
+        opened(tmp_path, VALLEY, velocity=2, tanks="all")
+
+
+def test_questions_at_a_terminal(tmp_path: Path) -> None:
+    """Both are asked for one after the other; a word that does not answer is asked for again."""
+    path = tmp_path / "t.inp"
+    path.write_text(VALLEY)
+    with Terminal() as terminal:
+        words = [str(TOOL), str(path)]
+        running = subprocess.Popen(
+            words, stdin=terminal.end, stdout=terminal.end, stderr=terminal.end
+        )
+        for prompt, answer in (
+            ("velocity (m/s, a number above 0): ", b"fast\n"),
+            ("not a decimal number: fast", b"1.5\n"),
+            ("tanks (source or none): ", b"none\n"),
+            ("> ", b"solve\nquit\n"),
+        ):
+            assert terminal.wait_for(lambda seen: prompt in seen), terminal.told()
+            terminal.type(answer)
+        status, seen = running.wait(timeout=60), terminal.close()
+    assert status == 0 and "value 66.405 LPS" in seen, seen
+    assert "next time: --velocity 1.5" in seen and "next time: --tanks none" in seen
+
+
+def test_a_project_keeps_the_answers(tmp_path: Path) -> None:
+    path = tmp_path / "t.inp"
+    path.write_text(VALLEY)
+    words = [str(path), "--velocity", "1.5", "--tanks", "none", "--keep"]
+    assert run("dmf-plan", *words, typed="solve\n").stdout.startswith("value 66.405 LPS")
+    path.write_text(VALLEY.replace("150  100  0  CV", "100  100  0  CV"))
+    ran = run("dmf-plan", f"{path.with_suffix('')}.dmf.json", typed="solve\n")
+    # The pipe from the Lake to the Hill lets 11.781 through in place of 26.507.
+    assert ran.stdout.splitlines()[-1].startswith("value 58.905"), ran
+
+
+# Generated networks, whose value networkx finds from what the file was written of.
+
+
+@dataclass
+class Written:
+    """A network in the lines of its sections, and as a graph."""
+
+    sections: dict[str, list[str]] = field(default_factory=dict)
+    graph: Any = field(default_factory=networkx.MultiDiGraph)
+
+    def add(self, section: str, *words: object) -> None:
+        self.sections.setdefault(section, []).append("\t".join(map(str, words)))
+
+    def text(self, rng: random.Random) -> str:
+        """The sections in any order, with comments, blank lines and either letters."""
+        names = list(self.sections)
+        rng.shuffle(names)
+        lines: list[str] = []
+        for name in names:
+            lines.append(f"[{name if rng.random() < 0.5 else name.lower()}]")
+            for line in self.sections[name]:
+                lines += [line + rng.choice(["", " ;", "; [PIPES] x", "   "])]
+                lines += rng.choice([[], [], ["; a b c"], [""]])
+        return "\r\n".join([*lines, "[END]"])
+
+
+def flow(diameter: int, velocity: float) -> int:
+    """Thousandths of a litre in a second, by floats."""
+    return round(velocity * math.pi * (diameter / 1000) ** 2 / 4 * 1e6)
+
+
+def made(rng: random.Random) -> tuple[str, int]:
+    """A network's text, and its greatest value in thousandths of a litre in a second."""
+    found, velocity = Written(), 1.25
+    graph = found.graph
+    names = [
+        rng.choice(["J{}", '"Weir {}"', "ä{}", "{}"]).format(at) for at in range(rng.randint(3, 9))
+    ]
+    plain = [name.strip('"') for name in names]
+    found.add("OPTIONS", "Units", "LPS")
+    found.add("RESERVOIRS", "R", 50)
+    graph.add_edge(0, "R", capacity=10**9)
+    for at, (name, node) in enumerate(zip(names, plain)):
+        demand = rng.choice([0, 0, rng.randint(1, 40), -rng.randint(1, 9)]) if at else 25
+        found.add("JUNCTIONS", name, 3, demand)
+        if demand:
+            ends = (node, 1) if demand > 0 else (0, node)
+            graph.add_edge(*ends, capacity=abs(demand) * 1000)
+    all_names, all_nodes = ["R", *names], ["R", *plain]
+    for number in range(rng.randint(4, 24)):
+        one, two = rng.sample(range(len(all_names)), 2)
+        diameter = rng.choice([80, 100, 125, 150, 200])
+        kind = rng.choice(["OPEN", "Closed", "CV", "", "PRV", "pump", "status"])
+        tail, head, ends = all_nodes[one], all_nodes[two], (all_names[one], all_names[two])
+        most = flow(diameter, velocity)
+        if kind == "PRV":
+            found.add("VALVES", f"L{number}", *ends, diameter, "prv", 40, 0)
+        elif kind == "pump":
+            found.add("PUMPS", f"L{number}", *ends, "POWER", 5)
+            most = 10**9
+        else:
+            words = [kind] if kind not in ("", "status") else []
+            found.add(
+                "PIPES", f"L{number}", *ends, 90, diameter, 100, *([0] if words else []), *words
+            )
+        if kind == "status":
+            found.add("STATUS", f"L{number}", "CLOSED")
+        if kind in ("Closed", "status"):
+            continue
+        graph.add_edge(tail, head, capacity=most)
+        if kind in ("OPEN", ""):
+            graph.add_edge(head, tail, capacity=most)
+    return found.text(rng), greatest(graph)
+
+
+def greatest(graph: Any) -> int:
+    simple = networkx.DiGraph([(0, "R", {"capacity": 0}), ("R", 1, {"capacity": 0})])
+    for tail, head, most in graph.edges(data="capacity"):
+        before = simple.get_edge_data(tail, head, {"capacity": 0})["capacity"]
+        simple.add_edge(tail, head, capacity=before + most)
+    value: int = networkx.maximum_flow_value(simple, 0, 1)
+    return value
+
+
+@pytest.mark.parametrize("seed", range(60))
+def test_generated(tmp_path: Path, seed: int) -> None:
+    rng = random.Random(seed)
+    text, value = made(rng)
+    try:
+        network = opened(tmp_path, text, velocity="1.25")
+    except dmf.TableFault as fault:
+        # A node without a pipe takes or gives nothing.
+        assert "is in no row of arcs" in str(fault)
+        return
+    with network:
+        assert network.solve().value == Decimal(value) / 1000
