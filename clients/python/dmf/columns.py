@@ -129,7 +129,11 @@ class Columns(Generic[Node]):
         self.tails = tails
         self.heads = heads
         self._given = keys
+        # A function makes the names that a text has, of which none is a pair.
+        self._may_be_pairs = not callable(keys)
+        # How often an index was missed: of the arcs at each node, and of the arcs by their ends.
         self._missed = 0
+        self._missed_ends = 0
 
     def __len__(self) -> int:
         return len(self.tails)
@@ -140,7 +144,11 @@ class Columns(Generic[Node]):
     def with_node(self, node: Any) -> Columns[Node]:
         """The same arcs with one more node."""
         numbers = {**self.numbers, node: len(self.numbers) + 1}
-        return Columns(numbers, self.tails, self.heads, lambda: self.keys)
+        return Columns(numbers, self.tails, self.heads, self._same_keys())
+
+    def _same_keys(self) -> dict[int, Hashable] | Callable[[], dict[int, Hashable]]:
+        """The keys, for the same arcs with more nodes."""
+        return self.keys if self._may_be_pairs else lambda: self.keys
 
     @property
     def keys(self) -> dict[int, Hashable]:
@@ -169,8 +177,14 @@ class Columns(Generic[Node]):
         return Index(self.keys.values, list(self.keys))
 
     def between(self, tail: int, head: int) -> list[int]:
-        """The numbers of the arcs from one node to another."""
-        return self._by_ends.find(tail * (len(self.numbers) + 1) + head)
+        """The numbers of the arcs from one node to another. The index of all is made after it was
+        missed some times."""
+        self._missed_ends += 1
+        if self._missed_ends > MOST_MISSED:
+            return self._by_ends.find(tail * (len(self.numbers) + 1) + head)
+        heads = self.heads
+        leaving = compress(count(1), map(tail.__eq__, self.tails))
+        return [number for number in leaving if heads[number - 1] == head]
 
     def number(self, node: Node) -> int:
         """The number of a node. Raises `NoSuchNode`, also for a value that cannot be hashed."""
@@ -195,7 +209,7 @@ class Columns(Generic[Node]):
         """The numbers of the arcs of a key, or of a pair of ends, in their order. Raises
         `NoSuchArc` for a value that cannot be hashed."""
         try:
-            found = self._by_key.find(key)
+            found = self._of_key(key)
         except TypeError:
             raise NoSuchArc(shown_value(key)) from None
         if isinstance(key, tuple) and len(key) == 2:
@@ -203,6 +217,13 @@ class Columns(Generic[Node]):
             if tail and head and (pairs := self.between(tail, head)):
                 return sorted({*found, *pairs}) if found else pairs
         return found
+
+    def _of_key(self, key: Hashable) -> list[int]:
+        """The numbers of the arcs of a key. Raises a TypeError for a value that cannot be
+        hashed."""
+        hash(key)
+        is_none = isinstance(key, tuple) and not self._may_be_pairs
+        return [] if is_none else self._by_key.find(key)
 
     @functools.cached_property
     def _at_nodes(self) -> tuple[tuple[array[int], array[int]], tuple[array[int], array[int]]]:

@@ -15,7 +15,7 @@ their rows. After them stand inner nodes and arcs, which are not of the table:
 from __future__ import annotations
 
 from array import array
-from collections.abc import Iterator, Sequence
+from collections.abc import Iterable, Iterator, Sequence
 from dataclasses import dataclass, field
 from decimal import Decimal
 from itertools import chain, compress
@@ -128,13 +128,10 @@ class BuiltProblem:
 
     def row_names(self) -> dict[int, str]:
         """The names of the arcs of rows that have one, by number."""
-        ways = range(1, self.ways + 1)
-        return {
-            self.ways * row + way: name
-            for row, name in enumerate(self.labels)
-            if name
-            for way in ways
-        }
+        names: Iterable[str] = self.labels
+        if self.ways > 1:
+            names = (name for name in self.labels for _ in range(self.ways))
+        return {number: name for number, name in enumerate(names, 1) if name}
 
 
 def too_much(measure: Measure) -> str:

@@ -342,3 +342,6 @@ class Cells(Sequence[str]):
 
     def __getitem__(self, place: Any) -> Any:
         return self._cells[place]
+
+    def __iter__(self) -> Iterator[str]:
+        return iter(self._cells)

@@ -63,7 +63,7 @@ class FoldedColumns(Columns[Any]):
     def with_node(self, node: Any) -> FoldedColumns:
         numbers = {**self.numbers, node: len(self.numbers) + 1}
         return FoldedColumns(
-            numbers, self.tails, self.heads, lambda: self.keys, self.described, self.inner_names
+            numbers, self.tails, self.heads, self._same_keys(), self.described, self.inner_names
         )
 
     @cached_property
