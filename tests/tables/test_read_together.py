@@ -21,10 +21,10 @@ from dmf.tables import numpy_rows as spans
 from dmf.tables import problem_builder
 from dmf.tables import readers as numbered
 from dmf.tables import warnings
-from dmf.tables.amount_columns import Plain, _plain
 from dmf.tables.arcs_and_places import read_arcs
 from dmf.tables.csv_file import Block
 from dmf.tables.numpy_rows import Spans, first_alike, spans_of
+from dmf.tables.plain_numbers import Plain, plain_of
 from dmf.tables.problem_builder import ends_alone
 from dmf.tables.readers import Numbers, ReadOptions, are_plain, name_of
 from dmf.tables.sheet import Rows
@@ -304,7 +304,7 @@ def read(text: str, size: int, *, by_numpy: bool) -> list[object]:
 
 def plain_ones(cells: list[str]) -> list[Plain | None]:
     """What plain cells are, one by one and by numpy."""
-    return [_plain(cells), spanned([["a", cell] for cell in cells])._plain(1)]
+    return [plain_of(cells), spanned([["a", cell] for cell in cells])._plain(1)]
 
 
 @given(

@@ -5,15 +5,12 @@ the unit the one that every cell has.
 
 from __future__ import annotations
 
-import re
 import unicodedata
 from array import array
 from collections.abc import Callable, Iterable, Iterator, Sequence
 from dataclasses import dataclass
 from decimal import Decimal
-from itertools import repeat
 from math import gcd
-from operator import mul
 from typing import Optional, Union
 
 from ..quantity import (
@@ -30,110 +27,12 @@ from ..quantity import (
 )
 from ..text.lexical import AMOUNTS
 from ..text.spelling import quoted_name
-from .sheet import PIECE, Exact, Faults
+from .amount_cells import is_limitless, is_missing, no_number, read_cell
+from .plain_numbers import Plain, over_power, plain_of, zeros_of
+from .sheet import Exact, Faults
 
-# The most characters of a number that is read together with others.
-PLAIN_LENGTH = 18
-# Up to where floats have each whole number and a bit more.
-LARGEST_EXACT = 1 << 50
-# A cell of digits and one kind of sign in which that sign does not stand between thousands.
-_UNGROUPED = {
-    sign: re.compile(
-        rf"^(?![1-9][0-9]{{0,2}}(?:{re.escape(sign)}[0-9]{{3}})+$)[0-9{sign}]*{re.escape(sign)}",
-        re.MULTILINE,
-    )
-    for sign in SIGNS
-}
-_WITH_UNIT = re.compile(r"(.*?[0-9.,])\s+([^\s\d.,'+-][^\d]*(?:[23\xb2\xb3][^\d]*)?)", re.DOTALL)
-_DATE = re.compile(
-    r"[0-9]{1,4}[./-](?:[0-9]{1,2}|[^\W\d]{3,9})[./-][0-9]{2,4}(?:[ T][0-9:.]+)?"
-    r"|[0-9]{4}-[0-9]{2}-[0-9]{2}.*"
-    r"|[0-9]{1,2}\.? [^\W\d]{3,9}\.?,? [0-9]{2,4}"
-)
-_ENDLESS = re.compile(
-    r"[+-]?(?:nan|inf(?:inity)?|\u221e|unlimited|unendlich|unbegrenzt)", re.IGNORECASE
-)
-# Cells without a digit, or with two signs, among cells of digits and signs.
-_NO_NUMBER = {
-    sign: re.compile(
-        rf"^{re.escape(sign)}?$|{re.escape(sign)}[0-9]*{re.escape(sign)}", re.MULTILINE
-    )
-    for sign in SIGNS
-}
-# Cells of at least 1 decimal, 2 and so on.
-_DECIMALS = {
-    sign: [
-        re.compile(rf"{re.escape(sign)}[0-9]{{{count}}}") for count in range(1, PLAIN_LENGTH + 1)
-    ]
-    for sign in SIGNS
-}
 OTHER = {POINT: COMMA, COMMA: POINT}
 NAMES = {POINT: "point", COMMA: "comma"}
-
-
-def no_number(text: str) -> str:
-    """Why a text is not a number, and what would do."""
-    if _DATE.fullmatch(text):
-        return "is a date, not a number"
-    if _ENDLESS.fullmatch(text):
-        return "is not a number; where there is no limit, write a number that is large enough"
-    if text[:1] == "=" or text[:1] == "#" and text[1:2].isalpha():
-        return "is a formula or its error, not a number"
-    return "is not a number; write one as 47.3 or 47,3"
-
-
-# What stands in a cell that has no number.
-MISSING = set(
-    "|-|--|\u2013|\u2014|?|n/a|na|#n/a|nan|null|none|k.a.|k. a.|k.\u00a0a.|nc|n.c.|s/d|sd|tbd|.|..|"
-    "keine angabe|unbekannt|unknown|not known|missing|fehlt|inconnu".split("|")
-)
-
-
-def is_missing(cell: str) -> bool:
-    """Whether a cell says that there is no number, or has nothing."""
-    return not isinstance(cell, Exact) and " ".join(cell.split()).casefold() in MISSING
-
-
-# What stands in the cell of a capacity that has no limit.
-LIMITLESS = {
-    "unlimited",
-    "unbegrenzt",
-    "unendlich",
-    "illimit\xe9",
-    "illimite",
-    "ilimitado",
-    "\u221e",
-}
-
-
-def is_limitless(cell: str) -> bool:
-    """Return True if a cell says that there is no limit."""
-    return not isinstance(cell, Exact) and cell.strip().casefold() in LIMITLESS
-
-
-def read_cell(cell: str) -> tuple[dict[str, Decimal], str]:
-    """The readings of a cell by the decimal sign, as `readings` gives them, and its unit."""
-    if isinstance(cell, Exact):
-        number = Decimal(cell)
-        return {POINT: number, COMMA: number}, ""
-    text = cell.strip()
-    found = readings(text)
-    if not found and (parts := _WITH_UNIT.fullmatch(text)):
-        return readings(parts[1]), " ".join(parts[2].split())
-    return found, ""
-
-
-@dataclass
-class Plain:
-    """Cells with nothing but digits and at most one decimal sign, which is the same in all: their
-    numbers, over ten to the power of `decimals`. `telling` is one of those with the sign, and its
-    place: one that admits no other, if there is one.
-    """
-
-    numbers: Sequence[int]
-    decimals: int = 0
-    sign: str = ""
-    telling: tuple[int, str] = (0, "")
 
 
 @dataclass
@@ -175,7 +74,7 @@ class Amounts:
     def add(self, cells: list[str]) -> None:
         """Takes in cells below those that are there."""
         cells = [it if isinstance(it, Exact) else it.strip() for it in cells]
-        self._put(len(cells), lambda: cells, _plain(cells))
+        self._put(len(cells), lambda: cells, plain_of(cells))
 
     def add_plain(self, plain: Plain, count: int, cells: Callable[[], list[str]]) -> None:
         """The same of so many cells that are plain."""
@@ -231,11 +130,11 @@ class Amounts:
         self.sign = given or self._settled_sign(faults, usual)
         self._judge_units(faults)
         read = [self._read_piece(piece, faults) for piece in self._pieces]
-        most = max((plain.decimals - _zeros(plain) for plain in read), default=0)
+        most = max((plain.decimals - zeros_of(plain) for plain in read), default=0)
         numbers = array(AMOUNTS)
         rest: list[int] = []
         for plain in read:
-            over = _over(plain, most)
+            over = over_power(plain, most)
             try:
                 if rest:
                     raise OverflowError
@@ -445,61 +344,3 @@ def _folded(unit: str) -> str:
     """A unit without what is only another way to write it: `m3/h` for `m\xb3 / h` and for
     `m^3/h`."""
     return "".join(unicodedata.normalize("NFKC", unit).replace("^", "").split())
-
-
-def _plain(cells: list[str]) -> Plain | None:
-    """These cells, if they are plain and not too long."""
-    if (
-        set(map(type, cells)) != {str}
-        or not 0 < min(map(len, cells)) <= max(map(len, cells)) <= PLAIN_LENGTH
-    ):
-        return None
-    text = "\n".join(cells)
-    digits = "".join(cells)
-    if not text.isascii() or digits.isdigit():
-        return Plain([*map(int, cells)]) if text.isascii() else None
-    for sign in SIGNS:
-        if digits.replace(sign, "").isdigit():
-            return None if _NO_NUMBER[sign].search(text) else _plain_decimals(cells, text, sign)
-    return None
-
-
-def _plain_decimals(cells: list[str], text: str, sign: str) -> Plain:
-    found = _UNGROUPED[sign].search(text)
-    at = found.start() if found else text.rfind("\n", 0, text.index(sign)) + 1
-    telling = text.count("\n", 0, at), text[at:].partition("\n")[0]
-    most = 0
-    while _DECIMALS[sign][most].search(text):
-        most += 1
-    numbers = _scaled(cells if sign == POINT else text.replace(sign, POINT).split("\n"), most)
-    return Plain(numbers, most, sign, telling)
-
-
-def _scaled(cells: list[str], most: int) -> list[int]:
-    """Decimal numbers, times ten to this power."""
-    # A number whose digits are below 2^50 is exact: each step is off by less than its 2^52nd part.
-    numbers: list[int] = list(map(round, map(mul, map(float, cells), repeat(10.0**most))))
-    if max(numbers) >= LARGEST_EXACT:
-        numbers = list(map(int, map(mul, map(Decimal, cells), repeat(Decimal(10) ** most))))
-    return numbers
-
-
-def _zeros(plain: Plain) -> int:
-    """How many of the decimals of all numbers are zeros at the end."""
-    common = 10**plain.decimals
-    for begin in range(0, len(plain.numbers), PIECE):
-        common = gcd(common, *plain.numbers[begin : begin + PIECE])
-        if common % 10:
-            return 0
-    return next(zeros for zeros in range(plain.decimals, -1, -1) if common % 10**zeros == 0)
-
-
-def _over(plain: Plain, most: int) -> Sequence[int]:
-    """The numbers, over ten to this power."""
-    if plain.decimals == most:
-        return plain.numbers
-    if plain.decimals > most:
-        rest = 10 ** (plain.decimals - most)
-        return [number // rest for number in plain.numbers]
-    more = 10 ** (most - plain.decimals)
-    return [number * more for number in plain.numbers]

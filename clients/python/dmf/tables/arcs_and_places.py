@@ -9,7 +9,8 @@ from typing import NamedTuple, Optional
 from ..errors import TableFault
 from ..quantity import LARGEST, plain_text
 from ..text.spelling import cleaned, quoted_name
-from .amount_columns import Amounts, is_limitless, no_number
+from .amount_cells import is_limitless, no_number
+from .amount_columns import Amounts
 from .asides import MOST_WORDS, Aside, kind_of, told_aside
 from .headings import ARCS, PLACE_COLUMNS, Form, Layout
 from .line_ends import lines_of

@@ -8,7 +8,7 @@ from typing import NamedTuple, Optional
 
 from ..quantity import plain_text, readings
 from ..text.spelling import cleaned, quoted_name
-from .amount_columns import read_cell
+from .amount_cells import read_cell
 from .readers import Table
 from .titles import folded
 

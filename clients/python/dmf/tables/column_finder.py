@@ -9,8 +9,8 @@ from collections.abc import Collection, Mapping, Sequence
 from ..errors import TableFault
 from ..quantity import readings
 from ..text.spelling import cleaned, quoted_name
-from .amount_columns import is_missing
 from .column_question import ColumnQuestion
+from .column_samples import ColumnSample
 from .headings import (
     ARCS,
     MOST_LISTED,
@@ -24,15 +24,7 @@ from .headings import (
 )
 from .sheet import Rows
 from .state_words import state_of
-from .title_row import (
-    TitleRow,
-    column_number,
-    heading_at,
-    is_number,
-    named_row,
-    title_row,
-    usual_words,
-)
+from .title_row import TitleRow, column_number, heading_at, named_row, title_row, usual_words
 from .titles import (
     CAPACITY,
     DIRECTION,
@@ -44,9 +36,7 @@ from .titles import (
     TAIL,
     USUAL,
     WEAK,
-    Title,
     hints_at_state,
-    is_index,
     is_least,
     is_other,
     is_rate,
@@ -89,14 +79,12 @@ class _Finder:
         self.form = form
         self.titles = heading.titles
         self.heading = heading
-        self.rows = heading.rows or ([heading.cells] if heading.cells else [])
-        self.width = len(self.titles) or max(map(len, self.rows), default=0)
+        rows = heading.rows or ([heading.cells] if heading.cells else [])
+        self.sample = ColumnSample(rows, heading.titles)
+        self.width = self.sample.width
         self.given = {column: self._place_of(title) for column, title in named.items()}
         self.ignored = [self._place_of(title) for title in ignored] if form is ARCS else []
         self.is_by_numbers = False
-
-    def _title(self, place: int) -> Title:
-        return self.titles[place] if place < len(self.titles) else Title("", "", "")
 
     def _place_of(self, title: str) -> int:
         """The column that is called by this title, or by its number. Raises a `TableFault` if none
@@ -140,7 +128,7 @@ class _Finder:
     def _has_number_above(self, first: Sequence[str]) -> bool:
         """Whether the first row has a number where the rows below it have numbers too, and so is
         a row as they are."""
-        numeric = [place for place in range(self.width) if not self._is_text(place)]
+        numeric = [place for place in range(self.width) if not self.sample.is_text(place)]
         return any(readings(first[place]) for place in numeric if place < len(first))
 
     def layout(self) -> Layout:
@@ -170,15 +158,13 @@ class _Finder:
         }
         needed = [place for column, place in at.items() if column != form.label]
         blank = [
-            place for place in range(self.width) if place not in needed and not self._cells(place)
+            place
+            for place in range(self.width)
+            if place not in needed and not self.sample.cells(place)
         ]
         notes = [*heading.notes]
         for place, title in enumerate(self.titles) if form is ARCS else ():
-            if (
-                is_least(title)
-                and place not in at.values()
-                and any(map(is_number, self._cells(place)))
-            ):
+            if is_least(title) and place not in at.values() and self.sample.has_number(place):
                 notes.append(
                     f"{quoted_name(title.text)} is kept as a remark: a maximum flow keeps to no"
                     " least amounts"
@@ -193,7 +179,7 @@ class _Finder:
             tuple(
                 place
                 for place, title in enumerate(self.titles)
-                if not title.text and place not in at.values() and self._cells(place)
+                if not title.text and place not in at.values() and self.sample.cells(place)
             ),
         )
 
@@ -233,7 +219,7 @@ class _Finder:
             ranks = sorted(
                 (words.index(word), place)
                 for place in self._free(at)
-                if (word := self._title(place).word) in words
+                if (word := self.sample.title(place).word) in words
             )
             if column not in at and ranks:
                 at[column] = ranks[0][1]
@@ -244,13 +230,13 @@ class _Finder:
         self._add_usual(at, [role])
         if role in at or self.form is not ARCS:
             return
-        found = [place for place in self._free(at) if says_end(self._title(place), role)]
+        found = [place for place in self._free(at) if says_end(self.sample.title(place), role)]
         if len(found) > 1:
             raise self._question(role, found, "more than one title says it")
         at.update((role, place) for place in found)
 
     def _add_state(self, at: dict[str, int], role: str) -> None:
-        found = [place for place in self._free(at) if says_state(self._title(place), role)]
+        found = [place for place in self._free(at) if says_state(self.sample.title(place), role)]
         if len(found) > 1:
             says = "which rows are open" if role == STATUS else "which way rows lead"
             names = " and ".join(called(self.titles, place) for place in found)
@@ -267,26 +253,29 @@ class _Finder:
         usual = [
             place
             for place in free
-            if (self._title(place).word in USUAL[CAPACITY] or is_rate(self._title(place)))
-            and not is_share(self._title(place))
+            if (
+                self.sample.title(place).word in USUAL[CAPACITY]
+                or is_rate(self.sample.title(place))
+            )
+            and not is_share(self.sample.title(place))
         ]
-        sure = [place for place in free if says_capacity(self._title(place))]
+        sure = [place for place in free if says_capacity(self.sample.title(place))]
         # In a table of arcs a limit may be that of a place, and a weight the length of an arc.
-        likely = [place for place in usual if self._title(place).word not in WEAK]
+        likely = [place for place in usual if self.sample.title(place).word not in WEAK]
         likely = [
-            place for place in likely if self._title(place).word not in USUAL[LIMIT][:3]
+            place for place in likely if self.sample.title(place).word not in USUAL[LIMIT][:3]
         ] or likely
-        weak = [place for place in usual if self._title(place).word in WEAK]
+        weak = [place for place in usual if self.sample.title(place).word in WEAK]
         if not sure and not likely and {*self._numeric(at)} <= {*weak}:
             likely = weak
         if len(sure) == 1:
             sure += [
                 place
                 for place in self._numeric({**at, CAPACITY: sure[0]})
-                if rivals_capacity(self._title(place))
+                if rivals_capacity(self.sample.title(place))
             ]
         found = sure or likely
-        found = [place for place in found if any(map(is_number, self._cells(place)))] or found
+        found = [place for place in found if self.sample.has_number(place)] or found
         if len(found) > 1:
             raise self._question(CAPACITY, found, "more than one title says it")
         return found
@@ -296,9 +285,9 @@ class _Finder:
         `ColumnQuestion`."""
         amount = self.form.amounts[0]
         numeric = self._numeric(at)
-        free = [place for place in self._free(at) if self._title(place).word not in OTHERS]
+        free = [place for place in self._free(at) if self.sample.title(place).word not in OTHERS]
         usual = self.form.order[amount]
-        if len(numeric) == 1 and not is_other(self._title(numeric[0])):
+        if len(numeric) == 1 and not is_other(self.sample.title(numeric[0])):
             self.is_by_numbers = True
             return numeric[0]
         if not numeric and usual in free:
@@ -317,21 +306,21 @@ class _Finder:
         for place in range(self.width):
             if place in read or place in self.ignored:
                 continue
-            if role := state_of(self._cells(place)) or self._state_by_title(place):
-                is_plain = state_of(self._cells(place)) == role
+            if role := state_of(self.sample.cells(place)) or self._state_by_title(place):
+                is_plain = state_of(self.sample.cells(place)) == role
                 says = "which rows are open" if role == STATUS else "which way rows lead"
                 says += "" if is_plain else ", or which way they lead"
                 name = name_of_column(self.titles, place)
                 title = repr(role) if is_plain else f"{STATUS!r} or {DIRECTION!r}"
                 how = f"give it the title {title}, or keep it as a remark by --ignore"
                 reason = f"{called(self.titles, place)} seems to say {says}, as in "
-                reason += f"{quoted_name(self._cells(place)[0])}; {how} {shlex.quote(name)}"
+                reason += f"{quoted_name(self.sample.cells(place)[0])}; {how} {shlex.quote(name)}"
                 raise TableFault(reason, self.heading.line)
 
     def _state_by_title(self, place: int) -> str:
         """What a column may say by its title, if its cells are words, and few of them."""
-        cells = set(map(cleaned, self._cells(place)))
-        is_said = hints_at_state(self._title(place)) and 0 < len(cells) <= 4
+        cells = set(map(cleaned, self.sample.cells(place)))
+        is_said = hints_at_state(self.sample.title(place)) and 0 < len(cells) <= 4
         return STATUS if is_said and not any(map(str.isdigit, "".join(cells))) else ""
 
     def _add_ends(self, at: dict[str, int]) -> None:
@@ -343,7 +332,9 @@ class _Finder:
         texts = [
             place
             for place in free
-            if self._cells(place) and self._is_text(place) and not is_other(self._title(place))
+            if self.sample.cells(place)
+            and self.sample.is_text(place)
+            and not is_other(self.sample.title(place))
         ]
         is_in_order = (
             at[form.amounts[0]] == form.order[form.amounts[0]] if form.amounts[0] in at else False
@@ -360,7 +351,7 @@ class _Finder:
         it."""
         form = self.form
         place = form.order[form.label]
-        title = self._title(place)
+        title = self.sample.title(place)
         if place not in self._free(at) or any(
             at.get(column, usual) != usual for column, usual in form.order.items()
         ):
@@ -416,39 +407,16 @@ class _Finder:
                     f"{len(alike)} columns have the title {quoted_name(texts[place])}",
                 )
 
-    # What the cells of the first rows say.
-
-    def _cells(self, place: int) -> list[str]:
-        """The cells of a column that have something."""
-        return [row[place] for row in self.rows if place < len(row) and not is_missing(row[place])]
-
     def _numeric(self, at: Mapping[str, int]) -> list[int]:
         """The columns with numbers that may still be taken for something, but counters of rows and
         percentages."""
         return [
             place
             for place in self._free(at)
-            if not self._is_text(place)
-            and not is_share(self._title(place))
-            and not self._counts(place)
+            if not self.sample.is_text(place)
+            and not is_share(self.sample.title(place))
+            and not self.sample.counts_rows(place)
         ]
-
-    def _is_text(self, place: int) -> bool:
-        """Whether less than half of the cells of a column are numbers."""
-        cells = [cell for cell in self._cells(place) if not cell.strip().endswith(("%", "\u2030"))]
-        numbers = sum(map(is_number, cells))
-        return numbers == 0 or 2 * numbers < len(cells)
-
-    def _counts(self, place: int) -> bool:
-        """Whether a column counts the rows."""
-        cells = self._cells(place)
-        first = (
-            int(cells[0]) if cells and cells[0].strip().isdecimal() and len(cells[0]) < 10 else -1
-        )
-        is_counted = first in (0, 1) and cells == [str(first + at) for at in range(len(cells))]
-        return is_counted and (
-            is_index(self._title(place)) if self.titles else place == 0 and len(cells) > 2
-        )
 
     def _question(self, column: str, places: Sequence[int], why: str) -> ColumnQuestion:
         is_arcs = self.form is ARCS
@@ -461,9 +429,11 @@ class _Finder:
         else:
             how = f"name it by --{column}"
         reason = f"which column {sought}? {why[:1].upper()}{why[1:]}; {how}"
-        choices = [(name_of_column(self.titles, place), self._cells(place)) for place in places]
+        choices = [
+            (name_of_column(self.titles, place), self.sample.cells(place)) for place in places
+        ]
         question = ColumnQuestion(reason, self.heading.line, column, choices, is_arcs)
-        numeric = [place for place in range(self.width) if not self._is_text(place)]
+        numeric = [place for place in range(self.width) if not self.sample.is_text(place)]
         question.may_be_matrix = (
             column == CAPACITY
             and bool(self.titles)

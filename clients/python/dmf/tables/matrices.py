@@ -10,7 +10,7 @@ from typing import NamedTuple, Optional
 from ..errors import TableFault
 from ..quantity import readings
 from ..text.spelling import cleaned, quoted_name
-from .amount_columns import is_missing
+from .amount_cells import is_missing
 from .asides import names_total
 from .sheet import Exact, Rows, Sheet
 from .title_row import MOST_ABOVE

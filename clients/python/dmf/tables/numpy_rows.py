@@ -12,7 +12,7 @@ from typing import Any, NamedTuple, Optional, Protocol
 
 from ..quantity import LARGEST, SIGNS
 from ..text.lexical import AMOUNTS, NODES
-from .amount_columns import PLAIN_LENGTH, Plain
+from .plain_numbers import PLAIN_LENGTH, Plain
 from .sheet import AmountSink, PlaceSink, Rows
 
 # The longest name that is compared as numbers, in bytes; and how often names are looked up in the
