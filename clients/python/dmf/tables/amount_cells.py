@@ -20,7 +20,7 @@ _ENDLESS = re.compile(
 
 
 def no_number(text: str) -> str:
-    """Why a text is not a number, and what would do."""
+    """Return why a text is not a number, and what would do."""
     if _DATE.fullmatch(text):
         return "is a date, not a number"
     if _ENDLESS.fullmatch(text):
@@ -38,7 +38,7 @@ MISSING = set(
 
 
 def is_missing(cell: str) -> bool:
-    """Whether a cell says that there is no number, or has nothing."""
+    """Return True if a cell says that there is no number, or has nothing."""
     return not isinstance(cell, Exact) and " ".join(cell.split()).casefold() in MISSING
 
 
@@ -60,7 +60,7 @@ def is_limitless(cell: str) -> bool:
 
 
 def read_cell(cell: str) -> tuple[dict[str, Decimal], str]:
-    """The readings of a cell by the decimal sign, as `readings` gives them, and its unit."""
+    """Return the readings of a cell by the decimal sign, as `readings` gives them, and its unit."""
     if isinstance(cell, Exact):
         number = Decimal(cell)
         return {POINT: number, COMMA: number}, ""

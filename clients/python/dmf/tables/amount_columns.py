@@ -72,12 +72,12 @@ class Amounts:
         self._read: dict[str, tuple[dict[str, Decimal], str]] = {}
 
     def add(self, cells: list[str]) -> None:
-        """Takes in cells below those that are there."""
+        """Take in cells below those that are there."""
         cells = [it if isinstance(it, Exact) else it.strip() for it in cells]
         self._put(len(cells), lambda: cells, plain_of(cells))
 
     def add_plain(self, plain: Plain, count: int, cells: Callable[[], list[str]]) -> None:
-        """The same of so many cells that are plain."""
+        """Take in `count` cells that are plain."""
         self._put(count, cells, plain)
 
     def _put(self, count: int, cells: Callable[[], list[str]], plain: Optional[Plain]) -> None:
@@ -86,11 +86,11 @@ class Amounts:
 
     @property
     def named_unit(self) -> str:
-        """The unit, if the title or the cells name one."""
+        """Return the unit, if the title or the cells name one."""
         return self.unit if self.unit != self._word else ""
 
     def judge_beside(self, other: Amounts, faults: Faults) -> None:
-        """Sees to it that this column has no other unit than another one."""
+        """Check that this column has the unit of another one, if both have a unit."""
         mine, theirs = self.named_unit, other.named_unit
         if self.lines and mine and theirs and _folded(mine) != _folded(theirs):
             faults.add(
@@ -109,12 +109,12 @@ class Amounts:
         return found
 
     def put(self, places: Iterable[int], number: int) -> None:
-        """Gives the cells at these places another number."""
+        """Give the cells at these places another number."""
         for place in places:
             self.numbers[place] = number
 
     def arrange(self, places: Iterable[int], lines: Sequence[int]) -> None:
-        """Takes the numbers of these places, one by one, as those of the cells in these lines."""
+        """Take the numbers of these places, one by one, as those of the cells in these lines."""
         taken = [self.numbers[place] for place in places]
         self.numbers = array(AMOUNTS, taken) if isinstance(self.numbers, array) else taken
         self.lines = lines
@@ -122,10 +122,9 @@ class Amounts:
     def settle(
         self, lines: Sequence[int], faults: Faults, given: str = "", usual: str = ""
     ) -> None:
-        """Reads all cells, which stand in these lines: with the decimal sign that was given, or
-        else the one that all admit; where both are left, with the usual one of the table, if it has
-        one. What cannot be read goes to the faults.
-        """
+        """Read all cells, which stand in these lines: with the decimal sign that was given, or else
+        the one that all admit; where both are left, with the usual one of the table, if it has one.
+        What cannot be read goes to the faults."""
         self.lines = lines
         self.sign = given or self._settled_sign(faults, usual)
         self._judge_units(faults)
@@ -148,7 +147,7 @@ class Amounts:
         self._judge_negative(faults)
 
     def _settled_sign(self, faults: Faults, usual: str) -> str:
-        """The sign that all cells admit; none if the sign makes no difference."""
+        """Return the sign that all cells admit; none if the sign makes no difference."""
         # For each sign the first cell that admits no other, and the first that is another number
         # with it.
         only: dict[str, tuple[int, str]] = {}
@@ -191,10 +190,10 @@ class Amounts:
         return usual if open_cell else ""
 
     def _thousands_mark(self) -> str:
-        """The sign that stands between thousands, where no cell tells it alone; none if it may be
-        the decimal sign. Numbers with three decimals each have the sign in all cells, and numbers
-        with as many decimals as they need have none that ends in 0. So it stands between thousands
-        if a cell has it and ends in 0, and cells below 1000 have none."""
+        """Return the sign that stands between thousands, where no cell tells it alone; none if it
+        may be the decimal sign. Numbers with three decimals each have the sign in all cells, and
+        numbers with as many decimals as they need have none that ends in 0. So it stands between
+        thousands if a cell has it and ends in 0, and cells below 1000 have none."""
         marks, has_zero, has_small = set(), False, False
         for piece in self._pieces:
             for cell in piece.cells():
@@ -214,7 +213,7 @@ class Amounts:
         return marks.pop() if len(marks) == 1 and has_zero and has_small else ""
 
     def _telling(self) -> Iterator[tuple[int, str, dict[str, Decimal]]]:
-        """The cells that tell something of the sign, with their readings: enough of them."""
+        """Yield the cells that tell something of the sign, with their readings: enough of them."""
         for piece in self._pieces:
             if piece.plain:
                 place, cell = piece.plain.telling
@@ -227,7 +226,7 @@ class Amounts:
                     yield place, cell, found
 
     def _judge_units(self, faults: Faults) -> None:
-        """Sees to it that all cells have one unit, or that of the title."""
+        """Check that all cells have one unit, or that of the title."""
         units: dict[str, int] = {}
         for piece in self._pieces:
             if piece.plain:
@@ -259,8 +258,8 @@ class Amounts:
         self.unit = wanted
 
     def _read_piece(self, piece: _CellPiece, faults: Faults) -> Plain:
-        """The numbers of a piece with the sign that was settled. If that is another one, or cells
-        are not plain, each is read by itself."""
+        """Return the numbers of a piece with the sign that was settled. If that is another one, or
+        cells are not plain, each is read by itself."""
         if piece.plain and piece.plain.sign in ("", self.sign):
             return piece.plain
         numbers = [
@@ -299,8 +298,8 @@ class Amounts:
                     )
 
     def wholes(self, measure: Measure, faults: Faults) -> Sequence[int]:
-        """The whole numbers by which these numbers stand in a problem. One past 64 bits, or no
-        whole number, goes to the faults."""
+        """Return the whole numbers by which these numbers stand in a problem. One past 64 bits, or
+        no whole number, goes to the faults."""
         scale, over = measure.scale.as_integer_ratio()
         over *= 10**self.decimals
         common = gcd(scale, over)
@@ -332,11 +331,11 @@ class Amounts:
                 faults.add(told, self.lines[place], self.column)
 
     def _shown(self, place: int) -> str:
-        """A number as messages show it: with the decimal sign of the column."""
+        """Return a number as messages show it: with the decimal sign of the column."""
         return quoted_name(plain_text(self.quantity(place)).replace(POINT, self.sign or POINT))
 
     def quantity(self, place: int) -> Decimal:
-        """The number at a place."""
+        """Return the number at a place."""
         return EXACT.scaleb(Decimal(self.numbers[place]), -self.decimals)
 
 

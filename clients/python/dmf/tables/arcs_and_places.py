@@ -109,9 +109,9 @@ class Heading(NamedTuple):
 def read_places(
     sheet: Sheet, kinds: Sequence[str], reading: ReadOptions, arcs: Amounts
 ) -> tuple[list[Term], list[Heading]]:
-    """What a table of places says of these kinds, beside the capacities of the table of arcs, and
-    the row of its titles. Raises a `TableFault` with all rows that cannot be read, and if there is
-    none."""
+    """Return what a table of places says of these kinds, beside the capacities of the table of
+    arcs, and the row of its titles. Raises a `TableFault` with all rows that cannot be read, and if
+    there is none."""
     form = Form((PLACE,), tuple(kinds))
     layout = layout_of_sheet(sheet, form, {})
     reader = _PlaceReader(sheet, form, layout, reading)
@@ -129,8 +129,8 @@ def read_places(
 def terms_of(
     said: list[Said], layout: Layout, faults: Faults, sign: str, arcs: Amounts
 ) -> list[Term]:
-    """What rows of places say, beside the capacities of the table of arcs: with their decimal sign
-    where both can be, and in their unit."""
+    """Return what rows of places say, beside the capacities of the table of arcs: with their
+    decimal sign where both can be, and in their unit."""
     terms: list[Term] = []
     for kind in PLACE_COLUMNS:
         rows = [row for row in said if kind in row.cells]
@@ -171,7 +171,7 @@ class _ArcReader(Reader):
         self.titles_again: list[int] = []
 
     def take(self, rows: Rows) -> None:
-        """Takes rows: all together if they are plain, which is several times as fast."""
+        """Take rows: all together if they are plain, which is several times as fast."""
         while rows.lines and rows.lines[0] < self.layout.begin:
             rows = rows.after_first()
         if not rows.lines or self._take_together(rows):
@@ -210,7 +210,7 @@ class _ArcReader(Reader):
         return True
 
     def _labels(self, rows: Rows) -> str | None:
-        """The names of rows, each in a line; None if one cannot be read."""
+        """Return the names of rows, each in a line; None if one cannot be read."""
         text = "\n" * (len(rows) - 1) if self.label is None else rows.text(self.label)
         if are_plain(text, len(rows)):
             return text
@@ -222,8 +222,7 @@ class _ArcReader(Reader):
         )
 
     def _keep(self, places: Iterable[int]) -> None:
-        """Notes which columns of a table without titles have something, and are read for
-        nothing."""
+        """Note which columns of a table without titles have something, and are read for nothing."""
         self.table.others.update({*places} - {*self.layout.at.values()})
 
     def _take_row(self, line: int, row: list[str]) -> None:
@@ -237,7 +236,8 @@ class _ArcReader(Reader):
             self._take_arc(line, row)
 
     def _is_aside(self, line: int, row: list[str]) -> bool:
-        """Whether a row may be a total or a note, which is judged when all rows are taken."""
+        """Return True if a row may be a total or a note, which is judged when all rows are
+        taken."""
         ends = [cleaned(self.cell(row, column)) for column in (TAIL, HEAD)]
         amount = self.cell(row, CAPACITY)
         kind = "" if all(ends) or max(map(len, row)) > LONGEST_CELL else kind_of(row, ends, amount)
@@ -246,7 +246,7 @@ class _ArcReader(Reader):
         return bool(kind)
 
     def _judge_asides(self) -> None:
-        """Tells the totals and notes that are left out. What is neither has the faults of a row."""
+        """Tell the totals and notes that are left out. What is neither has the faults of a row."""
         for aside in self.asides:
             told = told_aside(aside, self.table)
             if told is not None:
@@ -255,7 +255,7 @@ class _ArcReader(Reader):
                 self._judge_row(aside.line, aside.row)
 
     def _judge_row(self, line: int, row: list[str]) -> None:
-        """Notes the faults of a row that is not whole."""
+        """Note the faults of a row that is not whole."""
         for column in TAIL, HEAD:
             self.name(line, row, column)
         if self.layout.at[CAPACITY] >= len(row):
@@ -285,7 +285,8 @@ class _ArcReader(Reader):
             self._keep(place for place, cell in enumerate(row) if cell.strip())
 
     def _is_of_place(self, line: int, row: list[str]) -> bool:
-        """Whether a row is of a place, which has no head and no capacity. If so, takes it."""
+        """Return True if a row is of a place, which has no head and no capacity. If so, takes
+        it."""
         if cleaned(self.cell(row, HEAD)) or cleaned(self.cell(row, CAPACITY)):
             return False
         cells = {
@@ -301,7 +302,7 @@ class _ArcReader(Reader):
         return True
 
     def end(self) -> Table:
-        """The table. Raises a `TableFault` if a row has a fault."""
+        """Return the table. Raises a `TableFault` if a row has a fault."""
         table = self.table
         table.labels = self.labels if self.labels.has_some() else ()
         table.places, table.respelled, table.is_raw = (
@@ -325,7 +326,7 @@ class _ArcReader(Reader):
         return table
 
     def _read_missing(self) -> None:
-        """Reads capacities that are not there as was asked for. Otherwise they are a fault."""
+        """Read capacities that are not there as was asked for. Otherwise they are a fault."""
         amounts, lines = self.table.amounts, self.table.lines
         closed = {*closed_rows(self.states.settled(lines, Faults("")))}
         missing = {at: cell for at, cell in amounts.missing.items() if at not in closed}
@@ -354,7 +355,7 @@ class _ArcReader(Reader):
             self.table.notes.append(told)
 
     def _put_unlimited(self, places: Iterable[int], what: str) -> None:
-        """Gives the capacities at these places more than all others have together."""
+        """Give the capacities at these places more than all others have together."""
         amounts, rows = self.table.amounts, sorted(places)
         unlimited = {*self.table.unlimited}
         others = (it for at, it in enumerate(amounts.numbers) if at not in unlimited)
@@ -368,8 +369,8 @@ class _ArcReader(Reader):
 
 
 def read_arcs(sheet: Sheet, reading: ReadOptions) -> Table:
-    """The table of arcs of a sheet. Raises a `TableFault` with all rows that cannot be read, and if
-    there is none."""
+    """Return the table of arcs of a sheet. Raises a `TableFault` with all rows that cannot be read,
+    and if there is none."""
     first_rows(sheet)
     if matrix := None if reading.titles else matrix_of(sheet, is_asked=reading.is_matrix):
         sheet = matrix

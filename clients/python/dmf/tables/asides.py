@@ -38,8 +38,8 @@ class Aside(NamedTuple):
 
 
 def kind_of(row: Sequence[str], ends: Sequence[str], amount: str) -> str:
-    """What a row may be that lacks one of its ends, and has this amount; empty if it is none of
-    these."""
+    """Return what a row may be that lacks one of its ends, and has this amount; empty if it is none
+    of these."""
     cells = [cell for cell in map(cleaned, row) if cell]
     if any(map(names_total, cells)):
         return TOTAL
@@ -49,15 +49,15 @@ def kind_of(row: Sequence[str], ends: Sequence[str], amount: str) -> str:
 
 
 def names_total(cell: str) -> bool:
-    """Whether a cell names a row or a column of totals."""
+    """Return True if a cell names a row or a column of totals."""
     words = folded(cell).split()
     return 0 < len(words) <= MOST_WORDS and words[0] in _TOTALS
 
 
 def told_aside(aside: Aside, table: Table) -> Optional[str]:
-    """The line that tells why a row is left out; None if it must not be: a row without a name whose
-    amount is not the sum of those above it, a note with arcs below it, or one that names a place.
-    """
+    """Return the line that tells why a row is left out; None if it must not be: a row without a
+    name whose amount is not the sum of those above it, a note with arcs below it, or one that names
+    a place."""
     if aside.kind == NOTE:
         is_last = aside.above == len(table.tails)
         if not is_last or aside.text in table.places:

@@ -58,9 +58,9 @@ _SOUGHT = {
 def layout_of(
     sample: Rows, form: Form, named: Mapping[str, str], ignored: Collection[str] = ()
 ) -> Layout:
-    """Where the columns of a table are, of which these are the first rows. `named` has the titles
-    that were given for columns, and `ignored` those of columns that are read for nothing. Raises a
-    `TableFault`."""
+    """Return where the columns of a table are, of which these are the first rows. `named` has the
+    titles that were given for columns, and `ignored` those of columns that are read for nothing.
+    Raises a `TableFault`."""
     at = named_row(sample, form, named, ignored) if named else title_row(sample, form)
     if at is not None:
         return _Finder(form, heading_at(sample, at), named, ignored).layout()
@@ -87,8 +87,8 @@ class _Finder:
         self.is_by_numbers = False
 
     def _place_of(self, title: str) -> int:
-        """The column that is called by this title, or by its number. Raises a `TableFault` if none
-        is, or two are."""
+        """Return the column that is called by this title, or by its number. Raises a `TableFault`
+        if none is, or two are."""
         texts = [title.text for title in self.titles]
         wanted = cleaned(title)
         if texts.count(wanted) == 1:
@@ -104,8 +104,8 @@ class _Finder:
         raise TableFault(reason, self.heading.line)
 
     def begins_with_titles(self) -> bool:
-        """Whether the first row has titles. They are usual ones; or in the column of the amounts
-        its first letter or digit is a letter."""
+        """Return True if the first row has titles. They are usual ones; or in the column of the
+        amounts its first letter or digit is a letter."""
         first = self.heading.cells
         if len(self.heading.rows) and self._has_number_above(first):
             return False
@@ -126,14 +126,14 @@ class _Finder:
         return place < len(first) and bool(first[place].strip()) and is_heading(first[place])
 
     def _has_number_above(self, first: Sequence[str]) -> bool:
-        """Whether the first row has a number where the rows below it have numbers too, and so is
-        a row as they are."""
+        """Return True if the first row has a number where the rows below it have numbers too, and
+        so is a row as they are."""
         numeric = [place for place in range(self.width) if not self.sample.is_text(place)]
         return any(readings(first[place]) for place in numeric if place < len(first))
 
     def layout(self) -> Layout:
-        """Where all columns are. Raises a `ColumnQuestion` if one cannot be settled, since two can
-        be meant."""
+        """Return where all columns are. Raises a `ColumnQuestion` if one cannot be settled, since
+        two can be meant."""
         form = self.form
         at = self._titled()
         if not at.keys() & {*form.amounts}:
@@ -184,7 +184,7 @@ class _Finder:
         )
 
     def _titled(self) -> dict[str, int]:
-        """The columns that were given, and those that titles tell."""
+        """Return the columns that were given, and those that titles tell."""
         form, at = self.form, dict(self.given)
         is_given = form is ARCS and at.keys() >= {*form.places, *form.amounts}
         for role in form.places:
@@ -204,7 +204,7 @@ class _Finder:
         return at
 
     def _free(self, at: Mapping[str, int]) -> list[int]:
-        """The columns that may still be taken for something."""
+        """Return the columns that may still be taken for something."""
         return [
             place
             for place in range(self.width)
@@ -212,8 +212,8 @@ class _Finder:
         ]
 
     def _add_usual(self, at: dict[str, int], columns: Collection[str]) -> None:
-        """Adds these columns, if usual titles tell them. Of two titles for one the one is taken
-        that is preferred."""
+        """Add these columns, if usual titles tell them. Of two titles for one the one is taken that
+        is preferred."""
         for column in columns:
             words = usual_words(self.titles, column)
             ranks = sorted(
@@ -225,7 +225,7 @@ class _Finder:
                 at[column] = ranks[0][1]
 
     def _add_titled_end(self, at: dict[str, int], role: str) -> None:
-        """Adds the column of an end of rows, if a title says it. Raises a `ColumnQuestion` if two
+        """Add the column of an end of rows, if a title says it. Raises a `ColumnQuestion` if two
         do."""
         self._add_usual(at, [role])
         if role in at or self.form is not ARCS:
@@ -247,8 +247,8 @@ class _Finder:
         at.update((role, place) for place in found)
 
     def _titled_amount(self, at: Mapping[str, int]) -> list[int]:
-        """The column of capacities, if titles tell it. Raises a `ColumnQuestion` if more than one
-        does."""
+        """Return the column of capacities, if titles tell it. Raises a `ColumnQuestion` if more
+        than one does."""
         free = self._free(at)
         usual = [
             place
@@ -281,7 +281,7 @@ class _Finder:
         return found
 
     def _amount(self, at: Mapping[str, int]) -> int:
-        """The column of amounts, if no title tells it: the only one with numbers. Raises a
+        """Return the column of amounts, if no title tells it: the only one with numbers. Raises a
         `ColumnQuestion`."""
         amount = self.form.amounts[0]
         numeric = self._numeric(at)
@@ -300,7 +300,7 @@ class _Finder:
         raise self._question(amount, numeric or free or self._free(at), why)
 
     def _judge_states(self, at: Mapping[str, int]) -> None:
-        """Raises a `TableFault` if a column whose title does not say it seems to say which rows are
+        """Raise a `TableFault` if a column whose title does not say it seems to say which rows are
         open, or which way they lead."""
         read = {place for column, place in at.items() if column != NAME}
         for place in range(self.width):
@@ -318,13 +318,13 @@ class _Finder:
                 raise TableFault(reason, self.heading.line)
 
     def _state_by_title(self, place: int) -> str:
-        """What a column may say by its title, if its cells are words, and few of them."""
+        """Return what a column may say by its title, if its cells are words, and few of them."""
         cells = set(map(cleaned, self.sample.cells(place)))
         is_said = hints_at_state(self.sample.title(place)) and 0 < len(cells) <= 4
         return STATUS if is_said and not any(map(str.isdigit, "".join(cells))) else ""
 
     def _add_ends(self, at: dict[str, int]) -> None:
-        """Adds the columns of places that no title tells: the only ones that are left without
+        """Add the columns of places that no title tells: the only ones that are left without
         numbers, or those at their usual places. Raises a `ColumnQuestion`."""
         form = self.form
         missing = [column for column in form.places if column not in at]
@@ -347,8 +347,8 @@ class _Finder:
             raise self._question(missing[0], texts or free, "no title says it")
 
     def _has_label(self, at: Mapping[str, int]) -> bool:
-        """Whether the column where names usually stand has names, although its title does not say
-        it."""
+        """Return True if the column where names usually stand has names, although its title does
+        not say it."""
         form = self.form
         place = form.order[form.label]
         title = self.sample.title(place)
@@ -360,8 +360,8 @@ class _Finder:
         return not is_amount and not is_other(title) and title.word not in OTHERS
 
     def layout_without_titles(self) -> Layout:
-        """Where the columns of a table without titles are: in their usual order, unless the only
-        column with numbers stands elsewhere."""
+        """Return where the columns of a table without titles are: in their usual order, unless the
+        only column with numbers stands elsewhere."""
         form = self.form
         at = dict(self.given)
         amount = form.amounts[0]
@@ -380,8 +380,9 @@ class _Finder:
         return self._layout(at)
 
     def _amount_in_order(self) -> int:
-        """The column of amounts of a table without usual titles: the only one with numbers, or the
-        one at its usual place, if none has numbers or all before it. Raises a `ColumnQuestion`."""
+        """Return the column of amounts of a table without usual titles: the only one with numbers,
+        or the one at its usual place, if none has numbers or all before it. Raises a
+        `ColumnQuestion`."""
         form = self.form
         usual = form.order[form.amounts[0]]
         numeric = self._numeric(self.given)
@@ -390,7 +391,7 @@ class _Finder:
         return self._amount(self.given)
 
     def _judge_twice(self, at: Mapping[str, int]) -> None:
-        """Raises a `ColumnQuestion` if a column that is needed has the title of another one, since
+        """Raise a `ColumnQuestion` if a column that is needed has the title of another one, since
         each may be meant."""
         texts = [title.text for title in self.titles]
         for column, place in at.items():
@@ -408,8 +409,8 @@ class _Finder:
                 )
 
     def _numeric(self, at: Mapping[str, int]) -> list[int]:
-        """The columns with numbers that may still be taken for something, but counters of rows and
-        percentages."""
+        """Return the columns with numbers that may still be taken for something, but counters of
+        rows and percentages."""
         return [
             place
             for place in self._free(at)

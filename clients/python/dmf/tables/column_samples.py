@@ -19,7 +19,7 @@ class ColumnSample:
 
     @property
     def width(self) -> int:
-        """How many columns there are."""
+        """Return how many columns there are."""
         return len(self.titles) or max(map(len, self.rows), default=0)
 
     def title(self, place: int) -> Title:

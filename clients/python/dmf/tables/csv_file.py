@@ -44,7 +44,7 @@ def sheets_of(file: TableFile) -> list[Sheet]:
 
 
 def csv_sheet(data: bytes, path: str, encoding: Optional[str], width: int) -> Sheet:
-    """Return the table of at least so many columns in the bytes of a CSV file. Raises a
+    """Return the table in the bytes of a CSV file, which has at least `width` columns. Raises a
     `TableFault`."""
     refuse_other_kinds(data, path)
     found, note = (encoding, "") if encoding else encoding_of(data)
@@ -57,13 +57,13 @@ def csv_sheet(data: bytes, path: str, encoding: Optional[str], width: int) -> Sh
 
 
 def _rows_of(data: bytes, encoding: str, delimiter: str, line: int = 1) -> Iterator[Rows]:
-    """The rows of a table, some thousands at once, blank ones too. Raises a `TableFault` if a quote
-    is wrong, or a byte."""
+    """Yield the rows of a table, some thousands at once, blank ones too. Raises a `TableFault` if a
+    quote is wrong, or a byte."""
     return _reader(data, encoding, delimiter, line)()
 
 
 def _reader(data: bytes, encoding: str, delimiter: str, line: int) -> Callable[[], Iterator[Rows]]:
-    """What reads the rows, as often as it is called."""
+    """Return what reads the rows, as often as it is called."""
     if encoding not in BARE_ENCODINGS or not _is_bare(data):
         return partial(_quoted_rows, data, encoding, delimiter, line)
     count = data.count(b"\n")
@@ -72,7 +72,7 @@ def _reader(data: bytes, encoding: str, delimiter: str, line: int) -> Callable[[
 
 
 def _quoted_rows(data: bytes, encoding: str, delimiter: str, line: int) -> Iterator[Rows]:
-    """The rows of a table that has quotes, or other odd bytes."""
+    """Yield the rows of a table that has quotes, or other odd bytes."""
     csv.field_size_limit(max(csv.field_size_limit(), len(data) + 1))
     reader = csv.reader(
         io.TextIOWrapper(io.BytesIO(data), encoding, newline=""), delimiter=delimiter, strict=True
@@ -100,7 +100,7 @@ def _quoted_rows(data: bytes, encoding: str, delimiter: str, line: int) -> Itera
 
 
 def _is_bare(data: bytes) -> bool:
-    """Whether no quote, no other end of a line and no NUL is in a table."""
+    """Return True if no quote, no other end of a line and no NUL is in a table."""
     return (
         b'"' not in data
         and b"\0" not in data
@@ -109,7 +109,7 @@ def _is_bare(data: bytes) -> bool:
 
 
 def _bare_rows(data: bytes, encoding: str, delimiter: str, line: int, np: Any) -> Iterator[Rows]:
-    """The same of a table without quotes, in which each line is a row, and each delimiter is
+    """Yield the same of a table without quotes, in which each line is a row, and each delimiter is
     between two cells: by numpy where it is there and the table is long. The first rows come alone,
     since a table is looked at before it is read."""
     begin, size = 0, PIECE_BYTES if np is not None else len(data)
@@ -148,19 +148,19 @@ class Block(NamedTuple):
 
     @property
     def data(self) -> bytes:
-        """The bytes of the lines."""
+        """Return the bytes of the lines."""
         return self.file[self.begin : self.end]
 
     def from_byte(self, begin: int) -> Block:
-        """The lines from the second one on, which begins at this byte of the file."""
+        """Return the lines from the second one on, which begins at this byte of the file."""
         return self._replace(begin=begin, line=self.line + 1)
 
     def rows(self) -> Iterator[Rows]:
-        """The rows, some thousands at once."""
+        """Yield the rows, some thousands at once."""
         return small_rows(self.data, self.encoding, self.delimiter, self.line)
 
     def column(self, place: int) -> list[str]:
-        """The cells of a column."""
+        """Return the cells of a column."""
         return [cell for rows in self.rows() for cell in rows.column(place)]
 
 
@@ -175,8 +175,8 @@ def _spans(np: Any, block: Block) -> Optional[Spans]:
 
 
 def small_rows(data: bytes, encoding: str, delimiter: str, line: int) -> Iterator[Rows]:
-    """The rows of a table without quotes, some thousands at once: column by column where all lines
-    have as many, which is twice as fast as a reader of CSV."""
+    """Yield the rows of a table without quotes, some thousands at once: column by column where all
+    lines have as many, which is twice as fast as a reader of CSV."""
     begin = (
         len(codecs.BOM_UTF8) if encoding == "utf-8-sig" and data.startswith(codecs.BOM_UTF8) else 0
     )
@@ -215,8 +215,8 @@ def _quote_fault(said: str) -> str:
 
 
 def _delimiter_of(data: bytes, encoding: str, width: int) -> str:
-    """The delimiter of a table of at least so many columns: the one with which most of its first
-    rows have them, and among several the one with which most of their cells are numbers."""
+    """Return the delimiter with which most of the first rows have at least `width` columns; of
+    several, the one with which most of their cells are numbers."""
     # A letter may be cut at the end of these bytes.
     text = data.decode(encoding, "replace").encode("utf-8", "replace")
 

@@ -2,8 +2,8 @@
 and junctions give and take as rows of places.
 
 A pipe has no capacity in such a file. It gets the one of its cross-section at a velocity
-(`pipe_capacity`). Pipes and valves lead both ways, but for check valves and valves that let nothing
-back; pumps lead one way, and have no limit.
+(`pipe_capacity`). Pipes and valves lead both ways, except check valves and valves that let nothing back;
+pumps lead one way, and have no limit.
 """
 
 from __future__ import annotations
@@ -114,7 +114,7 @@ class _Network:
     # What numbers are.
 
     def _options(self) -> tuple[FlowUnit, Decimal]:
-        """The unit of flows, and what demands are multiplied by."""
+        """Return the unit of flows, and what demands are multiplied by."""
         unit, multiplier = "", Decimal(1)
         for line in self._lines("OPTI"):
             upper = [word.upper() for word in line.words]
@@ -135,14 +135,15 @@ class _Network:
         return FLOW_UNITS[unit or "GPM"], multiplier
 
     def _velocity(self) -> Optional[Decimal]:
-        """The velocity of the water; none if no link has a diameter. Raises a `SettingQuestion`."""
+        """Return the velocity of the water; none if no link has a diameter. Raises a
+        `SettingQuestion`."""
         velocity = self.file.reading.velocity
         if velocity is None and any(link.diameter for link in self.links.values()):
             raise velocity_question(self.unit.name)
         return velocity
 
     def _number(self, line: Line, at: int, what: str) -> Optional[Decimal]:
-        """The number that stands at a place of a line; a fault if there is none."""
+        """Return the number that stands at a place of a line; a fault if there is none."""
         word = line.words[at] if at < len(line.words) else ""
         if _NUMBER.fullmatch(word):
             return Decimal(word)
@@ -151,7 +152,7 @@ class _Network:
         return None
 
     def _has_words(self, line: Line, least: int, form: str) -> bool:
-        """Whether a line has at least so many words; otherwise it is a fault."""
+        """Return True if a line has at least `least` words; otherwise note the fault."""
         if len(line.words) < least:
             count = len(line.words)
             self.faults.add(f"{count} of the {least} fields that are needed: {form}", line.number)
@@ -262,8 +263,7 @@ class _Network:
         return valve
 
     def _read_status(self) -> None:
-        """Reads the section of states: a number is the speed of a pump or the setting of a
-        valve."""
+        """Read the section of states: a number is the speed of a pump or the setting of a valve."""
         for line in self._lines("STAT"):
             if not self._has_words(line, 2, "name, status"):
                 continue

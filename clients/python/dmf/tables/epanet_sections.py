@@ -62,7 +62,7 @@ def sections_of(text: str, faults: Faults) -> dict[str, list[Line]]:
 
 
 def _words(line: str, number: int, faults: Faults) -> list[str]:
-    """The words of a line before its comment; one in quotes may have blanks."""
+    """Return the words of a line before its comment; one in quotes may have blanks."""
     words, at = [], 0
     while at < len(line) and line[at] != ";":
         if found := _TOKEN.match(line, at):

@@ -56,7 +56,7 @@ def sheets_of(file: TableFile) -> list[Sheet]:
 
 
 def _features(text: str) -> Iterator[Feature]:
-    """The features of a collection. Raises a `TableFault` with the line of what is wrong."""
+    """Yield the features of a collection. Raises a `TableFault` with the line of what is wrong."""
     begin = _FEATURES.search(text)
     if begin is None:
         raise TableFault("a collection of features is expected, and the file has none")
@@ -88,7 +88,7 @@ def _feature(found: Any, line: int) -> Feature:
 
 
 def _cell(value: Any, *, is_raw: bool) -> str:
-    """The cell of a property."""
+    """Return the cell of a property."""
     if isinstance(value, (list, dict)):
         return json.dumps(value, default=str, ensure_ascii=False)
     if isinstance(value, str):

@@ -62,15 +62,15 @@ def _graphml(networkx: Any, file: TableFile, notes: list[str]) -> list[Sheet]:
 
 
 def _declared(file: TableFile) -> str:
-    """The encoding of an XML file, for a reader that takes a text."""
+    """Return the encoding of an XML file, for a reader that takes a text."""
     return file.encoding or (
         "utf-16" if file.data[:2] in (b"\xff\xfe", b"\xfe\xff") else "utf-8-sig"
     )
 
 
 def _listed(networkx: Any, text: str, file: TableFile) -> list[Row]:
-    """The rows of an edge list: two places, and then values, or a dictionary of them, whose keys
-    are titles then. These stand in no line of the file."""
+    """Return the rows of an edge list: two places, and then values, or a dictionary of them, whose
+    keys are titles then. These stand in no line of the file."""
     found: list[tuple[int, Any, Any, Mapping[str, Any]]] = []
     for line, whole in enumerate(text.splitlines(), 1):
         if edge := whole.partition("#")[0].strip():
@@ -88,7 +88,7 @@ def _listed(networkx: Any, text: str, file: TableFile) -> list[Row]:
 
 
 def _edge(networkx: Any, words: str, line: int) -> tuple[Any, Any, Mapping[str, Any]]:
-    """An edge, and its values: by their keys, or by their places in the line."""
+    """Return an edge, and its values: by their keys, or by their places in the line."""
     count = len(words.split())
     if count < 2:
         raise TableFault("an edge has two places, and this line one word", line)
@@ -103,7 +103,7 @@ def _edge(networkx: Any, words: str, line: int) -> tuple[Any, Any, Mapping[str, 
 
 
 def _titles(records: Iterable[Mapping[Any, Any]]) -> list[str]:
-    """The names of all attributes, each once."""
+    """Return the names of all attributes, each once."""
     return list(dict.fromkeys(str(key) for values in records for key in values))
 
 

@@ -44,7 +44,7 @@ class Form:
 
     @property
     def order(self) -> dict[str, int]:
-        """The place of each column if titles do not say it."""
+        """Return the place of each column if titles do not say it."""
         columns = (*self.places, self.amounts[0], *filter(None, [self.label]))
         return {column: place for place, column in enumerate(columns)}
 
@@ -79,12 +79,12 @@ class Layout:
     untitled: tuple[int, ...] = ()
 
     def title(self, column: str) -> Title:
-        """The title of a column; an empty one if it has none."""
+        """Return the title of a column; an empty one if it has none."""
         place = self.at.get(column, len(self.titles))
         return self.titles[place] if place < len(self.titles) else Title("", "", "")
 
     def others(self) -> list[int]:
-        """The columns with titles that are read for nothing."""
+        """Return the columns with titles that are read for nothing."""
         return [
             place
             for place, title in enumerate(self.titles)
@@ -92,14 +92,15 @@ class Layout:
         ]
 
     def called(self, place: int) -> str:
-        """A column as messages name it."""
+        """Return a column as messages name it."""
         return called(self.titles, place)
 
     def told(
         self, unit: str = "", kept: Collection[int] = (), dropped: Collection[str] = ()
     ) -> str:
-        """What was taken for what, in one line. `unit` is that of the amounts; `kept` are columns
-        without titles that are kept; and `dropped` are columns that were found and have nothing."""
+        """Return what was taken for what, in one line. `unit` is that of the amounts; `kept` are
+        columns without titles that are kept; and `dropped` are columns that were found and have
+        nothing."""
         at = {column: place for column, place in self.at.items() if column not in dropped}
         parts = [
             f"{_CALLED.get(column, column)} {self.called(place)}" for column, place in at.items()
@@ -120,14 +121,14 @@ class Layout:
 
 
 def name_of_column(titles: Sequence[Title], place: int) -> str:
-    """What options call a column: its title, or its number if it has none of its own."""
+    """Return what options call a column: its title, or its number if it has none of its own."""
     text = titles[place].text if place < len(titles) else ""
     is_own = text and sum(title.text == text for title in titles) == 1
     return text if is_own else f"column {place + 1}"
 
 
 def called(titles: Sequence[Title], place: int) -> str:
-    """A column as messages name it."""
+    """Return a column as messages name it."""
     name = name_of_column(titles, place)
     is_title = place < len(titles) and titles[place].text == name
     return quoted_name(name) if is_title else name
@@ -142,13 +143,13 @@ def unit_of(title: Title) -> str:
 
 
 def spoken(title: str) -> str:
-    """A title, if it says what its cells are."""
+    """Return a title, if it says what its cells are."""
     is_plain = title_of(title).word in PLAIN_TITLES or not any(map(str.isalpha, title))
     return title if not is_plain and len(title) <= LONGEST_UNIT and title.isprintable() else ""
 
 
 def is_heading(cell: str) -> bool:
-    """Whether the first row has titles, judged by its cell of an amount: its first letter or digit
-    is a letter."""
+    """Return True if the first row has titles, judged by its cell of an amount: its first letter or
+    digit is a letter."""
     first = next((letter for letter in cell if letter.isalnum()), "0")
     return not first.isnumeric()

@@ -112,7 +112,7 @@ class _Geometry:
 
 
 def _found(sheet: Sheet) -> Optional[_Geometry]:
-    """Where the lines stand, if a column has geometry below a title."""
+    """Return where the lines stand, if a column has geometry below a title."""
     sample = sheet.sample()
     rows = list(zip(*sample))
     for (line, titles), (_, row) in zip(rows, rows[1:]):
@@ -140,7 +140,7 @@ def _lines(sheet: Sheet, found: _Geometry, faults: Faults) -> Iterator[_Line]:
 
 
 def _with_ends(sheet: Sheet, found: _Geometry, ends: dict[int, list[str]]) -> Iterator[Rows]:
-    """The rows, with two columns more at the end."""
+    """Yield the rows, with two columns more at the end."""
     width = len(found.titles)
     for rows in sheet.read():
         lines, cells = [], []
@@ -179,7 +179,7 @@ class _Places:
         }
 
     def _join(self) -> list[int]:
-        """For each point the first one of its place."""
+        """Return for each point the first one of its place."""
         firsts = list(range(len(self._points)))
 
         def first_of(number: int) -> int:
@@ -194,7 +194,7 @@ class _Places:
         return list(map(first_of, range(len(firsts))))
 
     def told(self, count: int) -> Iterator[str]:
-        """What is said of the places, where lines have so many ends."""
+        """Yield the notes on the places, where `count` is the number of ends of lines."""
         places = len(set(self._joined))
         joined = len(self._joined) - places
         how = f"ends that lie up to {plain_text(self.tolerance)} apart are one place"
@@ -210,7 +210,7 @@ class _Places:
 
 
 def _near(points: Sequence[Point], tolerance: Decimal) -> Iterator[tuple[int, int]]:
-    """The pairs of points that lie no farther apart than a tolerance."""
+    """Yield the pairs of points that lie no farther apart than a tolerance."""
     if not tolerance:
         return
     fields: dict[tuple[int, int], list[int]] = {}

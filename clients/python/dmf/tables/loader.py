@@ -67,19 +67,19 @@ class TableOptions:
 
 
 def split_path(path: str) -> tuple[str, str]:
-    """The path of a file, and the name of a sheet in it, which may stand after a `#`."""
+    """Return the path of a file, and the name of a sheet in it, which may stand after a `#`."""
     file, mark, sheet = path.rpartition("#")
     return (file, sheet) if mark and file and not os.path.exists(path) else (path, "")
 
 
 def data_of(path: Optional[str]) -> bytes:
-    """The bytes of a table's file, or of standard input if there is no path."""
+    """Return the bytes of a table's file, or of standard input if there is no path."""
     return standard_input().read() if path is None else read_file(split_path(path)[0])
 
 
 def load_tables(wanted: TableOptions, path: Optional[str], data: bytes) -> NetworkTables:
-    """The plan of the table of arcs in these bytes. Raises a `TableFault`, and a `FileFault` if
-    another file cannot be read."""
+    """Return the plan of the table of arcs in these bytes. Raises a `TableFault`, and a `FileFault`
+    if another file cannot be read."""
     told, name = split_path(path or "")
     file = TableFile(data, told, wanted.encoding, wanted.reading, 3, wanted.read)
     with naming(told):
@@ -88,8 +88,8 @@ def load_tables(wanted: TableOptions, path: Optional[str], data: bytes) -> Netwo
 
 
 def plan_of_sheet(wanted: TableOptions, sheet: Sheet, others: Sequence[Sheet]) -> NetworkTables:
-    """The plan of the table of arcs in a sheet, beside which other sheets may be of its places.
-    Raises what `load_tables` raises."""
+    """Return the plan of the table of arcs in a sheet, beside which other sheets may be of its
+    places. Raises what `load_tables` raises."""
     with naming(sheet.path):
         table = read_arcs(sheet, wanted.reading)
     plan = NetworkTables(table, [], lead(table, both_ways=wanted.both_ways), wanted.scale)
@@ -110,7 +110,7 @@ def plan_of_sheet(wanted: TableOptions, sheet: Sheet, others: Sequence[Sheet]) -
 
 
 def _add_beside(plan: NetworkTables, sheet: Sheet, wanted: TableOptions) -> None:
-    """Adds what a sheet of places in the file of the arcs says. If it gives way, it says nothing of
+    """Add what a sheet of places in the file of the arcs says. If it gives way, it says nothing of
     what options name; else it counts only if they name no table of places."""
     if sheet.gives_way:
         before, named = len(plan.terms), wanted.kinds_named
@@ -131,7 +131,7 @@ def _add_beside(plan: NetworkTables, sheet: Sheet, wanted: TableOptions) -> None
 
 
 def _told(table: Table) -> Iterator[str]:
-    """What was taken for what, and what else was taken for granted."""
+    """Yield what was taken for what, and what else was taken for granted."""
     amounts = table.amounts
     unit = amounts.unit if amounts.unit == amounts.named_unit else ""
     dropped = () if table.said else PLACE_COLUMNS
@@ -142,7 +142,7 @@ def _told(table: Table) -> Iterator[str]:
 
 
 def _add_file(plan: NetworkTables, wanted: TableOptions, option: str) -> None:
-    """Adds what a table of places says."""
+    """Add what a table of places says."""
     path = wanted.tables[option]
     told, name = split_path(path)
     file = TableFile(wanted.read(told), told, wanted.encoding, wanted.reading, 2, wanted.read)
@@ -162,7 +162,7 @@ def _add_places(
 
 
 def _arcs_sheet(file: TableFile, name: str) -> tuple[Sheet, list[Sheet]]:
-    """The sheet of arcs, and those of places beside it in its file."""
+    """Return the sheet of arcs, and those of places beside it in its file."""
     sheets = sheets_of(file)
     if len(sheets) == 1 and not name:
         return sheets[0], []
@@ -180,13 +180,13 @@ def _arcs_sheet(file: TableFile, name: str) -> tuple[Sheet, list[Sheet]]:
 
 
 def _fits(sheet: Sheet, form: Form) -> bool:
-    """Whether the titles of a sheet tell all columns of a form that it needs."""
+    """Return True if the titles of a sheet tell all columns of a form that it needs."""
     sample = sheet.sample()
     return bool(sample.cells) and fits(sample, form)
 
 
 def _of_name(file: TableFile, sheets: Sequence[Sheet], name: str) -> Sheet:
-    """The sheet of a name, in whose case workbooks see no difference."""
+    """Return the sheet of a name, in whose case workbooks see no difference."""
     if all("#" not in sheet.path for sheet in sheets):
         raise TableFault(
             f"{kind_of(file).what} has no sheets, and so none that is called {quoted_name(name)};"
@@ -217,12 +217,12 @@ COLUMNS = (TAIL, HEAD, CAPACITY, NAME)
 
 
 def names_terminals(words: argparse.Namespace) -> bool:
-    """Whether the arguments name a source or a sink."""
+    """Return True if the arguments name a source or a sink."""
     return bool(words.source or words.sink) or words.sources is not None or words.sinks is not None
 
 
 def says_table(words: argparse.Namespace) -> bool:
-    """Whether the arguments say something of a table."""
+    """Return True if the arguments say something of a table."""
     given = [words.scale, words.node_limits, words.place_table, words.encoding]
     return (
         names_terminals(words)
@@ -235,7 +235,7 @@ def says_table(words: argparse.Namespace) -> bool:
 
 
 def wanted_of(words: argparse.Namespace) -> TableOptions:
-    """What the arguments say of the tables."""
+    """Return what the arguments say of the tables."""
     tables = {
         option: getattr(words, option)
         for option in PLACE_TABLES
@@ -267,8 +267,8 @@ Read = TypeVar("Read")
 
 
 def answered(words: argparse.Namespace, read: Callable[[], Read]) -> Read:
-    """What is read with these arguments. Where somebody is there to answer, they are asked for what
-    cannot be settled, and the answer is one of the arguments from then on."""
+    """Return what is read with these arguments. Where somebody is there to answer, they are asked
+    for what cannot be settled, and the answer is one of the arguments from then on."""
     while True:
         try:
             return read()
@@ -305,26 +305,26 @@ class LoadedProblem:
 
     @cached_property
     def described(self) -> TableComments:
-        """What the comments say of the problem's table."""
+        """Return what the comments say of the problem's table."""
         return described(self.text)
 
     @property
     def measure(self) -> Measure:
-        """How the problem's numbers stand for quantities."""
+        """Return how the problem's numbers stand for quantities."""
         return self.described.measure
 
     @cached_property
     def extra(self) -> Extra:
-        """The columns of the table that were read for nothing."""
+        """Return the columns of the table that were read for nothing."""
         return (
             extra_of(self.plan.arcs, 1 + self.plan.both_ways) if self.plan else extra_in(self.text)
         )
 
 
 def read_subject(words: argparse.Namespace, *, in_doubt: bool = False) -> LoadedProblem:
-    """The problem that the words name. Where nothing tells whether a file has a problem, it has one
-    if `in_doubt`. Raises a `TableFault`, a `FileFault` for a file that cannot be read, and an
-    `OptionFault`."""
+    """Return the problem that the words name. Where nothing tells whether a file has a problem, it
+    has one if `in_doubt`. Raises a `TableFault`, a `FileFault` for a file that cannot be read, and
+    an `OptionFault`."""
     try:
         data = problem_in(data_of(words.path))
         if is_problem(words.path, data, in_doubt=in_doubt and not says_table(words)):
@@ -343,10 +343,9 @@ def read_subject(words: argparse.Namespace, *, in_doubt: bool = False) -> Loaded
 
 
 def is_problem(path: str, data: bytes, *, in_doubt: bool = False) -> bool:
-    """Whether a file has a problem, by its first line that is no comment, or by its name. If
+    """Return True if a file has a problem, by its first line that is no comment, or by its name. If
     neither says so, a workbook has none, nor has a file with the name of a table or with a comma, a
-    semicolon or a bar in that line; any other has one if `in_doubt`.
-    """
+    semicolon or a bar in that line; any other has one if `in_doubt`."""
     head = lines(b"\n".join(data.split(b"\n", MOST_HEAD_LINES)[:MOST_HEAD_LINES]))
     first = next((line for line in head if (found := fields(line)) and found[0] != b"c"), b"")
     if fields(first)[:2] == [b"p", b"max"] or path.endswith(".max"):
@@ -358,8 +357,8 @@ def is_problem(path: str, data: bytes, *, in_doubt: bool = False) -> bool:
 
 
 def subject_of(wanted: TableOptions, path: str, data: bytes) -> LoadedProblem:
-    """The problem of a table in these bytes. Raises a `TableFault`, and a `FileFault` if a table of
-    places cannot be read."""
+    """Return the problem of a table in these bytes. Raises a `TableFault`, and a `FileFault` if a
+    table of places cannot be read."""
     plan = load_tables(wanted, path, data)
     said = [term.kind for term in plan.terms]
     notes = complete(plan)
@@ -387,8 +386,8 @@ def subject_of(wanted: TableOptions, path: str, data: bytes) -> LoadedProblem:
 
 
 def complete(plan: NetworkTables) -> list[str]:
-    """Adds the source or the sink if the plan has none and just one place can be meant, and says
-    so. Raises a `TableFault` otherwise."""
+    """Add the source or the sink if the plan has none and just one place can be meant, and says so.
+    Raises a `TableFault` otherwise."""
     notes = []
     for kind, way in (SUPPLY, "leads to"), (DEMAND, "leads away from"):
         if not plan.of_kind(kind):
@@ -401,8 +400,8 @@ def complete(plan: NetworkTables) -> list[str]:
 
 
 def _only_place(plan: NetworkTables, kind: str, way: str) -> str:
-    """The only place that arcs leave and none enters, or the other way round. Raises a `TableFault`
-    if there is not exactly one."""
+    """Return the only place that arcs leave and none enters, or the other way round. Raises a
+    `TableFault` if there is not exactly one."""
     table = plan.arcs
     # Of two ways, each place is left and entered.
     alone = ([], []) if plan.both_ways else ends_alone(table.tails, table.heads)

@@ -36,8 +36,8 @@ def is_corner(cell: str) -> bool:
 
 
 def matrix_of(sheet: Sheet, *, is_asked: bool) -> Optional[Sheet]:
-    """The arcs of a sheet that is a matrix, as it says itself, or as was asked for; None if it is
-    none. Raises a `TableFault`."""
+    """Return the arcs of a sheet that is a matrix, as it says itself, or as was asked for; None if
+    it is none. Raises a `TableFault`."""
     sample = sheet.sample()
     for line, row in list(zip(*sample))[: MOST_ABOVE + 1]:
         names = [cleaned(cell) for cell in row]
@@ -57,7 +57,8 @@ def matrix_of(sheet: Sheet, *, is_asked: bool) -> Optional[Sheet]:
 
 
 def _arcs_of(sheet: Sheet, matrix: Matrix) -> Sheet:
-    """The sheet of the arcs of a matrix. Raises a `TableFault` if two columns are one place."""
+    """Return the sheet of the arcs of a matrix. Raises a `TableFault` if two columns are one
+    place."""
     titles = [title for title in matrix.titles[1:] if title]
     if twice := next((title for title in titles if titles.count(title) > 1), ""):
         raise TableFault(f"two columns have the title {quoted_name(twice)}", matrix.line)

@@ -111,7 +111,7 @@ class Spans(Rows):
         return self._text(self._starts[:, place], self._sizes[:, place])
 
     def _text(self, starts: Any, sizes: Any) -> str:
-        """These cells, one below the other."""
+        """Return these cells, one below the other."""
         np, sizes = self._np, sizes + 1
         # From a byte to the next it is one on, but from the end of a cell to the beginning of the
         # next one.
@@ -134,7 +134,7 @@ class Spans(Rows):
             amounts.add(self.column(place))
 
     def _plain(self, place: int) -> Optional[Plain]:
-        """The numbers of a column; None if its cells are not plain, or too long."""
+        """Return the numbers of a column; None if its cells are not plain, or too long."""
         np, starts, sizes = self._np, self._starts[:, place].copy(), self._sizes[:, place].copy()
         if not 0 < int(sizes.min()) <= int(sizes.max()) <= PLAIN_LENGTH:
             return None
@@ -208,7 +208,7 @@ class Spans(Rows):
         return tails, heads
 
     def _words(self, starts: Any, sizes: Any) -> list[Any]:
-        """The bytes of cells as numbers of eight bytes each."""
+        """Return the bytes of cells as numbers of eight bytes each."""
         np, count = self._np, -(-int(sizes.max()) // 8) or 1
         # Each place of the text is the beginning of a number here.
         numbers = np.ndarray((len(self._letters) - 7,), "<u8", self._letters.data, 0, (1,))
@@ -227,7 +227,7 @@ class Seen(NamedTuple):
     numbers: Any
 
     def before(self, np: Any, words: list[Any]) -> list[Any]:
-        """The bytes of these cells and of others after them."""
+        """Return the bytes of these cells and of others after them."""
         none = [np.zeros(len(column), np.uint64) for column in (self.numbers, words[0])]
         both = zip_longest(self.words, words)
         return [
@@ -239,7 +239,7 @@ class Seen(NamedTuple):
 
 
 def first_alike(np: Any, columns: list[Any]) -> Any:
-    """For each row of these columns of numbers the first row that is the same, by a table of
+    """Return for each row of these columns of numbers the first row that is the same, by a table of
     hashes; None if too many rows come to one place in it."""
     hashes = np.zeros(len(columns[0]), np.uint64)
     for column in columns:
@@ -274,7 +274,7 @@ def first_alike(np: Any, columns: list[Any]) -> Any:
 
 
 def spans_of(np: Any, block: ByteBlock) -> Spans | None:
-    """The rows of whole lines; None if not all have as many cells, or they have just one."""
+    """Return the rows of whole lines; None if not all have as many cells, or they have just one."""
     # The last line may lack its end, and numbers are read from the last cell on.
     data = block.data
     letters = np.frombuffer(data + b"\n" + bytes(LONGEST + 8), np.uint8)

@@ -45,7 +45,7 @@ class Extra:
     ways: int = 1
 
     def of(self, number: int) -> list[str]:
-        """The cells of an arc, which are empty if it is of no row."""
+        """Return the cells of an arc, which are empty if it is of no row."""
         return [self._cell(column, number) for column in self.columns]
 
     def _cell(self, column: Mapping[int, str] | Sequence[str], number: int) -> str:
@@ -55,8 +55,8 @@ class Extra:
         return column[row] if row < len(column) else ""
 
     def by_title(self, numbers: Sequence[int]) -> dict[str, list[str]]:
-        """The cells of these arcs by the titles; of two columns with one title the second gets a
-        number."""
+        """Return the cells of these arcs by the titles; of two columns with one title the second
+        gets a number."""
         found: dict[str, list[str]] = {}
         counts: Counter[str] = Counter()
         for title, column in zip(self.titles, self.columns):
@@ -68,8 +68,8 @@ class Extra:
         return found
 
     def comments(self, numbers: Iterable[int]) -> str:
-        """The comments that tell the columns in the text of a problem whose arcs have these numbers
-        here."""
+        """Return the comments that tell the columns in the text of a problem whose arcs have these
+        numbers here."""
         if not self.titles:
             return ""
         titles = [
@@ -94,7 +94,7 @@ class Extra:
 
 
 def _said(text: str) -> str:
-    """A text as a comment has it."""
+    """Return a text as a comment has it."""
     is_plain = text.isprintable() and text.strip() == text and text[:1] not in ("", '"')
     return text if is_plain else json.dumps(text)
 
@@ -109,17 +109,18 @@ def _read(written: bytes) -> str:
 
 
 def _is_too_much(text: bytes) -> bool:
-    """Whether comments tell more columns, or more of their cells, than are read."""
+    """Return True if comments tell more columns, or more of their cells, than are read."""
     return _count(text, COLUMN_WORDS) > MOST_COLUMNS or _count(text, CELL_WORDS) > MOST_CELLS
 
 
 def _count(text: bytes, words: bytes) -> int:
-    """How many lines begin with these words."""
+    """Return how many lines begin with these words."""
     return text.startswith(words) + text.count(b"\n" + words)
 
 
 def left_out(text: bytes) -> list[str]:
-    """What there is to say of the columns that a problem's text leaves out, or `extra_in`."""
+    """Return what there is to say of the columns that a problem's text leaves out, or
+    `extra_in`."""
     notes = []
     if _is_too_much(text):
         notes.append(
@@ -141,8 +142,8 @@ def left_out(text: bytes) -> list[str]:
 
 
 def extra_in(text: bytes) -> Extra:
-    """The columns that the comments of a problem's text tell. Of two that say the same thing the
-    first counts. Raises nothing."""
+    """Return the columns that the comments of a problem's text tell. Of two that say the same thing
+    the first counts. Raises nothing."""
     if _is_too_much(text):
         return Extra()
     titles: dict[int, str] = {}
@@ -156,10 +157,10 @@ def extra_in(text: bytes) -> Extra:
 
 
 def extra_of(table: Table, ways: int = 1) -> Extra:
-    """The columns of a table of arcs that are read for nothing, also where one has a usual title of
-    places and arcs have something in it. A table that the desk wrote has some that it writes again;
-    they are none of these. Reads the table once more. Raises a `TableFault` if a quote or a byte in
-    it is wrong."""
+    """Return the columns of a table of arcs that are read for nothing, also where one has a usual
+    title of places and arcs have something in it. A table that the desk wrote has some that it
+    writes again; they are none of these. Reads the table once more. Raises a `TableFault` if a
+    quote or a byte in it is wrong."""
     layout, is_raw = table.layout, table.is_raw
     # A column without a title, or with one of places, counts if it has something.
     doubtful = [
@@ -196,7 +197,7 @@ def _of_places(layout: Layout) -> list[int]:
 
 
 def _written(layout: Layout) -> list[int]:
-    """The columns that the desk writes again, if it wrote this table."""
+    """Return the columns that the desk writes again, if it wrote this table."""
     found: dict[str, int] = {}
     for place in layout.others():
         found.setdefault(layout.titles[place].word, place)

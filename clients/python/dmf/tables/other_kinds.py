@@ -84,7 +84,7 @@ def markup_of(data: bytes) -> str:
 
 
 def _other_kind(data: bytes) -> str:
-    """What a file of another kind is."""
+    """Return what a file of another kind is."""
     if data.startswith(b"SQLite format 3") and any(mark in data[:100] for mark in _GEOPACKAGE):
         return "a GeoPackage (.gpkg); export its layer as GeoJSON, or as CSV with WKT"
     what = next((what for mark, what in STARTS.items() if data.startswith(mark)), "")

@@ -55,7 +55,7 @@ class Plain:
 
 
 def plain_of(cells: list[str]) -> Plain | None:
-    """These cells, if they are plain and not too long."""
+    """Return these cells, if they are plain and not too long."""
     if (
         set(map(type, cells)) != {str}
         or not 0 < min(map(len, cells)) <= max(map(len, cells)) <= PLAIN_LENGTH
@@ -92,7 +92,7 @@ def _scaled(cells: list[str], most: int) -> list[int]:
 
 
 def zeros_of(plain: Plain) -> int:
-    """How many of the decimals of all numbers are zeros at the end."""
+    """Return how many of the decimals of all numbers are zeros at the end."""
     common = 10**plain.decimals
     for begin in range(0, len(plain.numbers), PIECE):
         common = gcd(common, *plain.numbers[begin : begin + PIECE])
@@ -102,7 +102,7 @@ def zeros_of(plain: Plain) -> int:
 
 
 def over_power(plain: Plain, most: int) -> Sequence[int]:
-    """The numbers, over ten to this power."""
+    """Return the numbers, over ten to this power."""
     if plain.decimals == most:
         return plain.numbers
     if plain.decimals > most:

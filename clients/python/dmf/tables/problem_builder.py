@@ -37,8 +37,8 @@ from .titles import DEMAND, LIMIT, SUPPLY
 
 
 def ends_alone(tails: Sequence[int], heads: Sequence[int]) -> tuple[list[int], list[int]]:
-    """The places that arcs leave and none enters, and those that arcs enter and none leaves, in the
-    order of the arcs. Arcs from a place to itself do not count."""
+    """Return the places that arcs leave and none enters, and those that arcs enter and none leaves,
+    in the order of the arcs. Arcs from a place to itself do not count."""
     np = numpy_for(len(tails))
     if np is not None and isinstance(tails, array) and isinstance(heads, array):
         left, entered = (np.frombuffer(column, column.typecode) for column in (tails, heads))
@@ -54,7 +54,7 @@ def ends_alone(tails: Sequence[int], heads: Sequence[int]) -> tuple[list[int], l
 
 
 def _without(np: Any, places: Any, others: Any) -> list[int]:
-    """The places that are not among the others, each once, in their order."""
+    """Return the places that are not among the others, each once, in their order."""
     is_other = np.zeros(max(places.max(initial=0), others.max(initial=0)) + 1, bool)
     is_other[others] = True
     alone, begins = np.unique(places[~is_other[places]], return_index=True)
@@ -82,19 +82,19 @@ class NetworkTables:
     notes: list[str] = field(default_factory=list)
 
     def of_kind(self, kind: str) -> list[Term]:
-        """What is said of places of this kind, and counts."""
+        """Return what is said of places of this kind, and counts."""
         found = [term for term in self.terms if term.kind == kind]
         return [term for term in found if not term.is_idle] or found
 
     @property
     def counted(self) -> list[Term]:
-        """All of it that counts, in its order."""
+        """Return all of it that counts, in its order."""
         kept = {id(term) for kind in PLACE_COLUMNS for term in self.of_kind(kind)}
         return [term for term in self.terms if id(term) in kept]
 
     @property
     def measure(self) -> Measure:
-        """How whole numbers stand for the table's."""
+        """Return how whole numbers stand for the table's."""
         amounts = self.arcs.amounts
         most = max(
             [
@@ -127,7 +127,7 @@ class BuiltProblem:
     row_count: int = 0
 
     def row_names(self) -> dict[int, str]:
-        """The names of the arcs of rows that have one, by number."""
+        """Return the names of the arcs of rows that have one, by number."""
         names: Iterable[str] = self.labels
         if self.ways > 1:
             names = (name for name in self.labels for _ in range(self.ways))
@@ -139,8 +139,8 @@ def too_much(measure: Measure) -> str:
 
 
 def check(plan: NetworkTables) -> None:
-    """Raises a `TableFault` with all that is said of what is no place, twice, or of a source that
-    is a sink too; and if a first row that was read as titles has the name of a place."""
+    """Raise a `TableFault` with all that is said of what is no place, twice, or of a source that is
+    a sink too; and if a first row that was read as titles has the name of a place."""
     _refuse_dropped(plan)
     places = plan.arcs.places
     faults: list[TableFault] = []
@@ -178,7 +178,7 @@ def check(plan: NetworkTables) -> None:
 
 
 def _refuse_dropped(plan: NetworkTables) -> None:
-    """Refuses a first row that was read as titles, if it has the name of a place."""
+    """Refuse a first row that was read as titles, if it has the name of a place."""
     table = plan.arcs
     at = table.layout.at
     if table.heading and any(
@@ -245,14 +245,14 @@ class _Maker:
             ) from None
 
     def split(self) -> None:
-        """Splits the nodes of the places with limits."""
+        """Split the nodes of the places with limits."""
         for term in self.plan.of_kind(LIMIT):
             first = self.place(term)
             self.exits[first] = self.add_node(term.place)
             self.halves[self.exits[first]] = first
 
     def add_rows(self) -> None:
-        """Adds the arcs of the rows."""
+        """Add the arcs of the rows."""
         table = self.plan.arcs
         faults = Faults(table.path, [title.text for title in table.layout.titles])
         wholes = table.amounts.wholes(self.measure, faults)
@@ -278,7 +278,7 @@ class _Maker:
                     raise table.fault(too_much(self.measure), table.lines[place])
 
     def add_limits(self) -> None:
-        """Adds the arcs between the halves of places."""
+        """Add the arcs between the halves of places."""
         for term in self.plan.of_kind(LIMIT):
             first = self.place(term)
             limit = self.whole(term, term.quantity or Decimal(0))
@@ -289,7 +289,7 @@ class _Maker:
                 raise TableFault(too_much(self.measure), term.line, term.path)
 
     def unused_name(self, name: str) -> str:
-        """A name for a node that no other has."""
+        """Return a name for a node that no other has."""
         names = set(self.node_names)
         return next(
             it
@@ -298,8 +298,8 @@ class _Maker:
         )
 
     def join(self, kind: str) -> int:
-        """The source of the problem, or its sink: its only node, or a node that is joined to each
-        of several."""
+        """Return the source of the problem, or its sink: its only node, or a node that is joined to
+        each of several."""
         terms, is_source = self.plan.of_kind(kind), kind == SUPPLY
         if len(terms) == 1 and terms[0].quantity is None:
             place = self.place(terms[0])
@@ -326,7 +326,7 @@ class _Maker:
         return joint
 
     def net(self) -> BuiltProblem:
-        """The network."""
+        """Return the network."""
         self.split()
         self.add_rows()
         row_count = len(self.tails)
@@ -349,7 +349,8 @@ class _Maker:
 
 
 def _whole(quantity: Decimal, scale: Decimal) -> int:
-    """The whole number of a quantity under a scale that was given. Raises a `QuantityFault`."""
+    """Return the whole number of a quantity under a scale that was given. Raises a
+    `QuantityFault`."""
     (number, over), (scaled, under) = quantity.as_integer_ratio(), scale.as_integer_ratio()
     whole, rest = divmod(number * scaled, over * under)
     if rest:
@@ -362,7 +363,7 @@ def _whole(quantity: Decimal, scale: Decimal) -> int:
 
 
 def net_of(plan: NetworkTables) -> BuiltProblem:
-    """The network of a plan. Raises a `TableFault`."""
+    """Return the network of a plan. Raises a `TableFault`."""
     check(plan)
     net = _Maker(plan, plan.measure).net()
     if plan.arcs.unlimited:
@@ -371,7 +372,7 @@ def net_of(plan: NetworkTables) -> BuiltProblem:
 
 
 def _judge_unlimited(plan: NetworkTables, net: BuiltProblem) -> None:
-    """Raises a `TableFault` if a way leads from the source to the sink over arcs alone whose
+    """Raise a `TableFault` if a way leads from the source to the sink over arcs alone whose
     capacity is missing and was read as unlimited: then nothing limits what can be sent."""
     ways = range(1, net.ways + 1)
     numbers = [net.ways * row + way for row in plan.arcs.unlimited for way in ways]
@@ -391,8 +392,8 @@ def _judge_unlimited(plan: NetworkTables, net: BuiltProblem) -> None:
 
 
 def term_of(kind: str, word: str, table: Table) -> Term:
-    """The source or the sink that a word names: a place, or a place, `=` and its limit. Raises a
-    `TableFault`."""
+    """Return the source or the sink that a word names: a place, or a place, `=` and its limit.
+    Raises a `TableFault`."""
     name = cleaned(word)
     place, equals, limit = name.rpartition("=")
     if name in table.places or not equals or place.rstrip() not in table.places:
@@ -413,7 +414,7 @@ PIECE = 1 << 11
 
 
 def problem_text(net: BuiltProblem, extra: Extra = Extra()) -> str:
-    """The problem, with what it is, its names and these columns in comments."""
+    """Return the problem, with what it is, its names and these columns in comments."""
     names = (f"c node {number} {name}\n" for number, name in enumerate(net.node_names, 1))
     arc_names = (
         f"c arc {number} {name}\n"

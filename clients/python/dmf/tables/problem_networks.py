@@ -28,20 +28,19 @@ if TYPE_CHECKING:
 def read(
     path: FilePath, *, program: Program = None, history: int | None = None
 ) -> Network[int | str]:
-    """The network of a problem's file in the DIMACS format, which is read once. Its nodes are the
-    numbers from 1 on. A comment `c node 3 Reservoir` gives a node its name, if no other node has
-    the same. A comment `c arc 5 Mill Street` gives the key of an arc. `program` and `history` are
-    those of `Network`. If comments say what the numbers stand for in the table that the problem was
-    made of, or which nodes and arcs are not of that table, it is a `TableNetwork`, in the table's
-    numbers, of its places alone.
+    """Return the network of a problem's file in the DIMACS format, which is read once. Its nodes
+    are the numbers from 1 on. A comment `c node 3 Reservoir` gives a node its name, if no other
+    node has the same. A comment `c arc 5 Mill Street` gives the key of an arc. `program` and
+    `history` are those of `Network`. If comments say what the numbers stand for in the table that
+    the problem was made of, or which nodes and arcs are not of that table, it is a `TableNetwork`,
+    in the table's numbers, of its places alone.
 
     A picture or a report that dmf-plan or dmf-board wrote carries such a problem, and is read as
     it.
 
     Raises a `Refused` with the number of the line if the file has a fault, a `TableFault` if only a
     part is left of what a picture carries, an OSError if it cannot be read, and what `Network`
-    raises.
-    """
+    raises."""
     most = bound(history)
     with open(os.fspath(path), "rb") as file:
         text = problem_in(file.read())
@@ -53,10 +52,9 @@ def read(
 
 
 def whole_network(text: bytes, *, program: Program = None) -> Network[int | str]:
-    """The network of a problem's text as the program has it, with all its nodes and arcs and in its
-    whole numbers, whatever comments say of a table. The two nodes of a place with a limit have one
-    name, so they keep their numbers. Raises what `read` raises.
-    """
+    """Return the network of a problem's text as the program has it, with all its nodes and arcs and
+    in its whole numbers, whatever comments say of a table. The two nodes of a place with a limit
+    have one name, so they keep their numbers. Raises what `read` raises."""
     return _whole(_opened(text, program, bound(None)))
 
 
@@ -75,12 +73,12 @@ class Opened:
     most: int
 
     def node_names(self) -> dict[int, str]:
-        """The names that comments give to nodes, by number."""
+        """Return the names that comments give to nodes, by number."""
         return _of(self.node_count, names_in(naming_pieces(self.text, NODE), NODE))
 
     def arc_names(self) -> Callable[[], dict[int, Hashable]]:
-        """What reads the names that comments give to arcs, by number. It keeps of the text what has
-        them."""
+        """Return what reads the names that comments give to arcs, by number. It keeps of the text
+        what has them."""
         count, pieces = len(self.tails), naming_pieces(self.text, ARC)
         return lambda: {**_of(count, names_in(pieces, ARC))}
 
@@ -103,7 +101,7 @@ def _opened(text: bytes, program: Program, most: int) -> Opened:
 
 
 def _whole(problem: Opened) -> Network[int | str]:
-    """The network of a problem. The names of its arcs are read when one is first needed."""
+    """Return the network of a problem. The names of its arcs are read when one is first needed."""
     named = unique(problem.node_names())
     nodes: dict[int | str, int] = {
         named.get(number, number): number for number in range(1, problem.node_count + 1)
@@ -121,7 +119,7 @@ def _whole(problem: Opened) -> Network[int | str]:
 
 
 def unique(named: dict[int, str]) -> dict[int, str]:
-    """Those of these names that one number alone has."""
+    """Return those of these names that one number alone has."""
     if len(set(named.values())) == len(named):
         return named
     used = Counter(named.values())
@@ -129,7 +127,7 @@ def unique(named: dict[int, str]) -> dict[int, str]:
 
 
 def _of(count: int, names: dict[int, str]) -> dict[int, str]:
-    """The names of the numbers from 1 to so many, in their order."""
+    """Return the names of the numbers from 1 to `count`, in their order."""
     numbers = sorted(names)
     if numbers == list(names) and (not numbers or 1 <= numbers[0] and numbers[-1] <= count):
         return names
@@ -137,8 +135,8 @@ def _of(count: int, names: dict[int, str]) -> dict[int, str]:
 
 
 def network_of_problem(problem: Opened, said: TableComments) -> TableNetwork:
-    """The network of a problem of whose table its comments say this. Which arcs are of the table is
-    told by their ends, as in all tools."""
+    """Return the network of a problem of whose table its comments say this. Which arcs are of the
+    table is told by their ends, as in all tools."""
     from ..session.runners import start
     from .other_columns import extra_in, left_out
     from .table_network import TableNetwork

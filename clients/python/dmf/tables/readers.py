@@ -25,7 +25,7 @@ LONGEST_CELL = 131_072
 
 
 def name_of(cell: str, *, is_raw: bool = False) -> str:
-    """The name in a cell. Raises a ValueError if it has a control character, or half a
+    """Return the name in a cell. Raises a ValueError if it has a control character, or half a
     character."""
     name = cleaned(name_in(cell.strip(), is_raw=is_raw))
     for letter in name if not name.isprintable() else "":
@@ -35,7 +35,7 @@ def name_of(cell: str, *, is_raw: bool = False) -> str:
 
 
 def are_plain(text: str, count: int) -> bool:
-    """Whether each of so many cells, which a text has one below the other, is a name as it stands,
+    """Return True if each of the `count` cells of a text, one in each line, is a name as it stands,
     or empty."""
     lines = f"\n{text}\n"
     if lines.count("\n") != count + 1 or any(odd in lines for odd in ("  ", "\n ", " \n", "\n'")):
@@ -44,8 +44,8 @@ def are_plain(text: str, count: int) -> bool:
 
 
 def _has_long(lines: str) -> bool:
-    """Whether one of the lines between the ends of lines is longer than a cell may be. Each such
-    line goes past one of these places."""
+    """Return True if one of the lines between the ends of lines is longer than a cell may be. Each
+    such line goes past one of these places."""
     return any(
         lines.find("\n", at) - lines.rfind("\n", 0, at) > LONGEST_CELL + 1
         for at in range(LONGEST_CELL, len(lines), LONGEST_CELL)
@@ -71,11 +71,11 @@ class Numbers:
 
     @property
     def places(self) -> dict[str, int]:
-        """The places, each with its number."""
+        """Return the places, each with its number."""
         return dict(self._places)
 
     def of(self, cells: list[str]) -> list[int] | None:
-        """The numbers of these cells; None, and nothing is noted, if one names no place."""
+        """Return the numbers of these cells; None, and nothing is noted, if one names no place."""
         if (
             are_plain("\n".join(cells), len(cells))
             and "" not in cells
@@ -94,7 +94,7 @@ class Numbers:
         return None
 
     def number(self, cell: str) -> int:
-        """The number of a cell."""
+        """Return the number of a cell."""
         if cell in self._odd:
             return self._odd[cell]
         if cell in self._places and cell[0] != "'" and cell not in self.spellings:
@@ -164,7 +164,7 @@ class Table:
         return self.sheet.path
 
     def add_lines(self, lines: range) -> None:
-        """Takes in the lines of more rows. As long as no line is left out, a range has all of
+        """Take in the lines of more rows. As long as no line is left out, a range has all of
         them."""
         if isinstance(self.lines, range) and (not self.lines or self.lines.stop == lines.start):
             self.lines = range(self.lines.start if self.lines else lines.start, lines.stop)
@@ -189,7 +189,7 @@ class Reader:
         self.heading = [title.text for title in layout.titles]
 
     def take(self, rows: Rows) -> None:
-        """Takes rows."""
+        """Take rows."""
         raise NotImplementedError
 
     def column(self, place: int) -> str:
@@ -198,13 +198,13 @@ class Reader:
         )
 
     def is_passed_over(self, line: int, row: list[str]) -> bool:
-        """Whether a row is blank, the row of titles, or that row once more."""
+        """Return True if a row is blank, the row of titles, or that row once more."""
         if line < self.layout.begin or is_blank(row):
             return True
         return bool(self.heading) and [cleaned(cell) for cell in row] == self.heading
 
     def are_cells_right(self, line: int, row: list[str]) -> bool:
-        """Whether no cell is too long, and no row has more columns than there are titles."""
+        """Return True if no cell is too long, and no row has more columns than there are titles."""
         before = self.faults.count
         for place, cell in enumerate(row):
             if len(cell) > LONGEST_CELL:
@@ -219,7 +219,7 @@ class Reader:
         return self.faults.count == before
 
     def name(self, line: int, row: list[str], column: str) -> str:
-        """The name in a cell. If there is none, that is a fault."""
+        """Return the name in a cell. If there is none, that is a fault."""
         place = self.layout.at[column]
         cell = row[place] if place < len(row) else ""
         if not cleaned(cell):
@@ -242,7 +242,7 @@ class Reader:
 
 
 def amounts_of(column: str, layout: Layout, path: str) -> Amounts:
-    """An empty column of amounts, as a layout has it."""
+    """Return an empty column of amounts, as a layout has it."""
     title = layout.title(column)
     return Amounts(
         column, layout.at.get(column, -1) + 1, path, unit_of(title), named=bool(title.unit)
@@ -252,7 +252,7 @@ def amounts_of(column: str, layout: Layout, path: str) -> Amounts:
 def layout_of_sheet(
     sheet: Sheet, form: Form, named: Mapping[str, str], ignored: Sequence[str] = ()
 ) -> Layout:
-    """Where the columns of a sheet are. Raises a `TableFault`."""
+    """Return where the columns of a sheet are. Raises a `TableFault`."""
     layout = layout_of(first_rows(sheet), form, named, ignored)
     if layout.is_by_numbers:
         # A column without a cell so far may have numbers too.
@@ -261,7 +261,7 @@ def layout_of_sheet(
 
 
 def first_rows(sheet: Sheet, most: int = SAMPLE) -> Rows:
-    """The first rows of a sheet. Raises a `TableFault` if there is none."""
+    """Return the first rows of a sheet. Raises a `TableFault` if there is none."""
     sample = sheet.sample(most)
     if not sample.cells:
         for _ in sheet.read():
@@ -272,7 +272,7 @@ def first_rows(sheet: Sheet, most: int = SAMPLE) -> Rows:
 
 
 def take_all(sheet: Sheet, reader: Reader) -> None:
-    """Takes all rows. A quote or a byte that is wrong ends them."""
+    """Take all rows. A quote or a byte that is wrong ends them."""
     try:
         for rows in sheet.read():
             reader.take(rows)

@@ -25,7 +25,7 @@ class RowStates:
         self.cells: dict[str, list[str]] = {role: [] for role in self.columns}
 
     def settled(self, lines: Sequence[int], faults: Faults) -> dict[str, list[str]]:
-        """What each row is, by the column. What cannot be read goes to the faults."""
+        """Return what each row is, by the column. What cannot be read goes to the faults."""
         return {role: self._settled(role, lines, faults) for role in self.columns}
 
     def _settled(self, role: str, lines: Sequence[int], faults: Faults) -> list[str]:
@@ -41,8 +41,8 @@ class RowStates:
 
 
 def _meaning_of_blank(role: str, title: Title, others: set[str]) -> str:
-    """What an empty cell says: no in a column of marks. In another it is what nobody marks, unless
-    other cells say just that."""
+    """Return what an empty cell says: no in a column of marks. In another it is what nobody marks,
+    unless other cells say just that."""
     if answers := ANSWERS.get(FLAGS.get(title.word, "")):
         return answers[1] if not {*answers} <= others else ""
     usual = OPEN if role == STATUS else FORWARD
@@ -66,7 +66,7 @@ def _why_not(cell: str, role: str, title: Title) -> str:
 def told_states(
     states: Mapping[str, Sequence[str]], layout: Layout, lines: Sequence[int]
 ) -> Iterator[str]:
-    """What the columns of states changed, with the lines."""
+    """Yield what the columns of states changed, with the lines."""
     for role, found in states.items():
         title = layout.called(layout.at[role])
         for state, said in (
@@ -88,12 +88,12 @@ def told_lines(lines: Sequence[int]) -> str:
 
 
 def closed_rows(states: Mapping[str, Sequence[str]]) -> list[int]:
-    """The rows that are closed."""
+    """Return the rows that are closed."""
     return [place for place, state in enumerate(states.get(STATUS, ())) if state == CLOSED]
 
 
 def lead(table: Table, *, both_ways: bool) -> bool:
-    """Turns the rows that lead backward, and puts a row back beside each that leads both ways.
+    """Turn the rows that lead backward, and puts a row back beside each that leads both ways.
     Returns whether all rows are still to be read as two arcs each, as was asked for; check valves
     are not. Raises a `TableFault` if a column says it too."""
     given, states = table.states.get(DIRECTION), table.states.get(STATUS, ())

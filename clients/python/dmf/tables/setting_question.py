@@ -78,11 +78,11 @@ class SettingQuestion(TableFault):
 
     @property
     def setting(self) -> Setting:
-        """What the option settles."""
+        """Return what the option settles."""
         return SETTINGS[self.option]
 
     def lines(self) -> list[str]:
-        """The question, and a line for each answer."""
+        """Return the question, and a line for each answer."""
         shown = [(self._option(word), what) for word, what in self.setting.choices]
         width = max(len(option) for option, _ in shown)
         return [self.told(), *(f"  {option:{width}}  {what}" for option, what in shown)]

@@ -71,7 +71,7 @@ def _shapes(file: TableFile) -> Sheet:
 
 
 def _encoding(file: TableFile, table: bytes) -> tuple[str, list[str]]:
-    """The encoding of a table: the one that was given, that of its .cpg, or the one that is
+    """Return the encoding of a table: the one that was given, that of its .cpg, or the one that is
     found."""
     if file.encoding:
         return file.encoding, []
@@ -101,7 +101,7 @@ def _opened(encoding: str, **parts: bytes) -> Any:
 
 @contextlib.contextmanager
 def _judging(what: str) -> Iterator[None]:
-    """Raises a `TableFault` where a file is damaged."""
+    """Raise a `TableFault` where a file is damaged."""
     try:
         yield
     except (TableFault, MemoryError, ImportError):
@@ -137,7 +137,7 @@ def _wkt(shape: Any) -> str:
 def _sheet(
     file: TableFile, rows: list[list[str]], notes: list[str], positions: Positions | None = None
 ) -> Sheet:
-    """A sheet whose titles are in line 1, and its records below them."""
+    """Return a sheet whose titles are in line 1, and its records below them."""
     lines = range(1, len(rows) + 1)
     return Sheet(file.path, partial(_read, lines, rows), tuple(notes), positions=positions)
 

@@ -44,7 +44,7 @@ class Faults:
         self._first: list[TableFault] = []
 
     def add(self, reason: str, line: int, column: int = 0, more_lines: Sequence[int] = ()) -> None:
-        """Takes a fault in."""
+        """Take a fault in."""
         self.count += 1
         fault = TableFault(reason, line, self.path, column)
         title = self.titles[column - 1] if 0 < column <= len(self.titles) else ""
@@ -59,7 +59,7 @@ class Faults:
         del self._first[MOST_FAULTS:]
 
     def judge(self) -> None:
-        """Raises the first of the faults, with the others, if there is one."""
+        """Raise the first of the faults, with the others, if there is one."""
         if not self.count:
             return
         self._sort()
@@ -70,7 +70,7 @@ class Faults:
 
 @contextlib.contextmanager
 def naming(path: str) -> Iterator[None]:
-    """Names this file in the faults that name none."""
+    """Name this file in the faults that name none."""
     try:
         yield
     except TableFault as fault:
@@ -85,22 +85,22 @@ _PROTECTED = re.compile(f"'+[{DANGEROUS}]")
 
 
 def cell_of(name: str, *, is_raw: bool = False) -> str:
-    """The cell of a name, which is the name itself if it is to be raw."""
+    """Return the cell of a name, which is the name itself if it is to be raw."""
     return f"'{name}" if not is_raw and _TO_PROTECT.match(name) else name
 
 
 def name_in(cell: str, *, is_raw: bool = False) -> str:
-    """The name in a cell."""
+    """Return the name in a cell."""
     return cell[1:] if not is_raw and _PROTECTED.match(cell) else cell
 
 
 def text_cell(text: str, *, is_raw: bool = False) -> str:
-    """The cell of a text that may be a number, which then stands as it is."""
+    """Return the cell of a text that may be a number, which then stands as it is."""
     return text if readings(text) else cell_of(text, is_raw=is_raw)
 
 
 def text_in(cell: str, *, is_raw: bool = False) -> str:
-    """The text in such a cell."""
+    """Return the text in such a cell."""
     text = name_in(cell, is_raw=is_raw)
     return cell if text != cell and readings(text) else text
 
@@ -118,17 +118,17 @@ class _Lines:
 
 
 def delimiter(measure: Measure) -> str:
-    """What stands between the cells of a table with such numbers."""
+    """Return what stands between the cells of a table with such numbers."""
     return ";" if measure.sign == COMMA else ","
 
 
 def number_cell(number: Quantity, measure: Measure) -> str:
-    """The cell of a quantity."""
+    """Return the cell of a quantity."""
     return plain_text(number).replace(POINT, measure.sign or POINT)
 
 
 def lines(rows: Iterable[Sequence[object]], measure: Measure = Measure()) -> str:
-    """The lines of a table with these cells."""
+    """Return the lines of a table with these cells."""
     written = _Lines()
     # With this end of a line, a carriage return in a name is quoted; without quotes it would be
     # read as the end of a line.
@@ -137,7 +137,7 @@ def lines(rows: Iterable[Sequence[object]], measure: Measure = Measure()) -> str
 
 
 def line(cells: Sequence[object], measure: Measure = Measure()) -> str:
-    """A line of a table."""
+    """Return a line of a table."""
     return lines([cells], measure)
 
 
@@ -161,8 +161,8 @@ class Exact(str):
 
 
 def shown_number(text: str) -> str:
-    """The cell of a number with the 15 digits that a workbook shows. What is not a number stays a
-    text."""
+    """Return the cell of a number with the 15 digits that a workbook shows. What is not a number
+    stays a text."""
     number = _SHOWN.create_decimal(text)
     return Exact(plain_text(number)) if number.is_finite() else text
 
@@ -197,24 +197,24 @@ class Rows:
         cells: Optional[list[list[str]]] = None,
         columns: Sequence[Sequence[str]] = (),
     ) -> None:
-        """Either the cells are given, or all columns, in which no cell is missing."""
+        """Return either the cells are given, or all columns, in which no cell is missing."""
         self.lines = lines
         self._cells = cells
         self._columns = columns
 
     @property
     def cells(self) -> list[list[str]]:
-        """The cells of each row."""
+        """Return the cells of each row."""
         if self._cells is None:
             self._cells = [[*row] for row in zip(*self._columns)]
         return self._cells
 
     def widths(self) -> set[int]:
-        """How many cells rows have."""
+        """Return how many cells rows have."""
         return set(map(len, self._cells)) if self._cells is not None else {len(self._columns)}
 
     def columns(self) -> Sequence[Sequence[str]]:
-        """The columns; where a row has no cell, that is empty."""
+        """Return the columns; where a row has no cell, that is empty."""
         if self._cells is None:
             return self._columns
         return list(
@@ -222,27 +222,27 @@ class Rows:
         )
 
     def column(self, place: int) -> list[str]:
-        """The cells of a column."""
+        """Return the cells of a column."""
         columns = self.columns()
         return [*columns[place]] if place < len(columns) else [""] * len(self)
 
     def has(self, place: int, cell: str) -> bool:
-        """Whether this cell stands in a column."""
+        """Return True if this cell stands in a column."""
         return cell in self.columns()[place]
 
     def has_something(self, place: int) -> bool:
-        """Whether a cell of a column is not blank."""
+        """Return True if a cell of a column is not blank."""
         return any(map(str.strip, self.columns()[place]))
 
     def text(self, place: int) -> str:
-        """The cells of a column, one below the other."""
+        """Return the cells of a column, one below the other."""
         return "\n".join(self.column(place))
 
     def numbered(
         self, places: tuple[int, int], numbers: PlaceSink
     ) -> Optional[tuple[array[int], array[int]]]:
-        """The numbers of the places that the cells of these two columns name; None, and nothing is
-        noted, if one names none."""
+        """Return the numbers of the places that the cells of these two columns name; None, and
+        nothing is noted, if one names none."""
         columns = self.columns()
         cells = [""] * (2 * len(self))
         cells[0::2], cells[1::2] = (columns[place] for place in places)
@@ -250,15 +250,15 @@ class Rows:
         return None if found is None else (array(NODES, found[0::2]), array(NODES, found[1::2]))
 
     def put_amounts(self, amounts: AmountSink, place: int) -> None:
-        """Adds the cells of a column to amounts."""
+        """Add the cells of a column to amounts."""
         amounts.add(self.column(place))
 
     def smaller(self) -> Iterator[Rows]:
-        """The same rows, fewer at once, if there are many."""
+        """Yield the same rows, fewer at once, if there are many."""
         return iter(())
 
     def after_first(self) -> Rows:
-        """The rows but the first."""
+        """Return the rows but the first."""
         if self._cells is None:
             return Rows(self.lines[1:], None, [column[1:] for column in self._columns])
         return Rows(self.lines[1:], self._cells[1:])
@@ -294,7 +294,8 @@ class Sheet:
     gives_way: bool = False
 
     def sample(self, most: int = SAMPLE) -> Rows:
-        """The first rows that are not blank. What is wrong with a quote is left for later."""
+        """Return the first rows that are not blank. What is wrong with a quote is left for
+        later."""
         lines: list[int] = []
         cells: list[list[str]] = []
         try:
@@ -311,8 +312,8 @@ class Sheet:
 
 
 def is_blank(row: list[str]) -> bool:
-    """Whether a row has only white space or delimiters, since another delimiter may have been
-    guessed."""
+    """Return True if a row has only white space or delimiters, since another delimiter may have
+    been guessed."""
     return not any(cell and cell.strip(DELIMITERS + " ") and not cell.isspace() for cell in row)
 
 
@@ -325,12 +326,12 @@ class Cells(Sequence[str]):
         self._count = 0
 
     def add(self, text: str, count: int) -> None:
-        """Takes in so many cells, one or more, each in a line of a text."""
+        """Take in the `count` cells of a text, one in each line."""
         self._texts.append(text)
         self._count += count
 
     def has_some(self) -> bool:
-        """Whether one is not empty."""
+        """Return True if one is not empty."""
         return any(text.strip("\n") for text in self._texts)
 
     @cached_property

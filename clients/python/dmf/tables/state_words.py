@@ -72,7 +72,7 @@ MEANINGS = {STATUS: {OPEN, CLOSED, VALVE}, DIRECTION: {FORWARD, BACKWARD, BOTH}}
 
 
 def meaning(cell: str, role: str, title: Title) -> str:
-    """What a cell says; empty if that is not known."""
+    """Return what a cell says; empty if that is not known."""
     text = cleaned(cell)
     word = folded(text)
     if answers := ANSWERS.get(FLAGS.get(title.word, "")):
@@ -85,8 +85,8 @@ def meaning(cell: str, role: str, title: Title) -> str:
 
 
 def state_of(cells: Sequence[str]) -> str:
-    """What a column says whose title does not say it, if all of its cells are such words, and one
-    of them changes what a row carries."""
+    """Return what a column says whose title does not say it, if all of its cells are such words,
+    and one of them changes what a row carries."""
     untitled = Title("", "", "")
     for role, usual in (STATUS, OPEN), (DIRECTION, FORWARD):
         said = {cell: meaning(cell, role, untitled) for cell in set(cells)}
@@ -97,5 +97,5 @@ def state_of(cells: Sequence[str]) -> str:
 
 
 def _is_plain(word: str) -> bool:
-    """Whether a word is hardly one of something else."""
+    """Return True if a word is hardly one of something else."""
     return len(word) > 3 and word not in _COMMON

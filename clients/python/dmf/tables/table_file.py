@@ -46,7 +46,7 @@ class TableFile:
 
     @property
     def ending(self) -> str:
-        """The ending of the file's name, in small letters: `.csv`."""
+        """Return the ending of the file's name, in small letters: `.csv`."""
         return os.path.splitext(self.path)[1].lower()
 
     def beside(self, ending: str) -> str:

@@ -55,10 +55,9 @@ def plan_table(
     places: Sequence[PlaceRow] = (),
     others: Sequence[str] = (),
 ) -> str:
-    """The table of a plan, whose titles tell its unit: the arcs, and below them the places with
-    what each gives, takes or lets through, for which there are further columns then. `others` are
-    the titles of the other columns. `raw_names` says that names stand in it as they are.
-    """
+    """Return the table of a plan, whose titles tell its unit: the arcs, and below them the places
+    with what each gives, takes or lets through, for which there are further columns then. `others`
+    are the titles of the other columns. `raw_names` says that names stand in it as they are."""
     kinds = [
         kind for kind in ("supply", "demand", "limit") if any(row.kind == kind for row in places)
     ]
@@ -117,8 +116,8 @@ def plan_table(
 
 
 def amount_cell(number: Quantity, measure: Measure) -> str:
-    """The cell of a quantity that a reader takes for no other, also where it finds no other cell:
-    of `1.125`, which may be 1125 where a point stands between thousands, `1.1250`."""
+    """Return the cell of a quantity that a reader takes for no other, also where it finds no other
+    cell: of `1.125`, which may be 1125 where a point stands between thousands, `1.1250`."""
     cell = number_cell(number, measure)
     return f"{cell}0" if OPEN_NUMBER.fullmatch(cell) else cell
 
@@ -155,16 +154,16 @@ class Told:
 
 
 def plan_text(arcs: Sequence[WriterRow], told: Told, measure: Measure, *, raw_names: bool) -> str:
-    """The table of the open arcs of a plan. Where these alone tell which places are the source and
-    the sink, and no place has more to be told, there are no rows of places."""
+    """Return the table of the open arcs of a plan. Where these alone tell which places are the
+    source and the sink, and no place has more to be told, there are no rows of places."""
     told = replace(told, node=_told_apart(arcs, told))
     rows, places = _arc_rows(arcs, told), _place_rows(arcs, told)
     return plan_table(rows, measure, raw_names=raw_names, places=places, others=told.extra.titles)
 
 
 def _told_apart(arcs: Sequence[WriterRow], told: Told) -> Callable[[int], str]:
-    """The names of nodes in a table, in which a place is known by its name alone: of several places
-    with one name each gets its number, as in `Mill (node 4)`."""
+    """Return the names of nodes in a table, in which a place is known by its name alone: of several
+    places with one name each gets its number, as in `Mill (node 4)`."""
     nodes = {
         told.folding.place(node)
         for arc in arcs
@@ -246,8 +245,8 @@ def _row_of(
     carried: dict[tuple[str, int], Quantity],
     told: Told,
 ) -> PlaceRow:
-    """What the arcs say of a role that stand for it. Without one the place gives, takes or lets
-    through nothing."""
+    """Return what the arcs say of a role that stand for it. Without one the place gives, takes or
+    lets through nothing."""
     most: Quantity = sum(arc.capacity for arc in arcs)
     is_unlimited = (
         bool(arcs)

@@ -48,7 +48,7 @@ def encoding_of(data: bytes) -> tuple[str, str]:
 
 
 def _western(data: bytes, fault: UnicodeDecodeError) -> tuple[str, str]:
-    """Windows-1252, which has all letters of Latin-1 at the same places, if the bytes can be
+    """Return Windows-1252, which has all letters of Latin-1 at the same places, if the bytes can be
     that."""
     begin = data.rfind(b"\n", 0, fault.start) + 1
     line = data.count(b"\n", 0, fault.start) + 1
@@ -82,8 +82,8 @@ def _western(data: bytes, fault: UnicodeDecodeError) -> tuple[str, str]:
 
 
 def _likely(data: bytes) -> str:
-    """The encoding that bytes look like. charset-normalizer takes French and Spanish for other
-    languages, so this only advises."""
+    """Return the encoding that bytes look like. charset-normalizer takes French and Spanish for
+    other languages, so this only advises."""
     try:
         import charset_normalizer
     except ImportError:

@@ -40,8 +40,8 @@ class TitleRow(NamedTuple):
 
 
 def heading_at(sample: Rows, at: int) -> TitleRow:
-    """The row of titles that is so many rows below the first one, with a row of units below it if
-    there is one."""
+    """Return the row of titles, which is `at` rows below the first one, with a row of units below
+    it if there is one."""
     line, cells = sample.lines[at], list(sample.cells[at])
     notes = []
     if at:
@@ -69,13 +69,13 @@ def heading_at(sample: Rows, at: int) -> TitleRow:
 
 
 def _joined(above: str, cell: str) -> str:
-    """A title, with what stands above it if it has nothing but a unit."""
+    """Return a title, with what stands above it if it has nothing but a unit."""
     title = title_of(cell)
     return cell if title.word or not above.strip() else f"{above} {cell}".strip()
 
 
 def _has_units(row: Sequence[str]) -> bool:
-    """Whether a row has nothing but units."""
+    """Return True if a row has nothing but units."""
     cells = [cell for cell in row if cell.strip()]
     return (
         bool(cells)
@@ -86,8 +86,8 @@ def _has_units(row: Sequence[str]) -> bool:
 
 
 def title_row(sample: Rows, form: Form) -> int | None:
-    """How many rows stand above the titles, if a row has titles of all places, no number, and no
-    row of data above it."""
+    """Return how many rows stand above the titles, if a row has titles of all places, no number,
+    and no row of data above it."""
     for at, row in enumerate(sample.cells[: MOST_ABOVE + 1]):
         titles = list(map(title_of, row))
         if _has_all(titles, form) and (
@@ -100,8 +100,8 @@ def title_row(sample: Rows, form: Form) -> int | None:
 
 
 def _is_no_arc(rows: Sequence[Sequence[str]], titles: Sequence[Title]) -> bool:
-    """Whether a first row that has a number has titles all the same, as `from`, `to` and `2024`:
-    none of its texts is a place below."""
+    """Return True if a first row that has a number has titles all the same, as `from`, `to` and
+    `2024`: none of its texts is a place below."""
     texts = {title.text for title in titles if not readings(title.text)}
     below = {cleaned(cell) for row in rows[1:] for cell in row}
     return bool(below) and texts.isdisjoint(below) and not paired(titles)
@@ -113,7 +113,7 @@ def has_places(cells: Sequence[str], form: Form) -> bool:
 
 
 def _has_all(titles: Sequence[Title], form: Form) -> bool:
-    """Whether titles say where all places are."""
+    """Return True if titles say where all places are."""
     if form is ARCS:
         return all(
             any(_is_end(titles, place, role) for place in range(len(titles)))
@@ -128,8 +128,8 @@ def _has_all(titles: Sequence[Title], form: Form) -> bool:
 def named_row(
     sample: Rows, form: Form, named: Mapping[str, str], ignored: Collection[str]
 ) -> int | None:
-    """How many rows stand above the titles that were given; none if columns are given by their
-    numbers, and no row has titles."""
+    """Return how many rows stand above the titles that were given; none if columns are given by
+    their numbers, and no row has titles."""
     wanted = [cleaned(title) for title in named.values()]
     for at, row in enumerate(sample.cells[: MOST_ABOVE + 1]):
         if {*wanted} <= {*map(cleaned, row)}:
@@ -141,14 +141,14 @@ def named_row(
 
 
 def column_number(title: str) -> int:
-    """The number of the column that is called by it, as in `column 3`; 0 if it is not."""
+    """Return the number of the column that is called by it, as in `column 3`; 0 if it is not."""
     number = title.casefold().removeprefix("column").strip()
     return int(number) if number.isdecimal() and len(number) < 6 else 0
 
 
 def _is_end(titles: Sequence[Title], place: int, role: str) -> bool:
-    """Whether the title of a column says that it has the places where rows begin, or where they
-    end."""
+    """Return True if the title of a column says that it has the places where rows begin, or where
+    they end."""
     return titles[place].word in usual_words(titles, role) or says_end(titles[place], role)
 
 
@@ -164,13 +164,13 @@ def usual_words(titles: Sequence[Title], role: str) -> list[str]:
 
 
 def is_number(cell: str) -> bool:
-    """Whether a cell is a number, perhaps with a unit."""
+    """Return True if a cell is a number, perhaps with a unit."""
     text = cell.strip()
     return bool(readings(text) or readings(text.rpartition(" ")[0]))
 
 
 def fits(sample: Rows, form: Form) -> bool:
-    """Whether the titles of a table tell all columns of a form that it needs."""
+    """Return True if the titles of a table tell all columns of a form that it needs."""
     at = title_row(sample, form)
     titles = heading_at(sample, at).titles if at is not None else ()
     return any(

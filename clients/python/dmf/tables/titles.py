@@ -207,14 +207,14 @@ class Title(NamedTuple):
 
 
 def folded(text: str) -> str:
-    """The words of a text, in small letters and without accents."""
+    """Return the words of a text, in small letters and without accents."""
     letters = unicodedata.normalize("NFKD", text.casefold().translate(_LIGATURES))
     plain = "".join(it for it in letters if not unicodedata.combining(it))
     return " ".join(re.findall(r"[^\W_]+", plain))
 
 
 def title_of(cell: str) -> Title:
-    """The title in a cell."""
+    """Return the title in a cell."""
     text = cleaned(cell)
     found = _BRACKETED.fullmatch(text)
     if found:
@@ -228,7 +228,7 @@ def title_of(cell: str) -> Title:
 
 
 def is_unit(cell: str) -> bool:
-    """Whether a cell is a unit, as in a row of units below the titles."""
+    """Return True if a cell is a unit, as in a row of units below the titles."""
     text = cleaned(cell)
     inner = text[1:-1].strip() if text[:1] + text[-1:] in ("[]", "()") and len(text) > 1 else text
     return (
@@ -240,13 +240,14 @@ def is_unit(cell: str) -> bool:
 
 
 def unit_in(cell: str) -> str:
-    """The unit in such a cell; empty for a dash."""
+    """Return the unit in such a cell; empty for a dash."""
     inner = cleaned(cell).strip("[]()").strip()
     return "" if inner in ("-", "\u2013", "\u2014") else inner
 
 
 def says_end(title: Title, role: str) -> bool:
-    """Whether a title says that its column has the places from where rows lead, or to where."""
+    """Return True if a title says that its column has the places from where rows lead, or to
+    where."""
     words, other = title.words, HEAD if role == TAIL else TAIL
     if words[:1] == [_BEFORE_PLACES[role]]:
         return bool(words[1:]) and _PLACES.issuperset(words[1:])
@@ -255,8 +256,8 @@ def says_end(title: Title, role: str) -> bool:
 
 
 def paired(titles: Sequence[Title]) -> tuple[int, int] | None:
-    """The two columns that are the two ends of rows by their titles together, as `Node 1` and `Node
-    2`, or `A` and `B`; none if no two columns are, or more than one pair."""
+    """Return the two columns that are the two ends of rows by their titles together, as `Node 1`
+    and `Node 2`, or `A` and `B`; none if no two columns are, or more than one pair."""
     found = list(_all_pairs(titles))
     return found[0] if len(found) == 1 else None
 
@@ -274,7 +275,7 @@ def _all_pairs(titles: Sequence[Title]) -> Iterator[tuple[int, int]]:
 
 
 def says_capacity(title: Title) -> bool:
-    """Whether a title says that its column has capacities, and nothing else."""
+    """Return True if a title says that its column has capacities, and nothing else."""
     words = set(title.words)
     if is_share(title) or is_least(title):
         return False
@@ -285,8 +286,8 @@ def says_capacity(title: Title) -> bool:
 
 
 def rivals_capacity(title: Title) -> bool:
-    """Whether a title is that of another capacity than the usual one, as `Capacity reverse` or
-    `Peak capacity`; what is used or left of a capacity is not one."""
+    """Return True if a title is that of another capacity than the usual one, as `Capacity reverse`
+    or `Peak capacity`; what is used or left of a capacity is not one."""
     words = set(title.words)
     is_capacity = bool(words & _CAPACITIES) or bool(words & _MOST and words & _FLOWS)
     is_left = is_share(title) or is_least(title) or bool(words & _USED)
@@ -294,19 +295,19 @@ def rivals_capacity(title: Title) -> bool:
 
 
 def hints_at_state(title: Title) -> bool:
-    """Whether a title may be that of a column of states, although it is not a usual one."""
+    """Return True if a title may be that of a column of states, although it is not a usual one."""
     return any(word.startswith(_STATE_STEMS) for word in title.words)
 
 
 def is_rate(title: Title) -> bool:
-    """Whether a title is the name of a unit of flow, as `litres per second`."""
+    """Return True if a title is the name of a unit of flow, as `litres per second`."""
     words = title.words
     is_named = len(words) == 3 and words[0] in _VOLUMES and words[1] in _PER_WORDS
     return is_named or bool(_PER.fullmatch(title.text))
 
 
 def is_least(title: Title) -> bool:
-    """Whether a title is that of the least that rows carry."""
+    """Return True if a title is that of the least that rows carry."""
     words = set(title.words)
     return (
         bool(words & _MINIMUM)
@@ -315,7 +316,7 @@ def is_least(title: Title) -> bool:
 
 
 def is_share(title: Title) -> bool:
-    """Whether a title is that of percentages."""
+    """Return True if a title is that of percentages."""
     return (
         title.unit.strip() in ("%", "\u2030")
         or "%" in title.text
@@ -324,19 +325,19 @@ def is_share(title: Title) -> bool:
 
 
 def is_other(title: Title) -> bool:
-    """Whether a title is that of a column that is read for nothing, such as a length."""
+    """Return True if a title is that of a column that is read for nothing, such as a length."""
     is_named = title.word in OTHERS or any(len(it) > 1 and it in OTHERS for it in title.words)
     return is_named or is_share(title) or is_least(title)
 
 
 def is_index(title: Title) -> bool:
-    """Whether a title can be that of the numbers of rows."""
+    """Return True if a title can be that of the numbers of rows."""
     return not title.word or not _INDEX.isdisjoint(title.words)
 
 
 def says_state(title: Title, role: str) -> bool:
-    """Whether a title is that of a column of states: whether rows are open, or which way they
-    lead."""
+    """Return True if a title is that of a column of states: whether rows are open, or which way
+    they lead."""
     words = set(title.words)
     if FLAGS.get(title.word) in ((OPEN, CLOSED) if role == STATUS else (ONE_WAY, TWO_WAY)):
         return True

@@ -24,7 +24,7 @@ _DIGITS = re.compile("[0-9]+")
 
 
 def warnings(plan: NetworkTables, net: BuiltProblem) -> Iterator[str]:
-    """The warnings of a plan and its network."""
+    """Yield the warnings of a plan and its network."""
     table = plan.arcs
     yield from _lone_first_row(plan)
     protected = {name: other for name, other in table.respelled.items() if cleaned(other) != name}
@@ -57,8 +57,8 @@ def _lines(lines: Sequence[int]) -> str:
 
 
 def _seen(name: str) -> str:
-    """A name without what readers hardly see: case, how letters are composed, and characters that
-    show nothing."""
+    """Return a name without what readers hardly see: case, how letters are composed, and characters
+    that show nothing."""
     if name.isascii():
         return name.casefold()
     letters = unicodedata.normalize("NFKC", name).casefold()
@@ -66,7 +66,7 @@ def _seen(name: str) -> str:
 
 
 def _look_alike(places: Collection[str]) -> Iterator[list[str]]:
-    """The names of places that look alike."""
+    """Yield the names of places that look alike."""
     is_plain = "".join(places).isascii()
     seen = list(map(str.casefold if is_plain else _seen, places))
     if len(set(seen)) == len(seen):
@@ -80,7 +80,8 @@ def _look_alike(places: Collection[str]) -> Iterator[list[str]]:
 
 
 def _lone_first_row(plan: NetworkTables) -> Iterator[str]:
-    """The warning about a first row that was read as an arc, and whose ends occur nowhere else."""
+    """Yield the warning about a first row that was read as an arc, and whose ends occur nowhere
+    else."""
     table = plan.arcs
     if not table.begins_bare:
         return
@@ -109,7 +110,7 @@ def _rows(plan: NetworkTables) -> Iterator[str]:
 
 
 def _equal(column: array[int], other: array[int]) -> list[int]:
-    """The places where two columns have the same number."""
+    """Return the places where two columns have the same number."""
     np = numpy_for(len(column))
     if np is None:
         return [*compress(count(), map(eq, column, other))]
@@ -139,7 +140,7 @@ def _same_rows(plan: NetworkTables) -> Iterator[str]:
 
 
 def _alike(tails: array[int], heads: array[int], numbers: Sequence[int]) -> Iterable[int]:
-    """The places of rows that may be the same as another: those that are, and perhaps a few
+    """Return the places of rows that may be the same as another: those that are, and perhaps a few
     more."""
     np = numpy_for(len(tails))
     if np is not None and isinstance(numbers, array):
@@ -223,7 +224,7 @@ class _LonelyPlaces(Sequence[str]):
 
 
 def _reaches(net: BuiltProblem) -> bool:
-    """Whether a way leads from the source to the sink over arcs that carry anything."""
+    """Return True if a way leads from the source to the sink over arcs that carry anything."""
     heads: dict[int, list[int]] = defaultdict(list)
     for tail, head, capacity in zip(net.tails, net.heads, net.capacities):
         if capacity:

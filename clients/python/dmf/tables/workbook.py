@@ -26,7 +26,7 @@ _SHOWN = Context(prec=15)
 
 
 def is_workbook(data: bytes) -> bool:
-    """Whether a file is a workbook, or another thing that is packed as one is."""
+    """Return True if a file is a workbook, or another thing that is packed as one is."""
     return data.startswith(b"PK\x03\x04")
 
 
@@ -41,7 +41,7 @@ def sheets_of(file: TableFile) -> list[Sheet]:
 
 
 def _has_cells(sheet: Sheet) -> bool:
-    """Whether a sheet has cells, or what is wrong with it has to be told."""
+    """Return True if a sheet has cells, or what is wrong with it has to be told."""
     try:
         return any(not is_blank(row) for rows in sheet.read() for row in rows.cells)
     except TableFault:
@@ -49,7 +49,7 @@ def _has_cells(sheet: Sheet) -> bool:
 
 
 def _kind(data: bytes) -> str:
-    """Which workbook it is. Raises a `TableFault` for what is none."""
+    """Return which workbook it is. Raises a `TableFault` for what is none."""
     try:
         with zipfile.ZipFile(io.BytesIO(data)) as archive:
             names = {member.filename: member.file_size for member in archive.infolist()}
@@ -74,7 +74,7 @@ def _kind(data: bytes) -> str:
 
 
 def cell_text(value: Any) -> str:
-    """What a cell has, as a text."""
+    """Return what a cell has, as a text."""
     if value is None or isinstance(value, str):
         return value or ""
     if isinstance(value, bool):
@@ -105,7 +105,7 @@ def _xlsx(data: bytes, path: str) -> list[Sheet]:
 
 
 def _whole(kind: str, read: Callable[[], Iterator[Rows]]) -> Iterator[Rows]:
-    """The rows that are read. Raises a `TableFault` where the workbook is damaged."""
+    """Yield the rows that are read. Raises a `TableFault` where the workbook is damaged."""
     with _judging(kind):
         yield from read()
 
@@ -137,7 +137,7 @@ def _ods(data: bytes, path: str) -> list[Sheet]:
 
 
 def _ods_rows(sheet: Any, table: Any) -> Iterator[Rows]:
-    """The rows of a sheet. One that stands for many blank ones is passed over."""
+    """Yield the rows of a sheet. One that stands for many blank ones is passed over."""
     line = 1
     for row in sheet.getElementsByType(table.TableRow):
         cells: list[str] = []
@@ -156,7 +156,7 @@ def _ods_rows(sheet: Any, table: Any) -> Iterator[Rows]:
 
 
 def _ods_text(cell: Any) -> str:
-    """What a cell has, as a text."""
+    """Return what a cell has, as a text."""
     kind = cell.getAttribute("valuetype")
     if kind in ("float", "currency", "percentage"):
         return shown_number(cell.getAttribute("value"))

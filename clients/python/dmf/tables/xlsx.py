@@ -69,13 +69,13 @@ class _Parser:
             self.texts.append(text)
 
     def begin(self, name: str, given: dict[str, str]) -> None:
-        """An element begins, with these attributes."""
+        """Return an element begins, with these attributes."""
 
     def end(self, name: str) -> None:
-        """An element ends."""
+        """Return an element ends."""
 
     def take(self, part: Any) -> None:
-        """Takes a whole part."""
+        """Take a whole part."""
         self.parser.ParseFile(part)
 
 
@@ -171,7 +171,7 @@ class _SheetCells(_Parser):
             self.is_spoken = False
 
     def _column(self, reference: str) -> int:
-        """The number of a column, by the reference of a cell: 28 for AB5."""
+        """Return the number of a column, by the reference of a cell: 28 for AB5."""
         letters = reference.rstrip("0123456789")
         if letters not in self._columns:
             number = 0
@@ -183,7 +183,7 @@ class _SheetCells(_Parser):
         return self._columns[letters]
 
     def _cell(self, text: str) -> str:
-        """What a cell has, as a text."""
+        """Return what a cell has, as a text."""
         if self.kind == "s":
             return self.book.strings[int(text)]
         if self.kind == "n":
@@ -193,7 +193,7 @@ class _SheetCells(_Parser):
         return unescaped(text)
 
     def taken(self) -> Iterator[Rows]:
-        """The rows that were read, so many at once as stand one below the other."""
+        """Yield the rows that were read; those without a gap between them come at once."""
         begin = 0
         for at in range(1, len(self.lines) + 1):
             if (
@@ -220,7 +220,7 @@ class Workbook:
 
     @classmethod
     def opened(cls, archive: zipfile.ZipFile) -> Workbook:
-        """The workbook in an archive."""
+        """Return the workbook in an archive."""
         elements = _elements(archive, WORKBOOK)
         related = [
             given
@@ -246,7 +246,7 @@ class Workbook:
 
     @cached_property
     def strings(self) -> list[str]:
-        """The texts that cells share."""
+        """Return the texts that cells share."""
         found = _Strings()
         if "sharedStrings" in self.parts:
             with self.archive.open(self.parts["sharedStrings"]) as part:
@@ -255,7 +255,7 @@ class Workbook:
 
     @cached_property
     def dates(self) -> set[str]:
-        """The numbers of the styles whose numbers are dates."""
+        """Return the numbers of the styles whose numbers are dates."""
         elements = _elements(self.archive, self.parts["styles"]) if "styles" in self.parts else []
         own = {
             given["numFmtId"]: is_date(given.get("formatCode", ""))
@@ -271,7 +271,7 @@ class Workbook:
         }
 
     def rows(self, sheet: str) -> Iterator[Rows]:
-        """The rows of a sheet, some thousands at once."""
+        """Yield the rows of a sheet, some thousands at once."""
         cells = _SheetCells(self)
         with self.archive.open(self.sheets[sheet]) as part:
             while chunk := part.read(CHUNK):
@@ -281,8 +281,8 @@ class Workbook:
         yield from cells.taken()
 
     def number(self, text: str, style: str) -> str:
-        """The cell of a number: of a date its day, and of any other number the 15 digits that a
-        workbook shows."""
+        """Return the cell of a number: of a date its day, and of any other number the 15 digits
+        that a workbook shows."""
         found = self._numbers.get((text, style))
         if found is None:
             found = self._number(text.strip(), style)
@@ -297,17 +297,17 @@ class Workbook:
 
 
 def unescaped(text: str) -> str:
-    """A text in which `_x000D_` stands for what XML cannot have."""
+    """Return a text in which `_x000D_` stands for what XML cannot have."""
     return _ESCAPED.sub(lambda found: chr(int(found[1], 16)), text) if "_x" in text else text
 
 
 def is_date(code: str) -> bool:
-    """Whether numbers in a format are dates or times."""
+    """Return True if numbers in a format are dates or times."""
     return any(letter in "dmhysDMHYS" for letter in _NO_LETTERS.sub("", code.split(";")[0]))
 
 
 def _date(number: float, *, begins_1904: bool) -> str:
-    """A date, with its time if it has one; and the time alone of a number below 1."""
+    """Return a date, with its time if it has one; and the time alone of a number below 1."""
     # In the calendar of Excel there is a 29 February 1900, so days before it count one less.
     first = (
         datetime.datetime(1904, 1, 1)
