@@ -6,7 +6,6 @@ from __future__ import annotations
 import math
 import pickle
 import random
-import subprocess
 from dataclasses import dataclass, field
 from decimal import Decimal
 from pathlib import Path
@@ -16,7 +15,7 @@ import pytest
 from client_shared import dmf
 from desk_shared import run
 from packages import load
-from terminals import Terminal
+from test_office import at_a_terminal
 
 networkx: Any = load("networkx")
 TOOL = Path(__file__).parents[2] / "tools" / "dmf-plan"
@@ -300,20 +299,14 @@ def test_questions_at_a_terminal(tmp_path: Path) -> None:
     """Both are asked for one after the other; a word that does not answer is asked for again."""
     path = tmp_path / "t.inp"
     path.write_text(VALLEY)
-    with Terminal() as terminal:
-        words = [str(TOOL), str(path)]
-        running = subprocess.Popen(
-            words, stdin=terminal.end, stdout=terminal.end, stderr=terminal.end
-        )
-        for prompt, answer in (
-            ("velocity (m/s, a number above 0): ", b"fast\n"),
-            ("not a decimal number: fast", b"1.5\n"),
-            ("tanks (source or none): ", b"none\n"),
-            ("> ", b"solve\nquit\n"),
-        ):
-            assert terminal.wait_for(lambda seen: prompt in seen), terminal.told()
-            terminal.type(answer)
-        status, seen = running.wait(timeout=60), terminal.close()
+    prompts = [
+        "velocity (m/s, a number above 0): ",
+        "not a decimal number: fast",
+        "tanks (source or none): ",
+        "> ",
+    ]
+    answers = [b"fast\n", b"1.5\n", b"none\n", b"solve\nquit\n"]
+    status, seen = at_a_terminal([str(TOOL), str(path)], answers, prompts)
     assert status == 0 and "value 66.405 LPS" in seen, seen
     assert "next time: --velocity 1.5" in seen and "next time: --tanks none" in seen
 

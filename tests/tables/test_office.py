@@ -4,7 +4,7 @@ or nothing is read, and the question names its columns. None is read in another 
 from __future__ import annotations
 
 import subprocess
-from collections.abc import Mapping
+from collections.abc import Mapping, Sequence
 from decimal import Decimal
 from pathlib import Path
 from typing import Any
@@ -331,14 +331,15 @@ def test_a_project_keeps_the_options(tmp_path: Path) -> None:
     assert ran.stdout.splitlines()[-1].startswith("value 4"), ran
 
 
-def at_a_terminal(words: list[str], answers: list[bytes]) -> tuple[int, str]:
+def at_a_terminal(
+    words: list[str], answers: list[bytes], prompts: Sequence[str] = ("Number or title: ", "> ")
+) -> tuple[int, str]:
     """What a tool ends with and tells, where each line is typed when the tool waits for one."""
     with Terminal() as terminal:
         running = subprocess.Popen(
             words, stdin=terminal.end, stdout=terminal.end, stderr=terminal.end
         )
-        for count, answer in enumerate(answers):
-            prompt = "Number or title: " if count == 0 else "> "
+        for prompt, answer in zip(prompts, answers):
             assert terminal.wait_for(lambda told: prompt in told), terminal.told()
             terminal.type(answer)
         return running.wait(timeout=60), terminal.close()
@@ -355,3 +356,15 @@ def test_a_terminal_is_asked() -> None:
     assert status == 0 and "there is no column" not in told and "value 1550" in told, told
     status, told = at_a_terminal(words, [b"\n"])
     assert status == 3 and "--capacity 'Trucks per day'  as in 50, 30" in told, told
+
+
+def test_a_terminal_is_told(tmp_path: Path) -> None:
+    """What takes seconds is told at a terminal while it is done, and a script is told nothing."""
+    path = tmp_path / "large.csv"
+    rows = "".join(f"A,B{at},5\nB{at},C,4\n" for at in range(200_000))
+    path.write_text(f"from,to,capacity\n{rows}")
+    words = [str(ROOT / "tools" / "dmf-plan"), str(path)]
+    status, told = at_a_terminal(words, [b"solve\nquit\n"], prompts=["> "])
+    assert status == 0 and f"dmf-plan: reading {path} (5 MB) .." in told, told
+    assert told.index("(5 MB) ..") < told.index("dmf-plan: solving ..") < told.index("value 800000")
+    assert " .." not in run("dmf-plan", str(path), typed="solve\n").stderr

@@ -1,9 +1,9 @@
 """Networks of EPANET (`.inp`): pipes, pumps and valves as rows of arcs, and what reservoirs, tanks
 and junctions give and take as rows of places.
 
-A pipe has no capacity in such a file. It gets the one of its cross-section at a velocity
-(`pipe_capacity`). Pipes and valves lead both ways, except check valves and valves that let nothing back;
-pumps lead one way, and have no limit.
+A pipe has no capacity in such a file. Its capacity is that of its cross-section at a velocity
+(`pipe_capacity`). Pipes and valves lead both ways, except check valves and valves that let nothing
+back. Pumps lead one way, and have no limit.
 """
 
 from __future__ import annotations

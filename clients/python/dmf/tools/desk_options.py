@@ -18,6 +18,9 @@ from ..files import cannot
 from ..tables.loader import read_subject, says_table
 from .command import Status, ToolFault, status_of, warn
 
+# From how many bytes on a terminal is told what is done with a file.
+LARGE = 4_000_000
+
 
 def add_project_words(parser: argparse.ArgumentParser) -> None:
     """Add the options of the tools that open projects."""
@@ -57,7 +60,12 @@ def open_desk(words: argparse.Namespace, *, with_solve: bool, may_follow: bool =
                 f"{beside(words.path)} already exists; {_how_to_open(beside(words.path))}",
                 Status.LOST,
             )
+        is_watched = _is_watched(words.path)
+        if is_watched:
+            _tell(f"reading {words.path} ({os.path.getsize(words.path) / 1e6:.0f} MB)")
         subject = read_subject(words)
+        if is_watched:
+            _tell("solving")
         desk = Desk(subject, with_solve=with_solve, may_follow=may_follow and not words.keep)
         desk.tell(*subject.notes)
         if not words.keep:
@@ -80,6 +88,17 @@ def open_desk(words: argparse.Namespace, *, with_solve: bool, may_follow: bool =
             if is_project(words.path)
             else ToolFault(str(error), Status.LOST)
         ) from None
+
+
+def _is_watched(path: str) -> bool:
+    """Return True if somebody waits at a terminal for a file that takes seconds to read."""
+    is_terminal = sys.stderr is not None and sys.stderr.isatty()
+    return is_terminal and os.path.isfile(path) and os.path.getsize(path) > LARGE
+
+
+def _tell(what: str) -> None:
+    """Say at a terminal what the tool does now."""
+    warn(os.path.basename(sys.argv[0]), f"{what} ..")
 
 
 def _how_to_open(path: str) -> str:
