@@ -3,6 +3,7 @@ asked, and values by networkx from what a file was written of."""
 
 from __future__ import annotations
 
+import argparse
 import math
 import pickle
 import random
@@ -14,6 +15,10 @@ from typing import Any
 import pytest
 from client_shared import dmf
 from desk_shared import run
+from dmf.desk.workspace import Desk
+from dmf.tables.loader import TableOptions, subject_of
+from dmf.tables.table_file import ReadOptions
+from dmf.tools.board import spots_of
 from packages import load
 from test_office import at_a_terminal
 
@@ -309,6 +314,26 @@ def test_questions_at_a_terminal(tmp_path: Path) -> None:
     status, seen = at_a_terminal([str(TOOL), str(path)], answers, prompts)
     assert status == 0 and "value 66.405 LPS" in seen, seen
     assert "next time: --velocity 1.5" in seen and "next time: --tanks none" in seen
+
+
+def test_the_page_has_the_map() -> None:
+    """The board puts the places of a network where its coordinates are: in a square on its tip."""
+    path = Path(__file__).with_name("office") / "valves.inp"
+    wanted = TableOptions(ReadOptions(velocity=Decimal("1.5")))
+    desk = Desk(subject_of(wanted, str(path), path.read_bytes()))
+    try:
+        words = argparse.Namespace(map=None, place_table=None, path=str(path))
+        spots = spots_of(words, desk)
+        names = desk.network.names
+        found = {names.node(node): (spot.x, spot.y) for node, spot in spots.items()}
+    finally:
+        desk.end()
+    assert found == {
+        "Lake": (0, 150),
+        "Mill": (150, 300),
+        "Hill": (150, 0),
+        "Town": (300, 150),
+    }
 
 
 def test_a_project_keeps_the_answers(tmp_path: Path) -> None:

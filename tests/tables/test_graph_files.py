@@ -93,3 +93,15 @@ def test_generated(tmp_path: Path, seed: int) -> None:
     for name in "t.graphml", "t.edgelist":
         with dmf.read_table(tmp_path / name, source="s", sink="t") as network:
             assert network.solve().value == value
+
+
+def test_an_attribute_without_a_type(tmp_path: Path) -> None:
+    """What networkx warns of is a note, and no warning of Python."""
+    path = tmp_path / "t.graphml"
+    networkx.write_graphml(graph_of(networkx.DiGraph), path)
+    text = path.read_text()
+    assert text.count(' attr.type="long"') == 2
+    path.write_text(text.replace(' attr.type="long"', ""))
+    with dmf.read_table(path) as network:
+        assert "networkx: No key type for id d0. Using string" in network.notes
+        assert network.solve().value == 65

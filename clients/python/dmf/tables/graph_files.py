@@ -3,6 +3,7 @@
 from __future__ import annotations
 
 import importlib
+import warnings
 from collections.abc import Iterable, Iterator, Mapping, Sequence
 from functools import partial
 from typing import Any
@@ -37,11 +38,15 @@ def sheets_of(file: TableFile) -> list[Sheet]:
 
 def _graphml(networkx: Any, file: TableFile, notes: list[str]) -> list[Sheet]:
     try:
-        graph = networkx.parse_graphml(file.data.decode(_declared(file)), force_multigraph=True)
+        with warnings.catch_warnings(record=True) as told:
+            warnings.simplefilter("always")
+            text = file.data.decode(_declared(file))
+            graph = networkx.parse_graphml(text, force_multigraph=True)
+        notes += dict.fromkeys(f"networkx: {warning.message}" for warning in told)
     except Exception as error:
         line = getattr(error, "position", (0, 0))[0]
-        told = str(error).strip("'\"")[:200] or type(error).__name__
-        raise TableFault(f"the GraphML file cannot be read: {told}", line) from None
+        why = str(error).strip("'\"")[:200] or type(error).__name__
+        raise TableFault(f"the GraphML file cannot be read: {why}", line) from None
     edges = [(tail, head, values) for tail, head, values in graph.edges(data=True)]
     titles = _titles(values for _, _, values in edges)
     ways = [] if graph.is_directed() else ["direction"]
