@@ -73,7 +73,7 @@ what stands here is not read
 D200, D150, D100 = "47.124", "26.507", "11.781"
 # All that the others have together is 47.124 + 26.507 * 3 + 11.781 + 12.5, with three decimals.
 UNLIMITED = "10000"
-ARCS = [
+ARCS: list[tuple[str, str, Any, str]] = [
     ("Lake", "Mill", D200, "P1"),
     ("Mill", "Lake", D200, "P1"),
     ("Lake", "Long Hill", D150, "P2"),

@@ -4,6 +4,7 @@ from __future__ import annotations
 
 import json
 import random
+from collections.abc import Callable
 from decimal import Decimal
 from pathlib import Path
 from typing import Any
@@ -76,7 +77,7 @@ def shapes(path: Path, kind: int = 3) -> Path:
     return path.with_suffix(".shp")
 
 
-WAYS = {"t.geojson": geojson, "t.csv": qgis, "t.shp": shapes}
+WAYS: dict[str, Callable[[Path], Path]] = {"t.geojson": geojson, "t.csv": qgis, "t.shp": shapes}
 
 
 @pytest.mark.parametrize("name", WAYS)

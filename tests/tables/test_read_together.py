@@ -26,8 +26,9 @@ from dmf.tables.csv_file import Block
 from dmf.tables.numpy_rows import Spans, first_alike, spans_of
 from dmf.tables.plain_numbers import Plain, plain_of
 from dmf.tables.problem_builder import ends_alone
-from dmf.tables.readers import Numbers, ReadOptions, are_plain, name_of
+from dmf.tables.readers import Numbers, are_plain, name_of
 from dmf.tables.sheet import Rows
+from dmf.tables.table_file import ReadOptions
 from dmf.tables.warnings import _alike, _equal
 from hypothesis import given
 from hypothesis import strategies as some

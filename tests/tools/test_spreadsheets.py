@@ -16,8 +16,8 @@ from dmf.quantity import Measure
 from dmf.tables.arcs_and_places import read_arcs
 from dmf.tables.csv_file import csv_sheet
 from dmf.tables.loader import LoadedProblem
-from dmf.tables.readers import ReadOptions
 from dmf.tables.sheet import cell_of, line, name_in
+from dmf.tables.table_file import ReadOptions
 from dmf.tables.table_writer import ArcRow, plan_table
 from hypothesis import given
 from hypothesis import strategies as some
