@@ -1,6 +1,6 @@
-"""Tables of arcs as people keep them, in CSV files and workbooks: read to problems and networks,
-and written again.
+"""Tables of arcs as people keep them, in CSV files, workbooks and files of other programs: read to
+problems and networks, and written again.
 
 It must not know sweeps, a desk or a terminal.
-Entrances: `network_loader` (`read_table`), `problem_networks` (`read`), `loader` (the tables that
-options name) and `table_writer`."""
+Entrances: `file_kinds` (what reads each kind of file), `network_loader` (`read_table`),
+`problem_networks` (`read`), `loader` (the tables that options name) and `table_writer`."""
