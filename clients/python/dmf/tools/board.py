@@ -102,8 +102,8 @@ def opened(words: argparse.Namespace) -> Desk:
 
 
 def spots_of(words: argparse.Namespace, desk: Desk) -> dict[int, Spot]:
-    """Return where the places lie, if there is a map: one that was named, a table of places with the
-    columns of a map, or the file of the network itself."""
+    """Return where the places lie, if there is a map: one that was named, a table of places with
+    the columns of a map, or the file of the network itself."""
     path = words.map or words.place_table
     try:
         given = (
