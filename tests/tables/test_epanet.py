@@ -308,7 +308,7 @@ def test_questions_at_a_terminal(tmp_path: Path) -> None:
         "velocity (m/s, a number above 0): ",
         "not a decimal number: fast",
         "tanks (source or none): ",
-        "> ",
+        "greatest>",
     ]
     answers = [b"fast\n", b"1.5\n", b"none\n", b"solve\nquit\n"]
     status, seen = at_a_terminal([str(TOOL), str(path)], answers, prompts)

@@ -364,7 +364,7 @@ def test_a_terminal_is_told(tmp_path: Path) -> None:
     rows = "".join(f"A,B{at},5\nB{at},C,4\n" for at in range(200_000))
     path.write_text(f"from,to,capacity\n{rows}")
     words = [str(ROOT / "tools" / "dmf-plan"), str(path)]
-    status, told = at_a_terminal(words, [b"solve\nquit\n"], prompts=["> "])
+    status, told = at_a_terminal(words, [b"solve\nquit\n"], prompts=["greatest>"])
     assert status == 0 and f"dmf-plan: reading {path} (5 MB) .." in told, told
     assert told.index("(5 MB) ..") < told.index("dmf-plan: solving ..") < told.index("value 800000")
     assert " .." not in run("dmf-plan", str(path), typed="solve\n").stderr
