@@ -19,8 +19,8 @@ from dmf.desk.workspace import Desk
 from dmf.tables.loader import TableOptions, subject_of
 from dmf.tables.table_file import ReadOptions
 from dmf.tools.board import spots_of
+from office_shared import at_a_terminal
 from packages import load
-from test_office import at_a_terminal
 
 networkx: Any = load("networkx")
 TOOL = Path(__file__).parents[2] / "tools" / "dmf-plan"

@@ -12,8 +12,8 @@ from typing import Any
 import pytest
 from client_shared import dmf
 from desk_shared import run
+from office_shared import greatest
 from packages import load
-from test_office import greatest
 
 shapefile: Any = load("shapefile")
 # A square with a way across; the last line ends a little beside the corner.

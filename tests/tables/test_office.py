@@ -3,8 +3,7 @@ or nothing is read, and the question names its columns. None is read in another 
 
 from __future__ import annotations
 
-import subprocess
-from collections.abc import Mapping, Sequence
+from collections.abc import Mapping
 from decimal import Decimal
 from pathlib import Path
 from typing import Any
@@ -15,35 +14,12 @@ from desk_shared import ROOT, run
 from dmf.tables.csv_file import csv_sheet
 from dmf.tables.loader import TableOptions, subject_of
 from dmf.tables.table_file import ReadOptions
+from office_shared import at_a_terminal, ends_of, greatest
 from office_sheets import ASKED, READ, Arcs, Asked, Read
 from packages import load
-from terminals import Terminal
 
-networkx: Any = load("networkx")
 openpyxl: Any = load("openpyxl")
 OFFICE = Path(__file__).with_name("office")
-
-
-def ends_of(arcs: Arcs) -> tuple[list[str], list[str]]:
-    """The places that nothing leads to, and those that nothing leads away from."""
-    tails, heads = ([arc[at] for arc in arcs] for at in (0, 1))
-    sources, sinks = [*dict.fromkeys(it for it in tails if it not in heads)], [
-        *dict.fromkeys(it for it in heads if it not in tails)
-    ]
-    # Where all rows lead both ways, from the first place to that of the fourth row.
-    return (sources, sinks) if sources else ([tails[0]], [heads[4]])
-
-
-def greatest(arcs: Arcs) -> Decimal:
-    """The greatest value, by networkx in thousandths."""
-    graph = networkx.DiGraph()
-    for tail, head, most in arcs:
-        before = graph.get_edge_data(tail, head, {"capacity": 0})["capacity"]
-        graph.add_edge(tail, head, capacity=before + int(1000 * Decimal(most)))
-    sources, sinks = ends_of(arcs)
-    graph.add_edges_from((1, place) for place in sources)
-    graph.add_edges_from((place, 2) for place in sinks)
-    return Decimal(networkx.maximum_flow_value(graph, 1, 2)) / 1000
 
 
 def opened(name: str, arcs: Arcs, **given: Any) -> Any:
@@ -329,20 +305,6 @@ def test_a_project_keeps_the_options(tmp_path: Path) -> None:
     path.write_text(path.read_text().replace("C,5,,", "C,5,4,"))
     ran = run("dmf-plan", f"{path.with_suffix('')}.dmf.json", typed="solve\n")
     assert ran.stdout.splitlines()[-1].startswith("value 4"), ran
-
-
-def at_a_terminal(
-    words: list[str], answers: list[bytes], prompts: Sequence[str] = ("Number or title: ", "> ")
-) -> tuple[int, str]:
-    """What a tool ends with and tells, where each line is typed when the tool waits for one."""
-    with Terminal() as terminal:
-        running = subprocess.Popen(
-            words, stdin=terminal.end, stdout=terminal.end, stderr=terminal.end
-        )
-        for prompt, answer in zip(prompts, answers):
-            assert terminal.wait_for(lambda told: prompt in told), terminal.told()
-            terminal.type(answer)
-        return running.wait(timeout=60), terminal.close()
 
 
 def test_a_terminal_is_asked() -> None:

@@ -8,6 +8,7 @@ from pathlib import Path
 
 import pytest
 from client_shared import dmf
+from dmf.tables.loader import read_subject
 from dmf.tools import desk_options
 from dmf.tools.options import add_words, words_of
 
@@ -24,13 +25,12 @@ def test_garbage_is_collected_again(tmp_path: Path, monkeypatch: pytest.MonkeyPa
     path = tmp_path / "t.csv"
     path.write_text("from,to,capacity\nA,B,5\n")
     seen = []
-    read = desk_options.read_subject
 
     def watched(given: argparse.Namespace) -> object:
         seen.append(gc.isenabled())
-        return read(given)
+        return read_subject(given)
 
-    monkeypatch.setattr(desk_options, "read_subject", watched)
+    monkeypatch.setattr("dmf.tools.desk_options.read_subject", watched)
     desk = desk_options.open_desk(words(path), with_solve=True)
     desk.end()
     assert seen == [False] and gc.isenabled()
