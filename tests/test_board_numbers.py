@@ -46,7 +46,7 @@ def test_part(driver: Any, tmp_path: Path) -> None:
             page.driver.execute_script(
                 "return document.getElementById('trials').tBodies[0].rows.length"
             )
-            == 799
+            == 801
         )
         page.press("Try each pipe of the limit")
         page.wait(lambda: "limit" in page.text("#verdict"))

@@ -14,7 +14,7 @@ import { beginScenarios, showScenarios } from "./scenarios.js";
 import { begin, watch } from "./state.js";
 import { beginSteps, showSteps } from "./steps.js";
 import { beginKeeping, showSummary } from "./summary.js";
-import { beginTable, goToChosen, showForms, showTable } from "./table.js";
+import { beginTable, goToChosen, showForms, showRows, showTable } from "./table.js";
 import { beginTrials, showOutdated } from "./trials.js";
 
 const watchers = [showOutdated, showSummary, showSteps, showChosen, sayPicture, showPicture, showForms, showTable, followMany];
@@ -24,7 +24,7 @@ watchChoice(mark);
 watchChoice((chosen) => chosen && openChosen());
 watchChoice(revealChosen);
 watchChoice(goToChosen);
-watchPanel(goToChosen);
+watchPanel(showRows);
 watchChoice(showChosen);
 watchChoice(nameShown);
 watchPicked(mark);

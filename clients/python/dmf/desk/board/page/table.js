@@ -121,13 +121,17 @@ async function go(place) {
   point();
 }
 
-/** Goes to the row of the arc that is chosen, if the table is seen and the filter shows that. */
-export async function goToChosen() {
-  const number = theChoice()?.arc;
+/** Shows the rows once the table is seen, with the mark of what is chosen. */
+export async function showRows() {
   point();
-  if (at("part-all").hidden) return;
-  await scrolled();
-  if (!number || arcAt(current)?.number === number) return;
+  if (!at("part-all").hidden) await scrolled();
+}
+
+/** Goes to the row of the arc that is chosen, if that was chosen elsewhere while the table is seen, and the filter shows it. */
+export async function goToChosen() {
+  const number = theChoice()?.arc, host = at("part-all");
+  point();
+  if (!number || host.hidden || host.contains(document.activeElement)) return;
   const told = await ask(`numbers?${words()}&first=0&count=${part.total}`), place = told?.numbers.indexOf(number) ?? -1;
   if (place >= 0 && number === theChoice()?.arc) await go(place);
 }
