@@ -30,7 +30,7 @@ from .setting_question import SettingQuestion
 from .sheet import Faults, Sheet, naming
 from .table_file import ReadOptions, TableFile
 from .title_row import fits
-from .titles import CAPACITY, DEMAND, HEAD, LIMIT, NAME, PLACE, SUPPLY, TAIL
+from .titles import DEMAND, LIMIT, NAME, PLACE, SUPPLY
 from .warnings import warnings
 
 # By the option of a table of places, what it says.
@@ -211,9 +211,6 @@ def _only(sheets: Sequence[Sheet], name: str) -> Sheet:
 
 def _names(sheets: Sequence[Sheet]) -> str:
     return ", ".join(quoted_name(sheet.path.rpartition("#")[2]) for sheet in sheets)
-
-
-COLUMNS = (TAIL, HEAD, CAPACITY, NAME)
 
 
 def names_terminals(words: argparse.Namespace) -> bool:

@@ -13,7 +13,7 @@ from typing import NamedTuple
 
 from ..text.spelling import cleaned
 
-TAIL, HEAD, CAPACITY, NAME = "tail", "head", "capacity", "name"
+TAIL, HEAD, CAPACITY, NAME = COLUMNS = "tail", "head", "capacity", "name"
 PLACE, LIMIT, SUPPLY, DEMAND = "place", "limit", "supply", "demand"
 STATUS, DIRECTION = "status", "direction"
 # What the ends of the lines of a map are called as columns.

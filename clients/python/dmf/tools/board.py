@@ -22,17 +22,18 @@ import re
 import signal
 import sys
 from threading import Event, Thread
+from typing import TYPE_CHECKING
 
-from ..desk.board.layout import Map, NoMap, Spot, placed, read_map
-from ..desk.board.routes import Board
-from ..desk.board.server import Door, Server
-from ..desk.project.opener import beside, keep_project
-from ..desk.workspace import Desk
 from ..errors import TableFault
 from ..text.spelling import cleaned
 from .command import Status, ToolFault, statuses, warn, write
 from .desk_options import add_project_words, close_desk, open_desk
 from .options import add_words, words_of
+
+if TYPE_CHECKING:
+    from ..desk.board.layout import Map, Spot
+    from ..desk.board.server import Door, Server
+    from ..desk.workspace import Desk
 
 NAME = "dmf-board"
 # How long the board waits at its end for an answer that is being computed, in seconds.
@@ -104,6 +105,8 @@ def opened(words: argparse.Namespace) -> Desk:
 def spots_of(words: argparse.Namespace, desk: Desk) -> dict[int, Spot]:
     """Return where the places lie, if there is a map: one that was named, a table of places with
     the columns of a map, or the file of the network itself."""
+    from ..desk.board.layout import NoMap, placed, read_map
+
     path = words.map or words.place_table
     try:
         given = (
@@ -132,6 +135,8 @@ def spots_of(words: argparse.Namespace, desk: Desk) -> dict[int, Spot]:
 
 def _map_of_file(desk: Desk) -> Map | None:
     """The map that the file of a network has itself."""
+    from ..desk.board.layout import Map, Spot
+
     plan = desk.network.subject.plan
     positions = plan.arcs.sheet.positions if plan else None
     if positions is None or not positions.spots:
@@ -151,6 +156,8 @@ def show(server: Server) -> Door | None:
     # Imported here, since most boards on a server need no browser.
     import webbrowser
 
+    from ..desk.board.server import Door
+
     try:
         door = Door(server.addresses[0])
     except OSError as error:
@@ -162,6 +169,11 @@ def show(server: Server) -> Door | None:
 
 def main() -> int:
     words = options()
+    # A help needs no desk.
+    from ..desk.board.routes import Board
+    from ..desk.board.server import Server
+    from ..desk.project.opener import beside, keep_project
+
     # If a session has ended or a page has gone, a write to it fails instead of ending the board.
     signal.signal(signal.SIGPIPE, signal.SIG_IGN)
     desk = opened(words)

@@ -9,17 +9,15 @@ import os
 import shlex
 import sys
 from collections.abc import Iterator
+from typing import TYPE_CHECKING
 
-from ..desk.project.opener import beside, is_project, keep_project, project_desk
-from ..desk.project.scenarios import Scenarios
 from ..desk.project.schema import ENDING
-from ..desk.project.storage import journal_of
-from ..desk.steps import DeskFault
-from ..desk.workspace import Desk
 from ..errors import Refused
 from ..files import cannot
-from ..tables.loader import read_subject, says_table
 from .command import Status, ToolFault, status_of, warn
+
+if TYPE_CHECKING:
+    from ..desk.workspace import Desk
 
 # From how many bytes on a terminal is told what is done with a file.
 LARGE = 4_000_000
@@ -43,6 +41,12 @@ def open_desk(words: argparse.Namespace, *, with_solve: bool, may_follow: bool =
     """Return the desk for the table, the problem or the project in the arguments. Its `news` say
     what was assumed. With `may_follow`, and if no project keeps the steps, the flows may be
     computed later. Raises a `ToolFault`."""
+    # A help needs no desk.
+    from ..desk.project.opener import beside, is_project, keep_project, project_desk
+    from ..desk.steps import DeskFault
+    from ..desk.workspace import Desk
+    from ..tables.loader import read_subject, says_table
+
     try:
         if is_project(words.path):
             if says_table(words) or words.raw_names or words.keep:
@@ -127,6 +131,9 @@ def _how_to_open(path: str) -> str:
 def close_desk(name: str, desk: Desk) -> None:
     """Close the desk of the tool with this name. Raises a `ToolFault` if its project cannot be
     written."""
+    from ..desk.project.scenarios import Scenarios
+    from ..desk.project.storage import journal_of
+
     project = Scenarios.of(desk)
     try:
         desk.end()

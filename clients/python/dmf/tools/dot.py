@@ -41,7 +41,6 @@ import sys
 from collections import defaultdict
 
 from ..files import read_file
-from ..tables.loader import read_subject
 from ..text.drawing import Drawing, picture
 from ..text.lexical import NODE, Fault, TextFault, fields, lines, read_number
 from ..text.problem_text import ArcRecord, Problem, read_problem
@@ -89,6 +88,9 @@ def judge_names(text: bytes, problem: Problem) -> None:
 def problem_of(words: argparse.Namespace) -> Problem:
     """Return the problem that the arguments name, after checking its names. Raises a
     `ToolFault`."""
+    # A help needs nothing that reads tables.
+    from ..tables.loader import read_subject
+
     subject = read_subject(words, in_doubt=True)
     for note in subject.notes:
         warn(NAME, note)

@@ -38,10 +38,9 @@ from __future__ import annotations
 import argparse
 import sys
 from collections.abc import Iterator
+from typing import TYPE_CHECKING
 
 from ..files import cannot, standard_input
-from ..tables.loader import LoadedProblem, read_subject
-from ..tables.table_writer import Told, WriterRow, plan_text
 from ..text.events import JsonWriter
 from ..text.lexical import Fault, TextFault, display
 from ..text.problem_text import ArcRecord, Problem, read_problem
@@ -62,6 +61,9 @@ from ..text.table_comments import TableRoles, renumbered, role_words, table_comm
 from ..text.transcript import TranscriptReader
 from .command import CommandLines, Status, ToolFault, statuses, warn, write
 from .options import add_words, words_of
+
+if TYPE_CHECKING:
+    from ..tables.loader import LoadedProblem
 
 NAME = "dmf-names"
 UNKNOWN = (
@@ -196,6 +198,8 @@ class Telling:
 def table(names: AnswerNames, follower: TranscriptReader) -> str:
     """Return the arcs of the last solution as a table for a spreadsheet. If the answer has no cut
     of that solution, its column is empty."""
+    from ..tables.table_writer import Told, WriterRow, plan_text
+
     solution, cut = follower.solution, follower.cut
     if solution is None and follower.is_known:
         hint = "; `print flow` after the last solve prints them" * bool(follower.solves_are_brief)
@@ -294,6 +298,9 @@ def problem_of(subject: LoadedProblem) -> Problem:
 
 def main() -> int:
     words = options()
+    # A help needs nothing that reads tables.
+    from ..tables.loader import read_subject
+
     subject = read_subject(words, in_doubt=True)
     problem = problem_of(subject)
     commands = CommandLines(words.commands) if words.commands is not None else None

@@ -9,8 +9,8 @@ from collections.abc import Callable
 from decimal import Decimal
 from typing import Any
 
-from ..tables.loader import COLUMNS, names_terminals
 from ..tables.setting_question import SETTINGS, Setting
+from ..tables.titles import COLUMNS
 from ..text.spelling import cleaned, near
 from .questions import asker
 
@@ -84,6 +84,9 @@ def parsed(
     are refused."""
     end = given.index("--") if "--" in given else len(given)
     words, unknown = parser.parse_known_intermixed_args(given[:end])
+    # A help ends before this, and needs nothing that reads tables.
+    from ..tables.loader import names_terminals
+
     if unknown:
         options = [name for name in parser._option_string_actions if name.startswith("--")]
         parser.error(f"unrecognized arguments: {' '.join(unknown)}{near(unknown[0], options)}")

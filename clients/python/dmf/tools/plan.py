@@ -25,14 +25,15 @@ import argparse
 import os
 import signal
 import sys
+from typing import TYPE_CHECKING
 
-from ..desk.plan.json_shell import make_shell
-from ..desk.project.opener import beside, is_project, keep_project
-from ..desk.workspace import Desk
 from ..files import standard_input
 from .command import Status, statuses, warn, write
 from .desk_options import add_project_words, close_desk, open_desk
 from .options import add_words, words_of
+
+if TYPE_CHECKING:
+    from ..desk.workspace import Desk
 
 NAME = "dmf-plan"
 
@@ -65,6 +66,10 @@ def opened(words: argparse.Namespace) -> Desk:
 
 def main() -> int:
     words = options()
+    # A help needs no desk.
+    from ..desk.plan.json_shell import make_shell
+    from ..desk.project.opener import beside, is_project, keep_project
+
     is_typed = sys.stdin is not None and sys.stdin.isatty() and not words.json
     # If a session has ended or a page has gone, a write to it fails instead of ending the tool.
     signal.signal(signal.SIGPIPE, signal.SIG_IGN)

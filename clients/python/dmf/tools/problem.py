@@ -29,11 +29,7 @@ import argparse
 import sys
 
 from ..files import cannot
-from ..tables.loader import answered, data_of, load_tables, wanted_of
-from ..tables.other_columns import extra_of
-from ..tables.problem_builder import net_of, problem_text
 from ..tables.titles import DEMAND, SUPPLY
-from ..tables.warnings import warnings
 from .command import Status, statuses, warn, write
 from .options import add_options, parsed
 
@@ -65,6 +61,12 @@ def parser() -> argparse.ArgumentParser:
 def main() -> int:
     reader = parser()
     words = parsed(reader, sys.argv[1:])
+    # A help needs nothing that reads tables.
+    from ..tables.loader import answered, data_of, load_tables, wanted_of
+    from ..tables.other_columns import extra_of
+    from ..tables.problem_builder import net_of, problem_text
+    from ..tables.warnings import warnings
+
     try:
         data = data_of(words.table)
     except OSError as error:

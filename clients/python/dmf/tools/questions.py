@@ -6,14 +6,16 @@ import argparse
 import shlex
 import sys
 from collections.abc import Callable
-from typing import Optional, Union
+from typing import TYPE_CHECKING, Optional, Union
 
-from ..tables.column_question import ColumnQuestion, shown_cells
 from ..tables.setting_question import SettingQuestion
 from ..text.lexical import display
 
-Question = Union[ColumnQuestion, SettingQuestion]
-Ask = Callable[[Question], Optional[str]]
+if TYPE_CHECKING:
+    from ..tables.column_question import ColumnQuestion
+
+Ask = Callable[["Question"], Optional[str]]
+Question = Union["ColumnQuestion", SettingQuestion]
 
 
 def asker(words: argparse.Namespace) -> Ask | None:
@@ -47,6 +49,8 @@ def _ask_setting(question: SettingQuestion) -> str | None:
 
 def _ask_column(question: ColumnQuestion) -> str | None:
     """Return the title of the chosen column, or None if none is chosen."""
+    from ..tables.column_question import shown_cells
+
     _tell(question.told().partition("; ")[0])
     width = max(len(name) for name, _ in question.choices)
     for number, (name, cells) in enumerate(question.choices, 1):

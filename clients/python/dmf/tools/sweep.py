@@ -29,19 +29,18 @@ import io
 import signal
 import sys
 from pathlib import Path
-from typing import Any
+from typing import TYPE_CHECKING, Any
 
 from ..errors import Refused
 from ..files import cannot, write_file
-from ..network import Network
-from ..session.fresh import FreshSession
-from ..session.runners import program_of
-from ..tables.loader import read_subject
-from ..tables.problem_networks import whole_network
 from .command import Status, ToolFault, raise_interrupts, status_of, statuses, warn, write
 from .options import add_words, words_of
-from .sweep_run import NAME, JsonSweep, SweepRun
-from .sweep_table import ResultFile
+
+if TYPE_CHECKING:
+    from ..network import Network
+    from .sweep_run import SweepRun
+
+NAME = "dmf-sweep"
 
 
 def arguments() -> argparse.Namespace:
@@ -141,6 +140,11 @@ def plot(sweep: SweepRun, rows: list[list[str]], path: str) -> None:
 
 
 def carry_out(words: argparse.Namespace, network: Network[Any], text: bytes) -> int:
+    from ..session.fresh import FreshSession
+    from ..session.runners import program_of
+    from .sweep_run import JsonSweep, SweepRun
+    from .sweep_table import ResultFile
+
     if words.anew:
         network._session = FreshSession(network._session, program_of(None))
     network.solve()
@@ -169,6 +173,10 @@ def carry_out(words: argparse.Namespace, network: Network[Any], text: bytes) -> 
 def network_of(words: argparse.Namespace) -> tuple[Network[Any], bytes]:
     """Return the network that the arguments name, and the text of its problem. Raises a
     `ToolFault`."""
+    # A help needs no network.
+    from ..tables.loader import read_subject
+    from ..tables.problem_networks import whole_network
+
     subject = read_subject(words, in_doubt=True)
     for note in subject.notes:
         warn(NAME, note)

@@ -18,16 +18,10 @@ from ...errors import Error, FileFault, TableFault
 from ...files import read_file
 from ...quantity import decimals
 from ...session.base import Program
-from ...tables.loader import (
-    COLUMNS,
-    LoadedProblem,
-    TableOptions,
-    is_problem,
-    split_path,
-    subject_of,
-)
+from ...tables.loader import LoadedProblem, TableOptions, is_problem, split_path, subject_of
 from ...tables.other_columns import Extra
 from ...tables.table_file import ReadOptions
+from ...tables.titles import COLUMNS
 from ...text.lexical import TextFault, display
 from ...text.problem_text import problem_in, read_problem
 from ...text.spelling import cleaned, quoted_name
