@@ -22,6 +22,7 @@ from .session.base import Session, Told
 from .session.runners import start
 from .solution import Flows, Solution
 from .state import NetworkState
+from .text.lexical import AMOUNTS
 
 if TYPE_CHECKING:
     from .quantity import Measure
@@ -139,6 +140,21 @@ class SessionHolder(Generic[Node]):
         """The side of the smallest minimum cut, by the numbers of its nodes. Raises
         `FlowIsNotGreatest`."""
         return self._session.cut()[1]
+
+    @exclusive
+    def _flow_of_each(self) -> array[int]:
+        """Return the flow on each arc, by their numbers: that on arc 1 first, 0 on a closed one."""
+        if not self._session.end.alive:
+            raise self._session.ended()
+        kept = self._kept
+        told = self._session.flows(kept.value, kept.open_count)
+        if isinstance(told, array):
+            return told
+        opened, flows = kept.opened(), array(AMOUNTS, [0]) * kept.arc_count
+        read = Flows(kept.value, opened, kept.capacities, lambda: told).numbers()
+        for number, flow in zip(opened.numbers(), read):
+            flows[number - 1] = flow
+        return flows
 
     @exclusive
     def _leaving_cut(self) -> list[Arc[Node]]:

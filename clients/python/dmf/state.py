@@ -191,17 +191,19 @@ class NetworkState(History, Generic[Node]):
 
     def leaving(self, side: list[int]) -> list[Arc[Node]]:
         """The open arcs that lead out of a set of nodes, in their order."""
-        numbers = [number for number in self.columns.leaving(side) if number not in self.closed]
-        if not self.added:
-            return list(map(self.handles.of, numbers))
-        inside = set(side)
-        leaving = (
-            arc
-            for arc in self.added
-            if self.columns.outlet(arc.tail) in inside and self.number(arc.head) not in inside
-        )
-        added = (arc for arc in leaving if arc.number not in self.closed)
-        return [*map(self.handles.of, numbers), *added]
+        return [*map(self.handle, self.numbers_leaving(side))]
+
+    def numbers_leaving(self, side: list[int]) -> list[int]:
+        """Return the numbers of these arcs."""
+        numbers = self.columns.leaving(side)
+        if self.added:
+            inside, columns = set(side), self.columns
+            numbers += [
+                arc.number
+                for arc in self.added
+                if columns.outlet(arc.tail) in inside and columns.number(arc.head) not in inside
+            ]
+        return [number for number in numbers if number not in self.closed]
 
     def capacity(self, arc: Arc[Node]) -> int:
         """The capacity of an open arc. Raises `ArcIsClosed`."""

@@ -52,7 +52,8 @@ def trials(desk: Desk, wanted: Iterable[int]) -> Generator[Trial, None, None]:
         map(held.whole, (number for number, line in enumerate(held.lines, 1) if not line.is_closed))
     )
     doubling = {number: _doubling(held, number) for number in numbers}
-    carrying = {number for number in numbers if held.flow(number)}
+    flows = desk.flows()
+    carrying = {number for number in numbers if flows[number - 1]}
     cases: list[list[tuple[object, ...]]] = []
     for number in numbers:
         arc = held.handle(number)

@@ -5,8 +5,10 @@ from __future__ import annotations
 
 import contextlib
 import threading
+from array import array
 from collections.abc import Sequence
 from dataclasses import dataclass
+from typing import NamedTuple
 
 from ..errors import Error, FlowIsNotGreatest
 from ..session.base import Program
@@ -45,41 +47,40 @@ class FirstAnswer:
         return self._found
 
 
+class Limit(NamedTuple):
+    """The smallest minimum cut: the nodes on the source's side, and its arcs, in their order."""
+
+    side: set[int]
+    arcs: dict[int, None]
+
+
 @dataclass
 class Answers:
-    """The answers about one state. Each is asked of the network once, which has to stand there
-    then. `inside` are the nodes on the source's side of the smallest minimum cut, as the session
-    has them; `promised` is the greatest value, where the flows that have it are not known yet."""
+    """What is known of one state of the network, each found once.
+
+    Parameters
+    ----------
+    inside
+        The nodes on the source's side of the smallest minimum cut, if the first answer has them.
+    promised
+        The greatest value, while the flows that reach it are not known.
+    """
 
     inside: Sequence[int] | None = None
     promised: int | None = None
-    found_greatest: bool | None = None
-    found_side: set[int] | None = None
-    found_arcs: dict[int, None] | None = None
+    is_greatest: bool | None = None
+    limit: Limit | None = None
+    flows: array[int] | None = None
 
-    def is_greatest(self, network: LiveNetwork) -> bool:
-        """Whether no flow has a larger value than the present one."""
-        if self.found_greatest is None:
-            try:
-                self.side(network)
-            except FlowIsNotGreatest:
-                self.found_greatest = False
-            else:
-                self.found_greatest = True
-        return self.found_greatest
-
-    def side(self, network: LiveNetwork) -> set[int]:
-        """The nodes on the source's side of the cut, in which no unlimited source or sink is.
-        Raises `FlowIsNotGreatest`."""
-        if self.found_side is None:
-            if self.inside is None:
-                self.inside = network.network._cut_side()
-            arcs = (line[:3] for _, line in network.opened())
-            self.found_side = network.folding.told_side(set(self.inside), arcs, network.limited())
-        return self.found_side
-
-    def cut_arcs(self, network: LiveNetwork) -> dict[int, None]:
-        """The arcs of the cut, in their order. Raises `FlowIsNotGreatest`."""
-        if self.found_arcs is None:
-            self.found_arcs = network.leaving(self.side(network))
-        return self.found_arcs
+    def find_limit(self, network: LiveNetwork) -> Limit:
+        """Return the limit of this state, in which the network has to stand. Raise
+        `FlowIsNotGreatest`."""
+        try:
+            inside = network.network._cut_side() if self.inside is None else self.inside
+        except FlowIsNotGreatest:
+            self.is_greatest = False
+            raise
+        side = network.told_side(inside)
+        self.limit = Limit(side, dict.fromkeys(network.leaving(side)))
+        self.is_greatest = True
+        return self.limit

@@ -4,15 +4,29 @@ from __future__ import annotations
 
 from collections.abc import Hashable, Iterable, Iterator, Mapping, Sequence
 from functools import cached_property
+from typing import NamedTuple
 
 from ..text.lexical import display
 from ..text.spelling import cleaned, folded, near, quoted_name
-from ..text.table_comments import TableRoles, listed, role_phrase, role_words
+from ..text.table_comments import Role, TableRoles, listed, role_phrase, role_words
 from .steps import DeskArc, DeskFault, Node, Place
 
 MOST_LISTED = 6
 # What stands between the ends of an arc that is named by them, the longest first.
 ARROWS = (" -> ", "->", " - ", "-")
+
+
+class ArcNames(NamedTuple):
+    """How an arc is called: by its own name, which may be empty, or by what it stands for; by that
+    or its ends; by both; and its ends, with the node of the first one's place."""
+
+    name: str
+    short: str
+    label: str
+    tail_node: int
+    tail: str
+    head: str
+    role: Role | None
 
 
 class Directory:
@@ -33,23 +47,30 @@ class Directory:
         self._lines = lines
         self._keys = keys
         self._folding = folding
+        self._has_roles = folding.has_roles
         # Whether a name that is only one without regard to case and accents means that one.
         self.is_any_case = False
         self._node_names = [
             node_names.get(number, str(number)) for number in range(1, len(nodes) + 1)
         ]
-        self._labels = [*map(display, self._node_names)]
+        labels = [*map(display, self._node_names)]
         self.nodes = {node: number for number, node in enumerate(nodes, 1)}
         self.places: dict[str, Place] = {}
         self._several: dict[str, list[int]] = {}
         called: dict[str, list[int]] = {}
-        for number in folding.places(range(1, len(self._labels) + 1)):
-            called.setdefault(cleaned(self._labels[number - 1]), []).append(number)
+        for number in folding.places(range(1, len(labels) + 1)):
+            called.setdefault(cleaned(labels[number - 1]), []).append(number)
         for label, numbers in called.items():
             if len(numbers) == 1:
                 self.places[label] = Place(numbers[0], folding.second(numbers[0]))
             else:
                 self._several[label] = numbers
+        # Both nodes of a place are called as it is.
+        self._labels = (
+            [labels[folding.place(number) - 1] for number in range(1, len(labels) + 1)]
+            if self._has_roles
+            else labels
+        )
 
     @cached_property
     def _between(self) -> dict[tuple[int, int], list[int]]:
@@ -99,7 +120,7 @@ class Directory:
 
     def node(self, number: int) -> str:
         """How a node's place is called."""
-        return self._labels[self._folding.place(number) - 1]
+        return self._labels[number - 1]
 
     def terminal(self, node: int) -> str:
         """How the source of the network is called, or its sink: where it joins several places, by
@@ -108,7 +129,8 @@ class Directory:
 
     def side(self, nodes: Iterable[int]) -> list[str]:
         """The places that have these nodes, by their names."""
-        return [*map(self.node, self._folding.places(sorted(nodes)))]
+        labels = self._labels
+        return [labels[number - 1] for number in self._folding.places(sorted(nodes))]
 
     def phrase(self, number: int) -> str:
         """The beginning of a sentence about the capacity of an arc: `Mill Lane carries`."""
@@ -138,20 +160,28 @@ class Directory:
         tail, head = self._ends(number)
         return f"{self.node(tail)} -> {self.node(head)}"
 
+    def arc_names(self, number: int) -> ArcNames:
+        """Return all that an arc is called."""
+        (tail, head), key = self._lines[number - 1][:2], self._keys.get(number)
+        ends = (tail_label, head_label) = self._labels[tail - 1], self._labels[head - 1]
+        role, place = None, tail
+        if self._has_roles:
+            role, place = self._folding.role(tail, head), self._folding.place(tail)
+        name = display(key) if isinstance(key, str) else ""
+        if role:
+            name = label = role_words(role, self.node)
+        else:
+            label = " -> ".join(ends)
+            label = f"{name}, {label}" if name else label
+        return ArcNames(name, name or label, label, place, tail_label, head_label, role)
+
     def arc(self, number: int) -> str:
         """An arc by its name and its ends."""
-        name = self.arc_name(number)
-        return (
-            self.ends(number)
-            if not name
-            else name
-            if self.is_role(number)
-            else f"{name}, {self.ends(number)}"
-        )
+        return self.arc_names(number).label
 
     def short(self, number: int) -> str:
         """An arc by its name, or else by its ends."""
-        return self.arc_name(number) or self.ends(number)
+        return self.arc_names(number).short
 
     def place(self, text: str) -> Place:
         """The place with this name. Raises a `DeskFault`."""

@@ -73,31 +73,33 @@ def condition(desk: Desk, words: list[str]) -> Condition | None:
     the words are no condition. Raises a `DeskFault` where it cannot be told.
     """
     network = desk.network
+    lines, quantity = network.lines, network.measure.quantity
     if words == ["full"]:
-        return lambda number: 0 < desk.flow(number) == network.line(number).capacity
+        flows = desk.flows()
+        return lambda number: 0 < quantity(flows[number - 1]) == lines[number - 1].capacity
     if words == ["limit"]:
         if not desk.is_greatest:
             raise DeskFault("the flow is not greatest, so the limit is not known; `solve` first")
-        return lambda number: number in desk.cut_arcs()
+        return desk.cut_arcs().__contains__
     if len(words) < 3:
         return None
     what, sign, text = words[0], words[1], " ".join(words[2:])
+    node = network.names.node
     names: dict[str, Callable[[int], str]] = {
         "name": network.names.arc_name,
-        "from": lambda number: network.names.node(network.line(number).tail),
-        "to": lambda number: network.names.node(network.line(number).head),
-    }
-    numbers: dict[str, Callable[[int], Quantity]] = {
-        "capacity": lambda number: network.line(number).capacity,
-        "flow": desk.flow,
+        "from": lambda number: node(lines[number - 1].tail),
+        "to": lambda number: node(lines[number - 1].head),
     }
     if what in names and sign == "~":
         sought = folded(text)
         return lambda number: sought in folded(names[what](number))
-    if what in numbers and sign in COMPARED:
-        bound = amount(text, network.measure)
-        return lambda number: COMPARED[sign](numbers[what](number), bound)
-    return None
+    if what not in ("capacity", "flow") or sign not in COMPARED:
+        return None
+    is_so, bound = COMPARED[sign], amount(text, network.measure)
+    if what == "capacity":
+        return lambda number: is_so(lines[number - 1].capacity, bound)
+    flows = desk.flows()
+    return lambda number: is_so(quantity(flows[number - 1]), bound)
 
 
 def successors(desk: Desk) -> dict[int, int]:

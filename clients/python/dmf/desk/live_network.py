@@ -4,13 +4,13 @@ what flows."""
 from __future__ import annotations
 
 import contextlib
+from array import array
 from collections.abc import Iterable
 
 from ..arcs import Arc
 from ..errors import Error, Refused
-from ..quantity import Quantity
+from ..quantity import moved
 from ..session.base import Program
-from ..solution import Solution
 from ..tables.loader import LoadedProblem
 from ..tables.problem_networks import whole_network
 from .network_arcs import NetworkArcs
@@ -35,7 +35,6 @@ class LiveNetwork(NetworkArcs):
         # The moment of the network's history, the steps that it was found to stand on then, and
         # their marks.
         self._found: tuple[object, tuple[Step, ...], Marks] | None = None
-        self._present_flow: Solution[Node] | None = None
 
     # The session.
 
@@ -51,7 +50,6 @@ class LiveNetwork(NetworkArcs):
     def drop(self) -> None:
         """Ends the session, which may be between two steps."""
         self._is_dropped = True
-        self._present_flow = None
         self.break_off("the session was ended")
         with contextlib.suppress(Error):
             self.network.end()
@@ -90,8 +88,6 @@ class LiveNetwork(NetworkArcs):
     def _go(self, place: int, marks: Marks) -> None:
         """Step back or on to this place in the history, whose state has these marks."""
         by = place - self.network._kept.place
-        if by:
-            self._present_flow = None
         if by and self.has_ended:
             self.network._go_without_session(place, self.network._kept.value_at(place))
         elif by:
@@ -109,15 +105,21 @@ class LiveNetwork(NetworkArcs):
         when its flows are asked for."""
         return Step("solve", (Solve(),), self.measure.quantity(value), self.marks)
 
+    def extend(
+        self, steps: tuple[Step, ...], text: str, changes: tuple[Change, ...]
+    ) -> tuple[Step, ...]:
+        """Make one more step after these, on which the network stands, and return them all."""
+        after = (*steps, self.make(text, changes))
+        self._found = self.network._kept.moment, after, self.marks
+        return after
+
     def make(self, text: str, changes: tuple[Change, ...]) -> Step:
-        """Makes the changes of a step, all of them or none: where one is refused, those before it
-        are undone by `stand_on`. Any other error ends the session, which might be left between."""
+        """Make the changes of a step, all of them or none: if one is refused, `stand_on` undoes
+        those before it. Any other error ends the session, which might be left between two."""
         if self.has_ended:
             raise self.network._session.ended()
         kept = self.network._kept
-        place = kept.place
-        # A flow that somebody has is read before it changes.
-        self._present_flow = None
+        place, before = kept.place, kept.value
         self._is_moving = True
         try:
             for change in changes:
@@ -125,15 +127,15 @@ class LiveNetwork(NetworkArcs):
         except Refused:
             self._is_moving = False
             raise
-        self._mark(self.marks._replace(shut=self.shut_nodes - self._opened_places(changes)))
+        if self.marks.shut:
+            opened = self._opened_places(changes)
+            self.marks = self.marks._replace(shut=self.marks.shut - opened)
+        self._mark(self.marks)
         self._is_moving = False
-        return Step(
-            text,
-            changes,
-            self.measure.quantity(self.network.value),
-            self.marks,
-            kept.changes_after(place),
-        )
+        quantity, made = self.measure.quantity, kept.changes_after(place)
+        value = quantity(kept.value)
+        by = moved(quantity(before), value) if place else ""
+        return Step(text, changes, value, self.marks, made, by)
 
     def _change(self, change: Change) -> None:
         """Makes a change of the network."""
@@ -158,27 +160,18 @@ class LiveNetwork(NetworkArcs):
 
     # What is so there.
 
-    def flows(self) -> dict[int, int]:
-        """The flow on each open arc, as the session has it."""
-        return dict(zip(self.network._kept.opened().numbers(), self._flow().values()))
-
-    def flow(self, number: int) -> Quantity:
-        """The flow on an arc, which is 0 if it is closed."""
-        if self.line(number).is_closed:
-            return 0
-        return self.measure.quantity(self._flow()[self.handle(number)])
-
-    def _flow(self) -> Solution[Node]:
-        self._present_flow = self._present_flow or self.network.flow()
-        return self._present_flow
+    def flows(self) -> array[int]:
+        """Return the flow on each arc, in the whole numbers of the session: that on arc 1 first,
+        and 0 on a closed one."""
+        return self.network._flow_of_each()
 
     def handle(self, number: int) -> Arc[Node]:
         """The handle of an arc in the session's network."""
         return self.network._kept.handle(number)
 
-    def leaving(self, side: Iterable[int]) -> dict[int, None]:
-        """The open arcs that lead out of a set of nodes, in their order."""
-        return dict.fromkeys(arc.number for arc in self.network._kept.leaving(sorted(side)))
+    def leaving(self, side: Iterable[int]) -> list[int]:
+        """Return the open arcs that lead out of a set of nodes, in their order."""
+        return self.network._kept.numbers_leaving(sorted(side))
 
     def changed(self) -> set[int]:
         """The arcs that are not as they were at first: closed, of another capacity, or added. One

@@ -7,7 +7,8 @@ scale of the problem.
 
 from __future__ import annotations
 
-from collections.abc import Iterable, Iterator, Sequence
+from collections.abc import Collection, Iterable, Iterator, Sequence
+from functools import cached_property
 from itertools import chain
 from typing import Any
 
@@ -31,6 +32,8 @@ class NetworkArcs:
         self, subject: LoadedProblem, state: NetworkState[Node], nodes: Sequence[Node]
     ) -> None:
         self.subject = subject
+        # How the session's numbers stand for quantities.
+        self.measure: Measure = subject.measure
         columns, quantity = state.columns, self.measure.quantity
         self._nodes = nodes
         self.folding = TableRoles(subject.described)
@@ -49,11 +52,6 @@ class NetworkArcs:
         self.first_count = len(self.lines)
         self.marks = Marks()
         self._mark(self.marks)
-
-    @property
-    def measure(self) -> Measure:
-        """How the session's numbers stand for quantities."""
-        return self.subject.measure
 
     def told(self, amount: Quantity) -> str:
         """An amount with its unit."""
@@ -77,6 +75,16 @@ class NetworkArcs:
     def sinks(self) -> list[int]:
         """The places that flow goes to, by their nodes."""
         return self.folding.ends(self.sink)
+
+    @cached_property
+    def told_source(self) -> str:
+        """How the source is called: if it joins several places, by these."""
+        return self.names.terminal(self.source)
+
+    @cached_property
+    def told_sink(self) -> str:
+        """How the sink is called, likewise."""
+        return self.names.terminal(self.sink)
 
     def line(self, number: int) -> DeskArc:
         """An arc as it is. Raises a `DeskFault` if there is none of this number."""
@@ -118,6 +126,14 @@ class NetworkArcs:
             else found
         )
 
+    def told_side(self, inside: Collection[int]) -> set[int]:
+        """Return the side of a minimum cut in which no unlimited source or sink is, by the side of
+        the smallest one."""
+        if not self.folding.has_unlimited:
+            return {*inside}
+        opened = (line[:3] for _, line in self.opened())
+        return self.folding.told_side({*inside}, opened, self.limited())
+
     def limited(self) -> set[int]:
         """The places of sources and sinks to which a limit was given that had none."""
         if not self.folding.has_unlimited:
@@ -157,6 +173,8 @@ class NetworkArcs:
     def following(self, changes: Iterable[Change]) -> list[Follow]:
         """What changes with these: an unlimited source gives as much as the arcs there carry then,
         and a sink takes as much."""
+        if not self.folding.has_unlimited:
+            return []
         more: dict[tuple[int, int], Quantity] = {}
         for change in changes:
             if isinstance(change, Add):
@@ -185,9 +203,7 @@ class NetworkArcs:
         """The open arcs of the unlimited sources and sinks at which arcs with such ends are."""
         wanted = list(ends)
         added = range(self.first_count + 1, len(self.lines) + 1)
-        for number in (
-            chain(self.subject.described.roles, added) if self.folding.has_unlimited else ()
-        ):
+        for number in chain(self.subject.described.roles, added):
             line, role = self.lines[number - 1], self.role(number)
             if role and line.is_unlimited and not line.is_closed:
                 if any(self.folding.at_role(role, *those) for those in wanted):

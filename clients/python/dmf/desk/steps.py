@@ -4,11 +4,12 @@ refuses a request. All amounts are quantities, as the table has them."""
 from __future__ import annotations
 
 from dataclasses import dataclass, field
+from functools import cached_property
 from typing import NamedTuple, Union
 
 from .. import history as session
 from ..errors import Error
-from ..quantity import Quantity
+from ..quantity import Quantity, plain_text
 
 Node = Union[int, str]
 
@@ -104,13 +105,20 @@ Change = Union[Solve, Close, Cap, Add, Reopen, Shut]
 class Step:
     """What was done, in words, the changes that were asked for, the value of the flow that they
     left, and the marks after it. `made` are the changes of the network's history, by which it is
-    known whether the session has made it; None if it never did."""
+    known whether the session has made it; None if it never did. `by` is what it brought, in words,
+    and empty for the first one."""
 
     text: str
     changes: tuple[Change, ...]
     value: Quantity
     marks: Marks
     made: tuple[session.Change, ...] | None = field(default=None, repr=False, compare=False)
+    by: str = field(default="", repr=False, compare=False)
+
+    @cached_property
+    def told_value(self) -> str:
+        """The value as a text."""
+        return plain_text(self.value)
 
     @property
     def is_solved(self) -> bool:

@@ -17,15 +17,16 @@ from __future__ import annotations
 
 import contextlib
 import copy
+from array import array
 from collections.abc import Iterable, Iterator, Mapping, Sequence
 from dataclasses import replace
 
-from ..errors import CapacitiesPast64Bits, Error
+from ..errors import CapacitiesPast64Bits, Error, FlowIsNotGreatest
 from ..quantity import Quantity, plain_text
 from ..session.base import Program
 from ..tables.loader import LoadedProblem
 from ..text.spelling import quoted_name
-from .answers import Answers, FirstAnswer
+from .answers import Answers, FirstAnswer, Limit
 from .desk_state import DeskState, Keeper
 from .live_network import LiveNetwork
 from .scale import finer, past_64_bits
@@ -63,9 +64,10 @@ class Desk:
         if with_solve:
             found = first.wait() if first else None
             answers = Answers(found.side, found.value) if found else Answers()
-            step = network.promise(found.value) if found else network.make("solve", (Solve(),))
+            solve = "solve", (Solve(),)
+            steps = (network.promise(found.value),) if found else network.extend((), *solve)
             self.state = replace(
-                self.state, steps=(step,), at=1, floors=(1,), turn=1, answers=answers
+                self.state, steps=steps, at=1, floors=(1,), turn=1, answers=answers
             )
 
     # The state, and how another one takes its place.
@@ -103,7 +105,7 @@ class Desk:
         if state.answers.promised is None:
             return
         network, (promise, *undone) = self.network, state.steps
-        step = network.make(promise.text, promise.changes)
+        (step,) = network.extend((), promise.text, promise.changes)
         if step.value != promise.value:
             network.drop()
             found, wanted = (network.measure.whole(it.value) for it in (step, promise))
@@ -243,35 +245,57 @@ class Desk:
     def is_greatest(self) -> bool:
         """Whether no flow has a larger value than the present one."""
         done = self.state.done
-        return bool(done) and done[-1].is_solved or self.state.answers.is_greatest(self.network)
+        if done and done[-1].is_solved:
+            return True
+        if self.state.answers.is_greatest is None:
+            with contextlib.suppress(FlowIsNotGreatest):
+                self.limit()
+        return bool(self.state.answers.is_greatest)
 
     @property
     def flows_follow(self) -> bool:
         """Whether the value and the limit are known, and the flows are not yet."""
         return self.state.answers.promised is not None
 
+    def limit(self) -> Limit:
+        """Return the smallest minimum cut. Raise `FlowIsNotGreatest`."""
+        answers = self.state.answers
+        return answers.limit or answers.find_limit(self.network)
+
     def cut_arcs(self) -> dict[int, None]:
-        """The arcs of the smallest minimum cut, in their order. Raises `FlowIsNotGreatest`."""
-        return self.state.answers.cut_arcs(self.network)
+        """Return the arcs of the smallest minimum cut, in their order. Raise
+        `FlowIsNotGreatest`."""
+        return self.limit().arcs
 
     def side(self) -> set[int]:
-        """The nodes on the source's side of the cut. Raises `FlowIsNotGreatest`."""
-        return self.state.answers.side(self.network)
+        """Return the nodes on the source's side of the cut. Raise `FlowIsNotGreatest`."""
+        return self.limit().side
 
-    def flows(self) -> dict[int, int]:
-        """The flow on each open arc, in the whole numbers of the session."""
+    def flows(self) -> array[int]:
+        """Return the flow on each arc, in the whole numbers of the session: that on arc 1 first,
+        and 0 on a closed one."""
         self.follow()
-        return self.network.flows()
+        answers = self.state.answers
+        if answers.flows is None:
+            answers.flows = self.network.flows()
+        return answers.flows
 
     def flow(self, number: int) -> Quantity:
-        """The flow on an arc, which is 0 if it is closed."""
-        network, answers = self.network, self.state.answers
-        if answers.promised is not None and not network.line(number).is_closed:
-            if number in answers.cut_arcs(network):
-                # Each maximum flow fills the arcs of a minimum cut.
-                return network.line(number).capacity
-            self.follow()
-        return network.flow(number)
+        """Return the flow on an arc, which is 0 if it is closed. Raise a `DeskFault` if the arc
+        does not exist."""
+        self.network.line(number)
+        return self.flows_on([number])[0]
+
+    def flows_on(self, numbers: Sequence[int]) -> list[Quantity]:
+        """Return the flow on each of these arcs."""
+        network = self.network
+        lines, answers = network.lines, self.state.answers
+        limit = self.limit() if answers.promised is not None else answers.limit
+        if limit and limit.arcs.keys() >= {*numbers}:
+            # Each maximum flow fills the arcs of a minimum cut.
+            return [lines[number - 1].capacity for number in numbers]
+        flows, quantity = self.flows(), network.measure.quantity
+        return [quantity(flows[number - 1]) for number in numbers]
 
     # What can be done.
 
@@ -434,13 +458,13 @@ class Desk:
         wanted = [*changes, *network.following(changes)]
         solve = [Solve()] * (self.with_solve and wanted != [Solve()])
         try:
-            step = network.make(text, (*wanted, *solve))
+            steps = network.extend(before.done, text, (*wanted, *solve))
         except CapacitiesPast64Bits:
             raise past_64_bits(network.measure) from None
-        steps, at, turn = (*before.done, step), before.at + 1, before.turn + 1
-        after = replace(before, steps=steps, at=at, turn=turn, answers=Answers())
+        turn = before.turn + 1
+        after = replace(before, steps=steps, at=len(steps), turn=turn, answers=Answers())
         self.take(self.keeper.with_step(after, requests) if self.keeper else after)
-        return step
+        return steps[-1]
 
     def _move(self, at: int, floors: tuple[int, ...]) -> None:
         """Go to the state after so many of the steps, in these trials."""

@@ -208,16 +208,10 @@ class TableRoles:
             for joint, ends in described.joints.items():
                 if role.kind == (SUPPLY if ends == SOURCES else DEMAND):
                     self._at_joints[joint].append(role.node)
-
-    @property
-    def has_roles(self) -> bool:
-        """True if the problem may have arcs that its table does not have."""
-        return bool(self._joints or self._first)
-
-    @property
-    def has_unlimited(self) -> bool:
-        """True if an inner arc stands for an unlimited source or sink."""
-        return bool(self._unlimited)
+        # True if the problem may have arcs that its table does not have.
+        self.has_roles = bool(self._joints or self._first)
+        # True if an inner arc stands for an unlimited source or sink.
+        self.has_unlimited = bool(self._unlimited)
 
     def is_unlimited(self, kind: str, node: int) -> bool:
         """Return True if an inner arc of this kind at the place stands for an unlimited source or
@@ -246,7 +240,8 @@ class TableRoles:
 
     def places(self, nodes: Iterable[int]) -> list[int]:
         """Return the places that these nodes belong to, each once, in order."""
-        return list(dict.fromkeys(self.place(node) for node in nodes if node not in self._joints))
+        first, joints = self._first, self._joints
+        return list(dict.fromkeys([first.get(node, node) for node in nodes if node not in joints]))
 
     def ends(self, node: int) -> list[int]:
         """Return the places that the problem's source or sink stands for."""

@@ -43,6 +43,7 @@ from .responses import (
 from .selection import ArcList, Nearby, Overview
 from .views import (
     arc_view,
+    arc_views,
     costs_view,
     many_view,
     opened_view,
@@ -225,11 +226,6 @@ class Board:
         state = {**self._state(), **told}
         return {**state, "parts": self._parts(shown)} if shown else state
 
-    def act(self, make: Callable[[Desk, Json], object], content: Json) -> None:
-        """Does something to the desk. A person need not mind how names are written."""
-        self.desk.state.network.names.is_any_case = True
-        make(self.desk, content)
-
     def _parts(self, shown: list[str]) -> Json:
         """What a page shows beside a state, by the addresses by which it would ask for it. What is
         refused here it asks for, and hears why."""
@@ -295,7 +291,7 @@ class Board:
         except NoPicture as fault:
             reason = str(fault)
         self._keep_places()
-        told = [arc_view(self.desk, number) for number in arcs]
+        told = arc_views(self.desk, arcs)
         return {"svg": svg, "reason": reason, "arcs": told, "has_ground": self._overview.is_there}
 
     def _ground(self) -> Json:
@@ -352,7 +348,13 @@ def _change(fields: Fields, handler: Callable[[Board, Json], None]) -> PageRoute
 
 
 def _act(act: BoardAct) -> PageRoute:
-    return _change(act.fields, lambda board, content: board.act(act.make, content))
+    """An act on the desk. It accepts names in any case."""
+
+    def done(board: Board, content: Json) -> None:
+        board.desk.state.network.names.is_any_case = True
+        act.make(board.desk, content)
+
+    return _change(act.fields, done)
 
 
 TURN: Fields = {"turn": int}

@@ -17,7 +17,7 @@ from ..steps import DeskFault
 from ..workspace import Desk
 from .layout import Places, Spot
 from .responses import Json, WrongForm
-from .views import arc_view
+from .views import arc_views
 
 
 class Nearby:
@@ -144,9 +144,9 @@ class Overview:
                 return LIMIT
             return (
                 UNUSED
-                if not flows[number]
+                if not flows[number - 1]
                 else FULL
-                if flows[number] == whole(line.capacity)
+                if flows[number - 1] == whole(line.capacity)
                 else FLOWS
             )
 
@@ -238,11 +238,8 @@ class ArcList:
             )
         except DeskFault as why:
             reading, numbers, fault = "", [], str(why)
-        changed = self._desk.network.changed()
-        rows = [
-            {**arc_view(self._desk, number), "changed": number in changed}
-            for number in numbers[first : first + count]
-        ]
+        changed, shown = self._desk.network.changed(), numbers[first : first + count]
+        rows = [{**arc, "changed": arc["number"] in changed} for arc in arc_views(self._desk, shown)]
         return {
             "total": len(numbers),
             "first": first,
@@ -286,14 +283,14 @@ class ArcList:
 
     def _column(self, column: str) -> Callable[[int], Any]:
         """What arcs are sorted by."""
-        desk, names = self._desk, self._desk.network.names
-        network = desk.network
+        network, flows = self._desk.network, self._desk.flows()
+        names, lines = network.names, network.lines
         columns: dict[str, Callable[[int], Any]] = {
             "name": lambda number: natural(names.short(number)),
-            "from": lambda number: natural(names.node(network.lines[number - 1].tail)),
-            "to": lambda number: natural(names.node(network.lines[number - 1].head)),
-            "flow": desk.flow,
-            "capacity": lambda number: network.lines[number - 1].capacity,
+            "from": lambda number: natural(names.node(lines[number - 1].tail)),
+            "to": lambda number: natural(names.node(lines[number - 1].head)),
+            "flow": lambda number: flows[number - 1],
+            "capacity": lambda number: lines[number - 1].capacity,
             "use": self._use,
         }
         if column not in columns:
@@ -302,10 +299,12 @@ class ArcList:
 
     def _use(self, number: int) -> float:
         """Return which part of an arc's capacity is used; less than nothing if it is closed."""
-        line = self._desk.network.lines[number - 1]
+        network, flows = self._desk.network, self._desk.flows()
+        line = network.lines[number - 1]
         if line.is_closed:
             return -1.0
-        return float(self._desk.flow(number)) / float(line.capacity) if line.capacity else 0.0
+        flow = network.measure.quantity(flows[number - 1])
+        return float(flow) / float(line.capacity) if line.capacity else 0.0
 
     def _parts(self, text: str) -> tuple[list[Condition], list[str]]:
         """The conditions of a filter, and what each is in words."""

@@ -4,7 +4,7 @@ many arcs."""
 from __future__ import annotations
 
 import os
-from collections.abc import Iterator, Sequence
+from collections.abc import Sequence
 from decimal import Decimal
 
 from ...quantity import EXACT, Quantity, moved, plain_text
@@ -12,7 +12,7 @@ from ...text.spelling import cleaned
 from ..analysis import cheapest, priced, prices
 from ..expressions import amount, successors
 from ..project.scenarios import Scenarios
-from ..steps import Step, Trial
+from ..steps import Trial
 from ..workspace import Desk
 from .responses import Json, whole
 
@@ -31,10 +31,9 @@ def many_view(desk: Desk, numbers: list[int]) -> Json:
     opened = [number for number in there if not network.lines[number - 1].is_closed]
     flow: Quantity = 0
     capacity: Quantity = 0
-    for number in opened:
-        flow, capacity = EXACT.add(flow, desk.flow(number)), EXACT.add(
-            capacity, network.lines[number - 1].capacity
-        )
+    for number, flowing in zip(opened, desk.flows_on(opened)):
+        flow = EXACT.add(flow, flowing)
+        capacity = EXACT.add(capacity, network.lines[number - 1].capacity)
     return {
         "open": opened,
         "closed": [number for number in there if network.lines[number - 1].is_closed],
@@ -96,16 +95,16 @@ def state_view(desk: Desk, offer: str = "") -> Json:
     be made."""
     network = desk.network
     names = network.names
-    cut = list(desk.cut_arcs())
-    side = names.side(desk.side())
+    limit, steps, value = desk.limit(), desk.steps, desk.value
+    cut, side = list(limit.arcs), names.side(limit.side)
     return {
         "title": network.subject.path,
         "unit": network.measure.told_unit,
         "noun": network.subject.noun,
         "notes": list(network.subject.notes),
-        "source": names.terminal(network.source),
-        "sink": names.terminal(network.sink),
-        "value": plain_text(desk.value),
+        "source": network.told_source,
+        "sink": network.told_sink,
+        "value": plain_text(value),
         "arcs": len(network.pictured()),
         # The numbers of arcs after these are given anew after an undo.
         "given": network.first_count,
@@ -113,9 +112,9 @@ def state_view(desk: Desk, offer: str = "") -> Json:
         **kept_view(desk, offer),
         "flows_follow": desk.flows_follow,
         "at": desk.at - 1,
-        "by": moved(desk.steps[0].value, desk.value),
-        "steps": [*_steps(desk.steps)],
-        "limit": [arc_view(desk, number) for number in cut[:MOST_LISTED]],
+        "by": moved(steps[0].value, value),
+        "steps": [{"text": it.text, "value": it.told_value, "by": it.by} for it in steps],
+        "limit": arc_views(desk, cut[:MOST_LISTED]),
         "limit_count": len(cut),
         "side": side[:MOST_SIDE],
         "side_count": len(side),
@@ -123,35 +122,39 @@ def state_view(desk: Desk, offer: str = "") -> Json:
     }
 
 
-def _steps(steps: Sequence[Step]) -> Iterator[Json]:
-    """Each step with what it brought, which is nothing for the first one."""
-    for before, step in zip((None, *steps), steps):
-        by = moved(before.value, step.value) if before else ""
-        yield {"text": step.text, "value": plain_text(step.value), "by": by}
-
-
 def arc_view(desk: Desk, number: int) -> Json:
     """An arc as it is. Raises a `DeskFault` if there is none of this number."""
-    network = desk.network
-    names = network.names
-    line, flow, role = network.line(number), desk.flow(number), network.role(number)
-    return {
-        "number": number,
-        "node": role.node if role else 0,
-        "name": names.arc_name(number),
-        "label": names.arc(number),
-        "short": names.short(number),
-        "tail_node": network.folding.place(line.tail),
-        "tail": names.node(line.tail),
-        "head": names.node(line.head),
-        "flow": plain_text(flow),
-        "capacity": plain_text(line.capacity),
-        "closed": line.is_closed,
-        "replaced": line.is_replaced,
-        "unlimited": line.is_unlimited,
-        "full": flow > 0 and flow == line.capacity,
-        "limit": number in desk.cut_arcs(),
-    }
+    desk.network.line(number)
+    return arc_views(desk, [number])[0]
+
+
+def arc_views(desk: Desk, numbers: Sequence[int]) -> list[Json]:
+    """Return these arcs as they are."""
+    network, cut = desk.network, desk.cut_arcs()
+    lines, names_of = network.lines, network.names.arc_names
+    found = []
+    for number, flow in zip(numbers, desk.flows_on(numbers)):
+        line, names = lines[number - 1], names_of(number)
+        found.append(
+            {
+                "number": number,
+                "node": names.role.node if names.role else 0,
+                "name": names.name,
+                "label": names.label,
+                "short": names.short,
+                "tail_node": names.tail_node,
+                "tail": names.tail,
+                "head": names.head,
+                "flow": plain_text(flow),
+                "capacity": plain_text(line.capacity),
+                "closed": line.is_closed,
+                "replaced": line.is_replaced,
+                "unlimited": line.is_unlimited,
+                "full": flow > 0 and flow == line.capacity,
+                "limit": number in cut,
+            }
+        )
+    return found
 
 
 def place_view(desk: Desk, node: int) -> Json:
@@ -164,9 +167,9 @@ def place_view(desk: Desk, node: int) -> Json:
     return {
         "node": node,
         "name": network.names.node(node),
-        "in": plain_text(sum(map(desk.flow, entering))),
-        "out": plain_text(sum(map(desk.flow, leaving))),
-        "roles": [arc_view(desk, number) for number, _ in network.roles().get(place.entry, ())],
+        "in": plain_text(sum(desk.flows_on(entering))),
+        "out": plain_text(sum(desk.flows_on(leaving))),
+        "roles": arc_views(desk, [number for number, _ in network.roles().get(place.entry, ())]),
         "is_source": place.entry in network.sources,
         "is_sink": place.entry in network.sinks,
         "shut": bool(network.shut_nodes & set(place)),
@@ -183,9 +186,10 @@ def costs_view(desk: Desk, column: str, to: str, second: str) -> Json:
     is_second = bool(whole(second, "second"))
     given = prices(desk, cleaned(column), is_second=is_second)
     way = cheapest(desk, given, amount(to, desk.network.measure) if to.strip() else None)
+    costs = priced(desk, given)
     limit = [
-        {**arc_view(desk, number), "price": "" if price is None else plain_text(price)}
-        for number, price in priced(desk, given).items()
+        {**arc, "price": "" if price is None else plain_text(price)}
+        for arc, price in zip(arc_views(desk, [*costs]), costs.values())
     ]
     bought = [
         {

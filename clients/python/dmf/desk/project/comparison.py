@@ -130,7 +130,7 @@ class _Snapshot:
             known: (
                 line.is_closed,
                 line.capacity,
-                flows.get(number, 0),
+                flows[number - 1],
                 number in cut,
                 line.is_unlimited,
             )
@@ -149,7 +149,7 @@ class _Snapshot:
         if number is None:
             return _ABSENT
         line = self._lines[number - 1]
-        flow = self._measure.quantity(self._flows.get(number, 0))
+        flow = self._measure.quantity(self._flows[number - 1])
         return ArcState(
             CLOSED if line.is_closed else OPEN,
             line.capacity,

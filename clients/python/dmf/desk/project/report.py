@@ -91,8 +91,7 @@ def checked(desk: Desk, program: Program = None) -> str:
     flows, measure = desk.flows(), network.measure
     lines = [f"s {measure.whole(desk.value)}\n"]
     lines += (
-        f"f {network.lines[number - 1].tail} {network.lines[number - 1].head} {flow}\n"
-        for number, flow in flows.items()
+        f"f {line.tail} {line.head} {flows[number - 1]}\n" for number, line in network.opened()
     )
     with tempfile.NamedTemporaryFile("w", prefix="dmf-", suffix=".max") as file:
         file.write(problem(desk))
