@@ -12,7 +12,8 @@ from typing import Any
 import pytest
 from c_library import library_file
 from dmf.desk.board.routes import Board
-from dmf.desk.plan.json_shell import JsonShell
+from dmf.desk.plan.json_output import JsonOutput
+from dmf.desk.plan.shell import Shell
 from dmf.desk.project.scenarios import project_of
 from dmf.desk.steps import DeskFault
 from dmf.desk.workspace import Desk
@@ -31,7 +32,7 @@ class ShellPlayer(Player):
 
     def __init__(self, desk: Desk, names: list[str]) -> None:
         self._told: list[str] = []
-        self._shell = JsonShell(desk, is_typed=False, write=self._told.append)
+        self._shell = Shell(desk, is_typed=False, write=self._told.append, output=JsonOutput)
         super().__init__(desk, names)
 
     def act(self, word: str, *numbers: Any) -> None:
@@ -135,7 +136,7 @@ def told(desk: Desk) -> tuple[object, ...]:
 def typed(line: str) -> Callable[[Desk], object]:
     def act(desk: Desk) -> None:
         # Ctrl-C is told, and where the session has ended for it, another one has begun.
-        JsonShell(desk, is_typed=False, write=lambda _: None).onecmd(line)
+        Shell(desk, is_typed=False, write=lambda _: None, output=JsonOutput).onecmd(line)
 
     return act
 

@@ -67,7 +67,9 @@ def opened(words: argparse.Namespace) -> Desk:
 def main() -> int:
     words = options()
     # A help needs no desk.
-    from ..desk.plan.json_shell import make_shell
+    from ..desk.plan.json_output import JsonOutput
+    from ..desk.plan.output import TextOutput
+    from ..desk.plan.shell import Shell
     from ..desk.project.opener import beside, is_project, keep_project
 
     is_typed = sys.stdin is not None and sys.stdin.isatty() and not words.json
@@ -79,9 +81,9 @@ def main() -> int:
         if os.path.isfile(words.path) and not is_project(words.path) and not words.keep
         else ""
     )
-    plan = make_shell(
+    plan = Shell(
         desk,
-        as_json=words.json,
+        output=JsonOutput if words.json else TextOutput,
         is_typed=is_typed,
         write=write,
         keep=lambda path, made: keep_project(path, words, made),

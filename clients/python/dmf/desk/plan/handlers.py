@@ -1,40 +1,287 @@
-"""The files that a session of dmf-plan writes: tables, problems, pictures and reports."""
+"""What each command of dmf-plan does: a table of functions, one a command."""
 
 from __future__ import annotations
 
-import os
-from collections.abc import Sequence
-from pathlib import Path
+import difflib
+import sys
+from collections.abc import Callable
 
-from ...files import write_file
-from ...text.lexical import display
+from ...quantity import Quantity
 from ...text.spelling import quoted_name
-from ..steps import DeskFault
+from ..analysis import trials_of
+from ..export import DRAWN, drawn, problem, table, taken
+from ..expressions import amount
+from ..steps import DeskFault, Trial
+from .arguments import (
+    WHERE,
+    arcs_from,
+    arcs_listed,
+    arcs_named,
+    arcs_to_try,
+    arcs_told,
+    arcs_where,
+    capped,
+    capped_where,
+    last_closed,
+    new_arc,
+)
+from .context import Context
+from .grammar import CHANGES, COMMANDS, count_of, no_words, one_name
+from .output import TextOutput, costs_told, place_lines
+from .project_handlers import PROJECT_HANDLERS
+
+# From how many arcs on it is shown how far a sweep is.
+MANY = 20
+# How many arcs `worst` lists.
+MOST_WORST = 10
 
 
-class Files:
-    """The files that were written. No other one is written over."""
+def _change(context: Context, make: Callable[[], object], done: str = "") -> None:
+    """Make a step, and answer with the value after it."""
+    before = context.desk.value
+    make()
+    context.output.change(context.desk, before, done)
 
-    def __init__(self) -> None:
-        self._written: set[str] = set()
 
-    def new(self, path: str, endings: Sequence[str]) -> str:
-        """The path of a file that may be written: if this session did not write it, it must be new.
-        Raises a `DeskFault`."""
-        path = os.path.expanduser(path)
-        if Path(path).suffix not in endings:
-            raise DeskFault(f"the name of the file ends with one of {', '.join(endings)}")
-        if os.path.realpath(path) not in self._written and os.path.lexists(path):
-            raise DeskFault(f"{quoted_name(path)} already exists; choose another name")
-        return path
+def _solve(context: Context, words: list[str]) -> None:
+    no_words(words, "solve")
+    _change(context, context.desk.solve)
 
-    def put(self, path: str, data: bytes) -> str:
-        """Writes a file, and says so. Raises a `DeskFault`."""
-        try:
-            # A new file is none that somebody else put there meanwhile, nor a link to one.
-            write_file(path, data, is_new=os.path.realpath(path) not in self._written)
-        except (OSError, ValueError) as error:
-            why = error.strerror if isinstance(error, OSError) else error
-            raise DeskFault(f"cannot write {quoted_name(path)}: {why}") from None
-        self._written.add(os.path.realpath(path))
-        return f"written: {display(path)}"
+
+def _close(context: Context, words: list[str]) -> None:
+    desk = context.desk
+    if words[:1] == [WHERE]:
+        numbers = arcs_where(desk, words[1:])
+        _change(
+            context,
+            lambda: desk.close(*numbers, words=arcs_told(numbers, words)),
+            f"{len(numbers)} closed",
+        )
+        return
+    number = desk.network.the_arc(one_name(words, "close"))
+    _change(context, lambda: desk.close(number))
+
+
+def _open(context: Context, words: list[str]) -> None:
+    desk = context.desk
+    if not words:
+        _change(context, last_closed(desk))
+        return
+    if words[:1] == [WHERE]:
+        numbers = arcs_where(desk, words[1:], are_closed=True)
+        _change(
+            context,
+            lambda: desk.open(*numbers, words=arcs_told(numbers, words)),
+            f"{len(numbers)} opened",
+        )
+        return
+    name, names = " ".join(words), desk.network.names
+    if names.is_place(name) and desk.network.shut_nodes & set(names.place(name)):
+        _change(context, lambda: desk.open_place(desk.network.names.place(name)))
+        return
+    number = desk.network.the_arc(name, is_closed=True)
+    _change(context, lambda: desk.open(number))
+
+
+def _cap(context: Context, words: list[str]) -> None:
+    desk = context.desk
+    if words[:1] == [WHERE]:
+        capacities, told = capped_where(desk, words)
+        _change(context, lambda: desk.cap_each(capacities, told), f"{len(capacities)} changed")
+        return
+    number, text = capped(desk, words)
+    capacity = amount(text, desk.network.measure, desk.network.line(number).capacity)
+    _change(context, lambda: desk.cap(number, capacity))
+
+
+def _add(context: Context, words: list[str]) -> None:
+    tail, head, capacity, name = new_arc(context.desk, words)
+    _change(context, lambda: context.desk.add(tail, head, capacity, name))
+
+
+def _shut(context: Context, words: list[str]) -> None:
+    place = context.desk.network.names.place(one_name(words, "shut"))
+    _change(context, lambda: context.desk.shut(place))
+
+
+def _undo(context: Context, words: list[str]) -> None:
+    _change(context, lambda: context.desk.undo(count_of(words, "undo")))
+
+
+def _redo(context: Context, words: list[str]) -> None:
+    _change(context, lambda: context.desk.redo(count_of(words, "redo")))
+
+
+def _try(context: Context, words: list[str]) -> None:
+    no_words(words, "try")
+    context.desk.begin_trial()
+    context.output.tell("a trial begins: `drop` takes back what comes now, `keep` keeps it")
+
+
+def _keep(context: Context, words: list[str]) -> None:
+    if words:
+        PROJECT_HANDLERS["keep"](context, words)
+    else:
+        _change(context, context.desk.keep)
+
+
+def _drop(context: Context, words: list[str]) -> None:
+    no_words(words, "drop")
+    _change(context, context.desk.drop)
+
+
+def _steps(context: Context, words: list[str]) -> None:
+    no_words(words, "steps")
+    context.output.steps(context.desk)
+
+
+def _cut(context: Context, words: list[str]) -> None:
+    no_words(words, "cut")
+    if not context.desk.is_greatest:
+        raise DeskFault("the flow is not greatest, so the limit is not known; `solve` first")
+    context.output.limit(context.desk)
+
+
+def _flow(context: Context, words: list[str]) -> None:
+    context.output.flows(context.desk, arcs_named(context.desk, words), with_limit=False)
+
+
+def _pipes(context: Context, words: list[str]) -> None:
+    context.output.flows(context.desk, arcs_listed(context.desk, words), with_limit=True)
+
+
+def _from(context: Context, words: list[str]) -> None:
+    context.output.flows(context.desk, arcs_from(context.desk, words), with_limit=True)
+
+
+def _places(context: Context, words: list[str]) -> None:
+    no_words(words, "places")
+    context.output.tell(*place_lines(context.desk))
+
+
+def _worst(context: Context, words: list[str]) -> None:
+    network = context.desk.network
+    most = count_of(words, "worst") if words else MOST_WORST
+    opened = [number for number in network.pictured() if not network.lines[number - 1].is_closed]
+    context.output.trials(context.desk, _tried(context, opened)[:most])
+
+
+def _tried(context: Context, numbers: list[int]) -> list[Trial]:
+    """Return what each of these open arcs means for the value, the largest loss first. A person
+    sees how far it is."""
+    trials, is_shown = list[Trial](), context.is_typed and len(numbers) > MANY
+    for trial in trials_of(context.desk, numbers):
+        trials.append(trial)
+        if is_shown:
+            sys.stderr.write(f"\r{len(trials)} of {len(numbers)} ")
+    if is_shown:
+        sys.stderr.write("\r\033[K")
+    return sorted(trials, key=lambda trial: trial.closed)
+
+
+def _what_if(context: Context, words: list[str]) -> None:
+    desk = context.desk
+    if words[:1] == ["each"]:
+        context.output.trials(desk, _tried(context, arcs_to_try(desk, words[1:])))
+        return
+    if not words or words[0] not in CHANGES:
+        raise DeskFault(
+            f"usage: {COMMANDS['what-if'].form}; a command there is one of {', '.join(CHANGES)}"
+        )
+    before = desk.value
+    context.output.what_if(desk, before, _value_after(context, words))
+
+
+def _value_after(context: Context, words: list[str]) -> Quantity:
+    """Return the greatest value after a change, which is taken back."""
+    if not context.desk.is_greatest:
+        raise DeskFault(
+            "the flow is not greatest, so nothing can be compared with it; `solve` first"
+        )
+    with context.desk.aside() as desk:
+        HANDLERS[words[0]](Context(desk, TextOutput(_nothing)), words[1:])
+        desk.solve()
+        return desk.value
+
+
+def _nothing(_: str) -> None:
+    pass
+
+
+def _cost(context: Context, words: list[str]) -> None:
+    context.output.tell(*costs_told(context.desk, words))
+
+
+def _draw(context: Context, words: list[str]) -> None:
+    path = context.files.new(one_name(words, "draw"), [*DRAWN, ".dot"])
+    picture = taken(context.desk, drawn(context.desk, path))
+    context.output.tell(context.files.put(path, picture))
+
+
+def _save(context: Context, words: list[str]) -> None:
+    path = context.files.new(one_name(words, "save"), [".csv", ".max"])
+    text = table(context.desk) if path.endswith(".csv") else problem(context.desk)
+    context.output.tell(context.files.put(path, text.encode()))
+
+
+def _help(context: Context, words: list[str]) -> None:
+    if words:
+        command = COMMANDS[command_named(words[0])]
+        context.output.tell(command.form, f"  {command.says}")
+        return
+    width = max(len(command.short or command.form) for command in COMMANDS.values())
+    context.output.tell(
+        *(
+            f"  {command.short or command.form:<{width}}  "
+            f"{command.says.split('. ')[0].rstrip('.')}."
+            for command in COMMANDS.values()
+        )
+    )
+
+
+def _quit(_: Context, words: list[str]) -> bool:
+    no_words(words, "quit")
+    return True
+
+
+def command_named(word: str) -> str:
+    """Return the command that a word names. Raise a `DeskFault` if none has the name."""
+    if word in ("exit", "q"):
+        return "quit"
+    if word in HANDLERS:
+        return word
+    near = difflib.get_close_matches(word.lower(), COMMANDS, n=2)
+    hint = (
+        f"; is it {' or '.join(map(quoted_name, near))}?" if near else "; `help` lists the commands"
+    )
+    raise DeskFault(f"no command is called {quoted_name(word)}{hint}")
+
+
+# What each command does. One that returns True ends the session.
+HANDLERS: dict[str, Callable[[Context, list[str]], object]] = {
+    **PROJECT_HANDLERS,
+    "solve": _solve,
+    "cut": _cut,
+    "flow": _flow,
+    "pipes": _pipes,
+    "places": _places,
+    "from": _from,
+    "worst": _worst,
+    "close": _close,
+    "open": _open,
+    "cap": _cap,
+    "add": _add,
+    "shut": _shut,
+    "undo": _undo,
+    "redo": _redo,
+    "steps": _steps,
+    "try": _try,
+    "keep": _keep,
+    "drop": _drop,
+    "what-if": _what_if,
+    "cost": _cost,
+    "draw": _draw,
+    "save": _save,
+    "help": _help,
+    "quit": _quit,
+}

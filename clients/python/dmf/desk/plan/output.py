@@ -1,24 +1,89 @@
-"""What dmf-plan tells as text: lists of arcs and steps, sweeps, costs, scenarios and two of them
-compared."""
+"""The answers of dmf-plan as text."""
 
 from __future__ import annotations
 
-import sys
 from collections import defaultdict
-from collections.abc import Callable, Iterable
+from collections.abc import Iterable, Iterator
 
 from ...quantity import EXACT, Quantity, moved, plain_text
 from ...text.lexical import display
 from ...text.spelling import cleaned, quoted_name
-from ..analysis import cheapest, prices, purchase_lines, trials_of
+from ..analysis import cheapest, prices, purchase_lines
 from ..expressions import amount
-from ..project.comparison import Comparison, compare
-from ..project.scenarios import BASE, Scenarios
-from ..steps import DeskFault, Trial
+from ..project.comparison import Comparison
+from ..project.scenarios import Scenarios
+from ..steps import Trial
 from ..workspace import Desk
-from .grammar import COMMANDS, count_of, quoted
+from .context import Output
 
 TO, SECONDS = "to", ["of", "seconds"]
+MOST_SIDE = 30
+
+
+class TextOutput(Output):
+    """Answers as lines of text."""
+
+    def tell(self, *lines: str) -> None:
+        self.write("".join(f"{line}\n" for line in lines))
+
+    def change(self, desk: Desk, before: Quantity, done: str = "") -> None:
+        self.tell(f"{done}: " * bool(done) + value_line(desk, before))
+
+    def limit(self, desk: Desk) -> None:
+        self.tell(*_limit_lines(desk))
+
+    def flows(self, desk: Desk, numbers: list[int], *, with_limit: bool) -> None:
+        self.tell(*arc_lines(desk, numbers, with_limit=with_limit))
+
+    def steps(self, desk: Desk) -> None:
+        self.tell(*_step_lines(desk))
+
+    def trials(self, desk: Desk, trials: list[Trial]) -> None:
+        self.tell(*_trial_lines(desk, trials))
+
+    def what_if(self, desk: Desk, before: Quantity, value: Quantity) -> None:
+        self.tell(f"it would be {desk.network.told(value)}: {moved(before, value)}")
+
+    def scenarios(self, project: Scenarios, *, is_list: bool) -> None:
+        self.tell(*(_scenario_lines(project) if is_list else [_present_scenario(project)]))
+
+    def comparison(self, found: Comparison) -> None:
+        self.tell(*found.lines())
+
+
+def value_line(desk: Desk, before: Quantity | None = None) -> str:
+    """Return the present value in words, and its difference to the one before."""
+    value = desk.value
+    by = "" if before is None or value == before else f", {moved(before, value)}"
+    return f"value {desk.network.told(value)}{by}" + (
+        ", the greatest" if desk.is_greatest else "; more can be sent: solve"
+    )
+
+
+def _limit_lines(desk: Desk) -> Iterator[str]:
+    network = desk.network
+    side = network.names.side(desk.side())
+    more = f" and {len(side) - MOST_SIDE} more" if len(side) > MOST_SIDE else ""
+    yield f"limit {network.told(desk.value)}"
+    if side:
+        yield f"  source's side: {', '.join(side[:MOST_SIDE])}{more}"
+    for number in desk.cut_arcs():
+        capacity = plain_text(network.line(number).capacity)
+        yield f"  #{number} {network.names.arc(number)}: {capacity}"
+
+
+def _step_lines(desk: Desk) -> Iterator[str]:
+    # Where the session stands does not matter, nor whether it has ended.
+    steps, at, network = desk.steps, desk.at, desk.state.network
+    mark = "*" if at == 0 else " "
+    yield f"  {0:>3} {mark} {display(network.subject.path)}: value {network.told(0)}"
+    for number, step in enumerate(steps, 1):
+        mark = "*" if number == at else " "
+        undone = " (undone)" if number > at else ""
+        yield (
+            f"  {number:>3} {mark} {display(step.text)}: value "
+            f"{network.told(step.value)}{undone}"
+        )
 
 
 def costs_told(desk: Desk, words: list[str]) -> Iterable[str]:
@@ -33,26 +98,22 @@ def costs_told(desk: Desk, words: list[str]) -> Iterable[str]:
     return purchase_lines(desk, given, cheapest(desk, given, to))
 
 
-def arc_line(desk: Desk, number: int) -> str:
-    """What flows on an arc."""
+def arc_lines(desk: Desk, numbers: list[int], *, with_limit: bool) -> Iterator[str]:
+    """Say what flows on each of these arcs, and which are of the limit, if that is known."""
     network = desk.network
-    line, flow = network.line(number), desk.flow(number)
-    is_full = flow and flow == line.capacity
-    amounts = f"{plain_text(flow)} of {plain_text(line.capacity)}{', full' if is_full else ''}"
-    state = (
-        "closed"
-        if line.is_closed
-        else f"{plain_text(flow)}, no limit"
-        if line.is_unlimited
-        else amounts
-    )
-    return f"  #{number} {network.names.arc(number)}: {state}"
-
-
-def arc_lines(desk: Desk, numbers: list[int]) -> list[str]:
-    """What flows on each of these arcs, and which are of the limit, if that is known."""
-    limit = desk.cut_arcs() if desk.is_greatest else {}
-    return [arc_line(desk, number) + ", limit" * (number in limit) for number in numbers]
+    limit = desk.cut_arcs() if with_limit and desk.is_greatest else {}
+    for number, flow in zip(numbers, desk.flows_on(numbers)):
+        line = network.line(number)
+        is_full = flow and flow == line.capacity
+        amounts = f"{plain_text(flow)} of {plain_text(line.capacity)}{', full' if is_full else ''}"
+        state = (
+            "closed"
+            if line.is_closed
+            else f"{plain_text(flow)}, no limit"
+            if line.is_unlimited
+            else amounts
+        )
+        yield f"  #{number} {network.names.arc(number)}: {state}" + ", limit" * (number in limit)
 
 
 def place_lines(desk: Desk) -> list[str]:
@@ -61,8 +122,9 @@ def place_lines(desk: Desk) -> list[str]:
     entering: dict[int, Quantity] = defaultdict(int)
     leaving: dict[int, Quantity] = defaultdict(int)
     place = network.folding.place
-    for number in network.pictured():
-        line, flow = network.lines[number - 1], desk.flow(number)
+    pictured = network.pictured()
+    for number, flow in zip(pictured, desk.flows_on(pictured)):
+        line = network.lines[number - 1]
         leaving[place(line.tail)] = EXACT.add(leaving[place(line.tail)], flow)
         entering[place(line.head)] = EXACT.add(entering[place(line.head)], flow)
     side = desk.side() if desk.is_greatest else set()
@@ -82,45 +144,7 @@ def place_lines(desk: Desk) -> list[str]:
     return [*map(told, network.folding.places(range(1, len(network.names.nodes) + 1)))]
 
 
-def kept_project(desk: Desk) -> Scenarios:
-    """The project that keeps a desk. Raises a `DeskFault` if none does."""
-    project = Scenarios.of(desk)
-    if project is None:
-        raise DeskFault("only a project has scenarios; `keep FILE.dmf.json` keeps the steps in one")
-    return project
-
-
-def scenario(project: Scenarios, words: list[str]) -> list[str]:
-    """What is told after a command about scenarios."""
-    if not words:
-        return _listed(project)
-    what, name = words[0], cleaned(" ".join(words[1:]))
-    calls: dict[str, Callable[[str], object]] = {
-        "go": project.go,
-        "copy": project.copy,
-        "name": project.rename,
-        "delete": project.delete,
-        "note": project.note,
-    }
-    if what == "new" and words[-2:-1] == ["from"] and len(words) > 3:
-        project.new(cleaned(" ".join(words[1:-2])), _named(project, words[-1]))
-    elif what == "new" and name:
-        project.new(name)
-    elif what in calls and (name or what == "note"):
-        calls[what](_named(project, name) if what in ("go", "delete") else name)
-    else:
-        raise DeskFault(f"usage: {COMMANDS['scenario'].form}")
-    return [_told(project)]
-
-
-def _named(project: Scenarios, name: str) -> str:
-    """The scenario that a name means, also in other letters if no other one has it."""
-    names = [it.name for it in project.project.scenarios]
-    near = [it for it in (*names, BASE) if it.casefold() == name.casefold()]
-    return name if name in names or len(near) != 1 else near[0]
-
-
-def _told(project: Scenarios) -> str:
+def _present_scenario(project: Scenarios) -> str:
     desk = project.desk
     steps = desk.at - 1
     count = f"{steps} step{'s' * (steps != 1)}"
@@ -128,7 +152,7 @@ def _told(project: Scenarios) -> str:
     return f"scenario {quoted_name(project.scenario.name)}, {count}: value {value}"
 
 
-def _listed(project: Scenarios) -> list[str]:
+def _scenario_lines(project: Scenarios) -> list[str]:
     """The scenarios, each with the value that it was kept with."""
     lines = []
     for it in project.project.scenarios:
@@ -143,58 +167,7 @@ def _listed(project: Scenarios) -> list[str]:
     return lines
 
 
-def compared(project: Scenarios, words: list[str]) -> Comparison:
-    """Two scenarios beside each other: those that the words name, or the present one and the one
-    that they name."""
-    names = {BASE, *(it.name for it in project.project.scenarios)}
-
-    def meant(part: list[str]) -> str:
-        return _named(project, cleaned(" ".join(part)))
-
-    pairs = [(meant(words[:at]), meant(words[at:])) for at in range(1, len(words))]
-    found = [pair for pair in pairs if names.issuperset(pair)]
-    if words and meant(words) in names:
-        found.append((project.scenario.name, meant(words)))
-    if len(found) > 1:
-        raise DeskFault("this can mean several scenarios; put their names in quotes")
-    if not found:
-        told = ", ".join(map(quoted, sorted(names)))
-        raise DeskFault(
-            f"usage: {COMMANDS['compare'].form}; there are {told}"
-            if words
-            else f"usage: {COMMANDS['compare'].form}"
-        )
-    return compare(project, *found[0])
-
-
-# From how many arcs on it is shown how far a sweep is.
-MANY = 20
-# How many arcs `worst` lists.
-MOST_WORST = 10
-
-
-def tried(desk: Desk, numbers: list[int], *, is_shown: bool = False) -> list[Trial]:
-    """What each of these open arcs means for the value, those whose loss is largest first. How far
-    it is can be shown on a terminal."""
-    trials, is_shown = list[Trial](), is_shown and len(numbers) > MANY
-    for trial in trials_of(desk, numbers):
-        trials.append(trial)
-        if is_shown:
-            sys.stderr.write(f"\r{len(trials)} of {len(numbers)} ")
-    if is_shown:
-        sys.stderr.write("\r\033[K")
-    return sorted(trials, key=lambda trial: trial.closed)
-
-
-def worst(desk: Desk, words: list[str], *, is_shown: bool = False) -> list[Trial]:
-    """The arcs of the table that are worst to lose, the first ten or so many as the words say."""
-    network = desk.network
-    most = count_of(words, "worst") if words else MOST_WORST
-    opened = [number for number in network.pictured() if not network.lines[number - 1].is_closed]
-    return tried(desk, opened, is_shown=is_shown)[:most]
-
-
-def swept(desk: Desk, trials: list[Trial]) -> list[str]:
+def _trial_lines(desk: Desk, trials: list[Trial]) -> list[str]:
     """Trials in words, a line for each."""
     network = desk.network
     base, lines = desk.value, []

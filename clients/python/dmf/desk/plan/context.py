@@ -1,0 +1,75 @@
+"""What a command acts on: the desk, and where its answers go."""
+
+from __future__ import annotations
+
+from collections.abc import Callable
+from dataclasses import dataclass, field
+
+from ...quantity import Quantity
+from ..project.comparison import Comparison
+from ..project.scenarios import Scenarios
+from ..steps import Trial
+from ..workspace import Desk
+from .written_files import WrittenFiles
+
+# Keeps the steps of a desk in a new project at a path, whose desk goes on in its place.
+Keep = Callable[[str, Desk], Desk]
+
+
+class Output:
+    """Writes the answers of commands, in one form. Each method is for one kind of answer."""
+
+    def __init__(self, write: Callable[[str], None]) -> None:
+        self.write = write
+        # The number of the line that is answered.
+        self.line_number = 0
+
+    def tell(self, *lines: str) -> None:
+        """Write an answer that is nothing but lines."""
+        raise NotImplementedError
+
+    def refusal(self, why: str) -> None:
+        """Write why a line is refused, if that belongs in the answers."""
+
+    def change(self, desk: Desk, before: Quantity, done: str = "") -> None:
+        """Write the value after a change, and what was done if that needs saying."""
+        raise NotImplementedError
+
+    def limit(self, desk: Desk) -> None:
+        """Write the limit of a greatest flow."""
+        raise NotImplementedError
+
+    def flows(self, desk: Desk, numbers: list[int], *, with_limit: bool) -> None:
+        """Write what flows on these arcs, and which of them are of the limit."""
+        raise NotImplementedError
+
+    def steps(self, desk: Desk) -> None:
+        """Write the steps that were made, and those that were undone."""
+        raise NotImplementedError
+
+    def trials(self, desk: Desk, trials: list[Trial]) -> None:
+        """Write what each of some arcs means for the value."""
+        raise NotImplementedError
+
+    def what_if(self, desk: Desk, before: Quantity, value: Quantity) -> None:
+        """Write the value that a change would lead to."""
+        raise NotImplementedError
+
+    def scenarios(self, project: Scenarios, *, is_list: bool) -> None:
+        """Write the scenarios of a project, or what was made of the present one."""
+        raise NotImplementedError
+
+    def comparison(self, found: Comparison) -> None:
+        """Write in what two scenarios differ."""
+        raise NotImplementedError
+
+
+@dataclass
+class Context:
+    """What a command acts on. `keep` makes a project of the desk."""
+
+    desk: Desk
+    output: Output
+    is_typed: bool = False
+    keep: Keep | None = None
+    files: WrittenFiles = field(default_factory=WrittenFiles)
