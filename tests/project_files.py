@@ -9,17 +9,10 @@ from pathlib import Path
 from typing import Any
 
 import pytest
-from dmf.desk.project.schema import (
-    File,
-    KeptStep,
-    KeptTable,
-    Project,
-    ProjectFault,
-    Scenario,
-    said_scenario,
-    said_step,
-)
+from dmf.desk.project.records import File, KeptStep, KeptTable, Project, Scenario
+from dmf.desk.project.schema import said_scenario, said_step
 from dmf.desk.project.storage import ProjectFile, created, opened
+from dmf.desk.project.strict_json import ProjectFault
 
 ARC = ("Mill", "Town", 'Main "pipe"\n2')
 STEP = KeptStep(

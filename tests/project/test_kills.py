@@ -14,8 +14,8 @@ import pytest
 from desk_shared import greatest, water
 from dmf.desk.plan.shell import Shell
 from dmf.desk.project.opener import project_desk
+from dmf.desk.project.records import Project
 from dmf.desk.project.scenarios import project_of
-from dmf.desk.project.schema import Project
 from dmf.desk.project.storage import opened
 from project_shared import water_project
 

@@ -41,7 +41,7 @@ if TYPE_CHECKING:
     from .desk.project.open_project import OpenProject as OpenProject
     from .desk.project.open_project import new_project as new_project
     from .desk.project.open_project import open_project as open_project
-    from .desk.project.schema import ProjectFault as ProjectFault
+    from .desk.project.strict_json import ProjectFault as ProjectFault
     from .errors import AmbiguousArc as AmbiguousArc
     from .errors import ArcBeforeSourceAndSink as ArcBeforeSourceAndSink
     from .errors import ArcIsClosed as ArcIsClosed
@@ -114,7 +114,7 @@ _NAMES = {
     "arcs": ["Arc"],
     "desk.project.comparison": ["Comparison"],
     "desk.project.open_project": ["OpenProject", "new_project", "open_project"],
-    "desk.project.schema": ["ProjectFault"],
+    "desk.project.strict_json": ["ProjectFault"],
     "graph_flows": ["EdgeFlow", "MatrixFlow"],
     "graph_networks": ["from_igraph", "from_networkx", "from_scipy"],
     "graphs": ["maximum_flow", "minimum_cut", "value"],

@@ -16,7 +16,7 @@ HOMES: dict[str, tuple[str, ...]] = {
     "once": ("graphs", "graph_flows"),
     "project": (),
     "project.comparison": ("desk.project.comparison",),
-    "project.form": ("desk.project.schema",),
+    "project.form": ("desk.project.schema", "desk.project.records", "desk.project.strict_json"),
     "project.live": ("desk.project.open_project",),
     "showing": ("presentation",),
     "sources": ("graph_networks", "tables.problem_networks"),

@@ -11,7 +11,7 @@ import sys
 from collections.abc import Iterator
 from typing import TYPE_CHECKING
 
-from ..desk.project.schema import ENDING
+from ..desk.project.records import ENDING
 from ..errors import Refused
 from ..files import cannot
 from .command import Status, ToolFault, status_of, warn

@@ -14,19 +14,9 @@ from ...text.spelling import quoted_name
 from ...text.table_comments import AT_PLACE
 from ..live_network import LiveNetwork
 from ..steps import Add, Cap, Change, Close, DeskFault, Follow, Place, Reopen, Shut, Solve
-from .schema import (
-    ArcName,
-    Fields,
-    PlaceName,
-    Project,
-    ProjectFault,
-    Request,
-    Scenario,
-    position_of,
-    scenario_of,
-    step_of,
-    table_of,
-)
+from .records import ArcName, PlaceName, Project, Request, Scenario
+from .schema import position_of, scenario_of, step_of, table_of
+from .strict_json import Fields, ProjectFault
 
 
 def done(project: Project, word: str, content: Any, place: str) -> Project:

@@ -23,7 +23,7 @@ from .comparison import Comparison, compare
 from .opener import beside, keep_project, project_desk
 from .report import report
 from .scenarios import BASE, Scenarios, project_of
-from .schema import ProjectFault
+from .strict_json import ProjectFault
 
 Path = Union[str, "os.PathLike[str]"]
 # A quantity of the table, or a text as dmf-plan takes it: `47,3`, `12 l/s`, `+10 %`.

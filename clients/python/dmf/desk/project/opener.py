@@ -30,19 +30,10 @@ from ..scale import finer
 from ..steps import DeskFault
 from ..workspace import Desk
 from .acts import arc_told
+from .records import ENDING, OPTIONS, PLACE_OPTIONS, ArcName, File, KeptTable, Project, Scenario
 from .scenarios import FIRST, Base, Differences, Scenarios
-from .schema import (
-    ENDING,
-    OPTIONS,
-    PLACE_OPTIONS,
-    ArcName,
-    File,
-    KeptTable,
-    Project,
-    ProjectFault,
-    Scenario,
-)
 from .storage import ProjectFile, created, read_project
+from .strict_json import ProjectFault
 
 # The options that are decimal numbers.
 NUMBERS = ("scale", "velocity", "tolerance")

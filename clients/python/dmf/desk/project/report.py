@@ -26,8 +26,8 @@ from ..export import drawn, problem, taken
 from ..steps import DeskFault, Trial
 from ..workspace import Desk
 from .comparison import ArcDifference, compare
+from .records import ENDING, Scenario
 from .scenarios import BASE, Scenarios
-from .schema import ENDING, Scenario
 
 # How many arcs are tried for what is worst to lose, and how long a check may take, in seconds.
 MOST_TRIED = 300

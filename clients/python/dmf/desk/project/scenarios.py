@@ -27,19 +27,10 @@ from ..scale import finer
 from ..steps import Change, DeskFault, Follow, Solve, Step
 from ..workspace import Desk
 from .acts import changes_of, place_meant, requests_of
-from .schema import (
-    ArcName,
-    KeptStep,
-    KeptTable,
-    Project,
-    ProjectFault,
-    Request,
-    Scenario,
-    said_scenario,
-    said_step,
-    said_table,
-)
+from .records import ArcName, KeptStep, KeptTable, Project, Request, Scenario
+from .schema import said_scenario, said_step, said_table
 from .storage import Act, ProjectFile, Record
+from .strict_json import ProjectFault
 
 
 @dataclass

@@ -1,5 +1,4 @@
-"""What a project has, and its text in JSON, which is read strictly: what it should not have, or
-lacks, is refused with its place."""
+"""The text of a project in JSON: how each part of it is written, and read back."""
 
 from __future__ import annotations
 
@@ -7,51 +6,30 @@ import json
 import math
 import re
 from collections.abc import Callable, Mapping
-from dataclasses import dataclass, field, replace
+from dataclasses import replace
 from decimal import Decimal
-from typing import Any, Union
+from typing import Any
 
-from ...errors import Error
 from ...quantity import LARGEST_EXPONENT, LONGEST_NUMBER, SIGNS
+from .records import (
+    MARK,
+    OPTIONS,
+    PLACE_OPTIONS,
+    VERSION,
+    File,
+    KeptStep,
+    KeptTable,
+    Project,
+    Request,
+    Scenario,
+)
+from .strict_json import Fields, ProjectFault, read_json
 
-VERSION = 1
-ENDING = ".dmf.json"
-# The first key of a project's file.
-MARK = "dmf project"
-# The options that name tables of places, and the others, with the type of each.
-PLACE_OPTIONS = ("sources", "sinks", "node_limits", "place_table")
-OPTIONS: dict[str, type] = {
-    "tail": str,
-    "head": str,
-    "capacity": str,
-    "name": str,
-    "decimal": str,
-    "both_ways": bool,
-    "scale": str,
-    "source": list,
-    "sink": list,
-    "raw_names": bool,
-    "encoding": str,
-    "missing": str,
-    "ignore": list,
-    "matrix": bool,
-    "velocity": str,
-    "tanks": str,
-    "tolerance": str,
-}
-# A place by its name, or by the number of its node if its name is not its own; an arc as [FROM, TO,
-# NAME], with its place among several alike if there are some, or as what a place gives, takes or
-# lets through; and what is asked for, as ["close", ARC].
-PlaceName = Union[str, int]
-ArcName = tuple[Any, ...]
-Request = tuple[Any, ...]
-KINDS = ("supply", "demand", "limit")
-# An amount as it is written here; the longest one; and the most digits of a whole number, of which
-# the largest is that of 64 bits.
+# An amount as it is written here, and the longest one.
 _AMOUNT = re.compile(r"[0-9]+(?:\.[0-9]+)?")
-_LONGEST_AMOUNT, _MOST_DIGITS = LONGEST_NUMBER + 2 * LARGEST_EXPONENT, 20
-# Surrogates that stand for no byte of a file.
-_LONE = re.compile("[\ud800-\udc7f\udd00-\udfff]")
+_LONGEST_AMOUNT = LONGEST_NUMBER + 2 * LARGEST_EXPONENT
+# What a place does, for which an arc can stand.
+KINDS = ("supply", "demand", "limit")
 # By the word of a request, what follows it.
 REQUESTS = {
     "close": ("arc",),
@@ -60,199 +38,6 @@ REQUESTS = {
     "add": ("ends", "amount"),
     "shut": ("place",),
 }
-
-
-class ProjectFault(Error, ValueError):
-    """Why a project is refused, with the file and the place in it."""
-
-    __module__ = Error.__module__
-
-
-@dataclass(frozen=True)
-class KeptStep:
-    """A step as a project keeps it: in words, with the value that it came to, and what was asked
-    for, by names."""
-
-    text: str
-    value: str
-    requests: tuple[Request, ...] = ()
-
-
-@dataclass(frozen=True)
-class Scenario:
-    """Steps from the network of the table on, of which the first `at` are made and the others
-    undone. `begun_from` is the scenario whose steps the first `inherited` ones were when it was
-    made; it is empty if there was none. `left_out` are steps that meant nothing any more after the
-    table had changed."""
-
-    name: str
-    steps: tuple[KeptStep, ...] = ()
-    at: int = 0
-    begun_from: str = ""
-    inherited: int = 0
-    note: str = ""
-    left_out: tuple[KeptStep, ...] = ()
-
-
-@dataclass(frozen=True)
-class File:
-    """A file that a project was made of: its path, as seen from the project's folder, and the
-    SHA-256 sum of its content."""
-
-    path: str
-    sum: str
-
-
-@dataclass
-class KeptTable:
-    """The table of a project: its file, the sheet in it, the options that say what it is, by the
-    name of the option; the tables of places, by theirs; and what was found: the unit, the word for
-    an arc, and what was taken for granted."""
-
-    file: File
-    sheet: str = ""
-    options: dict[str, Any] = field(default_factory=dict)
-    places: dict[str, File] = field(default_factory=dict)
-    unit: str = ""
-    noun: str = ""
-    assumed: list[str] = field(default_factory=list)
-
-
-@dataclass(frozen=True)
-class Project:
-    """A project as it is after an act, which makes another one of it. `identity` tells it from
-    others, `serial` counts what was done to it, `network` is the problem of its table with its
-    names, and `present` names the scenario that is worked on."""
-
-    identity: str
-    table: KeptTable
-    network: str
-    serial: int = 0
-    scenarios: tuple[Scenario, ...] = ()
-    present: str = ""
-    notes: str = ""
-    positions: Mapping[str, tuple[float, ...]] = field(default_factory=dict)
-
-    def scenario(self, name: str) -> Scenario | None:
-        return next((it for it in self.scenarios if it.name == name), None)
-
-
-class Fields:
-    """The fields of an object, which are taken one after the other."""
-
-    def __init__(self, content: object, place: str) -> None:
-        if not isinstance(content, dict):
-            raise ProjectFault(f"{place or 'the file'} is not an object")
-        self._left = dict(content)
-        self.place = place
-
-    def at(self, name: str) -> str:
-        return f"{self.place}.{name}" if self.place else name
-
-    def take(self, name: str, kind: type, default: object = None) -> Any:
-        """The field of a name, which has to be there if there is no default."""
-        if name not in self._left:
-            if default is None:
-                raise ProjectFault(f"{self.at(name)} is missing")
-            return default
-        found = self._left.pop(name)
-        if type(found) is not kind:
-            raise ProjectFault(f"{self.at(name)} is {_told(found)}, and not {_KINDS[kind]}")
-        return found
-
-    def count(self, name: str, most: int | None = None) -> int:
-        """A whole number from 0 on."""
-        found: int = self.take(name, int)
-        if found < 0 or most is not None and found > most:
-            raise ProjectFault(
-                f"{self.at(name)} is {found}, and not from 0 to "
-                f"{'any number' if most is None else most}"
-            )
-        return found
-
-    def texts(self, name: str) -> list[str]:
-        found: list[Any] = self.take(name, list, [])
-        for at, text in enumerate(found):
-            if type(text) is not str:
-                raise ProjectFault(f"{self.at(name)}[{at}] is {_told(text)}, and not a text")
-        return found
-
-    def end(self) -> None:
-        """Raises a `ProjectFault` if a field was not taken."""
-        if self._left:
-            raise ProjectFault(
-                f"{self.at(next(iter(self._left)))} is nothing that a project of version {VERSION} "
-                "has"
-            )
-
-
-_KINDS: dict[type, str] = {
-    str: "a text",
-    int: "a whole number",
-    list: "a list",
-    dict: "an object",
-    bool: "true or false",
-}
-
-
-def _told(content: object) -> str:
-    return "nothing" if content is None else _KINDS.get(type(content), "a number")
-
-
-def read_json(text: bytes) -> Any:
-    """The content of a text in JSON, in which no field stands twice. Raises a `ProjectFault` with
-    the line and the column."""
-
-    def single(pairs: list[tuple[str, Any]]) -> dict[str, Any]:
-        found = dict(pairs)
-        if len(found) < len(pairs):
-            twice = next(name for at, (name, _) in enumerate(pairs) if name in dict(pairs[:at]))
-            raise ProjectFault(f"the field {twice!r} stands twice")
-        return found
-
-    def refuse(name: str) -> None:
-        raise ProjectFault(f"{name} is not a number of JSON")
-
-    try:
-        hooks: dict[str, Any] = {
-            "object_pairs_hook": single,
-            "parse_constant": refuse,
-            "parse_int": _whole_number,
-        }
-        content = json.loads(text.decode(), **hooks)
-        _judge_texts(content, "")
-        return content
-    except json.JSONDecodeError as fault:
-        is_cut = fault.pos >= len(fault.doc.rstrip()) or fault.msg.startswith("Unterminated string")
-        where = (
-            "the text ends in the midst of it" if is_cut else fault.msg[:1].lower() + fault.msg[1:]
-        )
-        raise ProjectFault(f"line {fault.lineno}, column {fault.colno}: {where}") from None
-    except UnicodeDecodeError as fault:
-        raise ProjectFault(f"byte {fault.start + 1} is not UTF-8") from None
-    except RecursionError:
-        raise ProjectFault("it is nested too deeply") from None
-
-
-def _whole_number(digits: str) -> int | float:
-    """Return a whole number, or a float if it has more digits than any here."""
-    return int(digits) if len(digits) <= _MOST_DIGITS else float(digits)
-
-
-def _judge_texts(content: object, place: str) -> None:
-    """Raise a `ProjectFault` if a text could not be written to a file again."""
-    if isinstance(content, str):
-        if _LONE.search(content):
-            raise ProjectFault(
-                f"{place or 'the file'} has half a letter, a surrogate that stands alone"
-            )
-    elif isinstance(content, dict):
-        for name, part in content.items():
-            _judge_texts(name, f"the name of a field in {place or 'the file'}")
-            _judge_texts(part, f"{place}.{name}" if place else name)
-    elif isinstance(content, list):
-        for at, part in enumerate(content):
-            _judge_texts(part, f"{place}[{at}]")
 
 
 def parse_project(text: bytes) -> Project:

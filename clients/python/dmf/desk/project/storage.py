@@ -23,7 +23,9 @@ from typing import Any
 
 from ...files import write_file
 from .acts import act_of, done
-from .schema import Fields, Project, ProjectFault, parse_project, read_json, text_of
+from .records import Project
+from .schema import parse_project, text_of
+from .strict_json import Fields, ProjectFault, read_json
 
 MARK = "dmf journal"
 VERSION = 1

@@ -1,0 +1,109 @@
+"""What a project has: its table, its scenarios and their steps. Nothing here knows how it is
+written."""
+
+from __future__ import annotations
+
+from collections.abc import Mapping
+from dataclasses import dataclass, field
+from typing import Any, Union
+
+VERSION = 1
+ENDING = ".dmf.json"
+# The first key of a project's file.
+MARK = "dmf project"
+# The options that name tables of places, and the others, with the type of each.
+PLACE_OPTIONS = ("sources", "sinks", "node_limits", "place_table")
+OPTIONS: dict[str, type] = {
+    "tail": str,
+    "head": str,
+    "capacity": str,
+    "name": str,
+    "decimal": str,
+    "both_ways": bool,
+    "scale": str,
+    "source": list,
+    "sink": list,
+    "raw_names": bool,
+    "encoding": str,
+    "missing": str,
+    "ignore": list,
+    "matrix": bool,
+    "velocity": str,
+    "tanks": str,
+    "tolerance": str,
+}
+# A place by its name, or by the number of its node if its name is not its own; an arc as [FROM, TO,
+# NAME], with its place among several alike if there are some, or as what a place gives, takes or
+# lets through; and what is asked for, as ["close", ARC].
+PlaceName = Union[str, int]
+ArcName = tuple[Any, ...]
+Request = tuple[Any, ...]
+
+
+@dataclass(frozen=True)
+class KeptStep:
+    """A step as a project keeps it: in words, with the value that it came to, and what was asked
+    for, by names."""
+
+    text: str
+    value: str
+    requests: tuple[Request, ...] = ()
+
+
+@dataclass(frozen=True)
+class Scenario:
+    """Steps from the network of the table on, of which the first `at` are made and the others
+    undone. `begun_from` is the scenario whose steps the first `inherited` ones were when it was
+    made; it is empty if there was none. `left_out` are steps that meant nothing any more after the
+    table had changed."""
+
+    name: str
+    steps: tuple[KeptStep, ...] = ()
+    at: int = 0
+    begun_from: str = ""
+    inherited: int = 0
+    note: str = ""
+    left_out: tuple[KeptStep, ...] = ()
+
+
+@dataclass(frozen=True)
+class File:
+    """A file that a project was made of: its path, as seen from the project's folder, and the
+    SHA-256 sum of its content."""
+
+    path: str
+    sum: str
+
+
+@dataclass
+class KeptTable:
+    """The table of a project: its file, the sheet in it, the options that say what it is, by the
+    name of the option; the tables of places, by theirs; and what was found: the unit, the word for
+    an arc, and what was taken for granted."""
+
+    file: File
+    sheet: str = ""
+    options: dict[str, Any] = field(default_factory=dict)
+    places: dict[str, File] = field(default_factory=dict)
+    unit: str = ""
+    noun: str = ""
+    assumed: list[str] = field(default_factory=list)
+
+
+@dataclass(frozen=True)
+class Project:
+    """A project as it is after an act, which makes another one of it. `identity` tells it from
+    others, `serial` counts what was done to it, `network` is the problem of its table with its
+    names, and `present` names the scenario that is worked on."""
+
+    identity: str
+    table: KeptTable
+    network: str
+    serial: int = 0
+    scenarios: tuple[Scenario, ...] = ()
+    present: str = ""
+    notes: str = ""
+    positions: Mapping[str, tuple[float, ...]] = field(default_factory=dict)
+
+    def scenario(self, name: str) -> Scenario | None:
+        return next((it for it in self.scenarios if it.name == name), None)
