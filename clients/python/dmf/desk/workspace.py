@@ -21,7 +21,7 @@ from array import array
 from collections.abc import Iterable, Iterator, Mapping, Sequence
 from dataclasses import replace
 
-from ..errors import CapacitiesPast64Bits, Error, FlowIsNotGreatest
+from ..errors import CapacitiesPast64Bits, FlowIsNotGreatest
 from ..quantity import Quantity, plain_text
 from ..session.base import Program
 from ..tables.loader import LoadedProblem
@@ -29,6 +29,7 @@ from ..text.spelling import quoted_name
 from .answers import Answers, FirstAnswer, Limit
 from .desk_state import DeskState, Keeper
 from .live_network import LiveNetwork
+from .running_networks import RunningNetworks
 from .scale import finer, past_64_bits
 from .steps import Add, Cap, Change, Close, DeskFault, Place, Reopen, Shut, Solve, Step
 
@@ -53,11 +54,9 @@ class Desk:
         program: Program = None,
     ) -> None:
         first = FirstAnswer.of(subject.text, program) if with_solve and may_follow else None
-        network = LiveNetwork(subject, program)
+        self._running = RunningNetworks(program)
+        network = self._running.begin(subject)
         self.with_solve = with_solve
-        self._program = program
-        # Those that `break_off` ends: the present one, and one on which the steps are made again.
-        self._running = [network]
         # The network of the desk that this one tries something out for, if it does.
         self._lent: LiveNetwork | None = None
         self.state = DeskState(network)
@@ -115,39 +114,18 @@ class Desk:
         )
 
     def break_off(self, why: str) -> None:
-        """Ends the session at once, also for a thread that waits for it, and one on which the steps
+        """End the session at once, also for a thread that waits for it, and one on which the steps
         are made again."""
-        for network in [*self._running]:
-            network.break_off(why)
+        self._running.break_off(why)
 
     def begin_again(self) -> None:
         """Makes all steps once more, from the first on, on a new session. If that fails, what is
         kept here stays as it was."""
         before = self.state
         before.network.drop()
-        network, done = self._made_again(before.network.subject, before.done)
+        network, done = self._running.make_again(before.network.subject, before.done)
         self.state = replace(before.as_made(done), network=network, answers=Answers())
-        self._leave(before.network)
-
-    def _made_again(
-        self, subject: LoadedProblem, steps: Sequence[Step]
-    ) -> tuple[LiveNetwork, tuple[Step, ...]]:
-        """A new session with all these steps."""
-        network = LiveNetwork(subject, self._program)
-        self._running.append(network)
-        try:
-            return network, tuple(network.make(step.text, step.changes) for step in steps)
-        except BaseException:
-            network.drop()
-            self._leave(network)
-            raise
-
-    def _leave(self, network: LiveNetwork) -> None:
-        """End a network that the state does not have any more, or never had."""
-        with contextlib.suppress(Error):
-            network.network.end()
-        if network in self._running:
-            self._running.remove(network)
+        self._running.leave(before.network)
 
     @contextlib.contextmanager
     def _fine_for(self, amounts: Iterable[Quantity]) -> Iterator[DeskState]:
@@ -162,7 +140,7 @@ class Desk:
             finest = finest if coarser is subject else plain_text(amount)
         if subject is not before.subject:
             try:
-                network, done = self._made_again(subject, state.done)
+                network, done = self._running.make_again(subject, state.done)
             except CapacitiesPast64Bits:
                 raise past_64_bits(subject.measure, finest) from None
             state = replace(state.as_made(done), network=network, answers=Answers())
@@ -174,7 +152,7 @@ class Desk:
             yield state
         finally:
             for network in {before, state.network} - {self.state.network, self._lent}:
-                self._leave(network)
+                self._running.leave(network)
 
     @contextlib.contextmanager
     def aside(self) -> Iterator[Desk]:
@@ -193,7 +171,7 @@ class Desk:
             yield other
         finally:
             if other.state.network is not state.network:
-                self._leave(other.state.network)
+                self._running.leave(other.state.network)
 
     def end(self) -> None:
         """Ends the session, and what keeps the desk."""
