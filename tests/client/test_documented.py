@@ -9,8 +9,10 @@ import os
 import re
 import subprocess
 import sys
+from decimal import Decimal
 from pathlib import Path
 from types import ModuleType
+from typing import Any
 
 import pytest
 from client_shared import CLIENT, ROOT, dmf
@@ -60,6 +62,21 @@ def test_call(name: str) -> None:
     """Each public call of a network, of a graph and of a sweep first says what it does, names its
     parameters, and has an example, which is run."""
     call = PUBLIC_CALLS[name]
+    judge_docstring(call)
+    run_examples(call, {name: getattr(dmf, name) for name in dir(dmf)})
+
+
+def run_examples(call: Any, names: dict[str, Any]) -> None:
+    """Run the examples of a call, which has some."""
+    runner = doctest.DocTestRunner()
+    for test in doctest.DocTestFinder().find(call, "call", module=False, globs=names):
+        assert runner.run(test).failed == 0
+    assert runner.tries > 0
+
+
+def judge_docstring(call: Any) -> None:
+    """Judge that a docstring says first what a call does, names its parameters, and has an
+    example."""
     text = inspect.cleandoc(call.__doc__ or "")
     first, below, *_ = [*text.split("\n"), ""]
     assert re.fullmatch(r"[A-Z][a-z]+ .*[.]", first) and not below, first
@@ -72,11 +89,33 @@ def test_call(name: str) -> None:
     named = {word.strip() for words in told for word in words.split(",")} & parameters
     # A call of few words may name none; one that names some names all.
     assert not named or named == parameters - {"self"}
-    names = {name: getattr(dmf, name) for name in dir(dmf)}
-    runner = doctest.DocTestRunner()
-    for test in doctest.DocTestFinder().find(call, name, module=False, globs=names):
-        assert runner.run(test).failed == 0, name
-    assert runner.tries > 0
+
+
+PROJECT_CALLS = {
+    **{
+        f"OpenProject.{name}": inspect.getattr_static(dmf.OpenProject, name)
+        for name in dir(dmf.OpenProject)
+        if not name.startswith("_")
+    },
+    "new_project": dmf.new_project,
+    "open_project": dmf.open_project,
+}
+# The table of the examples, with a column of costs.
+TABLE = "from,to,capacity,name,cost\nlake,mill,3,Lake pipe,10\nmill,sea,2,Mill pipe,5\n"
+
+
+@pytest.mark.parametrize("name", PROJECT_CALLS)
+def test_call_of_a_project(name: str, tmp_path: Path) -> None:
+    """As `test_call`, on a project of its own."""
+    judge_docstring(PROJECT_CALLS[name])
+    (tmp_path / "pipes.csv").write_text(TABLE)
+    with dmf.new_project(tmp_path / "pipes.csv", tmp_path / "own.dmf.json") as project:
+        names = {"dmf": dmf, "Decimal": Decimal, "folder": tmp_path, "project": project}
+        run_examples(PROJECT_CALLS[name], names)
+
+
+def test_class_of_projects() -> None:
+    run_examples(dmf.OpenProject, {"dmf": dmf})
 
 
 def test_readme() -> None:

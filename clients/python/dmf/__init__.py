@@ -38,9 +38,9 @@ if TYPE_CHECKING:
 
     from .arcs import Arc as Arc
     from .desk.project.comparison import Comparison as Comparison
-    from .desk.project.open_project import OpenProject as OpenProject
     from .desk.project.open_project import new_project as new_project
     from .desk.project.open_project import open_project as open_project
+    from .desk.project.python_project import OpenProject as OpenProject
     from .desk.project.strict_json import ProjectFault as ProjectFault
     from .errors import AmbiguousArc as AmbiguousArc
     from .errors import ArcBeforeSourceAndSink as ArcBeforeSourceAndSink
@@ -113,7 +113,8 @@ if TYPE_CHECKING:
 _NAMES = {
     "arcs": ["Arc"],
     "desk.project.comparison": ["Comparison"],
-    "desk.project.open_project": ["OpenProject", "new_project", "open_project"],
+    "desk.project.open_project": ["new_project", "open_project"],
+    "desk.project.python_project": ["OpenProject"],
     "desk.project.strict_json": ["ProjectFault"],
     "graph_flows": ["EdgeFlow", "MatrixFlow"],
     "graph_networks": ["from_igraph", "from_networkx", "from_scipy"],
