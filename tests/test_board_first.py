@@ -136,7 +136,7 @@ def test_a_program_that_fails(tmp_path: Path, monkeypatch: pytest.MonkeyPatch, a
     board, usual = board_of(3), board_of(3, may_follow=False)
     told, wanted = (json.loads(asked(it, *ASKED[0]).body) for it in (board, usual))
     assert told["rows"] == wanted["rows"] and told["told"].startswith(
-        "the session came to the value"
+        "the session found the value"
     ) == (answer == "echo s 1")
     assert board.desk.value == usual.desk.value
     end(board, usual)

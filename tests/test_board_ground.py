@@ -153,7 +153,7 @@ def test_not_there(tmp_path: Path) -> None:
     for given in words[2:], ["--map", str(tmp_path / "few.csv"), words[2]], city(small, 5):
         with board(*given) as it:
             assert not it.told("picture?near=")["has_ground"]
-            assert "nothing says where the places lie" in it.told("ground")["error"]
+            assert "the positions of the places are not known" in it.told("ground")["error"]
 
 
 def test_missing_places(tmp_path: Path) -> None:

@@ -191,7 +191,7 @@ def test_many() -> None:
         assert it.do(what="go", step=0)["value"] == "165"
         error = it.do(what="cap-all", arcs=arcs, capacity="-50")["error"]
         assert (error, it.state()["at"]) == (
-            "Bridge pipe: '-50' makes -30 of 20, which is below 0",
+            "Bridge pipe: '-50' changes 20 to -30, which is below 0",
             0,
         )
         told = it.do(what="double-all", arcs=arcs)
@@ -211,7 +211,7 @@ def test_many() -> None:
 def test_many_forms() -> None:
     with board(PIPES) as it:
         for arcs, wanted in (
-            ([1, 1], "stands twice"),
+            ([1, 1], "is in the list twice"),
             (["1"], "whole numbers"),
             ([True], "whole numbers"),
             ("1", "a list of arcs"),

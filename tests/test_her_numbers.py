@@ -142,7 +142,7 @@ def test_steps_with_finer_numbers(folder: Path) -> None:
     narrow = [it._replace(capacity=Fraction("9.9995")) if it.name == "Exit" else it for it in PIPES]
     assert steps[4] == f"{told(greatest(narrow))} l/s"
     why = (
-        "with the decimals of 0.00000000000000000001 the capacities would be together past "
+        "with the decimals of 0.00000000000000000001 the sum of the capacities would be past "
         "0.18446744073709551615 l/s"
     )
     assert (ran.returncode, ran.stderr) == (1, f"dmf-plan: line 11: {why}\n")

@@ -35,9 +35,9 @@ LINES = {
     'close "Mill Lane': 'a quote (") is not closed',
     "cap Mill Lane ten": "'ten' is not a number",
     "cap Mill Lane 1,200": "'1,200' may be 1.2 or 1200",
-    "cap Mill Lane -45.5": "'-45.5' makes -0.5 of 45, which is below 0",
+    "cap Mill Lane -45.5": "'-45.5' changes 45 to -0.5, which is below 0",
     "cap Mill Lane 10 %": "'10 %' is a share: write it with + or - before it, or the whole amount",
-    "add Mill Station +5": "'+5' changes an amount, and here is none yet",
+    "add Mill Station +5": "'+5' changes an amount, and there is none yet",
     "add Mill Station 1 200": "this can mean several things",
     "undo 1.5": "'1.5' is not a number of steps",
     "cap": "usage: cap ARC NUMBER",
@@ -47,7 +47,7 @@ LINES = {
     "cut": "the flow is not greatest",
     "add Mill Statoin 5": "no place is called 'Statoin'; is it 'Station'",
     "cap Mill-Market 99999999999999999999": "is past 18446744073709551615",
-    "cap Mill-Market 18446744073709551615": "the capacities would be together past "
+    "cap Mill-Market 18446744073709551615": "the sum of the capacities would be past "
     "18446744073709551615",
     "save x.txt": "the name of the file ends with one of .csv, .max",
     f"save {PIPES}": "already exists",
@@ -224,9 +224,9 @@ def test_many() -> None:
         conditions,
         "'name = x' is not a condition; expected: name",
         conditions,
-        "of the 14 open arcs this is so of none",
+        "none of the 14 open arcs meets the conditions",
     ]
-    wanted += ["'1,200' may be 1.2 or 1200", "of the 0 closed arcs this is so of none"]
+    wanted += ["'1,200' may be 1.2 or 1200", "none of the 0 closed arcs meets the conditions"]
     assert all(line.startswith(begin) for line, begin in zip(said, wanted)) and len(said) == len(
         wanted
     ), said

@@ -38,7 +38,7 @@ def test_kept(tmp_path: Path) -> None:
         status, told = it.post("do", what="go", step=0)
         assert status == 409 and b"of its own to undo" in told
         assert it.do(what="open", arc=9)["value"] == str(without("Bridge pipe"))
-        assert "read alone" in run("dmf-plan", path, typed="close Mill Lane\n").stderr
+        assert "read-only" in run("dmf-plan", path, typed="close Mill Lane\n").stderr
         assert it.end() == 130
     assert (
         run("dmf-plan", path, typed="scenario\n").stdout.splitlines()[-1]
@@ -69,7 +69,7 @@ def test_keep_beside(driver: Any, tmp_path: Path) -> None:
         judge_colours(page, 400)
         assert it.do(what="close", arc=9)["value"] == str(without("Bridge pipe", "Mill Lane"))
         status, told = it.post("do", what="keep")
-        assert status == 409 and b"no project can be kept of this" in told
+        assert status == 409 and b"a project cannot be made of this" in told
         it.process.send_signal(signal.SIGKILL)
     as_before(driver)
     ran = run("dmf-plan", f"{tmp_path}/pipes.dmf.json", typed="steps\n")

@@ -391,7 +391,7 @@ def test_read_alone(driver: Any, tmp_path: Path) -> None:
         assert page.go("first") == 126
         page.compare("first", "base")
         assert json.loads(it.post("do", what="scenario-copy", name="A")[1])["error"].startswith(
-            "the project is open to be read alone"
+            "the project is read-only"
         )
         driver.get("about:blank")
     assert [scenario.name for scenario in project_of(desk).project.scenarios] == ["first", "dry"]

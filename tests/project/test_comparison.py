@@ -174,8 +174,8 @@ def test_python(tmp_path: Path) -> None:
             with pytest.raises(dmf.ProjectFault):
                 call()
         with dmf.open_project(project_of(desk).file.path) as other:
-            assert other.news == ["it is open to be read alone, since another desk has it open"]
-            with pytest.raises(dmf.ProjectFault, match="read alone"):
+            assert other.news == ["it is read-only, since another desk has it open"]
+            with pytest.raises(dmf.ProjectFault, match="read-only"):
                 other.close("Mill Lane")
     with dmf.open_project(project_of(desk).file.path) as project:
         assert (project.scenarios, project.value, project.flow("New pipe"), project.news) == (
@@ -211,7 +211,7 @@ def test_made_in_python(tmp_path: Path) -> None:
         )
         assert project.shut("East Depot") == 126
         told = run("dmf-plan", str(path), typed="cut\n")
-        assert "read alone" in told.stderr and told.stdout.startswith("limit 126 pallets")
+        assert "read-only" in told.stderr and told.stdout.startswith("limit 126 pallets")
     made, other = parse_project(path.read_bytes()), parse_project(
         Path(project_of(desk).file.path).read_bytes()
     )

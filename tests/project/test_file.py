@@ -62,16 +62,16 @@ def test_killed_when_the_file_was_written(path: str) -> None:
 @pytest.mark.parametrize(
     "line, told",
     [
-        (b'{"serial": 1', "line 2: line 1, column 13: the text ends in the midst of it"),
-        (b'{"serial": 2, "note": "x"}', "line 2: the act has the number 2, and 1 comes next"),
+        (b'{"serial": 1', "line 2: line 1, column 13: the text ends before it is complete"),
+        (b'{"serial": 2, "note": "x"}', "line 2: the act has the number 2, and 1 was expected"),
         (
             b'{"serial": 1, "burn": 3}',
-            "line 2: burn: 'burn' is nothing that can be done to a project",
+            "line 2: burn: 'burn' is not an act on a project",
         ),
         (b'{"serial": 1, "at": 7}', "line 2: at: 7 is not a number of steps from 0 to 2"),
         (b'{"serial": 1, "go": "x"}', "line 2: go: no scenario is called 'x'"),
         (b'{"serial": 1, "delete": "first"}', "line 2: delete: 'first' is the present scenario"),
-        (b'{"serial": 1}', "line 2: one thing is done in a line, and here are 0"),
+        (b'{"serial": 1}', "line 2: expected one act in a line, got 0"),
     ],
 )
 def test_a_faulty_journal(path: str, line: bytes, told: str) -> None:

@@ -61,18 +61,18 @@ def test_half_a_file(path: str) -> None:
             lambda it: it.update({"dmf project": 2}),
             "it is a project of version 2, and this dmf reads version 1; a newer dmf wrote it",
         ),
-        (lambda it: it.update({"more": 1}), "more is nothing that a project of version 1 has"),
+        (lambda it: it.update({"more": 1}), "more is not a field of a project of version 1"),
         (lambda it: it.pop("network"), "network is missing"),
         (lambda it: it.update(serial=-1), "serial is -1, and not from 0 to any number"),
         (lambda it: it.update(serial=1.0), "serial is a number, and not a whole number"),
         (lambda it: it["table"].update(sheet=None), "table.sheet is nothing, and not a text"),
         (
             lambda it: it["table"]["options"].update(tails="x"),
-            "table.options.tails is nothing that a project of version 1 has",
+            "table.options.tails is not a field of a project of version 1",
         ),
         (
             lambda it: it["table"]["places"].update(x={}),
-            "table.places.x is none of sources, sinks, node_limits, place_table",
+            "table.places.x is not one of sources, sinks, node_limits, place_table",
         ),
         (
             lambda it: it["table"].update(assumed=[1]),
@@ -94,12 +94,12 @@ def test_half_a_file(path: str) -> None:
         ),
         (
             lambda it: it["scenarios"][0]["steps"][1].update(value="-1"),
-            "scenarios[0].steps[1].value is '-1', and no number from 0 on",
+            "scenarios[0].steps[1].value is '-1', which is not a number from 0 up",
         ),
         (
             lambda it: it["scenarios"][0]["steps"][1]["requests"].append(["burn", "Mill"]),
-            "scenarios[0].steps[1].requests[4] is none of close, open, cap, add, shut with what "
-            "follows it",
+            "scenarios[0].steps[1].requests[4] is not one of close, open, cap, add, shut with "
+            "its arguments",
         ),
         (
             lambda it: it["scenarios"][0]["steps"][0]["requests"].append(["close", ["Mill"]]),
@@ -115,7 +115,7 @@ def test_strictly(path: str, change: Callable[[dict[str, Any]], object], told: s
 def test_twice(path: str) -> None:
     other = path.replace("water", "other")
     Path(other).write_text(Path(path).read_text().replace('"serial"', '"id"'))
-    assert refused(other) == f"{other}: the field 'id' stands twice"
+    assert refused(other) == f"{other}: the field 'id' occurs twice"
 
 
 def test_documented() -> None:

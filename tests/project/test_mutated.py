@@ -237,7 +237,7 @@ def test_a_journal_that_is_a_link(tmp_path: Path) -> None:
     os.rename(journal_of(path), tmp_path / "elsewhere")
     os.symlink(tmp_path / "elsewhere", journal_of(path))
     with pytest.raises(
-        dmf.ProjectFault, match="is a link or no file, and so no journal; move it away"
+        dmf.ProjectFault, match="is a link or not a file, so it is not a journal; move it away"
     ):
         opened(path)
     os.rename(tmp_path / "elsewhere", journal_of(path))
@@ -252,7 +252,7 @@ def test_pipes(tmp_path: Path) -> None:
     before = Path(path).read_bytes()
     os.mkfifo(journal_of(path))
     with pytest.raises(
-        dmf.ProjectFault, match="is a link or no file, and so no journal; move it away"
+        dmf.ProjectFault, match="is a link or not a file, so it is not a journal; move it away"
     ):
         opened(path)
     os.remove(journal_of(path))
@@ -296,10 +296,10 @@ def test_nothing_is_written_before_all_is_judged(tmp_path: Path) -> None:
         ('"1e50"', 'scenarios[0].steps[1].requests[0] has "1e50", which is not a valid amount'),
         (
             f'"0.{"0" * 51}1"',
-            f"scenarios[0].steps[1].requests[0]: with the decimals of 0.{'0' * 51}1 the capacities "
-            "would be together past",
+            f"scenarios[0].steps[1].requests[0]: with the decimals of 0.{'0' * 51}1 the sum of "
+            "the capacities would be past",
         ),
-        ('"\\ud800"', "scenarios[0].steps[1].requests[0][2] has half a letter"),
+        ('"\\ud800"', "scenarios[0].steps[1].requests[0][2] has a lone surrogate"),
         ("9" * 5_000, "scenarios[0].steps[1].requests[0] has"),
     ],
 )

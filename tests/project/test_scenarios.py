@@ -236,7 +236,7 @@ def test_two_desks(tmp_path: Path) -> None:
     first.close(named(first, "Bridge pipe"))
     project_of(first).new("Flood")
     second = project_desk(project_of(first).file.path)
-    assert second.news == ["it is open to be read alone, since another desk has it open"]
+    assert second.news == ["it is read-only, since another desk has it open"]
     calls: list[Any] = [
         lambda: second.close(1),
         second.undo,
@@ -251,7 +251,7 @@ def test_two_desks(tmp_path: Path) -> None:
     project_of(second).go("first")
     assert second.value == without("Bridge pipe")
     for call in calls:
-        assert "read alone" in refused(call)
+        assert "read-only" in refused(call)
     with second.aside() as tried:
         tried.close(named(tried, "Mill Lane"))
         assert tried.value == without("Bridge pipe", "Mill Lane")

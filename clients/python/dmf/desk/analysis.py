@@ -26,9 +26,9 @@ from .workspace import Desk
 
 
 def trials_of(desk: Desk, numbers: Iterable[int]) -> Generator[Trial, None, None]:
-    """What each of these arcs means for the greatest value: if it alone is closed, and if it alone
-    has a second one beside it. Tries each on a copy of the network as it is at the call, on all
-    processors. Raises a `DeskFault` unless the flow is greatest and the arcs are open."""
+    """Yield what each of these arcs means for the greatest value: if it alone is closed, and if it
+    alone has a second one beside it. Tries each on a copy of the network as it is at the call, on
+    all processors. Raise a `DeskFault` unless the flow is greatest and the arcs are open."""
     if not desk.is_greatest:
         raise DeskFault(
             "the flow is not greatest, so nothing can be compared with it; `solve` first"
@@ -41,9 +41,9 @@ def trials_of(desk: Desk, numbers: Iterable[int]) -> Generator[Trial, None, None
 
 
 def trials(desk: Desk, wanted: Iterable[int]) -> Generator[Trial, None, None]:
-    """For each of these open arcs, if the flow is greatest: the greatest values if it alone is
-    closed, and if it alone has a second one beside it. Tries each on a copy of the network as it is
-    at the call, on all processors."""
+    """Yield for each of these open arcs, if the flow is greatest, the greatest values if it alone
+    is closed, and if it alone has a second one beside it. Try each on a copy of the network as it
+    is at the call, on all processors."""
     held, value = desk.network, desk.value
     numbers, cut, quantity = list(wanted), set(desk.cut_arcs()), held.measure.quantity
     # Closing an arc that carries nothing leaves the flow as it is. A second arc beside one that is
@@ -88,20 +88,21 @@ def trials(desk: Desk, wanted: Iterable[int]) -> Generator[Trial, None, None]:
 
 
 def _doubling(held: LiveNetwork, number: int) -> list[Follow]:
-    """What else changes if a second one of its capacity lies beside an arc."""
+    """Return what else changes if a second one of its capacity lies beside an arc."""
     line = held.lines[number - 1]
     return held.following([Add(line.tail, line.head, line.capacity)])
 
 
 def _greatest(result: SweepResult[Node]) -> int:
-    """The greatest value of a case."""
+    """Return the greatest value of a case."""
     if result.value is None:
         raise DeskFault(f"what was tried failed: {result.refusal}")
     return result.value
 
 
 def _greatest_or_none(result: SweepResult[Node]) -> int | None:
-    """The greatest value of a case, or None if the sum of the capacities would exceed 64 bits."""
+    """Return the greatest value of a case, or None if the sum of the capacities would exceed 64
+    bits."""
     return (
         None
         if isinstance(result.refusal, (CapacitiesPast64Bits, TooManyArcs))
@@ -144,11 +145,9 @@ class Way:
 
 
 def prices(desk: Desk, column: str = "", *, is_second: bool = False) -> Prices:
-    """The prices in a column of the table, by its title; without one that of the only column called
-    cost, or alike. Raises a `DeskFault` if there is no such column, or if a cell in it is not a
-    number
-    from 0 on. An arc of an empty cell has no price.
-    """
+    """Return the prices in a column of the table, by its title; without one that of the only column
+    called cost, or alike. Raise a `DeskFault` if there is no such column, or if a cell in it is not
+    a number from 0 on. An arc of an empty cell has no price."""
     extra = desk.network.subject.extra
     words = [title_of(title).word for title in extra.titles]
     found = [
@@ -186,8 +185,8 @@ def _price(cell: str, desk: Desk, title: str, number: int) -> Decimal:
 
 
 def priced(desk: Desk, given: Prices) -> dict[int, Decimal | None]:
-    """The arcs of the limit, each with its price if it has one. An arc that was opened again has
-    that of the one that it was."""
+    """Return the arcs of the limit, each with its price if it has one. An arc that was opened again
+    has that of the one that it was."""
     return {
         number: given.of.get(desk.network.lines[number - 1].first or number)
         for number in desk.cut_arcs()
@@ -195,10 +194,9 @@ def priced(desk: Desk, given: Prices) -> dict[int, Decimal | None]:
 
 
 def cheapest(desk: Desk, given: Prices, to: Quantity | None = None) -> Way:
-    """A cheap way to a value, by default to twice the present one, found greedily; the desk is as
-    it was then. Takes a few solves for each purchase, and where second arcs are bought a trial of
-    each arc of the limit. Raises a `DeskFault` if the flow is not greatest.
-    """
+    """Return a cheap way to a value, by default to twice the present one, found greedily; the desk
+    is as it was then. Takes a few solves for each purchase, and where second arcs are bought a
+    trial of each arc of the limit. Raise a `DeskFault` if the flow is not greatest."""
     if not desk.is_greatest:
         raise DeskFault("the flow is not greatest, so the limit is not known; `solve` first")
     wanted = EXACT.multiply(desk.value, 2) if to is None else to
@@ -218,7 +216,7 @@ def cheapest(desk: Desk, given: Prices, to: Quantity | None = None) -> Way:
 
 
 def _units(desk: Desk, given: Prices, wanted: Quantity, way: Way) -> Iterator[Bought]:
-    """Units more, as many as make the value grow before another limit holds it."""
+    """Yield units more, as many as make the value grow before another limit holds it."""
     total = Decimal(0)
     while desk.value < wanted:
         before, at, left = desk.value, desk.at, EXACT.subtract(wanted, desk.value)
@@ -257,7 +255,7 @@ def _units(desk: Desk, given: Prices, wanted: Quantity, way: Way) -> Iterator[Bo
 
 
 def _seconds(desk: Desk, given: Prices, wanted: Quantity, way: Way) -> Iterator[Bought]:
-    """Second arcs beside those of the limit, of which each brings the most for its money."""
+    """Yield second arcs beside those of the limit, of which each brings the most for its money."""
     total = Decimal(0)
     while desk.value < wanted:
         offers = {
@@ -288,7 +286,7 @@ def _row(desk: Desk, number: int) -> int:
 
 
 def purchase_lines(desk: Desk, given: Prices, way: Way) -> Iterator[str]:
-    """What each arc of the limit costs, and a way to a greater value, in words."""
+    """Yield what each arc of the limit costs, and a way to a greater value, in words."""
     each = (
         "a second one"
         if given.is_second

@@ -21,8 +21,8 @@ LARGE = 100_001
 
 
 class FirstAnswer:
-    """A program that finds the greatest value of a problem, and the side of its limit, while its
-    caller does other things."""
+    """A run of the program that finds the greatest value of a problem, and the source side of its
+    limit, while the caller does other things."""
 
     def __init__(self, text: bytes, program: Program) -> None:
         self._text = text
@@ -33,7 +33,7 @@ class FirstAnswer:
 
     @classmethod
     def of(cls, text: bytes, program: Program) -> FirstAnswer | None:
-        """One for the text of a large problem."""
+        """Return one for the text of a large problem, or None if it is small."""
         return cls(text, program) if text.count(b"\na ") >= LARGE else None
 
     def _find(self) -> None:
@@ -42,7 +42,7 @@ class FirstAnswer:
             self._found = solved([self._text], CUT, program_of(self._program))
 
     def wait(self) -> Solved | None:
-        """The answer, or None if none comes."""
+        """Return the answer, or None if there is none."""
         self._thread.join()
         return self._found
 

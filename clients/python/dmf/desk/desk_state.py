@@ -14,11 +14,11 @@ from .steps import Change, Step
 
 @dataclass(frozen=True)
 class DeskState:
-    """All that an act changes, which is never changed itself. `steps` are those that were made, the
-    first `at` of them, and after them those that were undone; `floors` is with how many steps each
-    trial that is open began; `turn` is larger after each change; `news` are what is to be said
-    beside the next answer; `scenario` is that of a project, if it is one's; and `record` is what
-    the keeper has of it."""
+    """Everything that an act changes; it is never changed itself. The first `at` of the `steps` are
+    made, and the others were undone. `floors` has the number of steps with which each open trial
+    began; `turn` grows with each change; `news` are lines to show with the next answer; `scenario`
+    is the name of a project's scenario, or empty; and `record` is what the keeper has of the
+    state."""
 
     network: LiveNetwork
     steps: tuple[Step, ...] = ()
@@ -32,7 +32,7 @@ class DeskState:
 
     @cached_property
     def done(self) -> tuple[Step, ...]:
-        """The steps that are made."""
+        """Return the steps that are made."""
         return self.steps[: self.at]
 
     def as_made(self, done: tuple[Step, ...]) -> DeskState:
@@ -41,8 +41,8 @@ class DeskState:
 
 
 class Keeper(Protocol):
-    """What keeps each act of a desk before it is shown, such as a project. What it refuses is a
-    `DeskFault`, and changes nothing."""
+    """Writes each act of a desk before it is shown, such as a project. It refuses with a
+    `DeskFault`, which changes nothing."""
 
     def judge(self, back: int = 0) -> None:
         """Raise a `DeskFault` if nothing can be kept, or if `back` steps cannot be undone."""
@@ -57,7 +57,7 @@ class Keeper(Protocol):
         """Return the state at another place among its steps, with the record of it."""
 
     def write(self, before: DeskState, after: DeskState) -> None:
-        """Write what the second record has and the first one has not."""
+        """Write what the second record has beyond the first."""
 
     def end(self) -> None:
         """End what is kept."""

@@ -17,8 +17,9 @@ ARROWS = (" -> ", "->", " - ", "-")
 
 
 class ArcNames(NamedTuple):
-    """How an arc is called: by its own name, which may be empty, or by what it stands for; by that
-    or its ends; by both; and its ends, with the node of the first one's place."""
+    """The names of an arc: its own name or what it stands for, which may be empty; a short one, its
+    name or else its ends; a full one, with both; and its ends, with the node of the first one's
+    place."""
 
     name: str
     short: str
@@ -30,9 +31,9 @@ class ArcNames(NamedTuple):
 
 
 class Directory:
-    """The names of places and arcs, and which of them a text means. What is not of the table goes
-    by what it means there: a place with a limit is one, and the arc that has its limit is `what
-    Mill lets through`."""
+    """The names of places and arcs, and which of them a text means. What is not in the table is
+    named by what it means there: a place with a limit is one place, and the arc that has the limit
+    is `what Mill lets through`."""
 
     def __init__(
         self,
@@ -74,7 +75,7 @@ class Directory:
 
     @cached_property
     def _between(self) -> dict[tuple[int, int], list[int]]:
-        """The arcs by their ends, but for those that were opened again as other ones."""
+        """Return the arcs by their ends, without those that were opened again as other ones."""
         found: dict[tuple[int, int], list[int]] = {}
         for number, line in enumerate(self._lines, 1):
             if not line.is_replaced:
@@ -83,7 +84,7 @@ class Directory:
 
     @cached_property
     def _arcs(self) -> dict[str, list[int]]:
-        """The arcs by the names by which they can be typed."""
+        """Return the arcs by the names by which they can be typed."""
         found: dict[str, list[int]] = {}
         for numbers in self._between.values():
             for number in numbers:
@@ -92,7 +93,7 @@ class Directory:
         return found
 
     def put(self, number: int) -> None:
-        """Takes in an arc."""
+        """Take in an arc."""
         if "_arcs" in vars(self):
             for name in self._typed(number):
                 self._arcs.setdefault(name, []).append(number)
@@ -108,7 +109,8 @@ class Directory:
             _remove(self._between.get(self._ends(number), []), number)
 
     def _typed(self, number: int) -> set[str]:
-        """The names by which an arc can be typed: how it is called, and its name in the problem."""
+        """Return the names by which an arc can be typed: how it is called, and its name in the
+        problem."""
         return {
             cleaned(name)
             for name in (self.arc_name(number), display(self.given_arc(number)))
@@ -119,40 +121,40 @@ class Directory:
         return self._lines[number - 1][:2]
 
     def node(self, number: int) -> str:
-        """How a node's place is called."""
+        """Return the name of a node's place."""
         return self._labels[number - 1]
 
     def terminal(self, node: int) -> str:
-        """How the source of the network is called, or its sink: where it joins several places, by
-        these."""
+        """Return the name of the source or the sink of the network: if it joins several places,
+        their names."""
         return listed(map(self.node, self._folding.ends(node)))
 
     def side(self, nodes: Iterable[int]) -> list[str]:
-        """The places that have these nodes, by their names."""
+        """Return the places that have these nodes, by their names."""
         labels = self._labels
         return [labels[number - 1] for number in self._folding.places(sorted(nodes))]
 
     def phrase(self, number: int) -> str:
-        """The beginning of a sentence about the capacity of an arc: `Mill Lane carries`."""
+        """Return the beginning of a sentence about the capacity of an arc: `Mill Lane carries`."""
         role = self._folding.role(*self._ends(number))
         return role_phrase(role, self.node) if role else f"{self.short(number)} carries"
 
     def is_role(self, number: int) -> bool:
-        """Whether an arc is none of the table, but stands for what a place gives, takes or lets
-        through."""
+        """Return True if an arc is not of the table, but stands for what a place gives, takes or
+        lets through."""
         return self._folding.role(*self._ends(number)) is not None
 
     def arc_name(self, number: int) -> str:
-        """The name of an arc, or nothing."""
+        """Return the name of an arc, or nothing."""
         role = self._folding.role(*self._ends(number))
         return role_words(role, self.node) if role else display(self.given_arc(number))
 
     def given_node(self, number: int) -> str:
-        """The name of a node as it was given, which may have what nobody can see."""
+        """Return the name of a node as it was given, which may have what nobody can see."""
         return self._node_names[number - 1]
 
     def given_arc(self, number: int) -> str:
-        """The name of an arc as it was given, or nothing."""
+        """Return the name of an arc as it was given, or nothing."""
         key = self._keys.get(number)
         return key if isinstance(key, str) else ""
 
@@ -176,22 +178,22 @@ class Directory:
         return ArcNames(name, name or label, label, place, tail_label, head_label, role)
 
     def arc(self, number: int) -> str:
-        """An arc by its name and its ends."""
+        """Return an arc by its name and its ends."""
         return self.arc_names(number).label
 
     def short(self, number: int) -> str:
-        """An arc by its name, or else by its ends."""
+        """Return an arc by its name, or else by its ends."""
         return self.arc_names(number).short
 
     def place(self, text: str) -> Place:
-        """The place with this name. Raises a `DeskFault`."""
+        """Return the place with this name. Raise a `DeskFault`."""
         name = self._place_name(cleaned(text))
         if name in self.places:
             return self.places[name]
         if name in self._several:
             listed = ", ".join(f"#{number}" for number in self._several[name][:MOST_LISTED])
             raise DeskFault(
-                f"several nodes are called {quoted_name(name)}: {listed}; say one by its number"
+                f"several nodes are called {quoted_name(name)}: {listed}; choose one by its number"
             )
         number = self._numbered(name)
         if number:
@@ -199,23 +201,23 @@ class Directory:
         raise DeskFault(f"no place is called {quoted_name(name)}{near(name, self.places)}")
 
     def place_of(self, node: int) -> Place:
-        """The place of a node. Raises a `DeskFault` if no place has a node of this number."""
+        """Return the place of a node. Raise a `DeskFault` if no place has a node of this number."""
         if not 1 <= node <= len(self._labels) or self._folding.is_joint(node):
             raise DeskFault(f"place #{node} does not exist")
         first = self._folding.place(node)
         return Place(first, self._folding.second(first))
 
     def spoken_place(self, node: int) -> str:
-        """How the place of a node is typed."""
+        """Return how the place of a node is typed."""
         return cleaned(self.node(node))
 
     def alike(self, number: int) -> list[int]:
-        """The arcs with the ends and the name of one, in their order; none that was opened again as
-        another one."""
+        """Return the arcs with the ends and the name of one, in their order; none that was opened
+        again as another one."""
         return self.alike_between(*self._ends(number), self.arc_name(number))
 
     def alike_between(self, tail: int, head: int, name: str) -> list[int]:
-        """The arcs of a name, which may be empty, between two nodes, in their order."""
+        """Return the arcs of a name, which may be empty, between two nodes, in their order."""
         return sorted(
             number
             for number in self._between.get((tail, head), ())
@@ -226,7 +228,8 @@ class Directory:
         return self._place_name(cleaned(text)) in self.places
 
     def _place_name(self, name: str) -> str:
-        """The name of the place that a text names, if it may be in any case, or else the text."""
+        """Return the name of the place that a text names, if it may be in any case, or else the
+        text."""
         found = (
             self._folded_places.get(folded(name), [])
             if self.is_any_case and name not in self.places
@@ -236,14 +239,15 @@ class Directory:
 
     @cached_property
     def _folded_places(self) -> dict[str, list[str]]:
-        """The names of places, by what they are without case and accents."""
+        """Return the names of places, by what they are without case and accents."""
         found: dict[str, list[str]] = {}
         for name in (*self.places, *self._several):
             found.setdefault(folded(name), []).append(name)
         return found
 
     def _arc_name(self, name: str) -> str:
-        """The name of the arcs that a text names, if it may be in any case, or else the text."""
+        """Return the name of the arcs that a text names, if it may be in any case, or else the
+        text."""
         if not self.is_any_case or name in self._arcs:
             return name
         sought = folded(name)
@@ -254,7 +258,7 @@ class Directory:
 
     @staticmethod
     def _numbered(name: str) -> int:
-        """The number of a text like `#7`, or 0."""
+        """Return the number of a text like `#7`, or 0."""
         digits = name[1:]
         return (
             int(digits)
@@ -263,9 +267,9 @@ class Directory:
         )
 
     def arcs(self, text: str) -> list[int]:
-        """The arcs, open or closed, that a text names: by their name, by their ends, as in
-        `Mill-Town` or `Mill Town`, or by their number, as in `#7`. Raises a `DeskFault` if there
-        are none."""
+        """Return the arcs, open or closed, that a text names: by their name, by their ends, as in
+        `Mill-Town` or `Mill Town`, or by their number, as in `#7`. Raise a `DeskFault` if there are
+        none."""
         name = cleaned(text)
         number = self._numbered(name)
         found = {number: None} if 1 <= number <= len(self._lines) else {}
@@ -281,7 +285,8 @@ class Directory:
         return sorted(found)
 
     def _splits(self, name: str) -> Iterator[tuple[str, str]]:
-        """The pairs of places whose names, with an arrow or a space between them, are this text."""
+        """Yield the pairs of places whose names, with an arrow or a space between them, are this
+        text."""
         for arrow in (*ARROWS, " "):
             at = name.find(arrow)
             while at >= 0:
@@ -300,11 +305,11 @@ class Directory:
         return f"no arc is called {quoted_name(name)}{near(name, self.spoken())}"
 
     def spoken(self) -> Iterator[str]:
-        """For each arc a text that means it."""
+        """Yield for each arc a text that means it."""
         return map(self.called, range(1, len(self._lines) + 1))
 
     def called(self, number: int) -> str:
-        """A text that means an arc: its name, or else its ends."""
+        """Return a text that means an arc: its name, or else its ends."""
         return self.arc_name(number) or "-".join(map(self.node, self._ends(number)))
 
     def list(self, numbers: Sequence[int]) -> str:

@@ -32,8 +32,8 @@ SAID = "said of the plan"
 
 
 def said_of(desk: Desk) -> list[str]:
-    """What is said of a plan that is taken along: of which network it is, its value, its scenario,
-    and the day."""
+    """Return what is said of a plan that is taken along: of which network it is, its value, its
+    scenario, and the day."""
     network = desk.network
     source, sink = map(network.names.terminal, (network.source, network.sink))
     most = f"{'at most ' * desk.is_greatest}{network.told(desk.value)} from {source} to {sink}"
@@ -44,8 +44,8 @@ def said_of(desk: Desk) -> list[str]:
 
 @dataclass(frozen=True)
 class _SaidColumns(Extra):
-    """Columns of a table that are kept, and one more that says of which plan it is, in the row of
-    this arc."""
+    """The other columns of a table, and one more that says in the row of this arc which plan it
+    is."""
 
     text: str = ""
     row: int = 0
@@ -55,8 +55,8 @@ class _SaidColumns(Extra):
 
 
 def _columns(desk: Desk, row: int) -> Extra:
-    """The other columns of a plan's table. One of a project has one more, in place of that which an
-    older plan had."""
+    """Return the other columns of a plan's table. One of a project has one more, in place of that
+    which an older plan had."""
     extra = desk.network.subject.extra
     if not desk.state.scenario:
         return extra
@@ -68,8 +68,9 @@ def _columns(desk: Desk, row: int) -> Extra:
 
 
 def table(desk: Desk) -> str:
-    """The open arcs as the table that `dmf-names --csv` writes; that of a project says in one more
-    column of which plan it is. If the flow is not greatest, the column of the cut is empty."""
+    """Return the open arcs as the table that `dmf-names --csv` writes; that of a project says in
+    one more column of which plan it is. If the flow is not greatest, the column of the cut is
+    empty."""
     network = desk.network
     crossing = desk.cut_arcs() if desk.is_greatest else None
     arcs = [
@@ -101,15 +102,15 @@ def table(desk: Desk) -> str:
 
 
 def row_of(desk: Desk, number: int) -> int:
-    """The number that an arc had before it was opened again, by which its row has other columns."""
+    """Return the number that an arc had before it was opened again, by which its row has other
+    columns."""
     return desk.network.line(number).first or number
 
 
 def problem(desk: Desk) -> str:
-    """The problem of the open arcs, with what comments say of its table and its columns and the
-    names of places and arcs; what cannot be written of a name is escaped. It needs no session, so
-    that it can be had where that has ended.
-    """
+    """Return the problem of the open arcs, with what comments say of its table and its columns and
+    the names of places and arcs; what cannot be written of a name is escaped. It needs no session,
+    so that it can be had where that has ended."""
     network = desk.network
     names = network.names
     opened = {number: line for number, line in enumerate(network.lines, 1) if not line.is_closed}
@@ -139,7 +140,7 @@ def problem(desk: Desk) -> str:
 
 
 def drawing(desk: Desk) -> Drawing:
-    """What a picture of the desk shows. An arc that was opened again is drawn once."""
+    """Return what a picture of the desk shows. An arc that was opened again is drawn once."""
     network = desk.network
     numbers = [number for number, line in enumerate(network.lines, 1) if not line.is_replaced]
     names = network.names
@@ -177,22 +178,22 @@ def drawing(desk: Desk) -> Drawing:
 
 
 def arcs_of(lines: list[DeskArc]) -> list[ArcRecord]:
-    """Lines as arcs of a drawing: a line has all that a drawing reads of an arc."""
+    """Return lines as arcs of a drawing: a line has all that a drawing reads of an arc."""
     return cast(list[ArcRecord], lines)
 
 
 def picture_text(desk: Desk) -> str:
-    """The text of the picture that `dmf-dot` draws."""
+    """Return the text of the picture that `dmf-dot` draws."""
     return "".join(f"{line}\n" for line in picture(drawing(desk), MOST_DRAWN))
 
 
 def taken(desk: Desk, data: bytes) -> bytes:
-    """A picture or a page of a desk to take along, which carries the problem."""
+    """Return a picture or a page of a desk to take along, which carries the problem."""
     return carrying(data, problem(desk))
 
 
 def drawn(desk: Desk, path: str) -> bytes:
-    """The picture of a desk, as the end of a file's name says. Raises a `DeskFault`."""
+    """Return the picture of a desk, as the end of a file's name says. Raise a `DeskFault`."""
     text = picture_text(desk)
     kind = DRAWN.get(Path(path).suffix)
     if kind is None:

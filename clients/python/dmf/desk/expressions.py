@@ -16,14 +16,14 @@ _CHANGE = re.compile(r"([+\-\u2212]?)\s*(.*?)\s*(%?)", re.DOTALL)
 
 
 def is_amount(text: str) -> bool:
-    """Whether a text can be an amount, or a change of one."""
+    """Return True if a text can be an amount, or a change of one."""
     change = _CHANGE.fullmatch(text)
     return change is not None and bool(readings(change[2]))
 
 
 def amount(text: str, measure: Measure, present: Quantity | None = None) -> Quantity:
-    """The amount that a text means: `47,3`, `12 l/s`; and where there is a present one, `+10 %`,
-    `-5` and `+2,5` change that. Raises a `DeskFault`, as of a text that can be read in two ways."""
+    """Return the amount that a text means: `47,3`, `12 l/s`. If there is a present one, `+10 %`,
+    `-5` and `+2,5` change it. Raise a `DeskFault`, also if the text can be read in two ways."""
     wanted = text.strip()
     if not wanted:
         raise DeskFault("expected a number")
@@ -40,12 +40,12 @@ def amount(text: str, measure: Measure, present: Quantity | None = None) -> Quan
         if not change[1]:
             raise QuantityFault("is a share: write it with + or - before it, or the whole amount")
         if present is None:
-            raise QuantityFault("changes an amount, and here is none yet")
+            raise QuantityFault("changes an amount, and there is none yet")
         by = EXACT.multiply(by, present).scaleb(-2, EXACT) if change[3] else by
         after = EXACT.add(present, by) if change[1] == "+" else EXACT.subtract(present, by)
         if after < 0:
             raise QuantityFault(
-                f"makes {plain_text(after)} of {plain_text(present)}, which is below 0"
+                f"changes {plain_text(present)} to {plain_text(after)}, which is below 0"
             )
         return after
     except QuantityFault as fault:
@@ -68,10 +68,9 @@ Condition = Callable[[int], bool]
 
 
 def condition(desk: Desk, words: list[str]) -> Condition | None:
-    """Whether something is so of an arc: `full`, `limit`, `name ~ TEXT` (in any case; also of
-    `from` and `to`), or `capacity < NUMBER` (also of `flow` and with `<=`, `=`, `>=`, `>`). None if
-    the words are no condition. Raises a `DeskFault` where it cannot be told.
-    """
+    """Return a predicate on arcs: `full`, `limit`, `name ~ TEXT` (in any case; also of `from` and
+    `to`), or `capacity < NUMBER` (also of `flow`, and with `<=`, `=`, `>=`, `>`). Return None if
+    the words are not a condition. Raise a `DeskFault` if it cannot be decided."""
     network = desk.network
     lines, quantity = network.lines, network.measure.quantity
     if words == ["full"]:
@@ -103,7 +102,7 @@ def condition(desk: Desk, words: list[str]) -> Condition | None:
 
 
 def successors(desk: Desk) -> dict[int, int]:
-    """The arcs that were closed and opened again, with what they are now."""
+    """Return the arcs that were closed and opened again, with what they are now."""
     network = desk.network
     added = enumerate(network.lines[network.first_count :], network.first_count + 1)
     again = [(number, line.first) for number, line in added if line.first]

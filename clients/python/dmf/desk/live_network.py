@@ -40,15 +40,15 @@ class LiveNetwork(NetworkArcs):
 
     @property
     def has_ended(self) -> bool:
-        """Whether the session is known to have ended."""
+        """Return True if the session is known to have ended."""
         return self._is_moving or self._is_dropped or not self.network._session.end.alive
 
     def break_off(self, why: str) -> None:
-        """Ends the session at once, also for a thread that waits for it."""
+        """End the session at once, also for a thread that waits for it."""
         self.network._session.break_off(why)
 
     def drop(self) -> None:
-        """Ends the session, which may be between two steps."""
+        """End the session, which may be between two steps."""
         self._is_dropped = True
         self.break_off("the session was ended")
         with contextlib.suppress(Error):
@@ -101,8 +101,8 @@ class LiveNetwork(NetworkArcs):
         self._mark(marks)
 
     def promise(self, value: int) -> Step:
-        """The step that solves, for whoever knows the greatest value already. The session makes it
-        when its flows are asked for."""
+        """Return the step that solves, for a caller that knows the greatest value already. The
+        session makes it when its flows are asked for."""
         return Step("solve", (Solve(),), self.measure.quantity(value), self.marks)
 
     def extend(
@@ -138,7 +138,7 @@ class LiveNetwork(NetworkArcs):
         return Step(text, changes, value, self.marks, made, by)
 
     def _change(self, change: Change) -> None:
-        """Makes a change of the network."""
+        """Make a change of the network."""
         network, nodes, marks = self.network, self._nodes, self.marks
         if isinstance(change, Solve):
             network.solve()
@@ -166,7 +166,7 @@ class LiveNetwork(NetworkArcs):
         return self.network._flow_of_each()
 
     def handle(self, number: int) -> Arc[Node]:
-        """The handle of an arc in the session's network."""
+        """Return the handle of an arc in the session's network."""
         return self.network._kept.handle(number)
 
     def leaving(self, side: Iterable[int]) -> list[int]:
@@ -174,8 +174,8 @@ class LiveNetwork(NetworkArcs):
         return self.network._kept.numbers_leaving(sorted(side))
 
     def changed(self) -> set[int]:
-        """The arcs that are not as they were at first: closed, of another capacity, or added. One
-        that was closed and opened again is as it was."""
+        """Return the arcs that differ from the problem's: closed, added, or of another capacity.
+        One that was closed and opened again does not differ."""
         kept = self.network._kept
         found = set()
         for number, line in enumerate(self.lines, 1):

@@ -54,62 +54,62 @@ class NetworkArcs:
         self._mark(self.marks)
 
     def told(self, amount: Quantity) -> str:
-        """An amount with its unit."""
+        """Return an amount with its unit."""
         return f"{plain_text(amount)} {self.measure.told_unit}".rstrip()
 
     def taken(self, amount: Quantity) -> Quantity:
-        """An amount as the session's numbers have it."""
+        """Return an amount as the session's numbers have it."""
         return self.measure.quantity(self.measure.whole(amount))
 
     @property
     def shut_nodes(self) -> frozenset[int]:
-        """The nodes that are shut."""
+        """Return the nodes that are shut."""
         return self.marks.shut
 
     @property
     def sources(self) -> list[int]:
-        """The places that flow comes from, by their nodes."""
+        """Return the places that flow comes from, by their nodes."""
         return self.folding.ends(self.source)
 
     @property
     def sinks(self) -> list[int]:
-        """The places that flow goes to, by their nodes."""
+        """Return the places that flow goes to, by their nodes."""
         return self.folding.ends(self.sink)
 
     @cached_property
     def told_source(self) -> str:
-        """How the source is called: if it joins several places, by these."""
+        """Return the name of the source, or the names of the places that it joins."""
         return self.names.terminal(self.source)
 
     @cached_property
     def told_sink(self) -> str:
-        """How the sink is called, likewise."""
+        """Return the name of the sink, likewise."""
         return self.names.terminal(self.sink)
 
     def line(self, number: int) -> DeskArc:
-        """An arc as it is. Raises a `DeskFault` if there is none of this number."""
+        """Return an arc as it is. Raise a `DeskFault` if no arc has this number."""
         if not 1 <= number <= len(self.lines):
             raise DeskFault(f"arc #{number} does not exist")
         return self.lines[number - 1]
 
     def open_line(self, number: int) -> DeskArc:
-        """An open arc as it is. Raises a `DeskFault` if it is closed."""
+        """Return an open arc as it is. Raise a `DeskFault` if it is closed."""
         line = self.line(number)
         if line.is_closed:
             raise DeskFault(f"{self.names.arc(number)} is closed")
         return line
 
     def opened(self) -> Iterator[tuple[int, DeskArc]]:
-        """The open arcs, with their numbers."""
+        """Yield the open arcs, with their numbers."""
         return ((number, line) for number, line in enumerate(self.lines, 1) if not line.is_closed)
 
     def role(self, number: int) -> Role | None:
-        """What an arc stands for, if it is none of the table."""
+        """Return what an arc stands for, or None if it is an arc of the table."""
         return self.folding.role(*self.lines[number - 1][:2])
 
     def roles(self) -> dict[int, list[tuple[int, str]]]:
-        """By the node of a place: the arcs that stand for what it gives, takes or lets through,
-        each with which of these."""
+        """Return the arcs that stand for what a place gives, takes or lets through, each with which
+        of these, by the node of the place."""
         found: dict[int, list[tuple[int, str]]] = {}
         for number, line in enumerate(self.lines, 1) if self.folding.has_roles else ():
             if (role := self.role(number)) and not line.is_replaced:
@@ -117,7 +117,7 @@ class NetworkArcs:
         return found
 
     def pictured(self) -> list[int]:
-        """The arcs of the table and those that were added. One that was opened again counts
+        """Return the arcs of the table and those that were added. One that was opened again counts
         once."""
         found = [number for number, line in enumerate(self.lines, 1) if not line.is_replaced]
         return (
@@ -135,7 +135,7 @@ class NetworkArcs:
         return self.folding.told_side({*inside}, opened, self.limited())
 
     def limited(self) -> set[int]:
-        """The places of sources and sinks to which a limit was given that had none."""
+        """Return the places of sources and sinks to which a limit was given that had none."""
         if not self.folding.has_unlimited:
             return set()
         lines = (line for line in self.lines if not line.is_unlimited and not line.is_replaced)
@@ -143,12 +143,12 @@ class NetworkArcs:
         return {role.node for role in roles if role and role.is_unlimited}
 
     def whole(self, number: int) -> int:
-        """The capacity of an arc as the session has it."""
+        """Return the capacity of an arc as the session has it."""
         return self.measure.whole(self.lines[number - 1].capacity)
 
     def the_arc(self, text: str, *, is_closed: bool = False) -> int:
-        """The arc that a text means: the open one, or else the closed one. Raises a `DeskFault` if
-        it means none, or several."""
+        """Return the arc that a text means: the open one, or else the closed one. Raise a
+        `DeskFault` if it means none, or several."""
         meant = self.names.arcs(text)
         found = [number for number in meant if not self.lines[number - 1].is_replaced]
         if not found:
@@ -160,19 +160,19 @@ class NetworkArcs:
         if fitting:
             raise DeskFault(
                 f"{quoted_name(cleaned(text))} may be {self.names.list(fitting)}; "
-                "say one by its number"
+                "choose one by its number"
             )
         arcs = self.names.list(found)
         raise DeskFault(f"{arcs} is open" if is_closed else f"{arcs} is closed; `open` opens it")
 
     def _replacing(self, number: int) -> int:
-        """The arc that replaced one when it was opened again."""
+        """Return the arc that replaced one when it was opened again."""
         first = self.lines[number - 1].first or number
         return max(other for other, it in enumerate(self.lines, 1) if it.first == first)
 
     def following(self, changes: Iterable[Change]) -> list[Follow]:
-        """What changes with these: an unlimited source gives as much as the arcs there carry then,
-        and a sink takes as much."""
+        """Return what changes with these: an unlimited source gives as much as the arcs there carry
+        then, and a sink takes as much."""
         if not self.folding.has_unlimited:
             return []
         more: dict[tuple[int, int], Quantity] = {}
@@ -200,7 +200,8 @@ class NetworkArcs:
         return found
 
     def _unlimited(self, ends: Iterable[tuple[int, int]]) -> Iterator[tuple[int, Role]]:
-        """The open arcs of the unlimited sources and sinks at which arcs with such ends are."""
+        """Yield the open arcs of the unlimited sources and sinks at which arcs with such ends
+        are."""
         wanted = list(ends)
         added = range(self.first_count + 1, len(self.lines) + 1)
         for number in chain(self.subject.described.roles, added):
@@ -216,7 +217,7 @@ class NetworkArcs:
         return self.taken(total)
 
     def _opened_places(self, changes: Iterable[Change]) -> set[int]:
-        """The shut places whose arcs these changes opened again, all but those to other shut
+        """Return the shut places whose arcs these changes opened again, all but those to other shut
         places."""
         ends = (self.lines[it.arc - 1][:2] for it in changes if isinstance(it, Reopen))
         opened = {node for nodes in ends for node in nodes if node in self.shut_nodes}
@@ -233,7 +234,7 @@ class NetworkArcs:
     # How the arcs follow.
 
     def _mark(self, marks: Marks) -> None:
-        """Has these marks, by which sources and sinks are unlimited or not."""
+        """Have these marks, by which sources and sinks are unlimited or not."""
         self.marks = marks
         later = range(self.first_count + 1, len(self.lines) + 1) if self._at_first_unlimited else ()
         for number in chain(self._at_first_unlimited, later):
@@ -246,7 +247,7 @@ class NetworkArcs:
         return first in self._at_first_unlimited and first not in self.marks.limited
 
     def _follow(self, change: session.Change, is_made: bool) -> None:
-        """Has the lines be as a change left the network, or as it was before that."""
+        """Have the lines be as a change left the network, or as it was before that."""
         if change.added:
             arc, capacity, replaced = change.added
             if is_made and arc.number > len(self.lines):
@@ -264,7 +265,7 @@ class NetworkArcs:
                 self.lines[number - 1] = line._replace(capacity=self.measure.quantity(now), **looks)
 
     def _put(self, arc: Arc[Node], capacity: int, replaced: int | None) -> None:
-        """Takes in the line of an arc that was added, in place of a closed one if that was opened
+        """Take in the line of an arc that was added, in place of a closed one if that was opened
         again."""
         if arc.given_key is not None:
             self._keys[arc.number] = arc.given_key
@@ -284,7 +285,7 @@ class NetworkArcs:
             self.lines[replaced - 1] = was._replace(is_replaced=True)
 
     def _drop(self, number: int, replaced: int | None) -> None:
-        """Drops the line of the last arc."""
+        """Drop the line of the last arc."""
         self.names.drop(number)
         self._keys.pop(number, None)
         self.lines.pop()

@@ -14,7 +14,7 @@ from .steps import Step
 
 
 class RunningNetworks:
-    """Begins networks with this program, and can end them all from another thread."""
+    """The networks whose sessions run. All of them can be ended from another thread."""
 
     def __init__(self, program: Program) -> None:
         self._program = program

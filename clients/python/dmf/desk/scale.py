@@ -14,9 +14,9 @@ _ARC = re.compile(rb"^([ \t]*a[ \t]+[0-9]+[ \t]+[0-9]+[ \t]+)([0-9]+)", re.MULTI
 
 
 def finer(subject: LoadedProblem, quantity: Quantity) -> LoadedProblem:
-    """The subject with the least scale in which a quantity is whole too: itself, or one with all
-    capacities times a power of ten. Raises a `DeskFault` if that would take the capacities past 64
-    bits."""
+    """Return the subject with the least scale in which a quantity is whole too: itself, or one with
+    all capacities times a power of ten. Raise a `DeskFault` if that would take the capacities past
+    64 bits."""
     now = subject.measure
     measure = now.finer(quantity)
     try:
@@ -39,6 +39,6 @@ def finer(subject: LoadedProblem, quantity: Quantity) -> LoadedProblem:
 
 
 def past_64_bits(measure: Measure, what: str = "") -> DeskFault:
-    """Why capacities are too large together."""
+    """Return why capacities are too large together."""
     why = f"with the decimals of {what} " if what else ""
-    return DeskFault(f"{why}the capacities would be together past {measure.told(LARGEST)}")
+    return DeskFault(f"{why}the sum of the capacities would be past {measure.told(LARGEST)}")

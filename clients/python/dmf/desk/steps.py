@@ -27,11 +27,11 @@ class Place(NamedTuple):
 
 
 class DeskArc(NamedTuple):
-    """An arc as it is: its ends by their numbers, and its capacity, which one that is closed had
-    before. `was_shut` says that it was closed when a place was shut, and `is_replaced` that it was
-    closed and then opened again, as another arc. `is_unlimited` says that it is what a source
-    gives, or a sink takes, as much as the arcs there carry. `first` is the number of the arc that
-    one was before it was opened again, if it was."""
+    """An arc as it is: its ends by their numbers, and its capacity, or the one that it had before
+    it was closed. `was_shut` is True if it was closed because a place was shut, and `is_replaced`
+    if it was closed and then opened again, as another arc. `is_unlimited` is True if it stands for
+    a source that gives, or a sink that takes, as much as the arcs there carry. `first` is the
+    number that an arc had before it was opened again, or 0."""
 
     tail: int
     head: int
@@ -44,13 +44,13 @@ class DeskArc(NamedTuple):
 
     @property
     def is_shut(self) -> bool:
-        """Whether it is closed since a place was shut."""
+        """Return True if it is closed because a place was shut."""
         return self.was_shut and not self.is_replaced
 
 
 class Marks(NamedTuple):
-    """What the network does not know of what was done: the nodes that are shut, and the unlimited
-    sources and sinks that got a limit, by the first numbers of their arcs."""
+    """What the network itself does not know: the nodes that are shut, and the unlimited sources and
+    sinks that got a limit, by the first numbers of their arcs."""
 
     shut: frozenset[int] = frozenset()
     limited: frozenset[int] = frozenset()
@@ -103,10 +103,10 @@ Change = Union[Solve, Close, Cap, Add, Reopen, Shut]
 
 @dataclass(frozen=True)
 class Step:
-    """What was done, in words, the changes that were asked for, the value of the flow that they
-    left, and the marks after it. `made` are the changes of the network's history, by which it is
-    known whether the session has made it; None if it never did. `by` is what it brought, in words,
-    and empty for the first one."""
+    """A step: what was done, in words; the changes that were asked for; the value of the flow after
+    it; and the marks after it. `made` are the changes in the network's history, by which one sees
+    whether the session has made the step; None if it never did. `by` is the difference to the value
+    before, in words, and empty for the first step."""
 
     text: str
     changes: tuple[Change, ...]
@@ -117,7 +117,7 @@ class Step:
 
     @cached_property
     def told_value(self) -> str:
-        """The value as a text."""
+        """Return the value as a text."""
         return plain_text(self.value)
 
     @property
@@ -127,8 +127,8 @@ class Step:
 
 @dataclass(frozen=True)
 class Trial:
-    """The greatest values if an arc is closed, and if a second one of its capacity lies beside it.
-    The second is None if the sum of the capacities would exceed 64 bits."""
+    """The greatest values if an arc is closed, and if a second arc of its capacity is added beside
+    it. The second is None if the sum of the capacities would exceed 64 bits."""
 
     arc: int
     closed: Quantity
@@ -136,7 +136,7 @@ class Trial:
 
 
 def unforeseen(error: BaseException) -> str:
-    """Why something came to no end, also for an error that nothing foresaw."""
+    """Return why a request failed, also for an error that nothing foresaw."""
     if isinstance(error, (Error, DeskFault, OSError)):
         return str(error)
-    return f"that failed ({type(error).__name__}{f': {error}' if str(error) else ''})"
+    return f"failed: {type(error).__name__}{f' ({error})' if str(error) else ''}"

@@ -65,16 +65,15 @@ class Desk:
             answers = Answers(found.side, found.value) if found else Answers()
             solve = "solve", (Solve(),)
             steps = (network.promise(found.value),) if found else network.extend((), *solve)
-            self.state = replace(
-                self.state, steps=steps, at=1, floors=(1,), turn=1, answers=answers
-            )
+            begun = replace(self.state, steps=steps, at=1, floors=(1,), turn=1)
+            self.state = replace(begun, answers=answers)
 
     # The state, and how another one takes its place.
 
     @property
     def network(self) -> LiveNetwork:
-        """The network, which stands where the state does. Raises `SessionEnded` if it cannot be
-        brought there."""
+        """Return the network, which stands where the state does. Raise `SessionEnded` if it cannot
+        be brought there."""
         state = self.state
         done = state.network.stand_on(state.done)
         if done is not state.done:
@@ -99,7 +98,7 @@ class Desk:
         return [*news]
 
     def follow(self) -> None:
-        """Finds the flows, where only the value and the limit are known so far."""
+        """Find the flows, if only the value and the limit are known so far."""
         state = self.state
         if state.answers.promised is None:
             return
@@ -108,7 +107,7 @@ class Desk:
         if step.value != promise.value:
             network.drop()
             found, wanted = (network.measure.whole(it.value) for it in (step, promise))
-            raise DeskFault(f"the session came to the value {found}, and not to {wanted}")
+            raise DeskFault(f"the session found the value {found}, and {wanted} was expected")
         self.state = replace(
             state, steps=(step, *undone), answers=replace(state.answers, promised=None)
         )
@@ -119,8 +118,7 @@ class Desk:
         self._running.break_off(why)
 
     def begin_again(self) -> None:
-        """Makes all steps once more, from the first on, on a new session. If that fails, what is
-        kept here stays as it was."""
+        """Make all steps again on a new session. If that fails, nothing changes here."""
         before = self.state
         before.network.drop()
         network, done = self._running.make_again(before.network.subject, before.done)
@@ -174,7 +172,7 @@ class Desk:
                 self._running.leave(other.state.network)
 
     def end(self) -> None:
-        """Ends the session, and what keeps the desk."""
+        """End the session, and what keeps the desk."""
         try:
             self.state.network.network.end()
         finally:
@@ -185,43 +183,43 @@ class Desk:
 
     @property
     def has_ended(self) -> bool:
-        """Whether the session is known to have ended."""
+        """Return True if the session is known to have ended."""
         return self.state.network.has_ended
 
     @property
     def news(self) -> list[str]:
-        """What is to be said beside the next answer."""
+        """Return what is to be said beside the next answer."""
         return [*self.state.news]
 
     @property
     def value(self) -> Quantity:
-        """The value of the present flow."""
+        """Return the value of the present flow."""
         done = self.state.done
         return done[-1].value if done else 0
 
     @property
     def steps(self) -> tuple[Step, ...]:
-        """The steps that were made, and after them those that were undone."""
+        """Return the steps that were made, and after them those that were undone."""
         return self.state.steps
 
     @property
     def at(self) -> int:
-        """How many of the steps are made."""
+        """Return how many of the steps are made."""
         return self.state.at
 
     @property
     def turn(self) -> int:
-        """A number that is larger after each change."""
+        """Return a number that is larger after each change."""
         return self.state.turn
 
     @property
     def trials(self) -> int:
-        """How many trials are open."""
+        """Return how many trials are open."""
         return len(self.state.floors) - self.with_solve
 
     @property
     def is_greatest(self) -> bool:
-        """Whether no flow has a larger value than the present one."""
+        """Return True if no flow has a larger value than the present one."""
         done = self.state.done
         if done and done[-1].is_solved:
             return True
@@ -232,7 +230,7 @@ class Desk:
 
     @property
     def flows_follow(self) -> bool:
-        """Whether the value and the limit are known, and the flows are not yet."""
+        """Return True if the value and the limit are known, and the flows are not yet."""
         return self.state.answers.promised is not None
 
     def limit(self) -> Limit:
@@ -278,11 +276,11 @@ class Desk:
     # What can be done.
 
     def solve(self) -> Step:
-        """Makes the flow a maximum flow."""
+        """Make the flow a maximum flow."""
         return self.step("solve", [Solve()])
 
     def close(self, *numbers: int, words: str = "") -> Step:
-        """Closes arcs, in one step of these words."""
+        """Close arcs, in one step of these words."""
         network = self.network
         for number in numbers:
             network.open_line(number)
@@ -292,11 +290,11 @@ class Desk:
         )
 
     def cap(self, number: int, capacity: Quantity) -> Step:
-        """Gives an arc another capacity."""
+        """Give an arc another capacity."""
         return self.cap_each({number: capacity})
 
     def cap_each(self, capacities: Mapping[int, Quantity], words: str = "") -> Step:
-        """Gives arcs other capacities, in one step of these words."""
+        """Give arcs other capacities, in one step of these words."""
         for number in capacities:
             self.network.open_line(number)
         with self._fine_for(capacities.values()) as state:
@@ -311,7 +309,7 @@ class Desk:
             )
 
     def add(self, tail: Place, head: Place, capacity: Quantity, name: str = "") -> Step:
-        """Adds an arc."""
+        """Add an arc."""
         with self._fine_for([capacity]) as state:
             network = state.network
             ends = f"{network.names.node(tail.exit)} -> {network.names.node(head.entry)}"
@@ -320,7 +318,7 @@ class Desk:
             return self.step(text, [Add(tail.exit, head.entry, taken, name or None)], state)
 
     def double(self, *numbers: int, words: str = "") -> Step:
-        """Adds a second arc beside each of these open ones, of the same capacity, in one step of
+        """Add a second arc beside each of these open ones, of the same capacity, in one step of
         these words."""
         network = self.network
         added: list[Change] = [
@@ -329,7 +327,7 @@ class Desk:
         return self.step(f"a second one beside {words or network.names.short(numbers[0])}", added)
 
     def shut(self, place: Place) -> Step:
-        """Closes each open arc at a place, and the one that has its limit."""
+        """Close each open arc at a place, and the one that has its limit."""
         network = self.network
         if not any(
             not line.is_closed and (line.tail in place or line.head in place)
@@ -341,7 +339,7 @@ class Desk:
         )
 
     def open(self, *numbers: int, words: str = "") -> Step:
-        """Opens closed arcs, with the capacities that they had, in one step of these words. To the
+        """Open closed arcs, with the capacities that they had, in one step of these words. To the
         network they are new arcs with new numbers."""
         network = self.network
         for number in numbers:
@@ -354,7 +352,7 @@ class Desk:
         )
 
     def open_place(self, place: Place) -> Step:
-        """Opens the arcs that were closed when a place was shut, except those to places that are
+        """Open the arcs that were closed when a place was shut, except those to places that are
         shut too."""
         network = self.network
         label = network.names.node(place.entry)
@@ -373,7 +371,7 @@ class Desk:
         return self.step(f"open {label}", [Reopen(number) for number in closed])
 
     def undo(self, count: int = 1) -> None:
-        """Undoes the last steps, all of them or none."""
+        """Undo the last steps, all of them or none."""
         if self.keeper and count:
             self.keeper.judge(count)
         if count > self.at:
@@ -387,7 +385,7 @@ class Desk:
         self._move(self.at - count, self.state.floors)
 
     def redo(self, count: int = 1) -> None:
-        """Redoes the steps that were undone last, all of them or none."""
+        """Redo the steps that were undone last, all of them or none."""
         if self.keeper and count:
             self.keeper.judge()
         undone = len(self.steps) - self.at
@@ -396,7 +394,7 @@ class Desk:
         self._move(self.at + count, self.state.floors)
 
     def go_to(self, at: int) -> None:
-        """Goes back or forward to the state after so many of the steps."""
+        """Go back or forward to the state after the first `at` steps."""
         if not 0 <= at <= len(self.steps):
             raise DeskFault(f"step {at} does not exist")
         if at <= self.at:
@@ -405,17 +403,16 @@ class Desk:
             self.redo(at - self.at)
 
     def begin_trial(self) -> None:
-        """Begins a trial: what is done from here on is kept or dropped together."""
+        """Begin a trial: what is done from here on is kept or dropped together."""
         self.state = replace(self.state, floors=(*self.state.floors, self.at))
 
     def keep(self) -> None:
-        """Ends the trial that began last, and keeps what was done."""
+        """End the trial that began last, and keep what was done."""
         self._refuse_no_trial()
         self.state = replace(self.state, floors=self.state.floors[:-1])
 
     def drop(self) -> None:
-        """Ends the trial that began last, and undoes what was done in it. `redo` can do it
-        again."""
+        """End the trial that began last, and undo what was done in it. `redo` can do it again."""
         self._refuse_no_trial()
         *floors, floor = self.state.floors
         if self.keeper and floor < self.at:
@@ -445,7 +442,7 @@ class Desk:
         return steps[-1]
 
     def _move(self, at: int, floors: tuple[int, ...]) -> None:
-        """Go to the state after so many of the steps, in these trials."""
+        """Go to the state after the first `at` steps, in these trials."""
         self.follow()
         network, before = self.network, self.state
         if at == before.at:
@@ -459,5 +456,5 @@ class Desk:
 
 
 def _only(count: int, do: str) -> str:
-    """How many steps can be undone or redone, where more were asked for."""
+    """Return how many steps can be undone or redone, if more were asked for."""
     return f"only {count} step{'s' * (count != 1)} to {do}" if count else f"nothing to {do}"

@@ -28,7 +28,7 @@ PATIENCE, ENDING = 5.0, 0.5
 
 
 class BackgroundSweep:
-    """A sweep in a thread of its own, so that nobody has to wait for a result that takes long."""
+    """A sweep in a thread of its own, so that no request waits for a result that takes long."""
 
     def __init__(self, trials: Generator[Trial, None, None]) -> None:
         self._trials = trials
@@ -48,7 +48,7 @@ class BackgroundSweep:
             self._found.put(error)
 
     def portion(self, most: int) -> list[Trial]:
-        """The next results, as many as come in the time of a portion. Raises what the sweep
+        """Return the next results, as many as come in the time of a portion. Raise what the sweep
         raises."""
         until = time.monotonic() + PORTION
         trials: list[Trial] = []
@@ -61,13 +61,13 @@ class BackgroundSweep:
         return trials
 
     def end(self) -> None:
-        """Ends it, with its next result at the latest."""
+        """End it, with its next result at the latest."""
         self._is_over = True
         self._thread.join(ENDING)
 
 
 class Sweeps:
-    """The sweep of a desk that has not ended, if there is one."""
+    """The sweep of a desk that is running, if there is one."""
 
     def __init__(self, desk: Desk) -> None:
         self._desk = desk
@@ -78,7 +78,7 @@ class Sweeps:
         self._end = threading.Timer(0, self.end)
 
     def end(self) -> None:
-        """Ends the sweep that has not ended, if there is one."""
+        """End the sweep that has not ended, if there is one."""
         with self._lock:
             self._end.cancel()
             if self._sweep:
@@ -86,10 +86,9 @@ class Sweeps:
             self._sweep, self._left = None, []
 
     def portion(self, numbers: list[int]) -> list[Trial]:
-        """The results for the first arcs, as many as the time of a portion allows. The next portion
-        goes on with the same copies of the network, if it is asked for in time. Where no arc is
-        left to try, as after a stop, they end at once.
-        """
+        """Return the results for the first arcs, as many as the time of a portion allows. The next
+        portion goes on with the same copies of the network, if it is asked for in time. Where no
+        arc is left to try, as after a stop, they end at once."""
         if not self._left or numbers[: len(self._left)] != self._left:
             self.end()
         if not numbers:
@@ -113,8 +112,8 @@ MOST_NAMED = 3
 
 
 def _told(desk: Desk, numbers: list[int]) -> str:
-    """Arcs in the words of a step; nothing if it is one. Raises a `DeskFault` if there is none, or
-    one that is not there."""
+    """Return the words of a step on several arcs, which are empty for one. Raise a `DeskFault` if
+    there are no arcs, or one does not exist."""
     if not numbers:
         raise DeskFault("no arc is chosen")
     for number in numbers:
@@ -125,7 +124,7 @@ def _told(desk: Desk, numbers: list[int]) -> str:
 
 
 def _cap_all(desk: Desk, content: Json) -> None:
-    """Gives each of some arcs a capacity, in one step."""
+    """Give each of some arcs a capacity, in one step."""
     numbers, text = content["arcs"], content["capacity"]
     told = _told(desk, numbers)
     capacities = {number: _capacity(desk, number, text) for number in numbers}
@@ -133,7 +132,7 @@ def _cap_all(desk: Desk, content: Json) -> None:
 
 
 def _capacity(desk: Desk, number: int, text: str) -> Quantity:
-    """The capacity that a text gives an arc. Raises a `DeskFault` that names the arc."""
+    """Return the capacity that a text gives an arc. Raise a `DeskFault` that names the arc."""
     try:
         return amount(text, desk.network.measure, desk.network.line(number).capacity)
     except DeskFault as fault:
@@ -154,8 +153,8 @@ def _add(desk: Desk, content: Json) -> None:
 
 
 class BoardAct(NamedTuple):
-    """What a page can ask to be done: the fields that it gives beside the turn, and what does it,
-    which raises a `DeskFault` where the desk refuses it."""
+    """An act that a page can ask for: the fields that it gives beside the turn, and the function
+    that carries it out, which raises a `DeskFault` if the desk refuses."""
 
     fields: Fields
     make: Callable[[Desk, Json], object]

@@ -73,11 +73,11 @@ class LivePages:
                 self._left.discard(name)
 
     def rest(self) -> float:
-        """How long the board runs on if no page comes, in seconds."""
+        """Return how long the board runs on if no page comes, in seconds."""
         return math.inf if self._held else max(self._until.values()) - self._clock()
 
     def is_last(self) -> bool:
-        """Waits while there is no page and the board runs on. Returns whether it need not any
+        """Wait while there is no page and the board runs on. Returns whether it need not any
         more."""
         with self._changed:
             while not self._held and (rest := self.rest()) > 0:
@@ -85,7 +85,7 @@ class LivePages:
             return not self._held
 
     def tell(self, turn: int) -> None:
-        """Tells each page the turn, if it is another than it was told before."""
+        """Tell each page the turn, if it is another than it was told before."""
         with self._changed:
             for page in self._held if turn != self._told else ():
                 _tell(page, turn)
@@ -96,7 +96,7 @@ class LivePages:
 
 
 def _tell(page: socket.socket, turn: int) -> None:
-    """Sends an event with the turn. A page that takes nothing, or has gone, is not waited for."""
+    """Send an event with the turn. A page that takes nothing, or has gone, is not waited for."""
     with contextlib.suppress(OSError):
         page.send(f"data: {turn}\n\n".encode(), socket.MSG_DONTWAIT)
 
@@ -129,12 +129,12 @@ class UnknownConnections:
             _reset_at_end(connection, False)
 
     def drop(self, connection: socket.socket) -> bool:
-        """Forgets a connection. Returns whether it was one of these."""
+        """Forget a connection. Returns whether it was one of these."""
         with self._lock:
             return self._waiting.pop(connection, None) is not None
 
     def part(self, connection: socket.socket) -> None:
-        """Lets a connection of these read what it was answered, and waits for its end."""
+        """Let a connection of these read what it was answered, and wait for its end."""
         if connection in self._waiting:
             with contextlib.suppress(OSError):
                 connection.shutdown(socket.SHUT_WR)
@@ -142,7 +142,7 @@ class UnknownConnections:
                     pass
 
     def end_late(self, patience: float = PATIENCE) -> None:
-        """Ends those that have waited for so long."""
+        """End those that have waited too long."""
         with self._lock:
             until = time.monotonic() - patience
             for connection in [
@@ -151,7 +151,7 @@ class UnknownConnections:
                 self._end(connection)
 
     def _end(self, connection: socket.socket) -> None:
-        """Ends a connection. Its thread closes it."""
+        """End a connection. Its thread closes it."""
         del self._waiting[connection]
         with contextlib.suppress(OSError):
             connection.shutdown(socket.SHUT_RDWR)
@@ -163,7 +163,8 @@ def _reset_at_end(connection: socket.socket, is_so: bool) -> None:
 
 
 def user_of(client: tuple[str, int], server: tuple[str, int]) -> int | None:
-    """The user who has the client's end of a connection on this machine, where Linux tells."""
+    """Return the user who has the client's end of a connection on this machine, where Linux
+    tells."""
     ends = struct.pack(
         "!HH4s12x4s12x",
         client[1],

@@ -68,8 +68,8 @@ class _Found(NamedTuple):
 
 @dataclass(frozen=True)
 class _Drawn:
-    """What a picture of a comparison has: the arcs, and by their places the roles that differ; and
-    how many arcs there are, and differ."""
+    """The content of a picture of a comparison: the arcs; the roles that differ, by their places;
+    and the numbers of all arcs and of those that differ."""
 
     arcs: list[_Found]
     roles: dict[int, list[_Found]]
@@ -78,7 +78,7 @@ class _Drawn:
 
     @property
     def reason(self) -> str:
-        """Why not all arcs are drawn, if so."""
+        """Return why not all arcs are drawn, if so."""
         shown = len(self.arcs)
         if shown == self.count:
             return ""
@@ -99,7 +99,8 @@ class DifferencePicture(Picture):
         self.places = Places(places.spots)
 
     def of(self, found: Comparison, *, to_take: bool = False) -> tuple[str, str]:
-        """The picture of a comparison, and why it has not all arcs, if so. Raises `NoPicture`."""
+        """Return the picture of a comparison, and why it lacks arcs, if it does. Raise
+        `NoPicture`."""
         drawn = self._drawn(found)
         root = self.laid_out(self._shape_between(drawn))
         groups = {group.get("id") or "": group for group in root.iter(f"{{{SVG}}}g")}
@@ -124,7 +125,7 @@ class DifferencePicture(Picture):
         )
 
     def _below(self, found: Comparison, drawn: _Drawn) -> list[str]:
-        """What stands below a picture that is taken along."""
+        """Return the lines below a picture that is saved."""
         one, two, unit = found.first, found.second, found.measure.told_unit
         values = f"{plain_text(one.value)} and {plain_text(two.value)} {unit}".rstrip()
         names = f"scenarios {display(one.name)} and {display(two.name)}"
@@ -227,15 +228,15 @@ class DifferencePicture(Picture):
 
 
 def _by(arc: _Found) -> Quantity:
-    """By how much the flow on an arc differs."""
+    """Return by how much the flow on an arc differs."""
     return (
         abs(EXACT.subtract(arc.differs.second.flow, arc.differs.first.flow)) if arc.differs else 0
     )
 
 
 def _amounts(differs: ArcDifference | None) -> str:
-    """What an arc was, and what it is, in short: `30 → 45`; with its capacity, and whether it is
-    one of the limit, where these differ."""
+    """Return what an arc was, and what it is, in short: `30 → 45`; with its capacity, and whether
+    it is one of the limit, where these differ."""
     if differs is None:
         return ""
     one, two = differs.first, differs.second
@@ -254,8 +255,7 @@ def _amounts(differs: ArcDifference | None) -> str:
 
 
 def _fill_arc(group: ElementTree.Element, arc: _Found, label: str, number: int) -> None:
-    """Says of an arc in a layout what it is, and which arc of the present scenario, if it is
-    one."""
+    """Say of an arc in a layout what it is, and which arc of the present scenario, if it is one."""
     differs = arc.differs
     if number:
         group.set("data-arc", str(number))
@@ -283,7 +283,7 @@ MOST_DIFFERENCES, MOST_LISTED = 500, 300
 
 
 class Comparisons:
-    """The comparison that a page asked for last, which stands until something is done."""
+    """The comparison that a page asked for last, which is kept until something is done."""
 
     def __init__(self, desk: Desk, places: Places) -> None:
         self._desk = desk
@@ -291,7 +291,7 @@ class Comparisons:
         self._kept: tuple[tuple[int, str, str], Comparison] | None = None
 
     def of(self, one: str, two: str) -> Comparison:
-        """Two scenarios beside each other, of which one may be the network of the table."""
+        """Return the comparison of two scenarios; `base` is the network of the table."""
         desk = self._desk
         project = project_of(desk)
         key = desk.turn, one, two
@@ -302,7 +302,7 @@ class Comparisons:
         return self._kept[1]
 
     def view(self, one: str, two: str, first: int, count: int) -> Json:
-        """A comparison with so many of the arcs that differ, from the first on."""
+        """Return a comparison, with `count` of the arcs that differ from the one at `first` on."""
         if count > MOST_DIFFERENCES:
             raise WrongForm(f"expected at most {MOST_DIFFERENCES} rows")
         found = self.of(one, two)
@@ -332,12 +332,12 @@ class Comparisons:
         }
 
     def _node(self, known: Known) -> int:
-        """The place whose role an arc is, if it is one; else 0."""
+        """Return the place whose role an arc is, if it is one; else 0."""
         role = self._desk.network.role(known) if isinstance(known, int) else None
         return role.node if role else 0
 
     def picture(self, one: str, two: str) -> Json:
-        """The picture of a comparison, and why it has not all arcs, or is none."""
+        """Return the picture of a comparison, and why it lacks arcs or cannot be drawn."""
         found = self.of(one, two)
         try:
             svg, reason = self._picture.of(found)
@@ -346,7 +346,7 @@ class Comparisons:
         return {"svg": svg, "reason": reason}
 
     def file(self, one: str, two: str) -> bytes:
-        """The picture to take along. Raises `NoPicture`."""
+        """Return the picture as a file. Raise `NoPicture`."""
         return self._picture.of(self.of(one, two), to_take=True)[0].encode()
 
 

@@ -31,7 +31,7 @@ PAGE_NAME = "[0-9a-f-]{1,40}"
 
 
 class Host(BaseServer):
-    """What a server has for the requests of its connections."""
+    """What a server provides for the requests of its connections."""
 
     board: Board
     guests: LivePages
@@ -77,14 +77,18 @@ class Handler(BaseHTTPRequestHandler):
         """Nothing is logged: an address has the token."""
 
     def parse_request(self) -> bool:
-        """Reads the head of a request. Of one without the token its first line alone is looked
+        """Read the head of a request. Of one without the token its first line alone is looked
         at."""
         words = self.raw_requestline.split()
         path = words[1].split(b"?")[0].split(b"/") if len(words) > 1 else []
         if len(path) < 2 or path[0] or not hmac.compare_digest(path[1], self.server.token.encode()):
             self.requestline, self.command, self.request_version = "", "", self.protocol_version
             self.close_connection = True
-            self._send(outside("The address has not the token that the board told when it began"))
+            self._send(
+                outside(
+                    "The address does not have the token that the board printed when it started"
+                )
+            )
             return False
         self.server.strangers.admit(self.connection)
         self.server.guests.note_request()
@@ -95,7 +99,7 @@ class Handler(BaseHTTPRequestHandler):
         self.server.strangers.part(self.connection)
 
     def _serve(self, make: Callable[[str], Response | None]) -> None:
-        """Answers a request that may be answered."""
+        """Answer a request that may be answered."""
         try:
             made = self._refusal() or make(self._path())
         except WrongForm as fault:
@@ -103,13 +107,14 @@ class Handler(BaseHTTPRequestHandler):
             # What is left of the request is not read.
             self.close_connection = True
         except Exception as error:
-            made = answer({"error": f"the board came to no answer ({error!r})"}, 500)
+            made = answer({"error": f"the board failed to answer ({error!r})"}, 500)
             self.close_connection = True
         if made:
             self._send(made)
 
     def _refusal(self) -> Response | None:
-        """Why the sender, who has the token, may not ask this, if so."""
+        """Return the refusal of a request whose sender, though it has the token, may not ask this,
+        or None."""
         why = ""
         hosts = self.headers.get_all("Host") or []
         site = self.headers.get("Sec-Fetch-Site", "none")
@@ -125,18 +130,18 @@ class Handler(BaseHTTPRequestHandler):
                 "--host-name NAME:PORT lets it do so"
             )
         elif any(origin != f"http://{hosts[0]}" for origin in self.headers.get_all("Origin") or []):
-            why = "A page of another origin asks"
+            why = "The request comes from a page of another origin"
         elif site not in ("same-origin", "none") and not (
             is_opened and self.headers.get("Sec-Fetch-Dest") == "document"
         ):
-            why = "A page of another site asks"
+            why = "The request comes from a page of another site"
         if not why:
             return None
         self.close_connection = True
         return outside(why)
 
     def _path(self) -> str:
-        """What stands after the token."""
+        """Return what stands after the token."""
         return urlsplit(self.path).path[len(self.server.token) + 1 :]
 
     def _get(self, path: str) -> Response | None:
@@ -157,10 +162,10 @@ class Handler(BaseHTTPRequestHandler):
                 strict_parsing=bool(urlsplit(self.path).query),
             )
         except ValueError:
-            raise WrongForm("the words of the address have not the form NAME=TEXT") from None
+            raise WrongForm("the parameters of the address must have the form NAME=TEXT") from None
         words = dict(pairs)
         if len(words) != len(pairs) or any(len(text) > LONGEST_TEXT for text in words.values()):
-            raise WrongForm("a word of the address stands twice, or is too long")
+            raise WrongForm("a parameter of the address is given twice, or is too long")
         return self._asked(lambda: self.server.board.get(path[1:], words))
 
     def _post(self, path: str) -> Response | None:
@@ -174,7 +179,7 @@ class Handler(BaseHTTPRequestHandler):
         return self._asked(lambda: self.server.board.post(path[1:], content))
 
     def _asked(self, ask: Callable[[], Response]) -> Response:
-        """The board's answer. If there is a newer state then, each page is told."""
+        """Return the board's answer. If there is a newer state then, each page is told."""
         with self.server.lock:
             try:
                 return ask()
@@ -182,12 +187,12 @@ class Handler(BaseHTTPRequestHandler):
                 self.server.guests.tell(self.server.board.desk.turn)
 
     def _content(self) -> Json:
-        """The content of a request. Raises a `WrongForm`."""
+        """Return the content of a request. Raise a `WrongForm`."""
         if self.headers.get("Content-Type", "").split(";")[0].strip() != "application/json":
             raise WrongForm("expected the type application/json")
         length = self.headers.get("Content-Length", "")
         if not re.fullmatch("[0-9]{1,7}", length) or int(length) > LONGEST_BODY:
-            raise WrongForm(f"expected a length of at most {LONGEST_BODY} bytes")
+            raise WrongForm(f"expected a body of at most {LONGEST_BODY} bytes")
         try:
             content = json.loads(self.rfile.read(int(length)).decode())
         except (ValueError, RecursionError):
@@ -213,7 +218,7 @@ class Handler(BaseHTTPRequestHandler):
         self.wfile.write(made.body)
 
     def _live(self, words: str) -> None:
-        """Holds the connection of a page until the page closes it. Events on it tell the turn."""
+        """Hold the connection of a page until the page closes it. Events on it tell the turn."""
         self.close_connection = True
         self.send_response(200)
         for name, text in self.FIXED.items():
@@ -236,5 +241,5 @@ class Handler(BaseHTTPRequestHandler):
 
 
 def _page_name(told: object) -> str:
-    """What a page calls itself, or nothing if that is no such name."""
+    """Return the name of a page, or an empty text if it is not a valid name."""
     return told if isinstance(told, str) and re.fullmatch(PAGE_NAME, told) else ""

@@ -19,7 +19,7 @@ Fields = Mapping[str, type]
 
 
 class WrongForm(Exception):
-    """Why a request does not have the form that the page gives it."""
+    """Why a request is malformed."""
 
 
 @dataclass(frozen=True)
@@ -42,27 +42,27 @@ def answer(content: Json, status: int = 200) -> Response:
 
 
 def whole(text: str, name: str) -> int:
-    """The number that a word of an address writes. Raises a `WrongForm`."""
+    """Return the number that a parameter of an address has. Raise a `WrongForm`."""
     if not re.fullmatch("[0-9]{1,9}", text):
-        raise WrongForm(f"{name} is a whole number")
+        raise WrongForm(f"{name} must be a whole number")
     return int(text)
 
 
 def judge_words(words: dict[str, str], wanted: tuple[str, ...]) -> None:
-    """Raises a `WrongForm` if the words of an address are not these."""
+    """Raise a `WrongForm` if the parameters of an address are not these."""
     if set(words) != set(wanted):
-        raise WrongForm(f"expected the words {list(wanted)}, got {sorted(words)}")
+        raise WrongForm(f"expected the parameters {list(wanted)}, got {sorted(words)}")
 
 
 def judge_fields(content: Json, form: Fields) -> None:
-    """Raises a `WrongForm` if a request has not these fields, each of its kind: a whole number, a
-    text, or a list of arcs."""
+    """Raise a `WrongForm` if a request does not have exactly these fields, each of its kind: a
+    whole number, a text, or a list of arcs."""
     if set(content) != set(form):
         raise WrongForm(f"expected the fields {sorted(form)}, got {sorted(content)}")
     for name, kind in form.items():
         given = content[name]
         if type(given) is not kind:
-            raise WrongForm(f"the field {name} is {KINDS[kind]}")
+            raise WrongForm(f"the field {name} must be {KINDS[kind]}")
         if isinstance(given, str) and len(given) > LONGEST_TEXT:
             raise WrongForm(f"the field {name} is longer than {LONGEST_TEXT} characters")
         if isinstance(given, list):
@@ -74,11 +74,12 @@ MOST_SHOWN = 8
 
 
 def judged_addresses(shown: object) -> list[str]:
-    """The addresses by which a page asks for what it shows. Raises a `WrongForm` if it is none."""
+    """Return the addresses by which a page asks for what it shows. Raise a `WrongForm` if they are
+    not a list of addresses."""
     if not isinstance(shown, list) or len(shown) > MOST_SHOWN:
-        raise WrongForm(f"what is shown is a list of at most {MOST_SHOWN} addresses")
+        raise WrongForm(f"shown must be a list of at most {MOST_SHOWN} addresses")
     if not all(isinstance(address, str) and len(address) <= LONGEST_TEXT for address in shown):
-        raise WrongForm("what is shown is a list of addresses")
+        raise WrongForm("shown must be a list of addresses")
     return shown
 
 
@@ -86,13 +87,13 @@ KINDS: dict[type, str] = {int: "a whole number", str: "a text", list: "a list of
 
 
 def judge_arcs(numbers: list[object], most: int) -> None:
-    """Raises a `WrongForm` if these are no arcs, more than so many, or one stands twice."""
+    """Raise a `WrongForm` if these are not arcs, are more than `most`, or are not all different."""
     if len(numbers) > most:
         raise WrongForm(f"expected a list of at most {most} arcs")
     if not all(type(number) is int for number in numbers):
-        raise WrongForm("an arc and a turn are whole numbers")
+        raise WrongForm("arcs and turns must be whole numbers")
     if len(set(numbers)) < len(numbers):
-        raise WrongForm("an arc stands twice in the list")
+        raise WrongForm("an arc is in the list twice")
 
 
 LOOPBACK = "127.0.0.1"
@@ -101,7 +102,7 @@ _HOW_TO_GET_IN = """<!DOCTYPE html>
 <meta name="viewport" content="width=device-width, initial-scale=1"><title>dmf-board</title>
 <h1>This is a dmf-board</h1>
 <p>{why}.</p>
-<p>The board printed its address where it was started, as in {address}. Open the whole of it.</p>
+<p>The board printed its address where it was started, such as {address}. Open all of it.</p>
 """
 WAY_IN = """<!DOCTYPE html>
 <html lang="en"><meta charset="utf-8"><meta name="referrer" content="no-referrer">
@@ -111,7 +112,7 @@ WAY_IN = """<!DOCTYPE html>
 
 
 def outside(why: str) -> Response:
-    """A page for those who may not ask."""
+    """Return a page for visitors who do not have the address."""
     address = f"http://{LOOPBACK}:8000/tsCcyvcFxpZj3dU0/"
     return Response(
         403, "text/html; charset=utf-8", _HOW_TO_GET_IN.format(why=why, address=address).encode()
@@ -131,7 +132,7 @@ POLICY = (
 
 
 def pages() -> dict[str, Response]:
-    """The answers with these files, by their names."""
+    """Return the answers with these files, by their names."""
     found = sorted(file for file in FOLDER.iterdir() if file.suffix in PAGE_KINDS)
     return {
         file.name: Response(200, f"{PAGE_KINDS[file.suffix]}; charset=utf-8", file.read_bytes())

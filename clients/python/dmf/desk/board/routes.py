@@ -60,7 +60,8 @@ STOPPED = "it was stopped"
 
 
 class Effect(Enum):
-    """What a request does: reads; changes what the page shows; or tries something out."""
+    """The effect of a request: it reads; it changes what the page shows; or it tries something
+    out."""
 
     READ = "reads"
     CHANGE = "changes"
@@ -68,9 +69,8 @@ class Effect(Enum):
 
 
 class PageRoute(NamedTuple):
-    """What a page can ask for: the fields that it gives, with the kind of each; what answers it;
-    what that does; whether it can be stopped; and how a request is judged that is posted, if it
-    is."""
+    """A route: the fields of its requests, with the type of each; its handler; its effect; whether
+    it can be stopped; and the function that checks a posted request, if it is posted."""
 
     fields: Fields
     handler: Callable[..., Any]
@@ -80,7 +80,7 @@ class PageRoute(NamedTuple):
 
 
 class Board:
-    """What a board shows of a desk, and does for its page."""
+    """Answers the requests of a page about a desk."""
 
     def __init__(
         self,
@@ -99,7 +99,7 @@ class Board:
         self._show(desk, spots or {})
 
     def _show(self, desk: Desk, spots: Mapping[int, Spot]) -> None:
-        """Shows a desk from now on."""
+        """Show a desk from now on."""
         self.desk = desk
         self.picture = Picture(desk)
         self.picture.places.spots.update({**kept_spots(desk), **spots})
@@ -112,15 +112,15 @@ class Board:
         self._comparisons = Comparisons(desk, self.picture.places)
 
     def _keep(self, _: Json) -> None:
-        """Keeps the steps in a new project, and shows that from now on."""
+        """Keep the steps in a new project, and show that from now on."""
         if not self._keep_in or Scenarios.of(self.desk):
-            raise DeskFault("no project can be kept of this")
+            raise DeskFault("a project cannot be made of this")
         before = self.desk
         self._show(self._keep_in(self._offer, before), self.picture.places.spots)
         before.end()
 
     def get(self, path: str, words: dict[str, str]) -> Response:
-        """The answer to a request that changes nothing."""
+        """Return the answer to a request that changes nothing."""
         route = ROUTES.get(path)
         if route is None or route.judge:
             return answer({"error": "no such page"}, 404)
@@ -130,7 +130,7 @@ class Board:
         return self._judged(partial(self._read, route, words), tries, needs_flows)
 
     def _read(self, route: PageRoute, words: Mapping[str, str]) -> Made:
-        """What a route reads, by the words of an address."""
+        """Return what a route reads, by the words of an address."""
         fields: dict[str, Any] = dict(words)
         for name in (name for name, kind in route.fields.items() if kind is int):
             fields[name] = whole(words[name], name)
@@ -147,13 +147,13 @@ class Board:
         return made
 
     def post(self, path: str, content: Json) -> Response:
-        """The answer to a request that changes something, or tries it."""
+        """Return the answer to a request that changes something, or tries it."""
         if path == "do":
             what = content.pop("what", None)
             path = f"do/{what}"
             if not isinstance(what, str) or path not in ROUTES:
                 acts = (name[3:] for name in ROUTES if name.startswith("do/"))
-                raise WrongForm(f"what is to be done is one of {', '.join(acts)}")
+                raise WrongForm(f"what must be one of {', '.join(acts)}")
         route = ROUTES.get(path)
         if route is None or route.judge is None:
             return answer({"error": "no such page"}, 404)
@@ -165,7 +165,7 @@ class Board:
         return self._judged(partial(route.handler, self, **content))
 
     def stop(self) -> Response:
-        """Stops what is being done, for another thread that does it. The steps before it are
+        """Stop what is being done, for another thread that does it. The steps before it are
         kept."""
         with self._busy_lock:
             if self._is_busy:
@@ -175,9 +175,9 @@ class Board:
     def _judged(
         self, make: Callable[[], Made], tries: int = 1, needs_flows: bool = True
     ) -> Response:
-        """The answer, or why there is none. Where the flows are needed and not known yet, finds
-        them first. If the session ends meanwhile, begins another with the steps that were made, and
-        tries once more if a try is left."""
+        """Return the answer, or why there is none. If the flows are needed and not known yet, find
+        them first. If the session ends meanwhile, begin another one with the steps that were made,
+        and try once more if a try is left."""
         told = ""
         while True:
             try:
@@ -212,7 +212,7 @@ class Board:
                 return answer({"error": told or why, "turn": self.desk.turn}, 409)
 
     def _judge_turn(self, turn: int) -> None:
-        """Raises a `DeskFault` if a page shows another state than the present one."""
+        """Raise a `DeskFault` if a page shows another state than the present one."""
         if turn != self.desk.turn:
             raise DeskFault(CHANGED)
 
@@ -227,8 +227,8 @@ class Board:
         return {**state, "parts": self._parts(shown)} if shown else state
 
     def _parts(self, shown: list[str]) -> Json:
-        """What a page shows beside a state, by the addresses by which it would ask for it. What is
-        refused here it asks for, and hears why."""
+        """Return what a page shows beside a state, by the addresses by which it would ask for it.
+        If one is refused, the page asks for it, and gets the reason."""
         found: Json = {}
         for address in shown:
             path, _, query = address.partition("?")
@@ -247,7 +247,7 @@ class Board:
 
     @contextlib.contextmanager
     def _stoppable(self) -> Iterator[None]:
-        """Lets `stop` end the block."""
+        """Let `stop` end the block."""
         with self._busy_lock:
             self._is_busy = True
         try:
@@ -300,7 +300,7 @@ class Board:
         return made
 
     def _keep_places(self) -> None:
-        """Has a project keep where places were put. Where that cannot be, the next step says so."""
+        """Have a project keep the positions of places. If that fails, the next step says so."""
         spots = self.picture.places.spots
         if len(spots) != self._put_count:
             self._put_count = len(spots)
@@ -321,7 +321,7 @@ class Board:
         )
 
     def _swept(self, arcs: list[int], turn: int) -> Json:
-        """The result for each of the first arcs."""
+        """Return the result for each of the first arcs."""
         self._judge_turn(turn)
         trials = self._sweeps.portion(arcs)
         rows = [trial_view(self.desk, trial) for trial in trials]
@@ -333,7 +333,7 @@ class Board:
 
 
 def _judge_sweep(content: Json) -> None:
-    """Raises a `WrongForm` if these are not arcs to try, and the turn."""
+    """Raise a `WrongForm` if these are not arcs to try, and the turn."""
     kinds = {name: type(given) for name, given in content.items()}
     if kinds != {"arcs": list, "turn": int}:
         raise WrongForm(f"expected a list of at most {MOST_SWEPT} arcs, and the turn")
@@ -341,14 +341,14 @@ def _judge_sweep(content: Json) -> None:
 
 
 def _change(fields: Fields, handler: Callable[[Board, Json], None]) -> PageRoute:
-    """An act, which says which turn the page shows."""
+    """Return an act, which says which turn the page shows."""
     return PageRoute(
         fields, handler, Effect.CHANGE, True, partial(judge_fields, form={**fields, **TURN})
     )
 
 
 def _act(act: BoardAct) -> PageRoute:
-    """An act on the desk. It accepts names in any case."""
+    """Return an act on the desk. It accepts names in any case."""
 
     def done(board: Board, content: Json) -> None:
         board.desk.state.network.names.is_any_case = True

@@ -28,8 +28,8 @@ class Nearby:
         self._given: dict[int, list[int]] = {}
 
     def arcs(self, nodes: tuple[int, ...], most: int = MOST_DRAWN) -> list[int]:
-        """The numbers of the nearest arcs: nearest to these nodes, or to the limit if none are
-        given; all if there are no more."""
+        """Return the numbers of the arcs nearest to these nodes, or to the limit if no nodes are
+        given; all arcs if there are no more than `most`."""
         pictured = self._desk.network.pictured()
         return pictured if len(pictured) <= most else self._nearest(nodes, most)
 
@@ -64,7 +64,7 @@ class Nearby:
         return place(line.tail), place(line.head)
 
     def _given_arcs(self) -> dict[int, list[int]]:
-        """The arcs of the file at each place. Their ends stay as they are."""
+        """Return the arcs of the file at each place. Their ends stay as they are."""
         self._given = self._given or self._at_nodes(range(1, self._desk.network.first_count + 1))
         return self._given
 
@@ -86,8 +86,8 @@ BEFORE, SHUT, PLAIN = "b", "s", "."
 
 
 class Overview:
-    """Where all places of a desk lie, and the arcs between them, if it is known of most places when
-    the board begins."""
+    """The positions of all places of a desk and the arcs between them, if most positions are known
+    when the board begins."""
 
     def __init__(self, desk: Desk, places: Places) -> None:
         """`places` are those of the picture, with the spots of a map or of a project."""
@@ -100,14 +100,16 @@ class Overview:
 
     @property
     def is_there(self) -> bool:
-        """Whether it shows more than a picture does."""
+        """Return True if it shows more than a picture does."""
         return self._is_known and len(self._desk.network.pictured()) > MOST_DRAWN
 
     def ground(self) -> Json:
-        """What no step changes: each place with its name, how far it lies to the right and
-        downwards, and the ends of each arc of the file. Raises a `DeskFault`."""
+        """Return what no step changes: each place with its name, how far it lies to the right and
+        downwards, and the ends of each arc of the file. Raise a `DeskFault`."""
         if not self.is_there:
-            raise DeskFault("nothing says where the places lie, or the picture shows all")
+            raise DeskFault(
+                "the positions of the places are not known, or the picture shows all of them"
+            )
         self._put_all()
         spots, desk = [self._places.spots[node] for node in self._nodes], self._desk
         ends = [*map(self._ends, range(1, desk.network.first_count + 1))]
@@ -122,8 +124,8 @@ class Overview:
         }
 
     def looks(self) -> Json:
-        """What a step may change: how each arc of the file looks and each place, by a sign for
-        each, and the arcs that were added with their numbers, their ends and their signs."""
+        """Return what a step may change: how each arc of the file looks and each place, by a sign
+        for each, and the arcs that were added with their numbers, their ends and their signs."""
         desk = self._desk
         network = desk.network
         shown = set(network.pictured())
@@ -168,8 +170,8 @@ class Overview:
         return place(line.tail), place(line.head)
 
     def _put_all(self) -> None:
-        """Puts each place that has no spot yet among its neighbours, and one that has none among
-        all."""
+        """Put each place that has no position among its neighbours, or, if they have none, in the
+        middle of all."""
         spots = self._places.spots
         beside: dict[int, list[int]] = defaultdict(list)
         for tail, head in map(self._ends, self._desk.network.pictured()):
@@ -207,8 +209,8 @@ _DIGITS = re.compile("([0-9]+)")
 
 
 def natural(text: str) -> list[tuple[int, int, str]]:
-    """What a name is sorted by: its letters without case and accents, and its numbers by their
-    size."""
+    """Return what a name is sorted by: its letters without case and accents, and its numbers by
+    their size."""
     return [
         (0, int(part), "") if part.isdigit() else (1, 0, part)
         for part in _DIGITS.split(folded(text))
@@ -217,8 +219,8 @@ def natural(text: str) -> list[tuple[int, int, str]]:
 
 
 class ArcList:
-    """The arcs of a desk, as its table shows them. The last filter and order are kept, for the next
-    part of the same table."""
+    """The arcs of a desk as the table of the page shows them. The last filter and order are
+    remembered for the next part of the same table."""
 
     def __init__(self, desk: Desk) -> None:
         self._desk = desk
@@ -226,8 +228,8 @@ class ArcList:
         self._kept: tuple[tuple[int, str, str], list[int]] | None = None
 
     def view(self, text: str, order: str, first: int, count: int) -> Json:
-        """So many rows of the table from the first on, how many there are, and how the filter is
-        understood, or why it has no meaning."""
+        """Return `count` rows of the table from the one at `first` on, the number of all rows, and
+        how the filter is understood, or why it has no meaning."""
         if count > MOST_ROWS:
             raise WrongForm(f"expected at most {MOST_ROWS} rows")
         try:
@@ -249,8 +251,8 @@ class ArcList:
         }
 
     def numbers(self, text: str, order: str) -> list[int]:
-        """All arcs that a filter shows, in an order: that of the file, or by a column, `-` before
-        which turns it round. Raises a `DeskFault` if the filter has no meaning."""
+        """Return all arcs that a filter shows, in an order: that of the file, or by a column, `-`
+        before which turns it round. Raise a `DeskFault` if the filter has no meaning."""
         key = self._desk.turn, text, order
         if not self._kept or self._kept[0] != key:
             conditions, _ = self._parts(text)
@@ -265,8 +267,8 @@ class ArcList:
         return self._kept[1]
 
     def found(self, text: str) -> Json:
-        """The first places and arcs whose names contain a text, without regard to case and accents,
-        and whether there are more. Those that begin with it come first."""
+        """Return the first places and arcs whose names contain a text, without regard to case and
+        accents, and whether there are more. Those that begin with it come first."""
         network = self._desk.network
         sought, names = folded(text), network.names
         places = [
@@ -282,7 +284,7 @@ class ArcList:
         return {"found": found, "more": len(found) < len(found_places) + len(found_arcs)}
 
     def _column(self, column: str) -> Callable[[int], Any]:
-        """What arcs are sorted by."""
+        """Return what arcs are sorted by."""
         network, flows = self._desk.network, self._desk.flows()
         names, lines = network.names, network.lines
         columns: dict[str, Callable[[int], Any]] = {
@@ -294,7 +296,7 @@ class ArcList:
             "use": self._use,
         }
         if column not in columns:
-            raise WrongForm(f"a column is one of {', '.join(columns)}")
+            raise WrongForm(f"the column must be one of {', '.join(columns)}")
         return columns[column]
 
     def _use(self, number: int) -> float:
@@ -307,7 +309,7 @@ class ArcList:
         return float(flow) / float(line.capacity) if line.capacity else 0.0
 
     def _parts(self, text: str) -> tuple[list[Condition], list[str]]:
-        """The conditions of a filter, and what each is in words."""
+        """Return the conditions of a filter, and what each is in words."""
         words: list[str] = _WORD.findall(text)
         parts = [
             " ".join(part)
@@ -318,7 +320,7 @@ class ArcList:
         return [is_so for is_so, _ in read], [words for _, words in read]
 
     def _read(self, part: str) -> tuple[Condition, str]:
-        """What a part of a filter is: a condition, or else a part of a name."""
+        """Return what a part of a filter is: a condition, or else a part of a name."""
         desk, word = self._desk, part.casefold()
         network = desk.network
         if word == "closed":
@@ -342,20 +344,20 @@ class ArcList:
         return lambda number: sought in self._label(number), f"{quoted_name(name)} in the name"
 
     def _label(self, number: int) -> str:
-        """What an arc is found by."""
+        """Return what an arc is found by."""
         if number not in self._labels:
             self._labels[number] = folded(self._desk.network.names.arc(number))
         return self._labels[number]
 
 
 def _unquoted(text: str) -> str:
-    """A text without the quotes around it."""
+    """Return a text without the quotes around it."""
     plain = text.strip()
     return plain[1:-1] if re.fullmatch('"[^"]*"', plain) else plain
 
 
 def _best(sought: str, named: Iterable[tuple[str, Json]]) -> list[Json]:
-    """What has a text in its name; first what is called so, and what begins with it."""
+    """Return what has a text in its name; first what is called so, and what begins with it."""
     found = [
         (label != sought, not label.startswith(sought), one)
         for label, one in named

@@ -31,7 +31,7 @@ class Door:
     process, but not this file."""
 
     def __init__(self, address: str) -> None:
-        """Raises an OSError if the file cannot be made."""
+        """Raise an OSError if the file cannot be made."""
         self._folder = tempfile.TemporaryDirectory(prefix="dmf-board-")
         path = Path(self._folder.name, "board.html")
         with open(os.open(path, os.O_WRONLY | os.O_CREAT | os.O_EXCL, 0o600), "w") as file:
@@ -61,7 +61,7 @@ class Server(ThreadingHTTPServer, Host):
     request_queue_size = 1024
 
     def __init__(self, board: Board, port: int = 0, names: Sequence[str] = ()) -> None:
-        """Raises an OSError if the port is taken."""
+        """Raise an OSError if the port is taken."""
         super().__init__((LOOPBACK, port), Handler, bind_and_activate=False)
         self.strangers = UnknownConnections()
         self._other: socket.socket | None = None
@@ -82,7 +82,7 @@ class Server(ThreadingHTTPServer, Host):
         self.guests = LivePages(board.desk.turn)
 
     def _listen(self, port: int) -> None:
-        """Listens at a port, or at a free one. It takes the same port of the other family of
+        """Listen at a port, or at a free one. It takes the same port of the other family of
         addresses, too: a browser that is sent to `localhost` may try that first, and would tell the
         token to whoever listens there."""
         for left in reversed(range(1 if port else MOST_PORTS)):

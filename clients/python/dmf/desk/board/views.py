@@ -18,8 +18,8 @@ from .responses import Json, whole
 
 
 def many_view(desk: Desk, numbers: list[int]) -> Json:
-    """Which of these arcs there are, open and closed, and what flows on the open ones and fits. One
-    that was opened again is told by its new number."""
+    """Return which of these arcs exist, open and closed, and the sums of the flows and the
+    capacities of the open ones. One that was opened again has its new number."""
     network = desk.network
     now = successors(desk)
     found = dict.fromkeys(now.get(number, number) for number in numbers)
@@ -43,9 +43,9 @@ def many_view(desk: Desk, numbers: list[int]) -> Json:
 
 
 def kept_view(desk: Desk, offer: str) -> Json:
-    """Where steps are kept, and in which scenario; why they are not, if this desk only looks; how
-    many steps the scenario began with, which it does not undo; and in which file a project can be
-    made, if none keeps the steps."""
+    """Return the file that the steps are written to and the scenario in it; why they are not
+    written, if this desk is read-only; how many steps the scenario began with, which it does not
+    undo; and the file that is offered for a project, if there is none."""
     project = Scenarios.of(desk)
     if project is None:
         return {
@@ -66,7 +66,8 @@ def kept_view(desk: Desk, offer: str) -> Json:
 
 
 def scenarios_view(desk: Desk) -> Json:
-    """The scenarios, each with its value as it was kept, and the value of the table's network."""
+    """Return the scenarios, each with its value as it was kept, and the value of the table's
+    network."""
     project = Scenarios.of(desk)
     if project is None:
         return {"base": "", "scenarios": []}
@@ -91,8 +92,8 @@ MOST_LISTED, MOST_SIDE = 300, 30
 
 
 def state_view(desk: Desk, offer: str = "") -> Json:
-    """What the page shows beside the picture and the table. `offer` is in which file a project can
-    be made."""
+    """Return what the page shows beside the picture and the table. `offer` is in which file a
+    project can be made."""
     network = desk.network
     names = network.names
     limit, steps, value = desk.limit(), desk.steps, desk.value
@@ -123,7 +124,7 @@ def state_view(desk: Desk, offer: str = "") -> Json:
 
 
 def arc_view(desk: Desk, number: int) -> Json:
-    """An arc as it is. Raises a `DeskFault` if there is none of this number."""
+    """Return an arc as it is. Raise a `DeskFault` if no arc has this number."""
     desk.network.line(number)
     return arc_views(desk, [number])[0]
 
@@ -158,7 +159,7 @@ def arc_views(desk: Desk, numbers: Sequence[int]) -> list[Json]:
 
 
 def place_view(desk: Desk, node: int) -> Json:
-    """A place as it is. Raises a `DeskFault` if there is none of this number."""
+    """Return a place as it is. Raise a `DeskFault` if no place has this number."""
     network = desk.network
     place = network.names.place_of(node)
     opened = [number for number in network.pictured() if not network.lines[number - 1].is_closed]
@@ -179,10 +180,9 @@ def place_view(desk: Desk, node: int) -> Json:
 
 
 def costs_view(desk: Desk, column: str, to: str, second: str) -> Json:
-    """What each unit more costs at each arc of the limit, or a second arc beside it, by a column of
-    the table, and a cheap way to a greater value, found greedily. `second` is 1 for second arcs.
-    Raises a `DeskFault` if no column can be the cost.
-    """
+    """Return what each unit more costs at each arc of the limit, or a second arc beside it, by a
+    column of the table, and a cheap way to a greater value, found greedily. `second` is 1 for
+    second arcs. Raise a `DeskFault` if no column can be the cost."""
     is_second = bool(whole(second, "second"))
     given = prices(desk, cleaned(column), is_second=is_second)
     way = cheapest(desk, given, amount(to, desk.network.measure) if to.strip() else None)
@@ -211,7 +211,7 @@ def costs_view(desk: Desk, column: str, to: str, second: str) -> Json:
 
 
 def opened_view(desk: Desk) -> Json:
-    """The arcs that can be tried: the open ones of the table and those that were added."""
+    """Return the arcs that can be tried: the open ones of the table and those that were added."""
     network = desk.network
     return {
         "arcs": [number for number in network.pictured() if not network.lines[number - 1].is_closed]
@@ -223,8 +223,8 @@ DIGITS = 20
 
 
 def trial_view(desk: Desk, trial: Trial) -> Json:
-    """What an arc means for the value: what is lost without it, and won by a second one beside it;
-    empty where that is nothing. The same in digits of one length is ordered as texts are."""
+    """Return what an arc means for the value: what is lost without it, and gained by a second one
+    beside it; empty if that is nothing. The same in digits of one length sorts as texts do."""
     value, whole_of = desk.value, desk.network.measure.whole
     doubled = value if trial.doubled is None else trial.doubled
     lost, won = EXACT.subtract(value, trial.closed), EXACT.subtract(doubled, value)

@@ -23,7 +23,7 @@ CONDITIONS = (
 
 
 def last_closed(desk: Desk) -> Callable[[], object]:
-    """Opens the arc or the place that was closed or shut last, and still is."""
+    """Open the arc or the place that was closed or shut last, and still is."""
     network = desk.network
     for step in reversed(desk.steps[: desk.at]):
         for change in reversed(step.changes):
@@ -39,7 +39,8 @@ def last_closed(desk: Desk) -> Callable[[], object]:
 
 
 def capped(desk: Desk, words: list[str]) -> tuple[int, str]:
-    """The arc and the amount that the words of `cap` mean, if they can mean one thing only."""
+    """Return the arc and the amount that the words of `cap` mean, if they can mean one thing
+    only."""
     network = desk.network
     if len(words) < 2:
         raise DeskFault(f"usage: {COMMANDS['cap'].form}")
@@ -66,8 +67,8 @@ def capped(desk: Desk, words: list[str]) -> tuple[int, str]:
 
 
 def new_arc(desk: Desk, words: list[str]) -> tuple[Place, Place, Quantity, str]:
-    """The places, the capacity and the name that the words of `add` mean, if they can mean one
-    thing only."""
+    """Return the places, the capacity and the name that the words of `add` mean, if they can mean
+    one thing only."""
     network = desk.network
     places = network.names
     found: list[tuple[Place, Place, str, str]] = []
@@ -113,8 +114,8 @@ def _ends_of_amount(desk: Desk, words: list[str], at: int) -> list[int]:
 
 
 def arcs_named(desk: Desk, words: list[str]) -> list[int]:
-    """The arcs that the words of `flow` mean: those of a name, those at a place, or all; none that
-    was opened again as another one."""
+    """Return the arcs that the words of `flow` mean: those of a name, those at a place, or all;
+    none that was opened again as another one."""
     network = desk.network
     name = " ".join(words)
     numbers = list(range(1, len(network.lines) + 1))
@@ -126,8 +127,8 @@ def arcs_named(desk: Desk, words: list[str]) -> list[int]:
 
 
 def arcs_to_try(desk: Desk, words: list[str]) -> list[int]:
-    """The open arcs that the words of `what-if each` mean: those of the limit, those at a place, or
-    all."""
+    """Return the open arcs that the words of `what-if each` mean: those of the limit, those at a
+    place, or all."""
     network = desk.network
     rest = [word for word in words[1:] if word not in ("of", "the")]
     if len(words) >= 3 and words[1] == "at":
@@ -142,7 +143,7 @@ def arcs_to_try(desk: Desk, words: list[str]) -> list[int]:
 
 
 def _at(desk: Desk, name: str) -> list[int]:
-    """The arcs at a place."""
+    """Return the arcs at a place."""
     network = desk.network
     place = network.names.place(name)
     return [
@@ -153,7 +154,7 @@ def _at(desk: Desk, name: str) -> list[int]:
 
 
 def arcs_listed(desk: Desk, words: list[str]) -> list[int]:
-    """The arcs of the table that the words of `pipes` mean: all, or the open ones of which
+    """Return the arcs of the table that the words of `pipes` mean: all, or the open ones of which
     conditions are so."""
     if words and words[0] != WHERE:
         raise DeskFault(f"usage: {COMMANDS['pipes'].form}")
@@ -161,14 +162,14 @@ def arcs_listed(desk: Desk, words: list[str]) -> list[int]:
 
 
 def arcs_from(desk: Desk, words: list[str]) -> list[int]:
-    """The arcs of the table that lead away from a place."""
+    """Return the arcs of the table that lead away from a place."""
     network = desk.network
     place = network.names.place(one_name(words, "from"))
     return [number for number in network.pictured() if network.lines[number - 1].tail == place.exit]
 
 
 def arcs_where(desk: Desk, words: list[str], *, are_closed: bool = False) -> list[int]:
-    """The open arcs, or the closed ones, of which conditions are so. Raises a `DeskFault` if there
+    """Return the open arcs, or the closed ones, that meet conditions. Raise a `DeskFault` if there
     are none."""
     network = desk.network
     conditions = [
@@ -182,13 +183,14 @@ def arcs_where(desk: Desk, words: list[str], *, are_closed: bool = False) -> lis
     found = [number for number in numbers if all(is_so(number) for is_so in conditions)]
     if not found:
         raise DeskFault(
-            f"of the {len(numbers)} {'closed' if are_closed else 'open'} arcs this is so of none"
+            f"none of the {len(numbers)} {'closed' if are_closed else 'open'} arcs meets the "
+            "conditions"
         )
     return found
 
 
 def _condition(desk: Desk, words: list[str]) -> Condition:
-    """Whether a condition is so of an arc. Raises a `DeskFault` if it is none."""
+    """Return a predicate on arcs. Raise a `DeskFault` if the words are not a condition."""
     found = condition(desk, words)
     if not found:
         raise DeskFault(
@@ -198,7 +200,7 @@ def _condition(desk: Desk, words: list[str]) -> Condition:
 
 
 def capped_where(desk: Desk, words: list[str]) -> tuple[dict[int, Quantity], str]:
-    """The capacities that arcs get, of which conditions are so, and the words of that step. An
+    """Return the new capacities of the arcs that meet conditions, and the words of that step. The
     amount is the last word, or the last two."""
     network = desk.network
     size = 2 if words[-1] == "%" or not is_amount(words[-1]) else 1
@@ -211,5 +213,5 @@ def capped_where(desk: Desk, words: list[str]) -> tuple[dict[int, Quantity], str
 
 
 def arcs_told(numbers: list[int], words: list[str]) -> str:
-    """Arcs of which conditions are so, in the words of a step."""
+    """Return the words of a step on the arcs that meet conditions."""
     return f"{len(numbers)} arc{'s' * (len(numbers) != 1)} {' '.join(words)}"

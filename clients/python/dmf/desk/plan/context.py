@@ -66,7 +66,7 @@ class Output:
 
 @dataclass
 class Context:
-    """What a command acts on. `keep` makes a project of the desk."""
+    """What a command works on. `keep` makes a project of the desk."""
 
     desk: Desk
     output: Output

@@ -25,8 +25,8 @@ FLOW, PLACE, ARC, CLOSED, COMMAND, EACH, SCENARIO = (
 
 
 class Help(NamedTuple):
-    """How a command is written, what it does, which names may stand after it, and how it is written
-    in a list where that is shorter."""
+    """The help of a command: its form, what it does, which names may follow it, and a shorter form
+    for lists."""
 
     form: str
     says: str
@@ -81,8 +81,8 @@ COMMANDS = {
         PLACE,
     ),
     "shut": Help("shut PLACE", "Closes each arc at a place.", PLACE),
-    "undo": Help("undo [NUMBER]", "Takes back the last step, or so many."),
-    "redo": Help("redo [NUMBER]", "Makes again the step that `undo` took back last, or so many."),
+    "undo": Help("undo [NUMBER]", "Undoes the last step, or the last NUMBER steps."),
+    "redo": Help("redo [NUMBER]", "Redoes the step that was undone last, or NUMBER steps."),
     "steps": Help("steps", "Lists the steps with the value after each."),
     "try": Help(
         "try",
@@ -115,8 +115,8 @@ COMMANDS = {
     ),
     "worst": Help(
         "worst [NUMBER]",
-        "Tries each arc, and lists those that are worst to lose, the first ten or so many. Nothing "
-        "changes.",
+        "Tries to close each arc, and lists the NUMBER arcs, or ten, whose loss lowers the value "
+        "most. Nothing changes.",
     ),
     "draw": Help(
         "draw FILE",
@@ -162,7 +162,7 @@ ALWAYS = ("save", "steps", "help", "quit")
 
 
 class Word(NamedTuple):
-    """A word of a line, the place where it begins, and whether its quote was left open."""
+    """A word of a line, the position where it begins, and whether its quote was not closed."""
 
     text: str
     start: int
@@ -170,8 +170,8 @@ class Word(NamedTuple):
 
 
 def split(line: str) -> list[Word]:
-    """The words of a line. A word that begins with a double quote goes on to the next, and two
-    quotes in it stand for one."""
+    """Return the words of a line. A word that begins with a double quote goes on to the next, and
+    two quotes in it stand for one."""
     words = []
     at = 0
     while at < len(line):
@@ -189,7 +189,7 @@ def split(line: str) -> list[Word]:
 
 
 def _quoted(line: str, start: int) -> tuple[Word, int]:
-    """The word whose quote opens at a place, and the place after it."""
+    """Return the word whose quote opens at a place, and the place after it."""
     text, at = "", start + 1
     while True:
         end = line.find('"', at)
@@ -204,7 +204,7 @@ def _quoted(line: str, start: int) -> tuple[Word, int]:
 
 
 def quoted(name: str) -> str:
-    """A name as it is typed as one word."""
+    """Return a name as it is typed as one word."""
     if name and not any(letter in name for letter in ' \t"'):
         return name
     return '"' + name.replace('"', '""') + '"'
@@ -221,7 +221,7 @@ def no_words(words: list[str], command: str) -> None:
 
 
 def one_name(words: list[str], command: str) -> str:
-    """The rest of the line after a command, which is one name."""
+    """Return the rest of the line after a command, which is a name."""
     name = cleaned(" ".join(words))
     if not name:
         raise DeskFault(f"usage: {COMMANDS[command].form}")
@@ -229,12 +229,12 @@ def one_name(words: list[str], command: str) -> str:
 
 
 def is_number(word: str) -> bool:
-    """Whether a word can be a number."""
+    """Return True if a word can be a number."""
     return bool(readings(word))
 
 
 def count_of(words: list[str], command: str) -> int:
-    """How many steps a command is about."""
+    """Return the number of steps that a command names."""
     if len(words) > 1:
         raise DeskFault(f"usage: {COMMANDS[command].form}")
     if words and not (words[0].isascii() and words[0].isdigit() and len(words[0]) < LONGEST_COUNT):
@@ -243,14 +243,14 @@ def count_of(words: list[str], command: str) -> int:
 
 
 class Completed(NamedTuple):
-    """What may stand in place of a line's end, from a place in it on."""
+    """The texts that can replace the end of a line, from this position."""
 
     start: int
     texts: list[str]
 
 
 def completed(desk: Desk, line: str) -> Completed:
-    """Each word that may stand in place of the last one of a line, of those that begin so, without
+    """Return the words that can complete a line: those that begin like its last word, without
     regard to case and accents."""
     words = split(line)
     if (
@@ -271,7 +271,7 @@ def completed(desk: Desk, line: str) -> Completed:
 
 
 def _candidates(desk: Desk, before: list[str]) -> Iterator[str]:
-    """The words that may stand after these."""
+    """Yield the words that may stand after these."""
     network = desk.network
     names = network.names
     if before[:1] == ["what-if"]:
@@ -310,7 +310,7 @@ def _candidates(desk: Desk, before: list[str]) -> Iterator[str]:
 
 
 def _scenario_words(desk: Desk, before: list[str]) -> Iterator[str]:
-    """The words that may stand after these, which begin a command about scenarios."""
+    """Yield the words that may stand after these, which begin a command about scenarios."""
     if before == ["scenario"]:
         yield from ("new", "go", "copy", "name", "delete", "note")
     elif (project := Scenarios.of(desk)) and (

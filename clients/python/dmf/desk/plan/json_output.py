@@ -12,8 +12,8 @@ from .context import Output
 
 
 class JsonOutput(Output):
-    """Answers as objects of JSON, one a line. Each has the number of the line that it answers; a
-    refusal is one too, and stands on standard error besides."""
+    """Answers as JSON objects, one a line. Each has the number of the line that it answers. A
+    refusal is one too, and is also written to standard error."""
 
     def tell(self, *lines: str) -> None:
         self._write("text", {"lines": list(lines)})
@@ -78,7 +78,7 @@ def _number(desk: Desk, amount: Quantity) -> Json:
 
 
 def _state(desk: Desk) -> Json:
-    """What is so after a command."""
+    """Return what is so after a command."""
     measure = desk.network.measure
     return {
         "value": _number(desk, desk.value),
@@ -91,7 +91,7 @@ def _state(desk: Desk) -> Json:
 
 
 def _arcs(desk: Desk, numbers: list[int]) -> list[Json]:
-    """Each of these arcs as it is."""
+    """Return each of these arcs as it is."""
     network, limit = desk.network, desk.cut_arcs() if desk.is_greatest else {}
     names, found = network.names, []
     for number, flow in zip(numbers, desk.flows_on(numbers)):
@@ -112,7 +112,7 @@ def _arcs(desk: Desk, numbers: list[int]) -> list[Json]:
 
 
 def _comparison(found: Comparison) -> Json:
-    """A comparison as an object of JSON."""
+    """Return a comparison as an object of JSON."""
 
     def standing(it: Standing) -> Json:
         return {

@@ -87,8 +87,8 @@ def _step_lines(desk: Desk) -> Iterator[str]:
 
 
 def costs_told(desk: Desk, words: list[str]) -> Iterable[str]:
-    """What the words of `cost` ask for: a column, whether it is about second arcs, and the value to
-    come to."""
+    """Return what the words of `cost` ask for: a column, whether it is about second arcs, and the
+    value to reach."""
     to = None
     if TO in words:
         at = len(words) - 1 - words[::-1].index(TO)
@@ -117,7 +117,7 @@ def arc_lines(desk: Desk, numbers: list[int], *, with_limit: bool) -> Iterator[s
 
 
 def place_lines(desk: Desk) -> list[str]:
-    """What comes into each place, and what goes out."""
+    """Return what comes into each place, and what goes out."""
     network = desk.network
     entering: dict[int, Quantity] = defaultdict(int)
     leaving: dict[int, Quantity] = defaultdict(int)
@@ -153,7 +153,7 @@ def _present_scenario(project: Scenarios) -> str:
 
 
 def _scenario_lines(project: Scenarios) -> list[str]:
-    """The scenarios, each with the value that it was kept with."""
+    """Return the scenarios, each with the value that it was kept with."""
     lines = []
     for it in project.project.scenarios:
         mark = "*" if it is project.scenario else " "
@@ -168,7 +168,7 @@ def _scenario_lines(project: Scenarios) -> list[str]:
 
 
 def _trial_lines(desk: Desk, trials: list[Trial]) -> list[str]:
-    """Trials in words, a line for each."""
+    """Return trials in words, a line for each."""
     network = desk.network
     base, lines = desk.value, []
     for trial in trials:

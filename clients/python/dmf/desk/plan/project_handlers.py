@@ -21,7 +21,7 @@ def _keep(context: Context, words: list[str]) -> None:
     if context.desk.trials:
         raise DeskFault("a trial is open; `keep` alone or `drop` ends it")
     if not context.keep:
-        raise DeskFault("no project can be kept here")
+        raise DeskFault("a project cannot be made here")
     before = context.desk
     context.desk = context.keep(os.path.expanduser(one_name(words, "keep")), before)
     before.end()
@@ -57,7 +57,7 @@ def _report(context: Context, words: list[str]) -> None:
 
 
 def kept_project(desk: Desk) -> Scenarios:
-    """The project that keeps a desk. Raises a `DeskFault` if none does."""
+    """Return the project that keeps a desk. Raise a `DeskFault` if none does."""
     project = Scenarios.of(desk)
     if project is None:
         raise DeskFault("only a project has scenarios; `keep FILE.dmf.json` keeps the steps in one")
@@ -85,15 +85,15 @@ def _change_scenario(project: Scenarios, words: list[str]) -> None:
 
 
 def _named(project: Scenarios, name: str) -> str:
-    """The scenario that a name means, also in other letters if no other one has it."""
+    """Return the scenario that a name means, also in other letters if no other one has it."""
     names = [it.name for it in project.project.scenarios]
     near = [it for it in (*names, BASE) if it.casefold() == name.casefold()]
     return name if name in names or len(near) != 1 else near[0]
 
 
 def compared(project: Scenarios, words: list[str]) -> Comparison:
-    """Two scenarios beside each other: those that the words name, or the present one and the one
-    that they name."""
+    """Return the comparison that words ask for: of two scenarios, or of the present one and another
+    one."""
     names = {BASE, *(it.name for it in project.project.scenarios)}
 
     def meant(part: list[str]) -> str:
@@ -108,7 +108,7 @@ def compared(project: Scenarios, words: list[str]) -> Comparison:
     if not found:
         told = ", ".join(map(quoted, sorted(names)))
         raise DeskFault(
-            f"usage: {COMMANDS['compare'].form}; there are {told}"
+            f"usage: {COMMANDS['compare'].form}; the scenarios are {told}"
             if words
             else f"usage: {COMMANDS['compare'].form}"
         )

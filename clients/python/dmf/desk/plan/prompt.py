@@ -28,7 +28,7 @@ Ask = Callable[[str], str]
 
 
 def _history() -> Path:
-    """The file of the typed lines."""
+    """Return the file of the typed lines."""
     state = os.environ.get("XDG_STATE_HOME", "")
     return (
         Path(state if os.path.isabs(state) else os.path.expanduser("~/.local/state"))
@@ -38,7 +38,7 @@ def _history() -> Path:
 
 
 def _is_dumb() -> bool:
-    """Whether standard output is no terminal that can move its cursor."""
+    """Return True if standard output is not a terminal that can move its cursor."""
     return (
         os.environ.get("TERM", "dumb") in ("", "dumb", "unknown")
         or not sys.stdout
@@ -85,7 +85,7 @@ def _by_prompt_toolkit(complete: Complete) -> Iterator[Ask]:
 
     @keys.add("tab")
     def press_tab(event: KeyPressEvent) -> None:
-        """Writes what all matches have in common, and shows them if that is no more than was typed.
+        """Write what all matches have in common, and show them if that is no more than was typed.
         An Enter that follows finds it."""
         buffer = event.current_buffer
         if buffer.complete_state:
@@ -173,7 +173,7 @@ class _Matches:
 
 
 def show(text: str, write: Callable[[str], None]) -> None:
-    """Shows an answer: by the pager, if it is longer than the terminal."""
+    """Show an answer: by the pager, if it is longer than the terminal."""
     if _is_dumb() or text.count("\n") < shutil.get_terminal_size().lines:
         write(text)
     else:

@@ -57,7 +57,7 @@ class Shell:
 
     @property
     def desk(self) -> Desk:
-        """The desk, which is another one after the steps were kept in a project."""
+        """Return the desk, which is another one after the steps were kept in a project."""
         return self._context.desk
 
     # How lines come and how they are answered.
@@ -86,7 +86,7 @@ class Shell:
 
     @contextlib.contextmanager
     def _shown_at_once(self) -> Iterator[None]:
-        """Shows a person what the block tells as one answer, which may be long. To a script each
+        """Show a person what the block tells as one answer, which may be long. To a script each
         line goes at once."""
         if not self.is_typed:
             yield
@@ -103,8 +103,8 @@ class Shell:
                 show("".join(told), write)
 
     def _guarded(self, do: Callable[[], object]) -> object:
-        """What a call returns, or None if it raises. What goes wrong in it is told, and the steps
-        before it are kept, on a new session if its own has ended."""
+        """Return what a call returns, or None if it raises. What goes wrong in it is told, and the
+        steps before it are kept, on a new session if its own has ended."""
         try:
             return do()
         except FileFault:
@@ -120,7 +120,7 @@ class Shell:
         return None
 
     def refuse(self, why: str) -> None:
-        """Says why a line is refused. Nothing has changed."""
+        """Say why a line is refused. Nothing has changed."""
         self.output.refusal(why)
         self.refused += 1
         where = "" if self.is_typed else f"dmf-plan: line {self.output.line_number}: "
@@ -130,7 +130,7 @@ class Shell:
                 sys.stderr.flush()
 
     def begin_again(self) -> None:
-        """Begins a new session, with the steps that were made."""
+        """Begin a new session, with the steps that were made."""
         if self.is_typed:
             self.output.tell("a new session begins, with the steps that were made ..")
         try:
@@ -146,7 +146,7 @@ class Shell:
             )
 
     def run_typed(self) -> None:
-        """Takes lines from a person, to the end."""
+        """Take lines from a person, to the end."""
         offer = (
             f"`keep {quoted(display(self._offer))}` keeps what you do in a project, to go on "
             "another day."
@@ -170,13 +170,13 @@ class Shell:
                     self.refuse("that line is not UTF-8")
 
     def completed(self, line: str) -> Completed:
-        """What may stand in place of the end of a line."""
+        """Return what may stand in place of the end of a line."""
         with contextlib.suppress(Error, DeskFault):
             return completed(self.desk, line)
         return Completed(len(line), [])
 
     def run_script(self, lines: Iterable[str]) -> None:
-        """Carries out the lines of a script."""
+        """Carry out the lines of a script."""
         for line in lines:
             if self.onecmd(line):
                 return

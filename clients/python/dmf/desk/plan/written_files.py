@@ -13,14 +13,14 @@ from ..steps import DeskFault
 
 
 class WrittenFiles:
-    """The files that were written. No other one is written over."""
+    """The files that this session has written. It overwrites no other file."""
 
     def __init__(self) -> None:
         self._written: set[str] = set()
 
     def new(self, path: str, endings: Sequence[str]) -> str:
-        """The path of a file that may be written: if this session did not write it, it must be new.
-        Raises a `DeskFault`."""
+        """Return the path of a file that may be written: if this session did not write it, it must
+        be new. Raise a `DeskFault`."""
         path = os.path.expanduser(path)
         if Path(path).suffix not in endings:
             raise DeskFault(f"the name of the file ends with one of {', '.join(endings)}")
@@ -29,7 +29,7 @@ class WrittenFiles:
         return path
 
     def put(self, path: str, data: bytes) -> str:
-        """Writes a file, and says so. Raises a `DeskFault`."""
+        """Write a file, and say so. Raise a `DeskFault`."""
         try:
             # A new file is none that somebody else put there meanwhile, nor a link to one.
             write_file(path, data, is_new=os.path.realpath(path) not in self._written)

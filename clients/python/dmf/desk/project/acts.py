@@ -20,10 +20,10 @@ from .strict_json import Fields, ProjectFault
 
 
 def done(project: Project, word: str, content: Any, place: str) -> Project:
-    """Return what becomes of a project. Raises a `ProjectFault`, with the place of what is wrong,
-    if it cannot be done."""
+    """Return a project after an act. Raise a `ProjectFault`, with the place of what is wrong, if
+    the act cannot be done."""
     if word not in _ACTS:
-        raise ProjectFault(f"{place}: {word!r} is nothing that can be done to a project")
+        raise ProjectFault(f"{place}: {word!r} is not an act on a project")
     return replace(_ACTS[word](project, content, place), serial=project.serial + 1)
 
 
@@ -49,7 +49,7 @@ def _with(project: Project, before: Scenario, **changes: Any) -> Project:
 
 
 def _step(project: Project, content: Any, place: str) -> Project:
-    """A step is made, and those that were undone are dropped."""
+    """Add a step, and drop those that were undone."""
     scenario = _present(project, place)
     steps = (*scenario.steps[: scenario.at], step_of(content, place))
     return _with(project, scenario, steps=steps, at=len(steps))
@@ -68,15 +68,15 @@ def _at(project: Project, content: Any, place: str) -> Project:
 
 
 def _new(project: Project, content: Any, place: str) -> Project:
-    """A scenario comes, and is worked on."""
+    """Add a scenario, which is the present one then."""
     scenario = scenario_of(content, place)
     if project.scenario(scenario.name):
-        raise ProjectFault(f"{place}: a scenario is called {scenario.name!r} already")
+        raise ProjectFault(f"{place}: a scenario called {scenario.name!r} already exists")
     return replace(project, scenarios=(*project.scenarios, scenario), present=scenario.name)
 
 
 def _go(project: Project, content: Any, place: str) -> Project:
-    """Another scenario is worked on."""
+    """Make another scenario the present one."""
     name = _text(content, place)
     if not project.scenario(name):
         raise ProjectFault(f"{place}: no scenario is called {name!r}")
@@ -84,10 +84,10 @@ def _go(project: Project, content: Any, place: str) -> Project:
 
 
 def _name(project: Project, content: Any, place: str) -> Project:
-    """The present scenario gets another name."""
+    """Rename the present scenario."""
     name, scenario = _text(content, place), _present(project, place)
     if project.scenario(name):
-        raise ProjectFault(f"{place}: a scenario is called {name!r} already")
+        raise ProjectFault(f"{place}: a scenario called {name!r} already exists")
     before = scenario.name
     named = [replace(it, name=name) if it is scenario else it for it in project.scenarios]
     found = [replace(it, begun_from=name) if it.begun_from == before else it for it in named]
@@ -95,18 +95,18 @@ def _name(project: Project, content: Any, place: str) -> Project:
 
 
 def _delete(project: Project, content: Any, place: str) -> Project:
-    """A scenario that is not the present one goes."""
+    """Delete a scenario other than the present one."""
     name = _text(content, place)
     scenario = project.scenario(name)
     if scenario is None or name == project.present:
         raise ProjectFault(
-            f"{place}: {name!r} is {'the present scenario' if scenario else 'no scenario'}"
+            f"{place}: {name!r} is {'the present scenario' if scenario else 'not a scenario'}"
         )
     return replace(project, scenarios=tuple(it for it in project.scenarios if it is not scenario))
 
 
 def _carried(project: Project, content: Any, place: str) -> Project:
-    """A scenario has these steps and values now, after its table has changed."""
+    """Give a scenario the steps and values that it has after its table has changed."""
     scenario = scenario_of(content, place)
     before = project.scenario(scenario.name)
     if before is None:
@@ -117,7 +117,7 @@ def _carried(project: Project, content: Any, place: str) -> Project:
 
 
 def _table(project: Project, content: Any, place: str) -> Project:
-    """The table and its network are these now."""
+    """Replace the table and its network."""
     fields = Fields(content, place)
     table, network = table_of(fields.take("table", dict), fields.at("table")), fields.take(
         "network", str
@@ -127,17 +127,17 @@ def _table(project: Project, content: Any, place: str) -> Project:
 
 
 def _note(project: Project, content: Any, place: str) -> Project:
-    """The present scenario gets a note."""
+    """Give the present scenario a note."""
     return _with(project, _present(project, place), note=_text(content, place))
 
 
 def _notes(project: Project, content: Any, place: str) -> Project:
-    """The project gets notes."""
+    """Give the project notes."""
     return replace(project, notes=_text(content, place))
 
 
 def _positions(project: Project, content: Any, place: str) -> Project:
-    """Places get positions, or lose those that they had."""
+    """Give places positions, or remove those that they had."""
     if not isinstance(content, dict):
         raise ProjectFault(
             f"{place}: expected an object, with two numbers or nothing for each place"
@@ -167,23 +167,24 @@ _ACTS: dict[str, Callable[[Project, Any, str], Project]] = {
 
 
 def act_of(content: Any) -> tuple[int, str, Any]:
-    """The serial number, the word and what goes with it, of a line of a journal."""
+    """Return the serial number, the word and what goes with it, of a line of a journal."""
     fields = Fields(content, "")
     serial = fields.count("serial")
     words = [word for word in content if word != "serial"]
     if len(words) != 1:
-        raise ProjectFault(f"one thing is done in a line, and here are {len(words)}")
+        raise ProjectFault(f"expected one act in a line, got {len(words)}")
     return serial, words[0], content[words[0]]
 
 
 def place_name(network: LiveNetwork, node: int) -> PlaceName:
-    """The name of a node's place, or the number of the node if that is not the name of it alone."""
+    """Return the name of a node's place, or the number of the node if that is not the name of it
+    alone."""
     place, label = network.names.place_of(node), network.names.spoken_place(node)
     return label if network.names.places.get(label) == place else place.entry
 
 
 def place_meant(network: LiveNetwork, name: PlaceName) -> Place:
-    """The place of a name. Raises a `DeskFault`."""
+    """Return the place of a name. Raise a `DeskFault`."""
     if isinstance(name, int):
         return network.names.place_of(name)
     if name not in network.names.places:
@@ -192,8 +193,8 @@ def place_meant(network: LiveNetwork, name: PlaceName) -> Place:
 
 
 def arc_name(network: LiveNetwork, number: int) -> ArcName:
-    """An arc by the names of its ends and its own, with its place among several alike; or by what
-    it means for a place."""
+    """Return an arc by the names of its ends and its own, with its place among several alike; or by
+    what it means for a place."""
     role = network.role(number)
     if role:
         return role.kind, place_name(network, role.node)
@@ -207,7 +208,7 @@ def arc_name(network: LiveNetwork, number: int) -> ArcName:
 
 
 def arc_told(name: ArcName) -> str:
-    """An arc's name in a sentence."""
+    """Return an arc's name in a sentence."""
     if len(name) == 2:
         return display(f"what {name[1]} {AT_PLACE[name[0]]}")
     ends = display(f"{name[0]} -> {name[1]}")
@@ -215,8 +216,8 @@ def arc_told(name: ArcName) -> str:
 
 
 def arc_meant(network: LiveNetwork, name: ArcName, unsure: Collection[ArcName] = ()) -> int:
-    """The arc of a name, open or closed. Raises a `DeskFault` if there is none, or if it may be
-    several; of those that are unsure the place among several says nothing."""
+    """Return the arc of a name, open or closed. Raise a `DeskFault` if there is none, or if it may
+    be several; of those that are unsure the place among several says nothing."""
     if len(name) == 2:
         return _role_meant(network, *name)
     ends = place_meant(network, name[0]).exit, place_meant(network, name[1]).entry
@@ -234,12 +235,12 @@ def _role_meant(network: LiveNetwork, kind: str, name: PlaceName) -> int:
     for number, role in network.subject.described.roles.items():
         if (role.kind, role.node) == (kind, node):
             return network.names.alike(number)[0]
-    raise DeskFault(f"nothing says {arc_told((kind, name))}")
+    raise DeskFault(f"the table does not say {arc_told((kind, name))}")
 
 
 def requests_of(network: LiveNetwork, changes: Iterable[Change]) -> list[Request]:
-    """What was asked for by changes that are not made yet. What follows of them, and each solve, is
-    left out."""
+    """Return what was asked for by changes that are not made yet. What follows of them, and each
+    solve, is left out."""
     found: list[Request] = []
     for change in changes:
         if isinstance(change, (Solve, Follow)):
@@ -266,8 +267,8 @@ def requests_of(network: LiveNetwork, changes: Iterable[Change]) -> list[Request
 def changes_of(
     network: LiveNetwork, requests: Iterable[Request], unsure: Collection[ArcName] = ()
 ) -> list[Change]:
-    """The changes that requests mean now. Raises a `DeskFault` if one means nothing, or may mean
-    several things."""
+    """Return the changes that requests mean now. Raise a `DeskFault` if one means nothing, or may
+    mean several things."""
     found: list[Change] = []
     for word, named, *amounts in requests:
         if word == "shut":

@@ -21,10 +21,9 @@ OPEN, CLOSED, ABSENT = "open", "closed", "not there"
 
 
 class ArcState(NamedTuple):
-    """An arc in a scenario: `open`, `closed` or `not there`; its capacity, which one that is closed
-    had before, and its flow; whether it is one of the limit; and whether it carries as much as the
-    arcs at its place, so that its capacity says nothing.
-    """
+    """An arc in a scenario: `open`, `closed` or `not there`; its capacity, or the one that it had
+    before it was closed; its flow; whether it belongs to the limit; and whether it carries as much
+    as the arcs at its place, so that its capacity means nothing."""
 
     state: str
     capacity: Quantity
@@ -49,8 +48,8 @@ _ABSENT = ArcState(ABSENT, 0, 0, False)
 
 @dataclass(frozen=True)
 class Standing:
-    """A scenario as it stands: its value, the places on the source's side of its limit, and the
-    arcs of the limit, by their names."""
+    """A scenario: its value, the places on the source's side of its limit, and the arcs of the
+    limit, by their names."""
 
     name: str
     value: Quantity
@@ -60,8 +59,8 @@ class Standing:
 
 @dataclass(frozen=True)
 class ArcDifference:
-    """An arc that differs: its name with its ends, and what it is in each scenario. `known` tells
-    it from others alike."""
+    """An arc that differs: its name with its ends, and what it is in each scenario. `known`
+    distinguishes it from others with the same name."""
 
     arc: str
     first: ArcState
@@ -70,8 +69,8 @@ class ArcDifference:
 
     @property
     def kind(self) -> str:
-        """What is other in the second scenario: the arc has `come` or `gone`, `more` or `less`
-        flows on it, or something `else`."""
+        """Return what is other in the second scenario: the arc has `come` or `gone`, `more` or
+        `less` flows on it, or something `else`."""
         was, now = self.first.state == OPEN, self.second.state == OPEN
         if was != now:
             return "come" if now else "gone"
@@ -111,8 +110,7 @@ class Comparison:
 
 
 class _Snapshot:
-    """What is seen of a scenario that a desk shows: itself and its arcs, all before the desk shows
-    another one."""
+    """A scenario that a desk shows, with its arcs, read before the desk shows another one."""
 
     def __init__(self, desk: Desk, name: str) -> None:
         network = desk.network
@@ -159,13 +157,13 @@ class _Snapshot:
         )
 
     def label(self, known: Known) -> str:
-        """How an arc is called that was added in the scenario; nothing if it was not."""
+        """Return how an arc is called that was added in the scenario; nothing if it was not."""
         return self._added.get(known, "") if isinstance(known, tuple) else ""
 
 
 def known_arcs(desk: Desk) -> Iterator[tuple[Known, int]]:
-    """The arcs of a desk by what they are known by. One that was closed and opened again is the one
-    that it was."""
+    """Yield the arcs of a desk by what they are known by. One that was closed and opened again is
+    the one that it was."""
     network = desk.network
     count = Counter[tuple[int, int, str]]()
     given = network.first_count
@@ -188,8 +186,8 @@ def known_arcs(desk: Desk) -> Iterator[tuple[Known, int]]:
 
 def compare(project: Scenarios, first: str, second: str) -> Comparison:
     """Compare two scenarios of a project. Either may be `base`. The desk shows the present one as
-    before. Raises a `DeskFault` if there is no such scenario. Takes as long as those
-    steps take in which the three are not the same from the first on."""
+    before. Raise a `DeskFault` if there is no such scenario. Takes as long as those steps take in
+    which the three are not the same from the first on."""
     with project.visiting(first) as desk:
         one = _Snapshot(desk, first)
     with project.visiting(second) as desk:

@@ -42,12 +42,12 @@ MOST_TOLD = 20
 
 
 def sum_of(path: str) -> str:
-    """The SHA-256 sum of a file. Raises a `FileFault` if it cannot be read."""
+    """Return the SHA-256 sum of a file. Raise a `FileFault` if it cannot be read."""
     return hashlib.sha256(_content_of(path)).hexdigest()
 
 
 def _content_of(path: str) -> bytes:
-    """Return the content of a file. Raises a `FileFault` if it cannot be read, or is a pipe or a
+    """Return the content of a file. Raise a `FileFault` if it cannot be read, or is a pipe or a
     device, which may have no end."""
     if os.path.exists(path) and not os.path.isfile(path):
         raise FileFault(f"{path} is not a file that could be read again")
@@ -55,8 +55,8 @@ def _content_of(path: str) -> bytes:
 
 
 def kept_table(words: argparse.Namespace, subject: LoadedProblem, folder: str) -> KeptTable:
-    """The table that the words of a tool name, which this problem was made of, for a project in a
-    folder. Raises a `FileFault`."""
+    """Return the table that the words of a tool name, which this problem was made of, for a project
+    in a folder. Raise a `FileFault`."""
     path, sheet = split_path(words.path)
     table = KeptTable(
         _file(path, folder),
@@ -95,7 +95,7 @@ def _file(path: str, folder: str) -> File:
 
 
 def with_sums(table: KeptTable, folder: str) -> KeptTable:
-    """The table with the sums that its files have now. Raises a `FileFault` if one cannot be
+    """Return the table with the sums that its files have now. Raise a `FileFault` if one cannot be
     read."""
 
     def now(file: File) -> File:
@@ -109,8 +109,8 @@ def with_sums(table: KeptTable, folder: str) -> KeptTable:
 
 
 def read_again(table: KeptTable, folder: str) -> LoadedProblem:
-    """The problem of a table as its files are now. Raises a `FileFault` if one cannot be read, and
-    a `TableFault` if one has a fault."""
+    """Return the problem of a table as its files are now. Raise a `FileFault` if one cannot be
+    read, and a `TableFault` if one has a fault."""
     options = table.options
     titles = {column: options[column] for column in COLUMNS if column in options}
     places = {option: os.path.join(folder, file.path) for option, file in table.places.items()}
@@ -171,8 +171,8 @@ def _told(name: ArcName, gone: list[str], come: list[str]) -> Iterator[str]:
 
 
 def _rows(text: bytes) -> tuple[Mapping[ArcName, list[str]], str]:
-    """By the name of an arc, the capacities of those alike, with the source and the sink; and the
-    unit."""
+    """Return by the name of an arc, the capacities of those alike, with the source and the sink;
+    and the unit."""
     problem = read_problem(text)
     folding, measure = TableRoles(problem.described), problem.described.measure
     labels = [
@@ -204,19 +204,19 @@ def _rows(text: bytes) -> tuple[Mapping[ArcName, list[str]], str]:
 
 
 def told_shortly(lines: list[str]) -> list[str]:
-    """The first of some lines, and how many more there are."""
+    """Return the first of some lines, and how many more there are."""
     more = len(lines) - MOST_TOLD
     return [*lines[:MOST_TOLD], f"and {more} more"] if more > 0 else lines
 
 
 def is_project(path: str) -> bool:
-    """Whether a path names a project, by its end."""
+    """Return True if a path names a project, by its end."""
     return path.endswith(ENDING)
 
 
 def project_desk(path: str, table: str = "", program: Program = None) -> Desk:
-    """The desk of the project at a path. `table` is where its table is now, if that has moved.
-    Raises a `ProjectFault`, an OSError if the file cannot be read, and what `Desk` raises."""
+    """Return the desk of the project at a path. `table` is where its table is now, if that has
+    moved. Raise a `ProjectFault`, an OSError if the file cannot be read, and what `Desk` raises."""
     file = read_project(path)
     try:
         if not file.is_folded:
@@ -268,8 +268,8 @@ def _amounts(project: Project) -> Iterator[tuple[Decimal, str]]:
 
 @dataclass(frozen=True)
 class _ProjectSubject(LoadedProblem):
-    """The problem that a project keeps. The columns of its table that were read for nothing are
-    read again when they are asked for."""
+    """The problem that a project has. The other columns of its table are read again when they are
+    asked for."""
 
     read: Optional[Callable[[], LoadedProblem]] = field(default=None, repr=False, compare=False)
 
@@ -279,8 +279,8 @@ class _ProjectSubject(LoadedProblem):
 
 
 def _base(path: str, file: ProjectFile, moved: str) -> Base:
-    """The network of a project: the one that it keeps, or that of its table where that has changed
-    since."""
+    """Return the network of a project: the one that it has, or that of its table if that has
+    changed since."""
     project, folder = file.record.project, os.path.dirname(file.path)
     kept = _ProjectSubject(
         path,
@@ -289,7 +289,7 @@ def _base(path: str, file: ProjectFile, moved: str) -> Base:
         tuple(project.table.assumed),
         bool(project.table.options.get("raw_names")),
     )
-    told = [f"it is open to be read alone, since {file.why_not}"] if file.why_not else []
+    told = [f"it is read-only, since {file.why_not}"] if file.why_not else []
     table = _moved(project.table, moved, folder) if moved else project.table
     as_kept = "the network is as it was kept"
     name = quoted_name(table.file.path)
@@ -334,7 +334,7 @@ def _base(path: str, file: ProjectFile, moved: str) -> Base:
 
 
 def _moved(table: KeptTable, path: str, folder: str) -> KeptTable:
-    """The table at another path."""
+    """Return the table at another path."""
     at, sheet = split_path(path)
     return replace(
         table,
@@ -344,20 +344,19 @@ def _moved(table: KeptTable, path: str, folder: str) -> KeptTable:
 
 
 def beside(path: str) -> str:
-    """Where the project of a table is kept if nothing else is said: `pipes.dmf.json` beside
-    `pipes.csv`."""
+    """Return the default path of a table's project: `pipes.dmf.json` beside `pipes.csv`."""
     return os.path.splitext(split_path(path)[0])[0] + ENDING
 
 
 def keep_project(path: str, words: argparse.Namespace, desk: Desk, program: Program = None) -> Desk:
-    """The desk of a new project, in a file that is not there yet, with the table that the words of
-    a tool name and the steps that were made on a desk, which goes on. Raises a `DeskFault` if it
-    cannot be kept."""
+    """Return the desk of a new project, in a file that must not exist, with the table that the
+    words of a tool name and the steps of a desk, which goes on. Raise a `DeskFault` if it cannot be
+    made."""
     if not is_project(path):
         raise DeskFault(f"the name of a project ends with {ENDING}")
     kept = Scenarios.of(desk)
     if kept:
-        raise DeskFault(f"what is done is kept in {quoted_name(kept.file.path)} already")
+        raise DeskFault(f"the steps are already kept in {quoted_name(kept.file.path)}")
     subject = desk.network.subject
     base = Base(replace(subject, path=path))
     path = os.path.realpath(path)
@@ -367,13 +366,13 @@ def keep_project(path: str, words: argparse.Namespace, desk: Desk, program: Prog
         again = read_again(table, os.path.dirname(path))
         found = [] if again.text == subject.text else differences(subject.text, again.text).told
         if found:
-            raise DeskFault(f"no project can be kept: the table is another one now: {found[0]}")
+            raise DeskFault(f"the project cannot be made: the table has changed: {found[0]}")
         project = Project(
             secrets.token_hex(8), table, base.network, scenarios=(Scenario(FIRST),), present=FIRST
         )
         file = created(path, project)
     except (FileFault, TableFault) as fault:
-        raise DeskFault(f"no project can be kept: {fault}") from None
+        raise DeskFault(f"the project cannot be made: {fault}") from None
     except FileExistsError as error:
         raise DeskFault(
             f"{quoted_name(base.subject.path)} cannot be made: {error.strerror}; open it, or "
@@ -390,6 +389,6 @@ def keep_project(path: str, words: argparse.Namespace, desk: Desk, program: Prog
     except BaseException as error:
         file.discard()
         if isinstance(error, Error):
-            raise DeskFault(f"no project can be kept: {error}") from None
+            raise DeskFault(f"the project cannot be made: {error}") from None
         raise
     return made.desk

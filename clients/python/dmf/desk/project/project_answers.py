@@ -36,8 +36,8 @@ class Made(NamedTuple):
 
 
 class Purchase(NamedTuple):
-    """What is bought at once on a way to a greater value: by how much each arc gets wider, what
-    that costs, what all costs so far, and the greatest value then."""
+    """A purchase on a way to a greater value: how much wider each arc gets, what that costs, what
+    everything so far costs, and the greatest value then."""
 
     wider: dict[str, Quantity]
     cost: Decimal

@@ -42,8 +42,8 @@ Request = tuple[Any, ...]
 
 @dataclass(frozen=True)
 class KeptStep:
-    """A step as a project keeps it: in words, with the value that it came to, and what was asked
-    for, by names."""
+    """A step as a project's file has it: in words, with the value after it, and what was asked for,
+    by names."""
 
     text: str
     value: str
@@ -52,10 +52,10 @@ class KeptStep:
 
 @dataclass(frozen=True)
 class Scenario:
-    """Steps from the network of the table on, of which the first `at` are made and the others
-    undone. `begun_from` is the scenario whose steps the first `inherited` ones were when it was
-    made; it is empty if there was none. `left_out` are steps that meant nothing any more after the
-    table had changed."""
+    """A scenario: steps from the network of the table. The first `at` are made and the others were
+    undone. `begun_from` is the scenario whose steps the first `inherited` ones were when this one
+    was made, or empty. `left_out` are steps that meant nothing any more after the table had
+    changed."""
 
     name: str
     steps: tuple[KeptStep, ...] = ()
@@ -68,7 +68,7 @@ class Scenario:
 
 @dataclass(frozen=True)
 class File:
-    """A file that a project was made of: its path, as seen from the project's folder, and the
+    """A file that a project was made from: its path relative to the project's folder, and the
     SHA-256 sum of its content."""
 
     path: str
@@ -77,9 +77,9 @@ class File:
 
 @dataclass
 class KeptTable:
-    """The table of a project: its file, the sheet in it, the options that say what it is, by the
-    name of the option; the tables of places, by theirs; and what was found: the unit, the word for
-    an arc, and what was taken for granted."""
+    """The table of a project: its file and the sheet in it; the options that say how to read it, by
+    their names; the tables of places, by theirs; and what was found in it: the unit, the word for
+    an arc, and what was assumed."""
 
     file: File
     sheet: str = ""
@@ -92,9 +92,9 @@ class KeptTable:
 
 @dataclass(frozen=True)
 class Project:
-    """A project as it is after an act, which makes another one of it. `identity` tells it from
-    others, `serial` counts what was done to it, `network` is the problem of its table with its
-    names, and `present` names the scenario that is worked on."""
+    """A project after an act; each act makes another one of it. `identity` distinguishes it from
+    others, `serial` counts the acts, `network` is the problem of its table with its names, and
+    `present` is the name of the present scenario."""
 
     identity: str
     table: KeptTable

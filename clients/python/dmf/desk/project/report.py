@@ -36,8 +36,8 @@ PATIENCE = 60
 
 @dataclass(frozen=True)
 class Section:
-    """A scenario in a report. `picture` is the text of an SVG, or empty where `no_picture` says why
-    there is none; `check` is what `dmf check` wrote of the flow."""
+    """A scenario in a report. `picture` is the text of an SVG, or empty if there is no picture, for
+    the reason `no_picture`; `check` is what `dmf check` wrote about the flow."""
 
     name: str
     begun_from: str
@@ -68,8 +68,8 @@ class Tried:
 
 @dataclass(frozen=True)
 class Findings:
-    """All that a report says of the network and the scenarios of a desk. The first section is the
-    network of the table."""
+    """Everything that a report says about the network and the scenarios of a desk. The first
+    section is the network of the table."""
 
     title: str
     notes: str
@@ -85,8 +85,8 @@ class Findings:
 
 
 def checked(desk: Desk, program: Program = None) -> str:
-    """What `dmf check` writes of the present flow: `c greatest 165`. Raises a `DeskFault` if it
-    finds none."""
+    """Return what `dmf check` writes of the present flow: `c greatest 165`. Raise a `DeskFault` if
+    it finds none."""
     network = desk.network
     flows, measure = desk.flows(), network.measure
     lines = [f"s {measure.whole(desk.value)}\n"]
@@ -121,8 +121,8 @@ def _section(
     scenario: Scenario | None = None,
     differences: tuple[ArcDifference, ...] = (),
 ) -> Section:
-    """What is to be said of what a desk shows, whose steps begin with this one: of a scenario, if
-    it is one."""
+    """Return what is to be said of what a desk shows, whose steps begin with this one: of a
+    scenario, if it is one."""
     network = desk.network
     picture, why = "", ""
     try:
@@ -163,7 +163,7 @@ def _sections(desk: Desk) -> Iterator[Section]:
 
 
 def _tried(desk: Desk) -> Tried:
-    """What the arcs of the present state mean for its value."""
+    """Return what the arcs of the present state mean for its value."""
     network = desk.network
     open_arcs = [number for number in network.pictured() if not network.line(number).is_closed]
     is_all = len(open_arcs) <= MOST_TRIED
@@ -204,8 +204,8 @@ def _table_arcs(desk: Desk) -> int:
 
 
 def findings(desk: Desk) -> Findings:
-    """What is to be said of a desk. Takes as long as the steps of all scenarios take, a comparison
-    of each, and a sweep. Raises a `DeskFault` if the flow is not greatest."""
+    """Return what is to be said of a desk. Takes as long as the steps of all scenarios take, a
+    comparison of each, and a sweep. Raise a `DeskFault` if the flow is not greatest."""
     network = desk.network
     if not desk.is_greatest:
         raise DeskFault("the flow is not greatest, so the limit is not known; `solve` first")
@@ -234,12 +234,12 @@ MOST_ROWS, MOST_PLACES = 40, 30
 
 
 def _text(text: str) -> str:
-    """A text of hers in the page: never markup."""
+    """Return a text of the planner in the page: never markup."""
     return escape(display(text))
 
 
 def _lines(text: str) -> str:
-    """A text of several lines of hers."""
+    """Return a text of the planner of several lines."""
     return "\n".join(map(_text, text.splitlines()))
 
 
@@ -248,7 +248,7 @@ def _told(amount: Quantity, unit: str) -> str:
 
 
 def _table(titles: Iterable[tuple[str, bool]], rows: list[list[str]]) -> Iterator[str]:
-    """A table of cells that are markup already. Columns of numbers stand to the right."""
+    """Yield a table of cells that are markup already. Columns of numbers stand to the right."""
     heads = list(titles)
 
     def cells(tag: str, row: Iterable[str]) -> str:
@@ -344,7 +344,7 @@ def _section_lines(found: Findings, it: Section) -> Iterator[str]:
 
 
 def _limit(found: Findings, it: Section) -> Iterator[str]:
-    """The limit in plain words."""
+    """Yield the limit in plain words."""
     yield "<h3>What is the limit</h3>"
     if not it.limit:
         yield (
@@ -406,11 +406,10 @@ def _trial_lines(found: Findings, tried: Tried) -> Iterator[str]:
 
 
 def report(desk: Desk) -> str:
-    """The report of a desk: of a project with all its scenarios, and of other desks with the
+    """Return the report of a desk: of a project with all its scenarios, and of other desks with the
     present state. Takes as long as all steps of all scenarios take, a comparison of each and a
-    sweep. It carries the present problem. Raises a `DeskFault` if the flow is not greatest, and
-    what a session raises.
-    """
+    sweep. It carries the present problem. Raise a `DeskFault` if the flow is not greatest, and what
+    a session raises."""
     found = findings(desk)
     lines = [*_head(found)]
     for section in found.sections:

@@ -35,8 +35,8 @@ from .strict_json import ProjectFault
 
 @dataclass
 class Differences:
-    """In what two problems of a table differ: in words, a line for each row, and the arcs of which
-    there are more or fewer alike than before, so that a place among several says nothing."""
+    """The differences between two problems of a table: in words, a line for each row, and the arcs
+    whose number of alike ones has changed, so that a place among them means nothing."""
 
     told: list[str] = field(default_factory=list)
     unsure: set[ArcName] = field(default_factory=set)
@@ -49,8 +49,8 @@ FIRST = "first"
 
 @dataclass
 class Base:
-    """The network that a project's scenarios begin from, and what is to be said of it. `table` is
-    the project's table as it is now, if it has changed since, and `found` in what."""
+    """The network that the scenarios of a project begin from, and what to say about it. `table` is
+    the project's table as it is now, if it has changed since, and `found` are the differences."""
 
     subject: LoadedProblem
     told: list[str] = field(default_factory=list)
@@ -64,8 +64,8 @@ class Base:
 
 @dataclass(frozen=True)
 class Replay:
-    """What became of a scenario whose steps were made again: itself as it is now, in words what
-    differs from what was kept, and the state of a desk that shows it."""
+    """A scenario whose steps were made again: the scenario as it is now, the differences to what
+    the file had, in words, and the state of a desk that shows it."""
 
     scenario: Scenario
     told: tuple[str, ...]
@@ -73,13 +73,13 @@ class Replay:
 
     @property
     def acts(self) -> list[Act]:
-        """What is to be kept of it."""
+        """Return what is to be kept of it."""
         return [("carried", said_scenario(self.scenario))] * bool(self.told)
 
 
 def finest(subject: LoadedProblem, project: Project) -> LoadedProblem:
-    """The subject with the least scale in which each amount of a project is whole, as far as it
-    goes."""
+    """Return the subject with the least scale in which each amount of a project is whole, as far as
+    it goes."""
     steps = [
         step for scenario in project.scenarios for step in (*scenario.steps, *scenario.left_out)
     ]
@@ -115,12 +115,12 @@ class Scenarios:
 
     @classmethod
     def of(cls, desk: Desk) -> Scenarios | None:
-        """The project that keeps a desk, if one does."""
+        """Return the project that keeps a desk, if one does."""
         return desk.keeper if isinstance(desk.keeper, cls) else None
 
     @property
     def record(self) -> Record:
-        """The project with its place in the journal, in the present state."""
+        """Return the project with its place in the journal, in the present state."""
         return cast(Record, self.desk.state.record)
 
     @property
@@ -129,19 +129,19 @@ class Scenarios:
 
     @property
     def scenario(self) -> Scenario:
-        """The scenario that is worked on."""
+        """Return the scenario that is worked on."""
         return self._found(self.project.present)
 
     # What the desk asks of what keeps it.
 
     def judge(self, back: int = 0) -> None:
-        """Raise a `DeskFault` if nothing can be kept, or if the scenario has not so many steps of
-        its own to undo."""
+        """Raise a `DeskFault` if nothing can be written, or if the scenario has fewer steps of its
+        own than are to be undone."""
         left = self.desk.at - 1 - self.scenario.inherited
         if back and not self.desk.trials and back > left:
             raise DeskFault(f"this scenario has {left} step{'s' * (left != 1)} of its own to undo")
         if self.file.why_not:
-            why = f"the project is open to be read alone, since {self.file.why_not}"
+            why = f"the project is read-only, since {self.file.why_not}"
             raise DeskFault(f"{why}; `what-if` tries, and changes nothing")
 
     def requests(self, network: LiveNetwork, changes: Sequence[Change]) -> tuple[Request, ...]:
@@ -177,11 +177,11 @@ class Scenarios:
         except OSError as error:
             where = display(self.file.path)
             raise DeskFault(
-                f"it was not done, since it cannot be kept in {where}: {error.strerror}"
+                f"nothing was done, since it could not be written to {where}: {error.strerror}"
             ) from None
 
     def end(self) -> None:
-        """Writes the project. Raises an OSError if that fails; the journal has all of it then."""
+        """Write the project. Raise an OSError if that fails; the journal has all of it then."""
         self.file.end(self.record)
 
     def _after(self, state: DeskState, *acts: Act) -> DeskState:
@@ -192,13 +192,13 @@ class Scenarios:
         return replace(state, record=record, scenario=record.project.present)
 
     def _keep(self, *acts: Act, by: int = 1) -> None:
-        """Keeps what is said of the project, which leaves the network as it is."""
+        """Keep what is said of the project, which leaves the network as it is."""
         state = self.desk.state
         self.desk.take(self._after(replace(state, turn=state.turn + by), *acts))
 
     def take_steps(self, steps: Iterable[Step], turn: int = 0) -> None:
-        """Makes the steps of another desk on the same network, and goes on from its turn; a step
-        that only solves is none here."""
+        """Make the steps of another desk on the same network, and go on from its turn. A step that
+        only solves is not a step here."""
         self.desk.state = replace(self.desk.state, turn=self.desk.turn + turn)
         for step in steps:
             asked: list[Change] = [
@@ -210,7 +210,7 @@ class Scenarios:
     # Scenarios.
 
     def kept_value(self, scenario: Scenario) -> str:
-        """The greatest value of a scenario, as it was kept."""
+        """Return the greatest value of a scenario, as it was kept."""
         return (
             scenario.steps[scenario.at - 1].value
             if scenario.at
@@ -221,7 +221,7 @@ class Scenarios:
         scenario = self.project.scenario(name)
         if scenario is None:
             names = ", ".join(quoted_name(it.name) for it in self.project.scenarios)
-            raise DeskFault(f"no scenario is called {quoted_name(name)}; there are {names}")
+            raise DeskFault(f"no scenario is called {quoted_name(name)}; the scenarios are {names}")
         return scenario
 
     def _judge_new_name(self, name: str) -> None:
@@ -229,22 +229,22 @@ class Scenarios:
             why = f"{BASE} is the network of the table, which no scenario can be called"
             raise DeskFault("a scenario needs a name" if not name else why)
         if self.project.scenario(name):
-            raise DeskFault(f"a scenario is called {quoted_name(name)} already")
+            raise DeskFault(f"a scenario called {quoted_name(name)} already exists")
 
     def _judge_no_trial(self) -> None:
         if self.desk.trials:
             raise DeskFault("a trial is open; `keep` or `drop` ends it")
 
     def go(self, name: str) -> None:
-        """Goes to a scenario. What differs from what was kept is told."""
+        """Go to a scenario. What differs from what was kept is told."""
         scenario = self._found(name)
         self._judge_no_trial()
         if scenario is not self.scenario:
             self._show(self._replayed(scenario), ("go", name))
 
     def new(self, name: str, begun_from: str = BASE) -> None:
-        """Begins a scenario from the network of the table, or with the steps that another scenario
-        has now, and goes to it. Its `undo` does not take those back."""
+        """Begin a scenario from the network of the table, or with the steps that another scenario
+        has now, and go to it. Its `undo` does not take those back."""
         self.judge()
         self._judge_no_trial()
         self._judge_new_name(name)
@@ -255,8 +255,8 @@ class Scenarios:
         self._come(Scenario(name, other.steps[: other.at], other.at, begun_from, other.at))
 
     def copy(self, name: str) -> None:
-        """Makes a copy of the present scenario, with its steps, those that were undone and its
-        note, and goes to it."""
+        """Make a copy of the present scenario, with its steps, those that were undone and its note,
+        and go to it."""
         self.judge()
         self._judge_no_trial()
         self._judge_new_name(name)
@@ -266,30 +266,30 @@ class Scenarios:
         self._show(self._replayed(scenario), ("new", said_scenario(scenario)))
 
     def rename(self, name: str) -> None:
-        """Gives the present scenario another name."""
+        """Give the present scenario another name."""
         self.judge()
         self._judge_new_name(name)
         self._keep(("name", name))
 
     def delete(self, name: str) -> None:
-        """Deletes a scenario that is not the present one."""
+        """Delete a scenario that is not the present one."""
         self.judge()
         if self._found(name) is self.scenario:
             raise DeskFault(f"{quoted_name(name)} is the present scenario; go to another first")
         self._keep(("delete", name))
 
     def note(self, text: str) -> None:
-        """Gives the present scenario a note."""
+        """Give the present scenario a note."""
         self.judge()
         self._keep(("note", text))
 
     def take_notes(self, text: str) -> None:
-        """Gives the project notes."""
+        """Give the project notes."""
         self.judge()
         self._keep(("notes", text))
 
     def take_positions(self, positions: Mapping[str, tuple[float, float] | None]) -> None:
-        """Keeps where places stand in a picture, by their names; None forgets it."""
+        """Keep the positions of places in a picture, by their names; None removes one."""
         self.judge()
         for name in positions:
             place_meant(self.desk.network, name)
@@ -315,8 +315,8 @@ class Scenarios:
             yield shown
 
     def _show(self, replay: Replay, *acts: Act) -> None:
-        """Shows a scenario whose steps were made, after acts that lead there; tells in what it
-        differs from what was kept, and keeps it as it is."""
+        """Show a scenario whose steps were made, after acts that lead there. Say in what it differs
+        from what was written, and write it as it is."""
         state = self.desk.state
         after = replace(
             replay.state, news=(*state.news, *replay.told), turn=state.turn + 1, record=state.record
@@ -362,7 +362,7 @@ class Scenarios:
         return Replay(now, tuple(told), replace(desk.state, floors=(1 + inherited,)))
 
     def _take_table(self, base: Base, table: KeptTable) -> None:
-        """Takes a table that has changed, and carries all scenarios over to it, the present one
+        """Take a table that has changed, and carry all scenarios over to it, the present one
         last."""
         acts: list[Act] = [("table", {"table": said_table(table), "network": base.network})]
         *others, present = sorted(self.project.scenarios, key=lambda it: it is self.scenario)

@@ -41,7 +41,7 @@ REQUESTS = {
 
 
 def parse_project(text: bytes) -> Project:
-    """The project of a text. Raises a `ProjectFault`."""
+    """Return the project of a text. Raise a `ProjectFault`."""
     fields = Fields(read_json(text), "")
     version = fields.take(MARK, int)
     if version != VERSION:
@@ -74,7 +74,7 @@ def parse_project(text: bytes) -> Project:
 
 
 def position_of(content: object, place: str) -> tuple[float, ...]:
-    """The coordinates of a place."""
+    """Return the coordinates of a place."""
     if (
         not isinstance(content, list)
         or len(content) != 2
@@ -82,12 +82,12 @@ def position_of(content: object, place: str) -> tuple[float, ...]:
     ):
         raise ProjectFault(f"{place} is not two numbers")
     if not all(map(math.isfinite, content)):
-        raise ProjectFault(f"{place} is past all numbers that a picture has")
+        raise ProjectFault(f"{place} is too large for a picture")
     return tuple(map(float, content))
 
 
 def scenario_of(content: object, place: str) -> Scenario:
-    """The scenario of an object in JSON."""
+    """Return the scenario of an object in JSON."""
     fields = Fields(content, place)
     steps, left_out = _steps_of(fields, "steps", None), _steps_of(fields, "left_out", [])
     name, at, begun_from = (
@@ -106,7 +106,7 @@ def _steps_of(fields: Fields, name: str, default: list[Any] | None) -> tuple[Kep
 
 
 def step_of(content: object, place: str) -> KeptStep:
-    """The step of an object in JSON."""
+    """Return the step of an object in JSON."""
     fields = Fields(content, place)
     requests = tuple(
         _request_of(it, f"{place}.requests[{at}]")
@@ -115,12 +115,12 @@ def step_of(content: object, place: str) -> KeptStep:
     step = KeptStep(fields.take("text", str), fields.take("value", str), requests)
     fields.end()
     if not _is_amount(step.value):
-        raise ProjectFault(f"{place}.value is {step.value!r}, and no number from 0 on")
+        raise ProjectFault(f"{place}.value is {step.value!r}, which is not a number from 0 up")
     return step
 
 
 def _request_of(content: object, place: str) -> Request:
-    """A request, as in ["cap", ["Mill", "Town", "Mill Lane"], "47.3"]."""
+    """Return a request, as in ["cap", ["Mill", "Town", "Mill Lane"], "47.3"]."""
     word = content[0] if isinstance(content, list) and content else None
     if (
         not isinstance(content, list)
@@ -128,7 +128,7 @@ def _request_of(content: object, place: str) -> Request:
         or word not in REQUESTS
         or len(content) != 1 + len(REQUESTS[word])
     ):
-        raise ProjectFault(f"{place} is none of {', '.join(REQUESTS)} with what follows it")
+        raise ProjectFault(f"{place} is not one of {', '.join(REQUESTS)} with its arguments")
     found = []
     for kind, part in zip(REQUESTS[word], content[1:]):
         if not _FORMS[kind](part):
@@ -176,7 +176,7 @@ _FORMS: dict[str, Callable[[object], bool]] = {
 
 
 def table_of(content: object, place: str) -> KeptTable:
-    """The table of an object in JSON."""
+    """Return the table of an object in JSON."""
     fields = Fields(content, place)
     table = KeptTable(
         _file_of(fields),
@@ -189,7 +189,7 @@ def table_of(content: object, place: str) -> KeptTable:
     for option, given in fields.take("places", dict, {}).items():
         where = f"{place}.places.{option}"
         if option not in PLACE_OPTIONS:
-            raise ProjectFault(f"{where} is none of {', '.join(PLACE_OPTIONS)}")
+            raise ProjectFault(f"{where} is not one of {', '.join(PLACE_OPTIONS)}")
         parts = Fields(given, where)
         table.places[option] = _file_of(parts)
         parts.end()
@@ -239,8 +239,8 @@ _OPTION_JUDGES: dict[str, Callable[[str], bool]] = {
 
 
 def text_of(project: Project) -> bytes:
-    """The text of a project, a line for each of its steps, so that two versions can be compared
-    line by line."""
+    """Return the text of a project, a line for each of its steps, so that two versions can be
+    compared line by line."""
     said: dict[str, Any] = {
         MARK: VERSION,
         "id": project.identity,
@@ -270,7 +270,7 @@ def _scenario_text(scenario: Scenario) -> str:
 
 
 def said_table(table: KeptTable) -> dict[str, Any]:
-    """A table as its object in JSON has it."""
+    """Return a table as its object in JSON has it."""
     return {
         **vars(table.file),
         "sheet": table.sheet,
@@ -283,7 +283,7 @@ def said_table(table: KeptTable) -> dict[str, Any]:
 
 
 def said_scenario(scenario: Scenario) -> dict[str, Any]:
-    """A scenario as its object in JSON has it."""
+    """Return a scenario as its object in JSON has it."""
     return {
         "name": scenario.name,
         "from": scenario.begun_from,
@@ -296,5 +296,5 @@ def said_scenario(scenario: Scenario) -> dict[str, Any]:
 
 
 def said_step(step: KeptStep) -> dict[str, Any]:
-    """A step as its object in JSON has it."""
+    """Return a step as its object in JSON has it."""
     return {"text": step.text, "value": step.value, "requests": step.requests}

@@ -33,12 +33,12 @@ TAKEN = (errno.EWOULDBLOCK, errno.EACCES, errno.EAGAIN)
 
 
 def _head(identity: str, serial: int) -> bytes:
-    """Return the first line of a journal that begins after so many acts."""
+    """Return the first line of a journal that begins after this number of acts."""
     return json.dumps({MARK: VERSION, "id": identity, "after": serial}).encode()
 
 
 class Locked(Exception):
-    """Another desk has the lock."""
+    """Another process has the lock."""
 
 
 class Journal:
@@ -97,8 +97,8 @@ class Journal:
             raise
 
     def end(self, *, is_folded: bool, at: int | None = None) -> None:
-        """Drops the lock, and removes the journal if the project's file has all of it; else cuts it
-        back to an end, if one is given."""
+        """Drop the lock, and remove the journal if the project's file has all of it; else cut it
+        back to this length, if one is given."""
         with contextlib.suppress(OSError):
             if is_folded:
                 os.remove(self.path)
@@ -111,12 +111,12 @@ MOST_VERSIONS = 20
 
 
 def journal_of(path: str) -> str:
-    """The path of a project's journal: `water.dmf.journal` for `water.dmf.json`."""
+    """Return the path of a project's journal: `water.dmf.journal` for `water.dmf.json`."""
     return path.removesuffix(".json") + ".journal"
 
 
 def versions_of(path: str) -> list[str]:
-    """The older versions of a project's file, the oldest first: `water.dmf.json.~7~`."""
+    """Return the older versions of a project's file, the oldest first: `water.dmf.json.~7~`."""
     folder, name = os.path.split(path)
     form = re.compile(re.escape(name) + r"\.~([0-9]{1,9})~")
     found = [
@@ -133,8 +133,8 @@ Act = tuple[str, Any]
 
 @dataclass(frozen=True)
 class Record:
-    """A project as it is after some acts: how far the journal goes that tells them, from 0 if the
-    project's file has them all; and the last lines of it, which `ProjectFile.write` writes."""
+    """A project after some acts: the length of the journal that has them, or 0 if the project's
+    file has them all; and its last lines, which `ProjectFile.write` writes."""
 
     project: Project
     journal_end: int = 0
@@ -142,9 +142,9 @@ class Record:
 
 
 class ProjectFile:
-    """A project that is open. `why_not` says why this desk may only read it, and is empty if it
-    writes it; `news` are what is to be said: what a kill has cost, and what somebody else has
-    written meanwhile."""
+    """An open project. `why_not` says why this process may only read it, and is empty if it may
+    write. `news` are lines to show: what a kill has cost, and what another process has written
+    meanwhile."""
 
     def __init__(
         self,
@@ -217,7 +217,7 @@ class ProjectFile:
         self._journal.write(before.journal_end, after.lines)
 
     def _write_file(self, project: Project) -> None:
-        """Writes the file anew, and keeps the one before it as a version. Raises an OSError if that
+        """Rewrite the file, and keep the one before it as a version. Raise an OSError if that
         fails; nothing is lost then."""
         if self._journal is None:
             raise OSError(errno.EROFS, self.why_not)
@@ -240,7 +240,7 @@ class ProjectFile:
                 os.remove(old)
 
     def _version(self) -> str:
-        """The path of a version with the file as it is, if there is one."""
+        """Return the path of a version with the file as it is, if there is one."""
         if not os.path.exists(self.path):
             return ""
         before = versions_of(self.path)
@@ -253,9 +253,9 @@ class ProjectFile:
         return version
 
     def end(self, record: Record | None = None) -> None:
-        """Writes the file if something was done, and lets others write it. `record` is what the
-        project has come to, if a desk had it. If it cannot be written, raises an OSError; the
-        journal has all then."""
+        """Write the file if something was done, and let others write it. `record` is the last state
+        of the project, if a desk had it. Raise an OSError if the file cannot be written; the
+        journal has everything then."""
         if self._journal is None:
             return
         journal, record = self._journal, record or self.record
@@ -275,7 +275,7 @@ class ProjectFile:
             journal.end(is_folded=is_folded)
 
     def discard(self) -> None:
-        """Removes a project that was just made."""
+        """Remove a project that was just made."""
         if self._journal:
             self._journal.end(is_folded=True)
             self._journal, self.why_not = None, "it was closed"
@@ -283,7 +283,8 @@ class ProjectFile:
 
 
 def _stamp(path: str) -> tuple[int, ...]:
-    """What tells the file at a path from another one there, or from itself with other content."""
+    """Return what tells the file at a path from another one there, or from itself with other
+    content."""
     with contextlib.suppress(FileNotFoundError):
         found = os.stat(path)
         return found.st_ino, found.st_size, found.st_mtime_ns
@@ -291,7 +292,7 @@ def _stamp(path: str) -> tuple[int, ...]:
 
 
 def created(path: str, project: Project) -> ProjectFile:
-    """A new project, in a file that is not there yet. Raises an OSError."""
+    """Return a new project, in a file that is not there yet. Raise an OSError."""
     if os.path.lexists(path):
         raise FileExistsError(errno.EEXIST, "it already exists")
     if os.path.exists(journal_of(path)) and os.path.getsize(journal_of(path)):
@@ -313,8 +314,8 @@ def created(path: str, project: Project) -> ProjectFile:
 
 
 def opened(path: str) -> ProjectFile:
-    """The project in a file, which has all that was in the journal from then on. Raises what
-    `read_project` raises."""
+    """Return the project in a file, into which its journal is written first. Raise what
+    `read_project` raises, and an OSError."""
     file = read_project(path)
     file.fold()
     return file
@@ -351,9 +352,9 @@ def read_project(path: str) -> ProjectFile:
 
 
 def _read(path: str) -> tuple[Project, int, bool]:
-    """The project of a file and its journal, how many acts the file has, and whether the journal
-    ends with half a line. The journal is read first: if another desk writes the file between, the
-    file has all of that journal."""
+    """Return the project of a file and its journal, how many acts the file has, and whether the
+    journal ends with half a line. The journal is read first: if another desk writes the file
+    between, the file has all of that journal."""
     journal = _journal_text(journal_of(path))
     with open(path, "rb") as file:
         text = file.read()
@@ -383,14 +384,14 @@ def _read(path: str) -> tuple[Project, int, bool]:
             serial, word, given = act_of(content)
             count += 1
             if serial != count:
-                raise ProjectFault(f"the act has the number {serial}, and {count} comes next")
+                raise ProjectFault(f"the act has the number {serial}, and {count} was expected")
             if serial > filed:
                 project = done(project, word, given, word)
     return project, filed, bool(rest)
 
 
 def _journal_text(path: str) -> bytes:
-    """Return what a journal has; nothing if there is none."""
+    """Return the content of a journal, which is empty if there is no journal."""
     if not os.path.lexists(path):
         return b""
     try:
@@ -407,14 +408,14 @@ def _journal_text(path: str) -> bytes:
         if error.errno != errno.ELOOP:
             raise
     raise ProjectFault(
-        f"{path} is a link or no file, and so no journal; move it away to open the project as its "
-        "file is"
+        f"{path} is a link or not a file, so it is not a journal; move it away to open the "
+        "project as its file is"
     )
 
 
 @contextlib.contextmanager
 def _placed(place: str) -> Iterator[None]:
-    """Names this place in a fault."""
+    """Name this place in a fault."""
     try:
         yield
     except ProjectFault as fault:
@@ -422,8 +423,8 @@ def _placed(place: str) -> Iterator[None]:
 
 
 def _begin_of(content: Any, project: Project) -> int:
-    """After how many acts a journal begins. Raises a `ProjectFault` if it is not one of this
-    project, as its file is."""
+    """Return the number of acts after which a journal begins. Raise a `ProjectFault` if it is not a
+    journal of this project as its file is."""
     fields = Fields(content, "")
     version = fields.take(MARK, int)
     if version != VERSION:

@@ -23,7 +23,7 @@ class ProjectFault(Error, ValueError):
 
 
 class Fields:
-    """The fields of an object, which are taken one after the other."""
+    """The fields of an object, which are read one after another."""
 
     def __init__(self, content: object, place: str) -> None:
         if not isinstance(content, dict):
@@ -35,7 +35,8 @@ class Fields:
         return f"{self.place}.{name}" if self.place else name
 
     def take(self, name: str, kind: type, default: object = None) -> Any:
-        """The field of a name, which has to be there if there is no default."""
+        """Return the field of a name. Raise a `ProjectFault` if it is missing and there is no
+        default."""
         if name not in self._left:
             if default is None:
                 raise ProjectFault(f"{self.at(name)} is missing")
@@ -46,7 +47,7 @@ class Fields:
         return found
 
     def count(self, name: str, most: int | None = None) -> int:
-        """A whole number from 0 on."""
+        """Return a whole number from 0 up."""
         found: int = self.take(name, int)
         if found < 0 or most is not None and found > most:
             raise ProjectFault(
@@ -63,11 +64,11 @@ class Fields:
         return found
 
     def end(self) -> None:
-        """Raises a `ProjectFault` if a field was not taken."""
+        """Raise a `ProjectFault` if a field was not taken."""
         if self._left:
             raise ProjectFault(
-                f"{self.at(next(iter(self._left)))} is nothing that a project of version {VERSION} "
-                "has"
+                f"{self.at(next(iter(self._left)))} is not a field of a project of version "
+                f"{VERSION}"
             )
 
 
@@ -85,18 +86,18 @@ def _told(content: object) -> str:
 
 
 def read_json(text: bytes) -> Any:
-    """The content of a text in JSON, in which no field stands twice. Raises a `ProjectFault` with
-    the line and the column."""
+    """Return the content of a text in JSON, in which no field occurs twice. Raise a `ProjectFault`
+    with the line and the column."""
 
     def single(pairs: list[tuple[str, Any]]) -> dict[str, Any]:
         found = dict(pairs)
         if len(found) < len(pairs):
             twice = next(name for at, (name, _) in enumerate(pairs) if name in dict(pairs[:at]))
-            raise ProjectFault(f"the field {twice!r} stands twice")
+            raise ProjectFault(f"the field {twice!r} occurs twice")
         return found
 
     def refuse(name: str) -> None:
-        raise ProjectFault(f"{name} is not a number of JSON")
+        raise ProjectFault(f"{name} is not a JSON number")
 
     try:
         hooks: dict[str, Any] = {
@@ -110,7 +111,9 @@ def read_json(text: bytes) -> Any:
     except json.JSONDecodeError as fault:
         is_cut = fault.pos >= len(fault.doc.rstrip()) or fault.msg.startswith("Unterminated string")
         where = (
-            "the text ends in the midst of it" if is_cut else fault.msg[:1].lower() + fault.msg[1:]
+            "the text ends before it is complete"
+            if is_cut
+            else fault.msg[:1].lower() + fault.msg[1:]
         )
         raise ProjectFault(f"line {fault.lineno}, column {fault.colno}: {where}") from None
     except UnicodeDecodeError as fault:
@@ -129,7 +132,7 @@ def _judge_texts(content: object, place: str) -> None:
     if isinstance(content, str):
         if _LONE.search(content):
             raise ProjectFault(
-                f"{place or 'the file'} has half a letter, a surrogate that stands alone"
+                f"{place or 'the file'} has a lone surrogate, which is half a character"
             )
     elif isinstance(content, dict):
         for name, part in content.items():
