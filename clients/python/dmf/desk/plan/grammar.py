@@ -35,14 +35,13 @@ class Help(NamedTuple):
 
 
 ARCS_SAID = (
-    'An arc goes by its name, by its ends as in Mill-Town or "Mill Town", or by its number as in '
-    "#7. A name with spaces stands in quotes, "
-    "or as it is where that can mean one thing alone."
+    'Give an arc by its name, by its ends as in Mill-Town or "Mill Town", or by its number as in '
+    "#7. A name with spaces needs quotes, unless the line can mean only one thing without them."
 )
 MANY_SAID = (
-    "In place of ARC, where and conditions name all arcs of which these are so, in one step: close "
-    "where name ~ DN200, "
-    "cap where capacity < 60 and full +10 %, open where to ~ Mill."
+    "With `where` and conditions in place of ARC, the command is about all arcs that meet them, in "
+    "one step: close where name ~ DN200, cap where capacity < 60 and full +10 %, open where to ~ "
+    "Mill."
 )
 COMMANDS = {
     "solve": Help(
@@ -50,23 +49,22 @@ COMMANDS = {
     ),
     "cut": Help(
         "cut",
-        "Shows the limit: the arcs that hold the value where it is, and the places on the source's "
-        "side of them.",
+        "Shows the limit: the arcs that keep the value from growing, and the places on the "
+        "source's side of them.",
     ),
     "flow": Help(
         "flow [ARC|PLACE]", "Shows what flows on each arc, or on one, or on those at a place.", FLOW
     ),
     "pipes": Help(
         "pipes [where CONDITIONS]",
-        "Lists the arcs of the table, or those of which conditions are so: pipes where limit.",
+        "Lists the arcs of the table, or those that meet conditions: pipes where limit.",
     ),
     "places": Help("places", "Lists the places, with what comes in and goes out."),
     "from": Help("from PLACE", "Shows what flows on each arc out of a place.", PLACE),
     "close": Help("close ARC", f"Closes an arc. {ARCS_SAID} {MANY_SAID}", ARC),
     "open": Help(
         "open [ARC|PLACE]",
-        "Opens an arc that is closed, or a place that is shut; alone, what was closed or shut "
-        "last.",
+        "Opens a closed arc, or a place that is shut; alone, what was closed or shut last.",
         CLOSED,
     ),
     "cap": Help(
@@ -85,38 +83,34 @@ COMMANDS = {
     "redo": Help("redo [NUMBER]", "Redoes the step that was undone last, or NUMBER steps."),
     "steps": Help("steps", "Lists the steps with the value after each."),
     "try": Help(
-        "try",
-        "Begins a trial: `drop` takes back all that is done from here on, and `keep` keeps it.",
+        "try", "Begins a trial: `drop` undoes everything done after this, and `keep` keeps it."
     ),
     "keep": Help(
         "keep [FILE]",
-        "Ends the trial, and keeps its steps; or keeps what is done in a new project, whose name "
-        "ends with .dmf.json.",
+        "Ends the trial, and keeps its steps; with FILE, keeps all steps in a new project, whose "
+        "name ends with .dmf.json.",
     ),
-    "drop": Help("drop", "Ends the trial, and takes its steps back."),
+    "drop": Help("drop", "Ends the trial, and undoes its steps."),
     "what-if": Help(
         "what-if each arc [of the cut | at PLACE]  or  what-if COMMAND",
-        "Lists for each arc the greatest value if it alone is closed, and if a second one lies "
-        "beside it; or shows what a command and a "
-        "solve would bring. Nothing changes.",
+        "Lists for each arc the greatest value if it alone is closed, and if a second one is added "
+        "beside it; or shows the value after a command and a solve. Nothing changes.",
         EACH,
         "what-if each arc ..",
     ),
     "cost": Help(
         "cost [COLUMN] [of seconds] [to NUMBER]",
-        "Tells what each unit more costs at each arc of the limit, by the column of the table "
-        "called cost or by another one, and a cheap way to "
-        "twice the value or to NUMBER. The way is found greedily: a cheaper one may exist. With "
-        "`of "
-        "seconds` the column is what a second arc "
-        "costs. Nothing changes.",
+        "Shows what one unit more costs at each arc of the limit, by the column of the table "
+        "called cost or by another one, and a cheap way to twice the value or to NUMBER. It is "
+        "found greedily: a cheaper one may exist. With `of seconds` the column has the cost of "
+        "a second arc. Nothing changes.",
         "",
         "cost ..",
     ),
     "worst": Help(
         "worst [NUMBER]",
-        "Tries to close each arc, and lists the NUMBER arcs, or ten, whose loss lowers the value "
-        "most. Nothing changes.",
+        "Tries closing each arc, and lists the NUMBER arcs (10 by default) whose loss lowers the "
+        "value most. Nothing changes.",
     ),
     "draw": Help(
         "draw FILE",
@@ -124,36 +118,34 @@ COMMANDS = {
     ),
     "save": Help(
         "save FILE",
-        "Writes the plan as a table where FILE ends with .csv, or the problem where it ends with "
-        ".max.",
+        "Writes the plan as a table if FILE ends with .csv, or the problem if it ends with .max.",
     ),
     "scenario": Help(
         "scenario [new NAME [from OTHER] | go NAME | copy NAME | name NAME | delete NAME | note "
         "TEXT]",
-        "Lists the scenarios of a project, or begins one, goes to one, copies, names, deletes or "
-        "notes one. A new one begins from the network of "
-        "the table, or with the steps that another one has now; copies, names and notes are of the "
-        "present one. NAME in the midst of a line "
-        "stands in quotes if it has spaces.",
+        "Lists the scenarios of a project, or begins, goes to, copies, renames, deletes or notes "
+        "one. A new one begins from the network of the table, or with the steps that another one "
+        "has now; `copy`, `name` and `note` are about the present one. A NAME with spaces needs "
+        "quotes, unless it ends the line.",
         SCENARIO,
         "scenario ..",
     ),
     "compare": Help(
         "compare [SCENARIO] SCENARIO",
-        "Shows in what two scenarios differ: value, limit and arcs; base is the table's network.",
+        "Shows how two scenarios differ: value, limit and arcs; base is the table's network.",
         SCENARIO,
     ),
     "report": Help(
         "report FILE",
-        "Writes a page to hand on, whose name ends with .html: values, limits, steps, pictures, "
-        "and what is worst to lose.",
+        "Writes a report as a page whose name ends with .html: values, limits, steps, pictures, "
+        "and the arcs whose loss lowers the value most.",
     ),
     "notes": Help(
         "notes [TEXT]",
-        "Shows the notes of a project, or puts others in their place. Its report begins with them: "
-        "with the question.",
+        "Shows the notes of a project, or replaces them. Its report begins with them: with the "
+        "question.",
     ),
-    "help": Help("help [COMMAND]", "Lists the commands, or says what one does.", COMMAND),
+    "help": Help("help [COMMAND]", "Lists the commands, or explains one.", COMMAND),
     "quit": Help("quit", "Ends; only a project keeps what was done."),
 }
 CHANGES = ("close", "open", "cap", "add", "shut")
