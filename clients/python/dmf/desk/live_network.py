@@ -1,5 +1,5 @@
-"""The network of a desk on a session: where it stands among the steps, how it goes to others, and
-what flows."""
+"""The network of a desk on a session: the steps that it has made, how it goes to others, and its
+flows."""
 
 from __future__ import annotations
 
@@ -18,11 +18,11 @@ from .steps import Add, Change, Close, Follow, Marks, Node, Reopen, Shut, Solve,
 
 
 class LiveNetwork(NetworkArcs):
-    """The network of a subject, on a session of its own. Raises what `dmf.read` raises.
+    """The network of a problem, on a session of its own. Raises what `dmf.read` raises.
 
-    Where the session stands is read off the changes that the network keeps: they are the very ones
-    of the steps, or they are not. So a call that is broken off leaves no doubt about it, and
-    `stand_on` goes from wherever that is to the steps that are asked for.
+    The steps that the session has made are read off the network's history: its changes are the
+    very objects of the steps, or they are not. So an interrupted call leaves no doubt, and
+    `stand_on` goes from any state to the steps that are asked for.
     """
 
     def __init__(self, subject: LoadedProblem, program: Program = None) -> None:

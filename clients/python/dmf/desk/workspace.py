@@ -1,16 +1,15 @@
 """A planner's desk: a network by its names, the steps that were tried on it, and sweeps.
 
 A step is one thing that a planner does, such as closing a place with a limit. It may be several
-changes of the network, and is undone as a whole. Arcs go by their numbers here, as `dmf-names`
-prints them, and `Directory` finds the number of a name. A step is kept as the request, so it can be
-made again after a sweep, or on a new session if one has ended, or if an amount has more decimals
-than the numbers of the session allow: then the steps are made again on the problem of a finer
-scale.
+changes of the network, and is undone as a whole. Arcs are given by their numbers here, as
+`dmf-names` prints them; `Directory` finds the number of a name. A step is stored as a request, so
+it can be made again: on a new session if one has ended, or on the problem of a finer scale if an
+amount has more decimals than the numbers of the session allow.
 
-An act is one thing. It is prepared, which changes nothing that is shown, though the session may
-move on; what keeps the desk writes it; and then the state that was prepared takes the place of the
-one before, by one assignment. Wherever an act is broken off, the desk is in the state before it or
-in the one after it, and the session is brought to that when something is asked.
+An act has three phases. It is prepared, which changes nothing that is shown, though the session may
+move on; the keeper writes it; and then the prepared state replaces the present one, by one
+assignment. Wherever an act is interrupted, the desk is in the state before it or in the one after
+it, and the session is brought to that state when it is asked next.
 """
 
 from __future__ import annotations
@@ -35,13 +34,18 @@ from .steps import Add, Cap, Change, Close, DeskFault, Place, Reopen, Shut, Solv
 
 
 class Desk:
-    """A network, and what was done to it. `with_solve` says that each step solves after its change,
-    so that its value is always the greatest. What a call raises beside a `DeskFault` is what the
-    client raises. Any error in the midst of a step ends the session, since that might be left
-    between two steps; `has_ended` says so, and `begin_again` makes the steps once more on a new
-    one. `may_follow` says that the first solve of a large network may tell the value and the limit
-    alone: `follow` then finds the flows, and so does whatever needs them. `keeper` keeps each act,
-    if there is one."""
+    """A network, and the steps that were made on it. Calls raise `DeskFault` and what a network
+    raises. Any error during a step ends the session, which might be between two steps: `has_ended`
+    is True then, and `begin_again` makes the steps again on a new one.
+
+    Parameters
+    ----------
+    with_solve
+        Whether each step solves after its change, so that its value is always the greatest.
+    may_follow
+        Whether the first solve of a large network may find the value and the limit alone; then
+        `follow`, or a call that needs them, finds the flows.
+    """
 
     keeper: Keeper | None = None
 
@@ -113,8 +117,7 @@ class Desk:
         )
 
     def break_off(self, why: str) -> None:
-        """End the session at once, also for a thread that waits for it, and one on which the steps
-        are made again."""
+        """End every running session at once, also for a thread that waits for it."""
         self._running.break_off(why)
 
     def begin_again(self) -> None:
@@ -239,8 +242,7 @@ class Desk:
         return answers.limit or answers.find_limit(self.network)
 
     def cut_arcs(self) -> dict[int, None]:
-        """Return the arcs of the smallest minimum cut, in their order. Raise
-        `FlowIsNotGreatest`."""
+        """Return the arcs of the limit, in their order. Raise `FlowIsNotGreatest`."""
         return self.limit().arcs
 
     def side(self) -> set[int]:
@@ -318,8 +320,7 @@ class Desk:
             return self.step(text, [Add(tail.exit, head.entry, taken, name or None)], state)
 
     def double(self, *numbers: int, words: str = "") -> Step:
-        """Add a second arc beside each of these open ones, of the same capacity, in one step of
-        these words."""
+        """Add a second arc beside each of these open ones, of the same capacity."""
         network = self.network
         added: list[Change] = [
             Add(line.tail, line.head, line.capacity) for line in map(network.open_line, numbers)
@@ -352,8 +353,7 @@ class Desk:
         )
 
     def open_place(self, place: Place) -> Step:
-        """Open the arcs that were closed when a place was shut, except those to places that are
-        shut too."""
+        """Open the arcs that shutting a place closed, except those to other shut places."""
         network = self.network
         label = network.names.node(place.entry)
         if not network.shut_nodes & set(place):
@@ -412,7 +412,7 @@ class Desk:
         self.state = replace(self.state, floors=self.state.floors[:-1])
 
     def drop(self) -> None:
-        """End the trial that began last, and undo what was done in it. `redo` can do it again."""
+        """End the trial that began last, and undo its steps, which `redo` can redo."""
         self._refuse_no_trial()
         *floors, floor = self.state.floors
         if self.keeper and floor < self.at:

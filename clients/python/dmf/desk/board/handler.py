@@ -1,10 +1,9 @@
-"""The requests of a connection to a board: who may ask, and which answer is wanted.
+"""The requests of a connection to a board: who may ask, and which route answers.
 
-Each address begins with a token that only the one who started the board gets. Of a request without
-it the handler reads the first line alone, and answers with a page that says how to get in. It
+Each address begins with a token that only the person who started the board gets. If a request lacks
+it, the handler reads only its first line, and answers with a page that says how to get in. It
 refuses a request with 403 if that names another host, or if a page of another origin made it; with
-400 if it does not have the form that the page gives it; and else as the board does. Requests come
-to the desk one after the other.
+400 if it is malformed; and otherwise as the board does. Requests reach the desk one after another.
 """
 
 from __future__ import annotations

@@ -1,9 +1,8 @@
 """A board: what a page in the browser shows of a desk, and does to it.
 
-It refuses a request with 400 if that does not have the form that the page gives it, with 409 if the
-desk refuses it, and with 410 if the session has ended and none could be begun in its place. Each
-answer in JSON has the desk's turn, by which a page sees that it shows a state that has passed, and
-each change says which turn the page shows that asks for it.
+It refuses a malformed request with 400, one that the desk refuses with 409, and any with 410 if the
+session has ended and no other one could be begun. Each answer in JSON has the desk's turn, by which
+a page sees that the state it shows is old, and each change has the turn that its page shows.
 """
 
 from __future__ import annotations
