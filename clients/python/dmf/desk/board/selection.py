@@ -241,7 +241,9 @@ class ArcList:
         except DeskFault as why:
             reading, numbers, fault = "", [], str(why)
         changed, shown = self._desk.network.changed(), numbers[first : first + count]
-        rows = [{**arc, "changed": arc["number"] in changed} for arc in arc_views(self._desk, shown)]
+        rows = [
+            {**arc, "changed": arc["number"] in changed} for arc in arc_views(self._desk, shown)
+        ]
         return {
             "total": len(numbers),
             "first": first,
