@@ -26,9 +26,9 @@ from .workspace import Desk
 
 
 def trials_of(desk: Desk, numbers: Iterable[int]) -> Generator[Trial, None, None]:
-    """Yield what each of these arcs means for the greatest value: if it alone is closed, and if it
-    alone has a second one beside it. Tries each on a copy of the network as it is at the call, on
-    all processors. Raise a `DeskFault` unless the flow is greatest and the arcs are open."""
+    """Return a sweep over these arcs: the greatest values if each alone is closed, and if each
+    alone has a second one beside it. Each is tried on a copy of the network as it is at the call,
+    on all processors. Raise a `DeskFault` unless the flow is greatest and the arcs are open."""
     if not desk.is_greatest:
         raise DeskFault(
             "the flow is not greatest, so nothing can be compared with it; `solve` first"
@@ -41,9 +41,7 @@ def trials_of(desk: Desk, numbers: Iterable[int]) -> Generator[Trial, None, None
 
 
 def trials(desk: Desk, wanted: Iterable[int]) -> Generator[Trial, None, None]:
-    """Yield for each of these open arcs, if the flow is greatest, the greatest values if it alone
-    is closed, and if it alone has a second one beside it. Try each on a copy of the network as it
-    is at the call, on all processors."""
+    """Return the same, for open arcs and a greatest flow."""
     held, value = desk.network, desk.value
     numbers, cut, quantity = list(wanted), set(desk.cut_arcs()), held.measure.quantity
     # Closing an arc that carries nothing leaves the flow as it is. A second arc beside one that is
@@ -194,9 +192,9 @@ def priced(desk: Desk, given: Prices) -> dict[int, Decimal | None]:
 
 
 def cheapest(desk: Desk, given: Prices, to: Quantity | None = None) -> Way:
-    """Return a cheap way to a value, by default to twice the present one, found greedily; the desk
-    is as it was then. Takes a few solves for each purchase, and where second arcs are bought a
-    trial of each arc of the limit. Raise a `DeskFault` if the flow is not greatest."""
+    """Return a cheap way to a value, by default to twice the present one, found greedily. The desk
+    is as it was after that. Each purchase takes a few solves, and for second arcs a trial of each
+    arc of the limit. Raise a `DeskFault` if the flow is not greatest."""
     if not desk.is_greatest:
         raise DeskFault("the flow is not greatest, so the limit is not known; `solve` first")
     wanted = EXACT.multiply(desk.value, 2) if to is None else to

@@ -305,7 +305,7 @@ class Directory:
         return f"no arc is called {quoted_name(name)}{near(name, self.spoken())}"
 
     def spoken(self) -> Iterator[str]:
-        """Yield for each arc a text that means it."""
+        """Return for each arc a text that means it."""
         return map(self.called, range(1, len(self._lines) + 1))
 
     def called(self, number: int) -> str:

@@ -130,9 +130,9 @@ class Desk:
 
     @contextlib.contextmanager
     def _fine_for(self, amounts: Iterable[Quantity]) -> Iterator[DeskState]:
-        """The present state, on a network whose numbers can have these amounts: if they have too
-        few decimals, the steps are made again on a new session, with a finer scale. Raises a
-        `DeskFault` where that cannot be. If the block does not take it, it is left."""
+        """Have the present state on a network whose numbers can express these amounts: if they have
+        too few decimals, the steps are made again on a new session, with a finer scale. Raise a
+        `DeskFault` if that is impossible. A network that the block does not take is ended."""
         self.follow()
         before = self.network
         state, subject, finest = self.state, before.subject, ""

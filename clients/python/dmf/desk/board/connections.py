@@ -77,7 +77,7 @@ class LivePages:
         return math.inf if self._held else max(self._until.values()) - self._clock()
 
     def is_last(self) -> bool:
-        """Wait while there is no page and the board runs on. Returns whether it need not any
+        """Wait while there is no page and the board runs on. Return True if it need not run any
         more."""
         with self._changed:
             while not self._held and (rest := self.rest()) > 0:
@@ -129,7 +129,7 @@ class UnknownConnections:
             _reset_at_end(connection, False)
 
     def drop(self, connection: socket.socket) -> bool:
-        """Forget a connection. Returns whether it was one of these."""
+        """Forget a connection. Return True if it was one of these."""
         with self._lock:
             return self._waiting.pop(connection, None) is not None
 

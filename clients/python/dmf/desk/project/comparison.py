@@ -185,9 +185,9 @@ def known_arcs(desk: Desk) -> Iterator[tuple[Known, int]]:
 
 
 def compare(project: Scenarios, first: str, second: str) -> Comparison:
-    """Compare two scenarios of a project. Either may be `base`. The desk shows the present one as
-    before. Raise a `DeskFault` if there is no such scenario. Takes as long as those steps take in
-    which the three are not the same from the first on."""
+    """Compare two scenarios of a project; `base` is the network of the table. The desk shows the
+    present scenario as before. Raise a `DeskFault` if a scenario does not exist. This takes as long
+    as the steps that the three do not share."""
     with project.visiting(first) as desk:
         one = _Snapshot(desk, first)
     with project.visiting(second) as desk:

@@ -171,7 +171,7 @@ def _told(name: ArcName, gone: list[str], come: list[str]) -> Iterator[str]:
 
 
 def _rows(text: bytes) -> tuple[Mapping[ArcName, list[str]], str]:
-    """Return by the name of an arc, the capacities of those alike, with the source and the sink;
+    """Return the capacities of the arcs alike, with the source and the sink, by the name of an arc;
     and the unit."""
     problem = read_problem(text)
     folding, measure = TableRoles(problem.described), problem.described.measure

@@ -204,7 +204,7 @@ def _table_arcs(desk: Desk) -> int:
 
 
 def findings(desk: Desk) -> Findings:
-    """Return what is to be said of a desk. Takes as long as the steps of all scenarios take, a
+    """Return the content of a report. This takes as long as the steps of all scenarios, a
     comparison of each, and a sweep. Raise a `DeskFault` if the flow is not greatest."""
     network = desk.network
     if not desk.is_greatest:
@@ -406,10 +406,10 @@ def _trial_lines(found: Findings, tried: Tried) -> Iterator[str]:
 
 
 def report(desk: Desk) -> str:
-    """Return the report of a desk: of a project with all its scenarios, and of other desks with the
-    present state. Takes as long as all steps of all scenarios take, a comparison of each and a
-    sweep. It carries the present problem. Raise a `DeskFault` if the flow is not greatest, and what
-    a session raises."""
+    """Return the report of a desk: of a project with all its scenarios, or else of the present
+    state. It carries the present problem. This takes as long as the steps of all scenarios, a
+    comparison of each, and a sweep. Raise a `DeskFault` if the flow is not greatest, and what a
+    session raises."""
     found = findings(desk)
     lines = [*_head(found)]
     for section in found.sections:
