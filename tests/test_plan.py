@@ -389,7 +389,8 @@ def test_names() -> None:
     desk = desk_of(ALIKE)
     for text, wanted in {
         "A-B-C": "'A-B-C' may be #1 (A -> B-C), #2 (A-B -> C); choose one by its number",
-        "A-D": "'A-D' may be #3 (A -> D), #4 (A-D, B-C -> D), #5 (A -> D); choose one by its number",
+        "A-D": "'A-D' may be #3 (A -> D), #4 (A-D, B-C -> D), #5 (A -> D); "
+        "choose one by its number",
         "D-A": "no arc leads from 'D' to 'A'",
         "4": "no arc is called '4'; is it #4, A-D, B-C -> D?",
         "#9": "no arc is called '#9'",
