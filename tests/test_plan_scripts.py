@@ -376,13 +376,14 @@ def test_no_other_file(tmp_path: Path, monkeypatch: pytest.MonkeyPatch) -> None:
     plan = Shell(desk_of(water_problem()), is_typed=False, write=lambda _: None)
     victim, path = tmp_path / "victim.max", tmp_path / "new.max"
     victim.write_text("as it was")
-    put = plan._files.put
+    files = plan._context.files
+    put = files.put
 
     def late(path: str, data: bytes) -> str:
         Path(path).symlink_to(victim)
         return put(path, data)
 
-    monkeypatch.setattr(plan._files, "put", late)
+    monkeypatch.setattr(files, "put", late)
     plan.onecmd(f"save {path}")
     assert (victim.read_text(), plan.refused) == ("as it was", 1)
     monkeypatch.undo()

@@ -29,8 +29,11 @@ CALLS: dict[str, tuple[Callable[[Any], object], tuple[str, ...]]] = {
     "undo": (lambda project: project.undo(), ("undo",)),
     "redo": (lambda project: project.redo(), ("redo",)),
     "limit": (lambda project: project.limit, ("_cut_side",)),
-    "flow": (lambda project: project.flow("Mill Lane"), ("flow",)),
-    "compare": (lambda project: project.compare("base", "first"), ("undo", "flow", "_cut_side")),
+    "flow": (lambda project: project.flow("Mill Lane"), ("_flow_of_each",)),
+    "compare": (
+        lambda project: project.compare("base", "first"),
+        ("undo", "_flow_of_each", "_cut_side"),
+    ),
     "go": (lambda project: project.go("first"), ("undo",)),
     "new": (lambda project: project.new("third"), ("undo",)),
 }
@@ -72,7 +75,6 @@ def test_it_goes_on(project: Any, call: str, asked: str, monkeypatch: pytest.Mon
     # What was asked before is known without the session.
     desk = project._desk
     desk.state = replace(desk.state, answers=Answers())
-    desk.network._present_flow = None
     with monkeypatch.context() as patched, pytest.raises(KeyboardInterrupt):
         patched.setattr(dmf.Network, asked, broken_off)
         CALLS[call][0](project)

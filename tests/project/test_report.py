@@ -215,8 +215,9 @@ def test_the_check_is_one(monkeypatch: pytest.MonkeyPatch) -> None:
     """What `dmf check` does not find greatest is no report."""
     desk = desk_of(water_problem())
     assert checked(desk) == "c greatest 165"
-    true = desk.flows()
-    monkeypatch.setattr(Desk, "flows", lambda self: {**true, 1: true[1] - 1})
+    wrong = desk.flows()[:]
+    wrong[0] -= 1
+    monkeypatch.setattr(Desk, "flows", lambda self: wrong)
     with pytest.raises(DeskFault, match="dmf check does not find the flow greatest"):
         checked(desk)
     monkeypatch.undo()
