@@ -55,7 +55,11 @@ FORMS: list[tuple[str, Optional[bytes], str]] = [
     ("do", b'{"what": "close", "arc": "1", "turn": 1}', "the field arc must be a whole number"),
     ("do", b'{"what": "close", "arc": true, "turn": 1}', "the field arc must be a whole number"),
     ("do", b'{"what": "close", "arc": 1, "turn": 1, "x": 2}', "expected the fields"),
-    ("do", b'{"what": "cap", "arc": 1, "turn": 1, "capacity": 5}', "the field capacity is a text"),
+    (
+        "do",
+        b'{"what": "cap", "arc": 1, "turn": 1, "capacity": 5}',
+        "the field capacity must be a text",
+    ),
     (
         "do",
         b'{"what": "add", "tail": 1, "head": "Mill", "turn": 1, "capacity": "5", "name": "'
@@ -80,9 +84,9 @@ FORMS: list[tuple[str, Optional[bytes], str]] = [
 # Headers of a wrong form, and what is said.
 HEADERS: list[tuple[dict[str, Any], str]] = [
     ({"Content_Type": "text/plain"}, "the type application/json"),
-    ({"Content_Type": "application/json", "Content_Length": "99999999"}, "a length of at most"),
-    ({"Content_Type": "application/json", "Content_Length": "-1"}, "a length of at most"),
-    ({"Content_Type": "application/json", "Content_Length": None}, "a length of at most"),
+    ({"Content_Type": "application/json", "Content_Length": "99999999"}, "a body of at most"),
+    ({"Content_Type": "application/json", "Content_Length": "-1"}, "a body of at most"),
+    ({"Content_Type": "application/json", "Content_Length": None}, "a body of at most"),
 ]
 # What the desk refuses, and what is said.
 REFUSED: list[tuple[dict[str, Any], str]] = [
@@ -97,7 +101,7 @@ REFUSED: list[tuple[dict[str, Any], str]] = [
     ),
     (
         {"what": "cap", "arc": 1, "capacity": "1e-30"},
-        "with the decimals of 0.000000000000000000000000000001 the capacities would be together "
+        "with the decimals of 0.000000000000000000000000000001 the sum of the capacities would be "
         "past",
     ),
     ({"what": "cap", "arc": 99, "capacity": "5"}, "arc #99 does not exist"),

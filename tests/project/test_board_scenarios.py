@@ -132,7 +132,7 @@ def test_make_and_name(driver: Any, water: Board, tmp_path: Path) -> None:
     page.wait(lambda: page.value() != 180)
     assert page.undo() == 180 and not driver.find_element("id", "undo").is_enabled()
     name("Pipe", "#scenario-copy")
-    assert "A scenario is called 'Pipe' already" in page.text("#trouble")
+    assert "A scenario called 'Pipe' already exists" in page.text("#trouble")
     name("Copy", "#scenario-copy")
     page.wait(lambda: page.present() == "Copy")
     assert driver.find_element("id", "redo").is_enabled()
@@ -329,7 +329,7 @@ def test_refused(water: Board) -> None:
         (409, "is the present scenario", {"what": "scenario-delete", "name": "Pipe"}),
         (409, "look again", {"what": "scenario-go", "name": "first", "turn": 0}),
         (400, "expected the fields", {"what": "scenario-go"}),
-        (400, "is a text", {"what": "scenario-go", "name": 5}),
+        (400, "must be a text", {"what": "scenario-go", "name": 5}),
     ]
     for status, told, content in asked:
         answer = water.post("do", **content)

@@ -218,8 +218,7 @@ def test_a_table_that_changes_while_it_is_kept(tmp_path: Path) -> None:
     table.write_text(table.read_text().replace(",110,", ",111,"))
     with pytest.raises(
         DeskFault,
-        match="the table is another one now: "
-        "Upper main, Reservoir -> Upper Works: 111, and was 110",
+        match="the table has changed: " "Upper main, Reservoir -> Upper Works: 111, and was 110",
     ):
         keep_project(f"{tmp_path}/kept.dmf.json", said, desk)
     assert os.listdir(tmp_path) == ["pipes.csv"]

@@ -17,7 +17,11 @@ HOMES: dict[str, tuple[str, ...]] = {
     "project": (),
     "project.comparison": ("desk.project.comparison",),
     "project.form": ("desk.project.schema", "desk.project.records", "desk.project.strict_json"),
-    "project.live": ("desk.project.open_project", "desk.project.python_project"),
+    "project.live": (
+        "desk.project.open_project",
+        "desk.project.project_answers",
+        "desk.project.python_project",
+    ),
     "showing": ("presentation",),
     "sources": ("graph_networks", "tables.problem_networks"),
     "sweeping": ("sweeps.cases",),
