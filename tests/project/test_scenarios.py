@@ -214,7 +214,7 @@ def test_a_full_disk(tmp_path: Path, monkeypatch: pytest.MonkeyPatch) -> None:
         lambda: desk.go_to(1),
     ]
     for call in calls:
-        assert "it was not done, since it cannot be kept" in refused(
+        assert "nothing was done, since it could not be written" in refused(
             call
         ) and "No space left" in refused(call)
         assert (
