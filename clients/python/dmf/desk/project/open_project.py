@@ -95,7 +95,7 @@ def new_project(
         A place or several places, each perhaps with its limit, as in `Mill=12`.
     sources, sinks, node_limits, places, columns, decimal, scale, both_ways, encoding
         As those of `read_table`.
-    raw_names, missing, ignore, matrix, program
+    raw_names, missing, ignore, matrix, velocity, tanks, tolerance, program
         Likewise.
 
     Returns
