@@ -30,7 +30,7 @@ def test_garbage_is_collected_again(tmp_path: Path, monkeypatch: pytest.MonkeyPa
         seen.append(gc.isenabled())
         return read_subject(given)
 
-    monkeypatch.setattr("dmf.tools.desk_options.read_subject", watched)
+    monkeypatch.setattr("dmf.tables.loader.read_subject", watched)
     desk = desk_options.open_desk(words(path), with_solve=True)
     desk.end()
     assert seen == [False] and gc.isenabled()
