@@ -14,8 +14,9 @@ use Rattle.dmf_vital.specs.declared.exits.Exits.{Exits}
 use Rattle.dmf_vital.specs.declared.hop.Hop.{Hop}
 use Rattle.dmf_vital.specs.declared.tree.Reached.{Reached}
 use Rattle.dmf_vital.specs.Chains.{AreChains}
-use Rattle.dmf_vital.specs.Exits.{is_exit}
+use Rattle.dmf_vital.specs.Exits.{is_barred, is_exit}
 use Rattle.dmf_vital.specs.Hop.{from_of, to_of, turned}
+use Rattle.dmf_vital.specs.Ranks.{is_across}
 use Rattle.dmf_vital.specs.Tree.{not_reached, at_node, place_of, back_of, room_over, AreListed, IsBegun, IsReachedBy, IsGrown, IsEntered, AreBehind, KeepsReached, LeadsToReached, IsExpanded, AreExpanded, IsBridge, IsCrossing, IsStepped}
 use Rattle.dmf_vital.proofs.Chained.{node-from, node-to}
 use Rattle.dmf_vital.proofs.Listed.{at-same, at-other, listed-none, listed-more}
@@ -71,9 +72,9 @@ by-kept n flows e before after v by kept is =
 -- An exit that enters a reached node still does.
 pub entered-kept : (n : Network) (flows : List ℕ) (e : Exits) (before after : List Reached) (i : ℕ) → KeepsReached before after
     → IsEntered n flows e before i → IsEntered n flows e after i
-entered-kept n flows e before after i kept is there exit carries =
+entered-kept n flows e before after i kept is there exit carries level =
     let to : ℕ = (arc_number n i).head in
-    let was = is there exit carries in
+    let was = is there exit carries level in
     (omega (arith, was.0, place-kept before after to kept was.0), back-kept before after to kept was.0 ∙ was.1)
 
 -- ---- the node that the exits leave
@@ -96,6 +97,7 @@ grown-root n flows e v nodes now is node one_each none first wide ahead =
       ahead = λ _. is;
       is_there = λ behind. absurd (both_ways now.back ahead behind);
       exit = λ behind. absurd (both_ways now.back ahead behind);
+      level = λ behind. absurd (both_ways now.back ahead behind);
       enters = λ behind. absurd (both_ways now.back ahead behind);
       carries = λ behind. absurd (both_ways now.back ahead behind);
     } in
@@ -159,7 +161,7 @@ grown-with n flows e v nodes found now to_node new last wide how grown =
 -- A step with room leads from a reached node to one that is not.
 pub record LeadsOn (n : Network) (e : Exits) (nodes : List Reached) (back : Bool) (hop : Hop) (v : ℕ) : Type 0 where
   pub is_there : has_arc n hop.arc ≡ true
-  pub other : is_exit n e hop.arc ≡ false
+  pub other : is_barred n e hop.arc ≡ false
   pub from_reached : 0 < place_of nodes (from_of hop.against (arc_number n hop.arc))
   pub from_end : back_of nodes (from_of hop.against (arc_number n hop.arc)) ≡ back
   pub leads_to : to_of hop.against (arc_number n hop.arc) ≡ v
@@ -262,7 +264,7 @@ on-ok (Err e) P R p f = tt
 
 -- A step leads on, as the code sees it.
 pub leads-on : (n : Network) (e : Exits) (v : ℕ) (back : Bool) (hop : Hop) (arc : Arc) (nodes : List Reached) (entry : Reached) → All (IsArc n.nodes) n.arcs
-    → length nodes ≡ n.nodes → has_arc n hop.arc ≡ true → is_exit n e hop.arc ≡ false → 0 < place_of nodes (from_of hop.against (arc_number n hop.arc))
+    → length nodes ≡ n.nodes → has_arc n hop.arc ≡ true → is_barred n e hop.arc ≡ false → 0 < place_of nodes (from_of hop.against (arc_number n hop.arc))
     → back_of nodes (from_of hop.against (arc_number n hop.arc)) ≡ back
     → arc ≡ arc_number n hop.arc → v ≡ to_of hop.against arc → entry ≡ get_or nodes (v - 1) entry → entry.place ≤ 0 → LeadsOn n e nodes back hop v
 leads-on n e v back hop arc nodes entry arcs one_each there other reached end is to read none =
@@ -449,7 +451,7 @@ turned-false false t e = e
 
 -- A step to a node that was reached before is a bridge, or leads to one of the same end.
 pub met-stepped : (n : Network) (flows : List ℕ) (e : Exits) (nodes : List Reached) (back there : Bool) (hop : Hop) (met : Bool) → met ≡ turned back there
-    → has_arc n hop.arc ≡ true → is_exit n e hop.arc ≡ false → 0 < place_of nodes (from_of hop.against (arc_number n hop.arc))
+    → has_arc n hop.arc ≡ true → is_barred n e hop.arc ≡ false → 0 < place_of nodes (from_of hop.against (arc_number n hop.arc))
     → back_of nodes (from_of hop.against (arc_number n hop.arc)) ≡ back → 0 < room_over n flows back hop.against hop.arc
     → 0 < place_of nodes (to_of hop.against (arc_number n hop.arc)) → back_of nodes (to_of hop.against (arc_number n hop.arc)) ≡ there
     → IsStepped n flows e nodes back hop met
@@ -494,7 +496,8 @@ bridge-crossing n flows e nodes true hop is =
 -- ---- the nodes that exits enter
 
 module _ (n : Network) (flows : List ℕ) (e : Exits) (j v : ℕ) (nodes after : List Reached) (found longer : List ℕ) (there : has_arc n j ≡ true)
-    (exit : is_exit n e j ≡ true) (carries : 0 < flow_on flows j) (leads : (arc_number n j).head ≡ v) (node : IsNode n.nodes v)
+    (exit : is_exit n e j ≡ true) (carries : 0 < flow_on flows j)
+    (level : is_across e.ranks.now (arc_number n j) ≡ false) (leads : (arc_number n j).head ≡ v) (node : IsNode n.nodes v)
     (apart : v ≢ e.node) (new : place_of nodes v ≡ 0) (grown : IsGrown n flows e nodes found) (behind : AreBehind n e nodes) where
   abbrev begun : Reached
   begun = record { place = length found + 1; hop = record { arc = j; against = false }; width = flow_on flows j; back = true }
@@ -507,6 +510,7 @@ module _ (n : Network) (flows : List ℕ) (e : Exits) (j v : ℕ) (nodes after :
         ahead = λ back. absurd (both_ways true back refl);
         is_there = λ _. there;
         exit = λ _. exit;
+        level = λ _. level;
         enters = λ _. leads;
         carries = λ _. omega arith;
       }))
@@ -541,7 +545,7 @@ module _ (n : Network) (flows : List ℕ) (e : Exits) (j v : ℕ) (nodes after :
       (λ same. subst (AreBehind n e) (sym same) behind)
 
   pub entered-now : after ≡ set nodes (v - 1) begun → IsEntered n flows e after j
-  entered-now first _ _ _ =
+  entered-now first _ _ _ _ =
       let entry = at-same nodes v begun (rw grown.are.one_each node) in
       let place : place_of after v ≡ length found + 1 = ap (λ m. place_of m v) first ∙ ap (λ (r : Reached). r.place) entry in
       let end : back_of after v ≡ true = ap (λ m. back_of m v) first ∙ ap (λ (r : Reached). r.back) entry in

@@ -8,6 +8,7 @@ pub mod Least
 pub mod Chained
 pub mod Listed
 pub mod Growing
+pub mod Level
 pub mod Summed
 pub mod Entering
 pub mod Pushed

@@ -1,6 +1,7 @@
 -- From what is left on the exits to what is lost without an arc or a node.
-use Rattle.std.proofs.Common.{ℕ, ◌≡◌, ◌≢◌, ◌+◌, ◌-◌, ◌*◌, ◌<◌, ◌≤◌, not, true, refl, ap, sym, ◌∙◌, subst, arith, ⊎_elim, Result, Ok, Err, IfOk}
+use Rattle.std.proofs.Common.{ℕ, ◌≡◌, ◌≢◌, ◌+◌, ◌-◌, ◌*◌, ◌<◌, ◌≤◌, not, true, List, refl, ap, sym, ◌∙◌, subst, arith, ⊎_elim, Result, Ok, Err, IfOk}
 use Rattle.std.proofs.lemmas.Bool.{and_from, cases_lt, eq-eqb, ne_eqb}
+use Rattle.std.specs.Borrow.{Bor}
 use Rattle.dmf_node.specs.Node.{IsNode}
 use Rattle.dmf_state.specs.Flow.{IsInnerNode, flow_on}
 use Rattle.dmf_state.specs.Network.{Network, IsNetwork, arc_number, has_arc}
@@ -19,12 +20,12 @@ use Rattle.dmf_vital.proofs.Summed.{exit-off, exit-only, off-tail}
 -- ---- one arc
 
 -- the one exit
-abbrev pub exits_of_arc : ℕ → ℕ → Exits
-exits_of_arc tail j = record { node = tail; arc = j }
+abbrev pub exits_of_arc : Bor (List ℕ) → ℕ → ℕ → Exits
+exits_of_arc ranks tail j = record { node = tail; arc = j; ranks = ranks }
 
-pub are-exits_of_arc : (n : Network) (j tail : ℕ) → IsNetwork n → has_arc n j ≡ true → tail ≡ (arc_number n j).tail
-    → (arc_number n j).tail ≢ (arc_number n j).head → AreExits n (exits_of_arc tail j)
-are-exits_of_arc n j tail network there is apart =
+pub are-exits_of_arc : (n : Network) (ranks : Bor (List ℕ)) (j tail : ℕ) → IsNetwork n → has_arc n j ≡ true → tail ≡ (arc_number n j).tail
+    → (arc_number n j).tail ≢ (arc_number n j).head → AreExits n (exits_of_arc ranks tail j)
+are-exits_of_arc n ranks j tail network there is apart =
     let at = has_arc-within n j there in
     record {
       node = subst (IsNode n.nodes) (sym is) (network.arcs (j - 1) no_arc at.1).tail;
@@ -33,10 +34,10 @@ are-exits_of_arc n j tail network there is apart =
       head = λ _ same. apart (sym (same ∙ is));
     }
 
-pub lost-arc : (n : Network) (j tail left : ℕ) → IsNetwork n → has_arc n j ≡ true → tail ≡ (arc_number n j).tail → IsLeft n (exits_of_arc tail j) left
-    → IsLossOfArc n j left
-lost-arc n j tail left network there is lost =
-    let e : Exits = exits_of_arc tail j in
+pub lost-arc : (n : Network) (ranks : Bor (List ℕ)) (j tail left : ℕ) → IsNetwork n → has_arc n j ≡ true → tail ≡ (arc_number n j).tail
+    → IsLeft n (exits_of_arc ranks tail j) left → IsLossOfArc n j left
+lost-arc n ranks j tail left network there is lost =
+    let e : Exits = exits_of_arc ranks tail j in
     let some : j ≢ 0 = let at = has_arc-within n j there in omega (arith, at.0) in
     let test = ne_eqb j 0 some in
     let flow : flow_on lost.flows j ≡ left = rw test at lost.is in
@@ -63,20 +64,21 @@ lost-arc n j tail left network there is lost =
 
 -- ---- all arcs from a node
 
-abbrev pub exits_of_node : ℕ → Exits
-exits_of_node v = record { node = v; arc = 0 }
+abbrev pub exits_of_node : Bor (List ℕ) → ℕ → Exits
+exits_of_node ranks v = record { node = v; arc = 0; ranks = ranks }
 
-pub are-exits_of_node : (n : Network) (v : ℕ) → IsInnerNode n v → AreExits n (exits_of_node v)
-are-exits_of_node n v inner = record {
+pub are-exits_of_node : (n : Network) (ranks : Bor (List ℕ)) (v : ℕ) → IsInnerNode n v → AreExits n (exits_of_node ranks v)
+are-exits_of_node n ranks v inner = record {
   node = inner.node;
   is_there = λ some. absurd (some refl);
   tail = λ some. absurd (some refl);
   head = λ some. absurd (some refl);
 }
 
-pub lost-node : (n : Network) (v left : ℕ) → IsNetwork n → IsInnerNode n v → IsLeft n (exits_of_node v) left → IsLossOfNode n v left
-lost-node n v left network inner lost =
-    let e : Exits = exits_of_node v in
+pub lost-node : (n : Network) (ranks : Bor (List ℕ)) (v left : ℕ) → IsNetwork n → IsInnerNode n v → IsLeft n (exits_of_node ranks v) left
+    → IsLossOfNode n v left
+lost-node n ranks v left network inner lost =
+    let e : Exits = exits_of_node ranks v in
     ⊎_elim
     (λ (carries : 0 < left).
     let held = lost.held carries in

@@ -11,24 +11,29 @@ use Rattle.dmf_solver.specs.Greatest.{IsGreatest}
 use Rattle.dmf_vital.specs.declared.exits.Exits.{Exits}
 use Rattle.dmf_vital.specs.declared.hop.Hop.{Hop}
 use Rattle.dmf_vital.specs.declared.tree.Reached.{Reached}
-use Rattle.dmf_vital.specs.Exits.{AreExits, is_exit, exit_flow}
+use Rattle.dmf_vital.specs.Exits.{AreExits, is_barred, is_exit, exit_flow}
 use Rattle.dmf_vital.specs.Hop.{from_of, to_of, room_of, sent, turned}
+use Rattle.dmf_vital.specs.Ranks.{AreRanks}
 use Rattle.dmf_vital.specs.Shifted.{AreShifted, HasSteps, IsClimbed, KeepsOthers}
 use Rattle.dmf_vital.specs.Tree.{at_node, back_of, room_over, IsBegun, IsCrossing, IsGrown, IsReachedBy}
+use Rattle.dmf_vital.proofs.Level.{barred-exit, ranks-taken}
 use Rattle.dmf_vital.proofs.Pushed.{ends-of, greatest-taken, shifted-after, shifted-before, shifted-step}
 use Rattle.dmf_vital.proofs.Summed.{exit-tail, exit_flow-taken}
 
--- Where the flow on the exits and between nodes of one end is the same, the steps from that end still have room.
+-- Where the flow on the barred arcs and between nodes of one end is the same, the steps from that end still have room.
 steps-moved : (n : Network) (e : Exits) (nodes : List Reached) (found : List ℕ) (back : Bool) (before after : List ℕ) → IsGrown n before e nodes found
     → ((i : ℕ) → has_arc n i ≡ true → back_of nodes (arc_number n i).tail ≡ back → back_of nodes (arc_number n i).head ≡ back → flow_on after i ≡ flow_on before i)
-    → ((i : ℕ) → has_arc n i ≡ true → is_exit n e i ≡ true → flow_on after i ≡ flow_on before i) → HasSteps n after e nodes back
+    → ((i : ℕ) → has_arc n i ≡ true → is_barred n e i ≡ true → flow_on after i ≡ flow_on before i) → HasSteps n after e nodes back
 steps-moved n e nodes found back before after grown between kept v node some end = ⊎_elim
     (λ (begun : IsBegun n before e v (at_node nodes v)). inl (record {
       ahead = begun.ahead;
       is_there = begun.is_there;
       exit = begun.exit;
+      level = begun.level;
       enters = begun.enters;
-      carries = λ behind. omega (arith, begun.carries behind, kept (at_node nodes v).hop.arc (begun.is_there behind) (begun.exit behind));
+      carries = λ behind.
+          let exit : ℕ = (at_node nodes v).hop.arc in
+          omega (arith, begun.carries behind, kept exit (begun.is_there behind) (barred-exit n e exit (begun.exit behind)));
     }))
     (λ (by : IsReachedBy n before e nodes v (at_node nodes v)).
     let hop : Hop = (at_node nodes v).hop in
@@ -123,14 +128,17 @@ module _ (n : Network) (e : Exits) (nodes : List Reached) (found before : List �
           (shifted-after n e e.node end (arc_number n exit).head amount before middle after shifted-middle (second.behind crossing.to_behind))
 
       all : left + amount ≡ flow_on before exit
-      all = omega (arith, exit-carries, shifted-all.kept exit exit-there exit-is)
+      all = omega (arith, exit-carries, shifted-all.kept exit exit-there (barred-exit n e exit exit-is))
 
       pub long-after : length after ≡ length n.arcs
       long-after = AllZip-long _ n.arcs after shifted-all.within
 
       pub moved-taken : exit_flow n e taken + amount ≡ exit_flow n e before
       moved-taken = exit_flow-taken n e exit amount left before after exit-there exit-is (AllZip-long _ n.arcs before greatest.flow.within) long-after
-          shifted-all.kept all
+          (λ i there is. shifted-all.kept i there (barred-exit n e i is)) all
 
       pub taken-greatest : IsGreatest n taken
       taken-greatest = greatest-taken n e exit amount left before after exit-there greatest shifted-all exit-is all
+
+      pub taken-ranks : AreRanks n before e.ranks.now → AreRanks n taken e.ranks.now
+      taken-ranks = ranks-taken n e exit left before after exit-there (second.level crossing.to_behind) shifted-all.kept

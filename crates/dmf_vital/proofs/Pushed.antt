@@ -17,22 +17,24 @@ use Rattle.dmf_solver.proofs.cuts.Crossing.{sum_of_parts}
 use Rattle.dmf_vital.specs.declared.exits.Exits.{Exits}
 use Rattle.dmf_vital.specs.declared.hop.Hop.{Hop}
 use Rattle.dmf_vital.specs.declared.tree.Reached.{Reached}
-use Rattle.dmf_vital.specs.Exits.{is_exit}
+use Rattle.dmf_vital.specs.Exits.{is_barred, is_exit}
 use Rattle.dmf_vital.specs.Hop.{from_of, to_of, room_of, sent, turned}
+use Rattle.dmf_vital.specs.Ranks.{is_across}
 use Rattle.dmf_vital.specs.Shifted.{amount_at, AreShifted, HasSteps, KeepsOthers}
 use Rattle.dmf_vital.specs.Tree.{not_reached, at_node, back_of, place_of, room_over, AreListed, IsBegun, IsReachedBy}
 use Rattle.dmf_vital.proofs.Chained.{node-from}
 use Rattle.dmf_vital.proofs.Growing.{from-turned, to-turned}
+use Rattle.dmf_vital.proofs.Level.{barred-exit, barred-parts}
 
--- Setting the flow on an arc that is no exit keeps those on the exits.
-exits-kept : (n : Network) (e : Exits) (i y : ℕ) (now : List ℕ) → has_arc n i ≡ true → is_exit n e i ≡ false → (m : ℕ) → has_arc n m ≡ true
-    → is_exit n e m ≡ true → flow_on (set now (i - 1) y) m ≡ flow_on now m
-exits-kept n e i y now there other m there_too exit =
+-- Setting the flow on an arc that is not barred keeps those on the barred arcs.
+barred-kept : (n : Network) (e : Exits) (i y : ℕ) (now : List ℕ) → has_arc n i ≡ true → is_barred n e i ≡ false → (m : ℕ) → has_arc n m ≡ true
+    → is_barred n e m ≡ true → flow_on (set now (i - 1) y) m ≡ flow_on now m
+barred-kept n e i y now there other m there_too barred =
     let at = has_arc-within n i there in
     let also = has_arc-within n m there_too in
     get_or-set_other now (i - 1) (m - 1) y 0 (λ same.
     let is : m ≡ i = omega (arith, same, at.0, also.0) in
-    both_ways (is_exit n e i) other (ap (is_exit n e) (sym is) ∙ exit))
+    both_ways (is_barred n e i) other (ap (is_barred n e) (sym is) ∙ barred))
 
 -- The flow on one arc changes.
 module _ (n : Network) (flows : List ℕ) (k y : ℕ) (long : length flows ≡ length n.arcs) (h : k < length n.arcs) (v : ℕ) where
@@ -61,7 +63,7 @@ module _ (n : Network) (flows : List ℕ) (k y : ℕ) (long : length flows ≡ l
       omega (arith, flow_at-set (λ a. a.head) n.arcs flows k y v long h, ap (λ x. cond (head == v) x 0) is, sum_of_parts (head == v) y amount)
 
 -- One step sends an amount from the one end of its arc to the other.
-pub shifted-step : (n : Network) (e : Exits) (i amount : ℕ) (against : Bool) (now : List ℕ) → has_arc n i ≡ true → is_exit n e i ≡ false
+pub shifted-step : (n : Network) (e : Exits) (i amount : ℕ) (against : Bool) (now : List ℕ) → has_arc n i ≡ true → is_barred n e i ≡ false
     → AreWithinCapacities n.arcs now → amount ≤ room_of against (arc_number n i) (flow_on now i)
     → AreShifted n e (from_of against (arc_number n i)) (to_of against (arc_number n i)) amount now (set now (i - 1) (sent against amount (flow_on now i)))
 shifted-step n e i amount false now there other within room =
@@ -72,7 +74,7 @@ shifted-step n e i amount false now there other within room =
     record {
       within = within-set n.arcs now (i - 1) y within (omega (arith, le, room));
       balance = λ v. omega (arith, more-out n now (i - 1) y long at.1 v amount refl, more-into n now (i - 1) y long at.1 v amount refl);
-      kept = exits-kept n e i y now there other;
+      kept = barred-kept n e i y now there other;
     }
 shifted-step n e i amount true now there other within room =
     let at = has_arc-within n i there in
@@ -83,7 +85,7 @@ shifted-step n e i amount true now there other within room =
     record {
       within = within-set n.arcs now (i - 1) y within (omega (arith, le));
       balance = λ v. omega (arith, less-out n now (i - 1) y long at.1 v amount whole, less-into n now (i - 1) y long at.1 v amount whole);
-      kept = exits-kept n e i y now there other;
+      kept = barred-kept n e i y now there other;
     }
 
 -- More is sent to where that was sent from,
@@ -92,7 +94,7 @@ pub shifted-before : (n : Network) (e : Exits) (a b c amount : ℕ) (first secon
 shifted-before n e a b c amount first second third was then = record {
   within = then.within;
   balance = λ v. omega (arith, was.balance v, then.balance v);
-  kept = λ i there exit. then.kept i there exit ∙ was.kept i there exit;
+  kept = λ i there barred. then.kept i there barred ∙ was.kept i there barred;
 }
 
 -- or from where it was sent to.
@@ -101,7 +103,7 @@ pub shifted-after : (n : Network) (e : Exits) (a b c amount : ℕ) (first second
 shifted-after n e a b c amount first second third was then = record {
   within = then.within;
   balance = λ v. omega (arith, was.balance v, then.balance v);
-  kept = λ i there exit. then.kept i there exit ∙ was.kept i there exit;
+  kept = λ i there barred. then.kept i there barred ∙ was.kept i there barred;
 }
 
 -- ---- along the steps of a search
@@ -115,8 +117,13 @@ pub sent-within : (n : Network) (e : Exits) (back : Bool) (v b amount : ℕ) (be
 sent-within n e true v b amount before now is = is.within
 sent-within n e false v b amount before now is = is.within
 
+-- At first nothing is sent.
+sent-none : (n : Network) (e : Exits) (back : Bool) (v amount : ℕ) (flows : List ℕ) → AreWithinCapacities n.arcs flows → IsSent n e back v v amount flows flows
+sent-none n e true v amount flows within = record { within = within; balance = λ u. refl; kept = λ i there barred. refl }
+sent-none n e false v amount flows within = record { within = within; balance = λ u. refl; kept = λ i there barred. refl }
+
 -- One more step.
-sent-more : (n : Network) (e : Exits) (back : Bool) (v b amount : ℕ) (before now : List ℕ) (hop : Hop) → has_arc n hop.arc ≡ true → is_exit n e hop.arc ≡ false
+sent-more : (n : Network) (e : Exits) (back : Bool) (v b amount : ℕ) (before now : List ℕ) (hop : Hop) → has_arc n hop.arc ≡ true → is_barred n e hop.arc ≡ false
     → to_of hop.against (arc_number n hop.arc) ≡ v → amount ≤ room_over n now back hop.against hop.arc → IsSent n e back v b amount before now
     → IsSent n e back (from_of hop.against (arc_number n hop.arc)) b amount before
     (set now (hop.arc - 1) (sent (turned back hop.against) amount (flow_on now hop.arc)))
@@ -146,6 +153,18 @@ pub record IsPushedFrom (n : Network) (e : Exits) (back : Bool) (v b amount : �
   pub unchanged : (k : ℕ) → k < length n.arcs → place_of nodes (get_or n.arcs k no_arc).tail ≤ place_of nodes v
       → place_of nodes (get_or n.arcs k no_arc).head ≤ place_of nodes v → get_or now k 0 ≡ get_or before k 0
   pub others : KeepsOthers n nodes back before now
+
+pub pushed-none : (n : Network) (e : Exits) (back : Bool) (v amount : ℕ) (nodes : List Reached) (flows : List ℕ) → AreWithinCapacities n.arcs flows
+    → IsNode n.nodes v → 0 < place_of nodes v → back_of nodes v ≡ back → amount ≤ (at_node nodes v).width → IsPushedFrom n e back v v amount nodes flows flows
+pushed-none n e back v amount nodes flows within node reached end fits = record {
+  node = node;
+  reached = reached;
+  end = end;
+  fits = fits;
+  sent = sent-none n e back v amount flows within;
+  unchanged = λ k h tail head. refl;
+  others = λ i there other. refl;
+}
 
 -- both ends of an arc, by the direction of a step over it
 pub ends-of : (P : ℕ → Type 0) (against : Bool) (arc : Arc) → P (from_of against arc) → P (to_of against arc) → P arc.tail × P arc.head
@@ -249,6 +268,7 @@ pub record IsBegunBehind (n : Network) (flows : List ℕ) (e : Exits) (back : Bo
   pub behind : back ≡ true
   pub there : has_arc n by.hop.arc ≡ true
   pub exit : is_exit n e by.hop.arc ≡ true
+  pub level : is_across e.ranks.now (arc_number n by.hop.arc) ≡ false
   pub enters : (arc_number n by.hop.arc).head ≡ v
   pub carries : by.width ≤ flow_on flows by.hop.arc
 
@@ -262,6 +282,7 @@ above n e back v b amount nodes before now steps pushed apart = ⊎_elim
       behind = sym pushed.end ∙ behind;
       there = begun.is_there behind;
       exit = begun.exit behind;
+      level = begun.level behind;
       enters = begun.enters behind;
       carries = begun.carries behind;
     }))
@@ -289,7 +310,7 @@ module _ (n : Network) (e : Exits) (back : Bool) (v b amount : ℕ) (nodes : Lis
   above-begun exit = subst (IsBegunBehind n before e back v) (sym is-entry) (⊎_elim
       (λ (begun : IsBegunBehind n before e back v (at_node nodes v)). begun)
       (λ (by : IsReachedBy n before e nodes v (at_node nodes v)).
-      absurd (both_ways (is_exit n e entry.hop.arc) (ap (λ (r : Reached). is_exit n e r.hop.arc) is-entry ∙ by.other) exit))
+      absurd (both_ways (is_exit n e entry.hop.arc) (ap (λ (r : Reached). is_exit n e r.hop.arc) is-entry ∙ (barred-parts n e (at_node nodes v).hop.arc by.other).0) exit))
       (above n e back v b amount nodes before now steps pushed apart))
 
   -- Else there is a step.
@@ -323,13 +344,13 @@ module _ (n : Network) (e : Exits) (j amount left : ℕ) (before after : List �
   balance-taken : (v : ℕ) → outflow n.arcs taken v + inflow n.arcs before v ≡ outflow n.arcs before v + inflow n.arcs taken v
   balance-taken v =
       let h = (has_arc-within n j has).1 in
-      let whole : left + amount ≡ get_or after (j - 1) 0 = all ∙ sym (shifted.kept j has exit) in
+      let whole : left + amount ≡ get_or after (j - 1) 0 = all ∙ sym (shifted.kept j has (barred-exit n e j exit)) in
       omega (arith, shifted.balance v, less-out n after (j - 1) left long-after h v amount whole, less-into n after (j - 1) left long-after h v amount whole)
 
   flow-taken : IsFlow n taken
   flow-taken = record {
     within = within-set n.arcs after (j - 1) left shifted.within
-        (let le = within-at n.arcs after (j - 1) shifted.within in omega (arith, le, shifted.kept j has exit, all));
+        (let le = within-at n.arcs after (j - 1) shifted.within in omega (arith, le, shifted.kept j has (barred-exit n e j exit), all));
     conserved = λ v inner. omega (arith, balance-taken v, greatest.flow.conserved v inner);
   }
 

@@ -6,6 +6,7 @@ pub mod Through
 pub mod Kept
 pub mod Laws
 pub mod Hop
+pub mod Ranks
 pub mod Exits
 pub mod Chains
 pub mod Tree

@@ -9,7 +9,8 @@ use Rattle.dmf_path.specs.Step.{Step}
 use Rattle.dmf_solver.specs.Greatest.{IsGreatest}
 use Rattle.dmf_solver.specs.Residual.{residual_steps}
 use Rattle.dmf_vital.specs.Chains.{AreChains}
-use Rattle.dmf_vital.specs.Exits.{is_exit, exit_flow}
+use Rattle.dmf_vital.specs.Exits.{is_barred, is_exit, exit_flow}
+use Rattle.dmf_vital.specs.Ranks.{is_across}
 use Rattle.dmf_vital.specs.Tree.{AreListed, IsBegun, IsReachedBy, at_node, back_of, place_of}
 use Rattle.dmf_vital.specs.declared.exits.Exits.{Exits}
 use Rattle.dmf_vital.specs.declared.rerouting.Rerouting.{Rerouting}
@@ -19,12 +20,12 @@ use Rattle.dmf_vital.specs.declared.tree.Reached.{Reached}
 abbrev pub amount_at : ℕ → ℕ → ℕ → ℕ
 amount_at amount u v = if u == v then amount else 0
 
--- The second flows send this amount more than the first from node `a` to node `b`, and as much over each exit.
+-- The second flows send this amount more than the first from node `a` to node `b`, and as much over each barred arc.
 pub record AreShifted (n : Network) (e : Exits) (a b amount : ℕ) (before after : List ℕ) : Type 0 where
   pub within : AreWithinCapacities n.arcs after
   pub balance : (v : ℕ) → outflow n.arcs after v + inflow n.arcs before v + amount_at amount b v
       ≡ outflow n.arcs before v + inflow n.arcs after v + amount_at amount a v
-  pub kept : (i : ℕ) → has_arc n i ≡ true → is_exit n e i ≡ true → flow_on after i ≡ flow_on before i
+  pub kept : (i : ℕ) → has_arc n i ≡ true → is_barred n e i ≡ true → flow_on after i ≡ flow_on before i
 
 -- Each node that was reached from this end was reached by a step that has room now, or the search began at it.
 abbrev pub HasSteps : Network → List ℕ → Exits → List Reached → Bool → Type 0
@@ -44,6 +45,7 @@ pub record IsClimbed (n : Network) (e : Exits) (nodes : List Reached) (v amount 
   pub behind : back_of nodes v ≡ true → AreShifted n e v (arc_number n exit).head amount before after
   pub is_there : back_of nodes v ≡ true → has_arc n exit ≡ true
   pub is_exit : back_of nodes v ≡ true → is_exit n e exit ≡ true
+  pub level : back_of nodes v ≡ true → is_across e.ranks.now (arc_number n exit) ≡ false
   pub carries : back_of nodes v ≡ true → amount ≤ flow_on after exit
 
 -- A set has the node that the exits leave and none that an exit with flow enters, and no residual step but those of the exits leads out of

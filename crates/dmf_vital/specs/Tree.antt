@@ -1,5 +1,5 @@
 -- The nodes that a search has reached from both ends: ahead, from the node that the exits leave, and behind, from the nodes that they enter.
--- It uses the residual steps over other arcs.
+-- It uses the residual steps over other arcs that lead between nodes of one rank.
 -- Private: only contracts inside the crate and proofs use this.
 use Rattle.std.specs.Prelude.{ℕ, ◌≡◌, ◌≢◌, ◌⊎◌, ◌+◌, ◌-◌, ◌<◌, ◌≤◌, Bool, false, true, List, length, slice_index, slice_index_or}
 use Rattle.dmf_node.specs.Node.{IsNode}
@@ -8,8 +8,9 @@ use Rattle.dmf_state.specs.Network.{Network, arc_number, has_arc}
 use Rattle.dmf_vital.specs.declared.exits.Exits.{Exits}
 use Rattle.dmf_vital.specs.declared.hop.Hop.{Hop}
 use Rattle.dmf_vital.specs.declared.tree.Reached.{Reached}
-use Rattle.dmf_vital.specs.Exits.{is_exit}
+use Rattle.dmf_vital.specs.Exits.{is_barred, is_exit}
 use Rattle.dmf_vital.specs.Hop.{from_of, to_of, room_of, turned}
+use Rattle.dmf_vital.specs.Ranks.{is_across}
 
 -- what a read past the last node gives
 abbrev pub not_reached : Reached
@@ -38,19 +39,21 @@ pub record AreListed (count : ℕ) (nodes : List Reached) (found : List ℕ) : T
 abbrev pub room_over : Network → List ℕ → Bool → Bool → ℕ → ℕ
 room_over n flows back against i = room_of (turned back against) (arc_number n i) (flow_on flows i)
 
--- Node `v` is where the search began: the node that the exits leave, or the head of an exit, over which so much flows as the width says.
+-- Node `v` is where the search began: the node that the exits leave, or the head of an exit between nodes of one rank, over which so much
+-- flows as the width says.
 pub record IsBegun (n : Network) (flows : List ℕ) (e : Exits) (v : ℕ) (by : Reached) : Type 0 where
   pub ahead : by.back ≡ false → v ≡ e.node
   pub is_there : by.back ≡ true → has_arc n by.hop.arc ≡ true
   pub exit : by.back ≡ true → is_exit n e by.hop.arc ≡ true
+  pub level : by.back ≡ true → is_across e.ranks.now (arc_number n by.hop.arc) ≡ false
   pub enters : by.back ≡ true → (arc_number n by.hop.arc).head ≡ v
   pub carries : by.back ≡ true → by.width ≤ flow_on flows by.hop.arc
 
--- Node `v` was reached by a step with room, over another arc than the exits, from a node that was reached before from the same end. Over
+-- Node `v` was reached by a step with room, over an arc that is not barred, from a node that was reached before from the same end. Over
 -- all steps up to it so much can be sent as its width says.
 pub record IsReachedBy (n : Network) (flows : List ℕ) (e : Exits) (nodes : List Reached) (v : ℕ) (by : Reached) : Type 0 where
   pub is_there : has_arc n by.hop.arc ≡ true
-  pub other : is_exit n e by.hop.arc ≡ false
+  pub other : is_barred n e by.hop.arc ≡ false
   pub leads_to : to_of by.hop.against (arc_number n by.hop.arc) ≡ v
   pub from_reached : 0 < place_of nodes (from_of by.hop.against (arc_number n by.hop.arc))
   pub from_before : place_of nodes (from_of by.hop.against (arc_number n by.hop.arc)) < by.place
@@ -67,10 +70,10 @@ pub record IsGrown (n : Network) (flows : List ℕ) (e : Exits) (nodes : List Re
   pub steps : (v : ℕ) → IsNode n.nodes v → 0 < place_of nodes v
       → IsBegun n flows e v (at_node nodes v) ⊎ IsReachedBy n flows e nodes v (at_node nodes v)
 
--- Arc number `i` enters a node that was reached from behind, if it is an exit that carries something.
+-- Arc number `i` enters a node that was reached from behind, if it is an exit that carries something between nodes of one rank.
 abbrev pub IsEntered : Network → List ℕ → Exits → List Reached → ℕ → Type 0
 IsEntered n flows e nodes i =
-    has_arc n i ≡ true → is_exit n e i ≡ true → 0 < flow_on flows i
+    has_arc n i ≡ true → is_exit n e i ≡ true → 0 < flow_on flows i → is_across e.ranks.now (arc_number n i) ≡ false
     → (0 < place_of nodes (arc_number n i).head) × (back_of nodes (arc_number n i).head ≡ true)
 
 -- So do all of these exits.
@@ -85,10 +88,10 @@ AreBehind n e nodes = (v : ℕ) → IsNode n.nodes v → 0 < place_of nodes v �
 abbrev pub KeepsReached : List Reached → List Reached → Type 0
 KeepsReached before after = (v : ℕ) → 0 < place_of before v → at_node after v ≡ at_node before v
 
--- A step over arc number `i` leads to a node that was reached from this end, if it has room, leads from node `v` and the arc is no exit.
+-- A step over arc number `i` leads to a node that was reached from this end, if it has room, leads from node `v` and the arc is not barred.
 abbrev pub LeadsToReached : Network → List ℕ → Exits → List Reached → Bool → Bool → ℕ → ℕ → Type 0
 LeadsToReached n flows e nodes back against v i =
-    has_arc n i ≡ true → is_exit n e i ≡ false → from_of against (arc_number n i) ≡ v → 0 < room_over n flows back against i
+    has_arc n i ≡ true → is_barred n e i ≡ false → from_of against (arc_number n i) ≡ v → 0 < room_over n flows back against i
     → (0 < place_of nodes (to_of against (arc_number n i))) × (back_of nodes (to_of against (arc_number n i)) ≡ back)
 
 -- All these steps from node `v` do.
@@ -103,7 +106,7 @@ AreExpanded n flows e nodes back last =
 -- A step with room leads from a node that was reached from one end to one that was reached from the other.
 pub record IsBridge (n : Network) (flows : List ℕ) (e : Exits) (nodes : List Reached) (back : Bool) (hop : Hop) : Type 0 where
   pub is_there : has_arc n hop.arc ≡ true
-  pub other : is_exit n e hop.arc ≡ false
+  pub other : is_barred n e hop.arc ≡ false
   pub room : 0 < room_over n flows back hop.against hop.arc
   pub from_reached : 0 < place_of nodes (from_of hop.against (arc_number n hop.arc))
   pub from_end : back_of nodes (from_of hop.against (arc_number n hop.arc)) ≡ back
@@ -124,7 +127,7 @@ pub record IsLooked (n : Network) (flows : List ℕ) (e : Exits) (nodes : List R
 -- A step with room leads from a node that was reached ahead to one that was reached from behind.
 pub record IsCrossing (n : Network) (flows : List ℕ) (e : Exits) (nodes : List Reached) (hop : Hop) : Type 0 where
   pub is_there : has_arc n hop.arc ≡ true
-  pub other : is_exit n e hop.arc ≡ false
+  pub other : is_barred n e hop.arc ≡ false
   pub room : 0 < room_of hop.against (arc_number n hop.arc) (flow_on flows hop.arc)
   pub from_reached : 0 < place_of nodes (from_of hop.against (arc_number n hop.arc))
   pub from_ahead : back_of nodes (from_of hop.against (arc_number n hop.arc)) ≡ false

@@ -6,7 +6,7 @@ ghost use Rattle.dmf_vital.specs.GreatestValue.{IsGreatestValue};
 ghost use Rattle.dmf_vital.specs.Loss.{IsLossOfArc, IsLossAt};
 ghost use Rattle.dmf_vital.specs.Without.{without_arc, without_node};
 
-use crate::rerouting::{loss_at, loss_of_arc, loss_of_node, make_rerouting};
+use crate::rerouting::{find_ranks, loss_at, loss_of_arc, loss_of_node, make_rerouting};
 use dmf_state::{NoMemory, State};
 use std::alloc::Global;
 
@@ -18,7 +18,8 @@ pub fn value_without_arc(alloc: Global, state: &State, j: u32) -> Result<u64, No
     ensures { IfOk result (IsGreatestValue (without_arc state.now.network j)) }
 {
     let mut rerouting = make_rerouting(alloc, state)?;
-    let loss = loss_of_arc(state, &mut rerouting, j)?;
+    let ranks = find_ranks(alloc, state, &rerouting)?;
+    let loss = loss_of_arc(state, &ranks, &mut rerouting, j)?;
     Ok(state.value() - loss)
 }
 
@@ -30,9 +31,10 @@ pub fn arc_losses(alloc: Global, state: &State) -> Result<Vec<u64>, NoMemory>
         → IsLossOfArc state.now.network (k + 1) (slice_index losses.items k)) }
 {
     let mut rerouting = make_rerouting(alloc, state)?;
+    let ranks = find_ranks(alloc, state, &rerouting)?;
     let mut losses = vec![in alloc; 0u64; state.arcs().len()]?;
     for k in 0..losses.len() {
-        losses[k] = loss_of_arc(state, &mut rerouting, k as u32 + 1)?;
+        losses[k] = loss_of_arc(state, &ranks, &mut rerouting, k as u32 + 1)?;
     }
     Ok(losses)
 }
@@ -45,7 +47,8 @@ pub fn value_without_node(alloc: Global, state: &State, v: u32) -> Result<u64, N
     ensures { IfOk result (IsGreatestValue (without_node state.now.network v)) }
 {
     let mut rerouting = make_rerouting(alloc, state)?;
-    let loss = loss_of_node(state, &mut rerouting, v)?;
+    let ranks = find_ranks(alloc, state, &rerouting)?;
+    let loss = loss_of_node(state, &ranks, &mut rerouting, v)?;
     Ok(state.value() - loss)
 }
 
@@ -58,9 +61,10 @@ pub fn node_losses(alloc: Global, state: &State) -> Result<Vec<u64>, NoMemory>
         → IsLossAt state.now.network (k + 1) (slice_index losses.items k)) }
 {
     let mut rerouting = make_rerouting(alloc, state)?;
+    let ranks = find_ranks(alloc, state, &rerouting)?;
     let mut losses = vec![in alloc; 0u64; state.nodes() as usize]?;
     for k in 0..losses.len() {
-        losses[k] = loss_at(state, &mut rerouting, k as u32 + 1)?;
+        losses[k] = loss_at(state, &ranks, &mut rerouting, k as u32 + 1)?;
     }
     Ok(losses)
 }

@@ -4,6 +4,7 @@ ghost use Rattle.dmf_state.specs.Flow.{AreWithinCapacities, flow_on};
 ghost use Rattle.dmf_solver.specs.Greatest.{IsGreatest};
 ghost use Rattle.dmf_vital.specs.Exits.{AreExits, exit_flow};
 ghost use Rattle.dmf_vital.specs.Hop.{sent};
+ghost use Rattle.dmf_vital.specs.Ranks.{AreRanks};
 ghost use Rattle.dmf_vital.specs.Shifted.{HasSteps, IsClimbed, KeepsOthers};
 ghost use Rattle.dmf_vital.specs.Tree.{IsGrown, IsCrossing, AreListed, at_node, back_of, place_of};
 
@@ -17,10 +18,12 @@ pub fn push(state: &State, tree: &Tree, exits: Exits, hop: Hop, flows: &mut [u64
     requires exits { AreExits state.now.network exits }
     requires greatest { IsGreatest state.now.network flows.old }
     requires grown { IsGrown state.now.network flows.old exits tree.now.nodes.items tree.now.found.items }
+    requires ranks { AreRanks state.now.network flows.old exits.ranks.now }
     requires crossing { IsCrossing state.now.network flows.old exits tree.now.nodes.items hop }
     ensures some { 0 < result }
-    ensures moves { exit_flow state.now.network exits flows.new + result ≡ exit_flow state.now.network exits flows.old }
+    ensures moves { exit_flow state.now.network exits.entry flows.new + result ≡ exit_flow state.now.network exits.entry flows.old }
     ensures greatest { IsGreatest state.now.network flows.new }
+    ensures ranks { AreRanks state.now.network flows.new exits.entry.ranks.now }
 {
     let arc = state.arc(hop.arc);
     let start = from_of(hop.against, arc);
@@ -48,7 +51,7 @@ fn climb(state: &State, tree: &Tree, exits: Exits, v: u32, amount: u64, flows: &
     requires node { IsNode state.now.network.nodes v }
     requires reached { 0 < place_of tree.now.nodes.items v }
     requires fits { amount ≤ (at_node tree.now.nodes.items v).width }
-    ensures climbed { IsClimbed state.now.network exits tree.now.nodes.items v amount flows.old flows.new result }
+    ensures climbed { IsClimbed state.now.network exits.entry tree.now.nodes.items v amount flows.old flows.new result }
     ensures others { KeepsOthers state.now.network tree.now.nodes.items (back_of tree.now.nodes.items v) flows.old flows.new }
 {
     let mut u = v;

@@ -6,12 +6,14 @@ ghost use Rattle.dmf_solver.specs.Greatest.{IsGreatest};
 ghost use Rattle.dmf_vital.specs.Chains.{AreChains};
 ghost use Rattle.dmf_vital.specs.Exits.{AreExits, exit_flow};
 ghost use Rattle.dmf_vital.specs.Loss.{IsLossAt, IsLossOfArc, IsLossOfNode};
+ghost use Rattle.dmf_vital.specs.Ranks.{AreRanks};
 ghost use Rattle.dmf_vital.specs.Shifted.{IsReady, IsMoved, IsLeft};
 ghost use Rattle.dmf_vital.specs.Through.{part_off};
 
 use crate::chains::{Chains, make_chains};
 use crate::exits::Exits;
 use crate::push::push;
+use crate::ranks::make_ranks;
 use crate::search::{Steps, search};
 use crate::tree::{Tree, make_tree};
 use dmf_state::State;
@@ -43,12 +45,37 @@ pub fn make_rerouting(alloc: Global, state: &State) -> Result<Rerouting, AllocEr
     })
 }
 
+/// Finds ranks for the flow. Takes memory for a number a node, and for some more meanwhile.
+pub fn find_ranks(
+    alloc: Global,
+    state: &State,
+    rerouting: &Rerouting,
+) -> Result<Vec<u32>, AllocError>
+    requires { IsReady state.now rerouting.now }
+    ensures { IfOk result (λ ranks. AreRanks state.now.network rerouting.now.flows.items ranks.items) }
+{
+    make_ranks(
+        alloc,
+        state,
+        &rerouting.flows,
+        &rerouting.along,
+        &rerouting.against,
+    )
+}
+
 /// Finds what is lost without arc number `j`.
-pub fn loss_of_arc(state: &State, rerouting: &mut Rerouting, j: u32) -> Result<u64, AllocError>
+pub fn loss_of_arc(
+    state: &State,
+    ranks: &[u32],
+    rerouting: &mut Rerouting,
+    j: u32,
+) -> Result<u64, AllocError>
     requires is_there { has_arc state.now.network j ≡ true }
     requires ready { IsReady state.now rerouting.old }
+    requires ranks { AreRanks state.now.network rerouting.old.flows.items ranks.now }
     ensures loss { IfOk result (IsLossOfArc state.now.network j) }
     ensures ready { IsReady state.now rerouting.new }
+    ensures ranks { AreRanks state.now.network rerouting.new.flows.items ranks.now }
 {
     let arc = state.arc(j);
     if arc.tail == arc.head {
@@ -57,27 +84,46 @@ pub fn loss_of_arc(state: &State, rerouting: &mut Rerouting, j: u32) -> Result<u
     let exits = Exits {
         node: arc.tail,
         arc: j,
+        ranks,
     };
     left_on(state, rerouting, exits)
 }
 
 /// Finds what is lost without node `v`.
-pub fn loss_of_node(state: &State, rerouting: &mut Rerouting, v: u32) -> Result<u64, AllocError>
+pub fn loss_of_node(
+    state: &State,
+    ranks: &[u32],
+    rerouting: &mut Rerouting,
+    v: u32,
+) -> Result<u64, AllocError>
     requires inner { IsInnerNode state.now.network v }
     requires ready { IsReady state.now rerouting.old }
+    requires ranks { AreRanks state.now.network rerouting.old.flows.items ranks.now }
     ensures loss { IfOk result (IsLossOfNode state.now.network v) }
     ensures ready { IsReady state.now rerouting.new }
+    ensures ranks { AreRanks state.now.network rerouting.new.flows.items ranks.now }
 {
-    let exits = Exits { node: v, arc: 0 };
+    let exits = Exits {
+        node: v,
+        arc: 0,
+        ranks,
+    };
     left_on(state, rerouting, exits)
 }
 
 /// Finds what is lost without node `v`, or 0 if it is the source or the sink.
-pub fn loss_at(state: &State, rerouting: &mut Rerouting, v: u32) -> Result<u64, AllocError>
+pub fn loss_at(
+    state: &State,
+    ranks: &[u32],
+    rerouting: &mut Rerouting,
+    v: u32,
+) -> Result<u64, AllocError>
     requires node { IsNode state.now.network.nodes v }
     requires ready { IsReady state.now rerouting.old }
+    requires ranks { AreRanks state.now.network rerouting.old.flows.items ranks.now }
     ensures loss { IfOk result (IsLossAt state.now.network v) }
     ensures ready { IsReady state.now rerouting.new }
+    ensures ranks { AreRanks state.now.network rerouting.new.flows.items ranks.now }
 {
     if v == state.source() {
         return Ok(0);
@@ -85,15 +131,17 @@ pub fn loss_at(state: &State, rerouting: &mut Rerouting, v: u32) -> Result<u64, 
     if v == state.sink() {
         return Ok(0);
     }
-    loss_of_node(state, rerouting, v)
+    loss_of_node(state, ranks, rerouting, v)
 }
 
 /// Moves the flow on the exits to other ways, one path at a time, until none is left or no path is. Returns what is left.
 fn left_on(state: &State, rerouting: &mut Rerouting, exits: Exits) -> Result<u64, AllocError>
     requires exits { AreExits state.now.network exits }
     requires ready { IsReady state.now rerouting.old }
-    ensures left { IfOk result (IsLeft state.now.network exits) }
+    requires ranks { AreRanks state.now.network rerouting.old.flows.items exits.ranks.now }
+    ensures left { IfOk result (IsLeft state.now.network exits.entry) }
     ensures ready { IsReady state.now rerouting.new }
+    ensures ranks { AreRanks state.now.network rerouting.new.flows.items exits.entry.ranks.now }
 {
     let mut left = flow_on_exits(state, &rerouting.along, exits, &rerouting.flows);
     while left > 0 {
@@ -112,7 +160,7 @@ fn flow_on_exits(state: &State, along: &Chains, exits: Exits, flows: &[u64]) -> 
     requires exits { AreExits state.now.network exits }
     requires within { AreWithinCapacities state.now.network.arcs flows.now }
     requires along { AreChains false state.now.network.nodes state.now.network.arcs along.now.last.items along.now.before.items }
-    ensures { result ≡ exit_flow state.now.network exits flows.now }
+    ensures { result ≡ exit_flow state.now.network exits.entry flows.now }
 {
     if exits.arc != 0 {
         return flows[exits.arc as usize - 1];
@@ -143,8 +191,10 @@ fn flow_off(state: &State, v: u32, j: u32, flow: u64) -> u64
 fn move_off(state: &State, rerouting: &mut Rerouting, exits: Exits) -> Result<u64, AllocError>
     requires exits { AreExits state.now.network exits }
     requires ready { IsReady state.now rerouting.old }
-    ensures moved { IfOk result (λ moved. IsMoved state.now.network exits moved rerouting.old.flows.items rerouting.new.flows.items) }
+    requires ranks { AreRanks state.now.network rerouting.old.flows.items exits.ranks.now }
+    ensures moved { IfOk result (λ moved. IsMoved state.now.network exits.entry moved rerouting.old.flows.items rerouting.new.flows.items) }
     ensures ready { IsReady state.now rerouting.new }
+    ensures ranks { AreRanks state.now.network rerouting.new.flows.items exits.entry.ranks.now }
 {
     let steps = Steps {
         state,

@@ -8,13 +8,14 @@ ghost use Rattle.dmf_vital.specs.Hop.{from_of, turned};
 ghost use Rattle.dmf_vital.specs.Tree.{AreListed, IsGrown, AreBehind, AreEntered, IsEntered, AreExpanded, KeepsReached, IsBridge, IsStepped, IsLooked, HasSearched, at_node, back_of, place_of};
 
 use crate::chains::Chains;
-use crate::exits::{Exits, is_exit};
+use crate::exits::{Exits, is_barred, is_exit};
 use crate::hop::{Hop, room_of, to_of, turned};
+use crate::ranks::is_across;
 use crate::tree::{Reached, Tree, forget, reach};
 use dmf_state::State;
 use std::alloc::AllocError;
 
-/// The residual steps of these flows on the state's arcs, but those over the exits.
+/// The residual steps of these flows on the state's arcs that stay in one rank, but those over the exits.
 #[derive(Clone, Copy)]
 pub struct Steps<'a> {
     /// The state, whose own flow does not matter.
@@ -22,7 +23,7 @@ pub struct Steps<'a> {
     /// A flow for each arc.
     pub flows: &'a [u64],
     /// The arcs that are left out.
-    pub exits: Exits,
+    pub exits: Exits<'a>,
 }
 
 /// Searches for a path from the node that the exits leave to one that an exit with flow enters, breadth first from both ends in turn.
@@ -90,7 +91,7 @@ fn enter(steps: &Steps, along: &Chains, tree: &mut Tree) -> Result<(), AllocErro
     Ok(())
 }
 
-/// Reaches the node that this arc enters, if the arc is an exit with flow.
+/// Reaches the node that this arc enters, if the arc is an exit with flow between nodes of one rank.
 fn enter_over(steps: &Steps, arc: u32, tree: &mut Tree) -> Result<(), AllocError>
     requires exits { AreExits steps.now.state.now.network steps.now.exits }
     requires within { AreWithinCapacities steps.now.state.now.network.arcs steps.now.flows.now }
@@ -103,6 +104,9 @@ fn enter_over(steps: &Steps, arc: u32, tree: &mut Tree) -> Result<(), AllocError
     ensures entered { OnOk result (IsEntered steps.now.state.now.network steps.now.flows.now steps.now.exits tree.new.nodes.items arc) }
 {
     let ends = steps.state.arc(arc);
+    if is_across(steps.exits.ranks, ends) {
+        return Ok(());
+    }
     let flow = steps.flows[arc as usize - 1];
     let exit = is_exit(steps.exits, arc, ends);
     if flow == 0 || !exit || tree.nodes[ends.head as usize - 1].place > 0 {
@@ -269,7 +273,7 @@ fn expand(
     Ok(0)
 }
 
-/// Reaches the node to which the step leads, if the step has room, the arc is no exit and the node is not reached. Returns whether the node
+/// Reaches the node to which the step leads, if the step has room, the arc is not barred and the node is not reached. Returns whether the node
 /// was reached from the other end.
 fn step_over(
     steps: &Steps,
@@ -294,7 +298,7 @@ fn step_over(
         arc,
         steps.flows[hop.arc as usize - 1],
     );
-    if room == 0 || is_exit(steps.exits, hop.arc, arc) {
+    if room == 0 || is_barred(steps.exits, hop.arc, arc) {
         return Ok(false);
     }
     let v = to_of(hop.against, arc);

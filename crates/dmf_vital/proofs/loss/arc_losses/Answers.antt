@@ -2,6 +2,7 @@ use Rattle.std.proofs.Common.{ℕ, ◌≡◌, ◌≢◌, ◌+◌, ◌<◌, lengt
 use Rattle.std.proofs.lemmas.Bool.{cases_eq}
 use Rattle.std.proofs.lemmas.List.{get_or-set_same, get_or-set_other, length-set}
 use Rattle.dmf_vital.specs.Loss.{IsLossOfArc}
+use Rattle.dmf_vital.specs.Ranks.{AreRanks}
 use Rattle.dmf_vital.proofs.loss.arc_losses.Goals as goal
 
 pub loop-k-preserved : goal.loop-k-preserved
@@ -13,6 +14,7 @@ loop-k-preserved c =
     let inside : k < length old = omega (arith, c.loop-k.losses.ok.0, c.loop-k-test.true, c.len-k-end.ensures, c.loop-k.invariant.one_each, c.in_ok-losses.ensures.len, ap length c.arcs.ensures.value) in
     record {
       ready = c.loss_of_arc.ensures.ready;
+      ranks = subst (AreRanks n c.loss_of_arc.new.rerouting.flows.items) c.deref.ensures.value c.loss_of_arc.ensures.ranks;
       one_each = length-set old k loss ∙ c.loop-k.invariant.one_each;
       losses = λ i h. ⊎_elim
           (λ (here : i ≡ k).

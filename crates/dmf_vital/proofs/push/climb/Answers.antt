@@ -1,4 +1,4 @@
-use Rattle.std.proofs.Common.{ℕ, ◌≡◌, ◌-◌, ◌<◌, Bool, true, false, ap, ◌∙◌, sym, arith, set, subst}
+use Rattle.std.proofs.Common.{ℕ, ◌≡◌, ◌-◌, ◌<◌, Bool, true, false, refl, ap, ◌∙◌, sym, arith, set, subst}
 use Rattle.std.proofs.lemmas.Bool.{both_ways}
 use Rattle.std.proofs.lemmas.List.Sums.{get_or-le-sum_by}
 use Rattle.std.proofs.lemmas.Slice.Zip.{AllZip-long}
@@ -12,9 +12,16 @@ use Rattle.dmf_vital.specs.Exits.{is_exit_arc}
 use Rattle.dmf_vital.specs.Hop.{from_of, sent, turned}
 use Rattle.dmf_vital.specs.Shifted.{AreShifted}
 use Rattle.dmf_vital.specs.Tree.{back_of, place_of}
-use Rattle.dmf_vital.proofs.Pushed.{IsPushedFrom, IsSent, StepsBack, above-begun, above-step, above-there, entry-width, room-less, room-more, sent-within}
+use Rattle.dmf_vital.proofs.Level.{barred-exit}
+use Rattle.dmf_vital.proofs.Pushed.{IsPushedFrom, IsSent, StepsBack, above-begun, above-step, above-there, entry-width, pushed-none, room-less, room-more, sent-within}
 use Rattle.dmf_vital.proofs.push.climb.Goals.{After-is_exit, After-turned-against}
 use Rattle.dmf_vital.proofs.push.climb.Goals as goal
+
+pub loop-u-init : goal.loop-u-init
+loop-u-init c =
+    let nodes = c.args.tree.now.nodes.items in
+    pushed-none c.args.state.now.network c.args.exits (back_of nodes c.args.v) c.args.v c.args.amount nodes c.args.flows.now c.requires.within c.requires.node
+    c.requires.reached refl c.requires.fits
 
 pub arc-arc-requires : goal.arc-arc-requires
 arc-arc-requires c =
@@ -43,8 +50,9 @@ returns-then-is_exit-clause-climbed c =
       behind = λ _. subst (λ w. AreShifted n e v w c.args.amount c.args.flows.now c.loop-u.flows) (sym begun.enters) sent;
       is_there = λ _. begun.there;
       is_exit = λ _. begun.exit;
+      level = λ _. begun.level;
       carries = λ _.
-          let kept = sent.kept exit begun.there begun.exit in
+          let kept = sent.kept exit begun.there (barred-exit n e exit begun.exit) in
           let width = entry-width n e (back_of nodes v) u v c.args.amount nodes c.args.tree.now.found.items c.args.flows.now c.loop-u.flows c.index-by.result.now
           c.requires.listed c.requires.steps is c.loop-u-test.true c.index-by.ensures in
           omega (arith, kept, begun.carries, is.fits, width);
@@ -130,5 +138,6 @@ returns-clause-climbed c =
       behind = λ behind. absurd (both_ways (back_of nodes v) ahead behind);
       is_there = λ behind. absurd (both_ways (back_of nodes v) ahead behind);
       is_exit = λ behind. absurd (both_ways (back_of nodes v) ahead behind);
+      level = λ behind. absurd (both_ways (back_of nodes v) ahead behind);
       carries = λ behind. absurd (both_ways (back_of nodes v) ahead behind);
     }

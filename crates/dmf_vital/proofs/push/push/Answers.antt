@@ -13,7 +13,7 @@ use Rattle.dmf_vital.specs.Hop.{from_of, to_of, room_of}
 use Rattle.dmf_vital.specs.Shifted.{HasSteps, IsClimbed, KeepsOthers}
 use Rattle.dmf_vital.specs.Tree.{not_reached, at_node, back_of, place_of}
 use Rattle.dmf_vital.proofs.Chained.{node-from, node-to}
-use Rattle.dmf_vital.proofs.Moved.{over, exit-there, long-after, moved-taken, shifted-over, steps-middle, steps-over, taken-greatest}
+use Rattle.dmf_vital.proofs.Moved.{over, exit-there, long-after, moved-taken, shifted-over, steps-middle, steps-over, taken-greatest, taken-ranks}
 use Rattle.dmf_vital.proofs.push.push.Goals.{After-to_of-end, After-min-amount, After-climb, After-climb-exit}
 use Rattle.dmf_vital.proofs.push.push.Goals as goal
 
@@ -248,3 +248,15 @@ returns-clause-greatest c =
     taken-greatest n c.args.exits nodes c.args.tree.now.found.items c.args.flows.now c.args.hop c.min-amount.result c.requires.exits
     c.requires.greatest c.requires.grown c.requires.crossing is.room c.climb.new.flows c.climb.result is.climbed is.others c.climb-exit.new.flows
     c.climb-exit.result then
+
+pub returns-clause-ranks : goal.returns-clause-ranks
+returns-clause-ranks c =
+    let n = c.args.state.now.network in
+    let nodes = c.args.tree.now.nodes.items in
+    let at = (goal.at.returns-clause-ranks c).After-to_of-end in
+    let fits = fitting (goal.at.returns-clause-ranks c).After-min-amount at (node-start at) (node-end at) (start at) (end at) in
+    let is = first (goal.at.returns-clause-ranks c).After-climb fits.room (start at) in
+    let then = second (goal.at.returns-clause-ranks c).After-climb-exit (end at) in
+    taken-ranks n c.args.exits nodes c.args.tree.now.found.items c.args.flows.now c.args.hop c.min-amount.result c.requires.exits
+    c.requires.greatest c.requires.grown c.requires.crossing is.room c.climb.new.flows c.climb.result is.climbed is.others c.climb-exit.new.flows
+    c.climb-exit.result then c.requires.ranks

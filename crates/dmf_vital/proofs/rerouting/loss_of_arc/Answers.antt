@@ -13,11 +13,11 @@ returns-then-arc-clause-loss c =
 pub left_on-requires-clause-exits : goal.left_on-requires-clause-exits
 left_on-requires-clause-exits c =
     let is = c.arc-arc.ensures.value in
-    are-exits_of_arc c.args.state.now.network c.args.j c.arc-arc.result.tail c.requires.ready.network c.requires.is_there (ap (λ (a : Arc). a.tail) is)
+    are-exits_of_arc c.args.state.now.network c.args.ranks c.args.j c.arc-arc.result.tail c.requires.ready.network c.requires.is_there (ap (λ (a : Arc). a.tail) is)
     (λ same. c.if-arc.false (ap (λ (a : Arc). a.tail) is ∙ same ∙ ap (λ (a : Arc). a.head) (sym is)))
 
 pub returns-clause-loss : goal.returns-clause-loss
 returns-clause-loss c =
     if-ok c.left_on.result _ _ c.left_on.ensures.left
-    (λ left. lost-arc c.args.state.now.network c.args.j c.arc-arc.result.tail left c.requires.ready.network c.requires.is_there
+    (λ left. lost-arc c.args.state.now.network c.args.ranks c.args.j c.arc-arc.result.tail left c.requires.ready.network c.requires.is_there
     (ap (λ (a : Arc). a.tail) c.arc-arc.ensures.value))

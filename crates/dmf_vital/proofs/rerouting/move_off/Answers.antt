@@ -4,6 +4,7 @@ use Rattle.std.specs.Vec.{with_items}
 use Rattle.std.proofs.lemmas.Slice.Zip.{AllZip-long}
 use Rattle.dmf_solver.specs.Greatest.{IsGreatest}
 use Rattle.dmf_vital.specs.Exits.{exit_flow}
+use Rattle.dmf_vital.specs.Ranks.{AreRanks}
 use Rattle.dmf_vital.specs.Shifted.{IsMoved}
 use Rattle.dmf_vital.specs.Tree.{IsCrossing, IsGrown, HasSearched}
 use Rattle.dmf_vital.proofs.Stuck.{holds-exits}
@@ -22,7 +23,7 @@ returns-then-hop-eq0-clause-moved c =
     let stuck = ended.none c.if-hop-eq0.true in
     record {
       moves = omega arith;
-      held = λ _. holds-exits n c.args.rerouting.now.flows.items e nodes found c.requires.ready.network c.requires.exits grown ended.entered stuck.0 stuck.1;
+      held = λ _. holds-exits n c.args.rerouting.now.flows.items e nodes found c.requires.ready.network c.requires.exits c.requires.ranks grown ended.entered stuck.0 stuck.1;
     }
 
 pub push-requires-clause-crossing : goal.push-requires-clause-crossing
@@ -55,6 +56,14 @@ returns-clause-moved c =
     let some = c.push.ensures.some in
     let moved : IsMoved n e c.push.result before c.push.new.flows = record { moves = moves; held = λ none. absurd (omega (arith, none, some)) } in
     subst (IsMoved n e c.push.result before) (sym (lent at)) moved
+
+pub returns-clause-ranks : goal.returns-clause-ranks
+returns-clause-ranks c =
+    let at = (goal.at.returns-clause-ranks c).After-push in
+    subst (λ f. AreRanks c.args.state.now.network f c.args.exits.ranks.now) (sym (lent at)) c.push.ensures.ranks
+
+pub push-requires-clause-ranks : goal.push-requires-clause-ranks
+push-requires-clause-ranks c = subst (λ f. AreRanks c.args.state.now.network f c.args.exits.ranks.now) (sym c.deref_mut.ensures.value) c.requires.ranks
 
 pub returns-clause-ready : goal.returns-clause-ready
 returns-clause-ready c =

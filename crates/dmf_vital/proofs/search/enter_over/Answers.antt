@@ -1,4 +1,4 @@
-use Rattle.std.proofs.Common.{ℕ, ◌≡◌, ◌≢◌, ◌<◌, ◌-◌, true, length, ap, sym, ◌∙◌, subst, arith}
+use Rattle.std.proofs.Common.{ℕ, ◌≡◌, ◌≢◌, ◌<◌, ◌-◌, false, true, length, ap, sym, ◌∙◌, subst, arith}
 use Rattle.std.proofs.lemmas.Bool.{both_ways, true_from_ne_false}
 use Rattle.std.proofs.lemmas.List.{get_or_read}
 use Rattle.std.proofs.lemmas.Slice.Zip.{AllZip-long}
@@ -10,6 +10,7 @@ use Rattle.dmf_state.specs.Network.{arc_number}
 use Rattle.dmf_state.proofs.ChangedArc.{has_arc-within}
 use Rattle.dmf_vital.specs.declared.tree.Reached.{Reached}
 use Rattle.dmf_vital.specs.Exits.{is_exit, is_exit_arc}
+use Rattle.dmf_vital.specs.Ranks.{is_across}
 use Rattle.dmf_vital.specs.Tree.{not_reached, back_of, place_of}
 use Rattle.dmf_vital.proofs.Growing.{both-ok, both-err, on-ok, entered-grown, entered-keeps, entered-behind, entered-now}
 use Rattle.dmf_vital.proofs.Summed.{exit-head}
@@ -39,6 +40,13 @@ index-requires c =
 pub reach-requires : goal.reach-requires
 reach-requires c = rw c.requires.grown.are.one_each (node (goal.at.reach-requires c).After-is_exit-exit)
 
+-- The arc leads between nodes of different ranks.
+pub returns-then-is_across-clause-entered : goal.returns-then-is_across-clause-entered
+returns-then-is_across-clause-entered c =
+    let ranks = c.args.steps.now.exits.ranks.now in
+    λ there exit carries level. absurd (both_ways (is_across ranks (arc_number c.args.steps.now.state.now.network c.args.arc)) level
+    (ap (is_across ranks) (sym c.arc-ends.ensures.value) ∙ sym c.is_across.ensures ∙ c.if-is_across.true))
+
 pub returns-then-flow-eq0-clause-entered : goal.returns-then-flow-eq0-clause-entered
 returns-then-flow-eq0-clause-entered c =
     let at = (goal.at.returns-then-flow-eq0-clause-entered c).After-is_exit-exit in
@@ -47,7 +55,7 @@ returns-then-flow-eq0-clause-entered c =
     let nodes = c.args.tree.now.nodes.items in
     let v : ℕ = c.arc-ends.result.head in
     let head : v ≡ (arc_number n c.args.arc).head = ap (λ (a : Arc). a.head) c.arc-ends.ensures.value in
-    λ there exit carries. elim c.then-flow-eq0.branch [
+    λ there exit carries _. elim c.then-flow-eq0.branch [
       | then-flow-eq0-via-then-flow-eq0 w ↦ absurd (omega (arith, carries, w.if-flow-eq0.true))
       | then-flow-eq0-via-else-flow-eq0+then-not-exit w ↦
           absurd (both_ways (is_exit n s.exits c.args.arc)
@@ -67,6 +75,7 @@ returns-then-flow-eq0-clause-entered c =
 record IsReaching (c : After-reach) : Type 0 where
   exit : is_exit c.args.steps.now.state.now.network c.args.steps.now.exits c.args.arc ≡ true
   carries : 0 < flow_on c.args.steps.now.flows.now c.args.arc
+  level : is_across c.args.steps.now.exits.ranks.now (arc_number c.args.steps.now.state.now.network c.args.arc) ≡ false
   leads : (arc_number c.args.steps.now.state.now.network c.args.arc).head ≡ c.arc-ends.result.head
   node : IsNode c.args.steps.now.state.now.network.nodes c.arc-ends.result.head
   apart : c.arc-ends.result.head ≢ c.args.steps.now.exits.node
@@ -88,6 +97,7 @@ reaching c =
     record {
       exit = exit;
       carries = omega (arith, c.if-flow-eq0.false);
+      level = ap (is_across s.exits.ranks.now) (sym c.arc-ends.ensures.value) ∙ sym c.is_across.ensures ∙ c.if-is_across.false;
       leads = sym head;
       node = is;
       apart = λ same. exit-head n s.exits c.args.arc c.requires.exits exit (sym head ∙ same);
@@ -99,7 +109,7 @@ returns-clause-grown c =
     let s = c.args.steps.now in
     let is = reaching (goal.at.returns-clause-grown c).After-reach in
     entered-grown s.state.now.network s.flows.now s.exits c.args.arc c.arc-ends.result.head c.args.tree.now.nodes.items c.reach.new.tree.nodes.items
-    c.args.tree.now.found.items c.reach.new.tree.found.items c.requires.is_there is.exit is.carries is.leads is.node is.apart is.new c.requires.grown
+    c.args.tree.now.found.items c.reach.new.tree.found.items c.requires.is_there is.exit is.carries is.level is.leads is.node is.apart is.new c.requires.grown
     c.requires.behind c.reach.result (both-ok c.reach.result _ _ c.reach.ensures.nodes c.reach.ensures.found)
     (both-err c.reach.result _ _ c.reach.ensures.nodes_stay c.reach.ensures.found_stay)
 
@@ -108,7 +118,7 @@ returns-clause-kept c =
     let s = c.args.steps.now in
     let is = reaching (goal.at.returns-clause-kept c).After-reach in
     entered-keeps s.state.now.network s.flows.now s.exits c.args.arc c.arc-ends.result.head c.args.tree.now.nodes.items c.reach.new.tree.nodes.items
-    c.args.tree.now.found.items c.reach.new.tree.found.items c.requires.is_there is.exit is.carries is.leads is.node is.apart is.new c.requires.grown
+    c.args.tree.now.found.items c.reach.new.tree.found.items c.requires.is_there is.exit is.carries is.level is.leads is.node is.apart is.new c.requires.grown
     c.requires.behind c.reach.result c.reach.ensures.nodes c.reach.ensures.nodes_stay
 
 pub returns-clause-behind : goal.returns-clause-behind
@@ -116,7 +126,7 @@ returns-clause-behind c =
     let s = c.args.steps.now in
     let is = reaching (goal.at.returns-clause-behind c).After-reach in
     entered-behind s.state.now.network s.flows.now s.exits c.args.arc c.arc-ends.result.head c.args.tree.now.nodes.items c.reach.new.tree.nodes.items
-    c.args.tree.now.found.items c.reach.new.tree.found.items c.requires.is_there is.exit is.carries is.leads is.node is.apart is.new c.requires.grown
+    c.args.tree.now.found.items c.reach.new.tree.found.items c.requires.is_there is.exit is.carries is.level is.leads is.node is.apart is.new c.requires.grown
     c.requires.behind c.reach.result c.reach.ensures.nodes c.reach.ensures.nodes_stay
 
 pub returns-clause-entered : goal.returns-clause-entered
@@ -125,5 +135,5 @@ returns-clause-entered c =
     let is = reaching (goal.at.returns-clause-entered c).After-reach in
     on-ok c.reach.result _ _ c.reach.ensures.nodes
     (entered-now s.state.now.network s.flows.now s.exits c.args.arc c.arc-ends.result.head c.args.tree.now.nodes.items c.reach.new.tree.nodes.items
-    c.args.tree.now.found.items c.reach.new.tree.found.items c.requires.is_there is.exit is.carries is.leads is.node is.apart is.new c.requires.grown
+    c.args.tree.now.found.items c.reach.new.tree.found.items c.requires.is_there is.exit is.carries is.level is.leads is.node is.apart is.new c.requires.grown
     c.requires.behind)

@@ -9,12 +9,12 @@ use Rattle.dmf_state.specs.Network.{arc_number}
 use Rattle.dmf_state.proofs.ChangedArc.{has_arc-within}
 use Rattle.dmf_state.proofs.Changing.{within-at}
 use Rattle.dmf_vital.specs.declared.tree.Reached.{Reached}
-use Rattle.dmf_vital.specs.Exits.{is_exit, is_exit_arc}
+use Rattle.dmf_vital.specs.Exits.{is_barred, is_barred_arc}
 use Rattle.dmf_vital.specs.Hop.{to_of, room_of, turned}
 use Rattle.dmf_vital.specs.Tree.{not_reached, back_of, place_of, room_over}
 use Rattle.dmf_vital.proofs.Chained.{node-to}
 use Rattle.dmf_vital.proofs.Growing.{LeadsOn, leads-on, both-ok, both-err, met-stepped, stepped-grown, stepped-keeps, stepped-leads}
-use Rattle.dmf_vital.proofs.search.step_over.Goals.{After-room_of-room, After-to_of-v, After-reach, then-room-eq0-via-then-room-eq0, then-room-eq0-via-else-room-eq0+then-is_exit}
+use Rattle.dmf_vital.proofs.search.step_over.Goals.{After-room_of-room, After-to_of-v, After-reach, then-room-eq0-via-then-room-eq0, then-room-eq0-via-else-room-eq0+then-is_barred}
 use Rattle.dmf_vital.proofs.search.step_over.Goals as goal
 
 pub bounds-steps-hop : goal.bounds-steps-hop
@@ -41,9 +41,9 @@ returns-then-room-eq0-clause-stepped c =
     let is = room (goal.at.returns-then-room-eq0-clause-stepped c).After-room_of-room in
     λ there other from some. elim c.then-room-eq0.branch [
       | then-room-eq0-via-then-room-eq0 w ↦ absurd (omega (arith, is, some, w.if-room-eq0.true))
-      | then-room-eq0-via-else-room-eq0+then-is_exit w ↦
-          absurd (both_ways (is_exit c.args.steps.now.state.now.network c.args.steps.now.exits c.args.hop.arc) other
-          (ap (is_exit_arc c.args.steps.now.exits c.args.hop.arc) (sym c.arc-arc.ensures.value) ∙ sym w.is_exit.ensures ∙ w.if-is_exit.true))
+      | then-room-eq0-via-else-room-eq0+then-is_barred w ↦
+          absurd (both_ways (is_barred c.args.steps.now.state.now.network c.args.steps.now.exits c.args.hop.arc) other
+          (ap (is_barred_arc c.args.steps.now.exits c.args.hop.arc) (sym c.arc-arc.ensures.value) ∙ sym w.is_barred.ensures ∙ w.if-is_barred.true))
     ]
 
 -- the node to which it leads
@@ -57,8 +57,8 @@ node c =
     subst (IsNode n.nodes) (sym (to c)) (node-to c.args.hop.against n.nodes _ good)
 
 -- it is over no exit
-other : (c : After-to_of-v) → is_exit c.args.steps.now.state.now.network c.args.steps.now.exits c.args.hop.arc ≡ false
-other c = ap (is_exit_arc c.args.steps.now.exits c.args.hop.arc) (sym c.arc-arc.ensures.value) ∙ sym c.is_exit.ensures ∙ c.if-is_exit.false
+other : (c : After-to_of-v) → is_barred c.args.steps.now.state.now.network c.args.steps.now.exits c.args.hop.arc ≡ false
+other c = ap (is_barred_arc c.args.steps.now.exits c.args.hop.arc) (sym c.arc-arc.ensures.value) ∙ sym c.is_barred.ensures ∙ c.if-is_barred.false
 
 pub overflow_sub-v : goal.overflow_sub-v
 overflow_sub-v c = (node (goal.at.overflow_sub-v c).After-to_of-v).from_one
@@ -93,7 +93,7 @@ returns-then-there-gt0-clause-stepped c =
 leads : (c : After-reach) → LeadsOn c.args.steps.now.state.now.network c.args.steps.now.exits c.args.tree.now.nodes.items c.args.back c.args.hop c.to_of-v.result
 leads c = leads-on c.args.steps.now.state.now.network c.args.steps.now.exits c.to_of-v.result c.args.back c.args.hop c.arc-arc.result
     c.args.tree.now.nodes.items c.index-there.result.now c.arc-arc.ensures.state.network.arcs c.requires.grown.are.one_each c.requires.is_there
-    (ap (is_exit_arc c.args.steps.now.exits c.args.hop.arc) (sym c.arc-arc.ensures.value) ∙ sym c.is_exit.ensures ∙ c.if-is_exit.false)
+    (ap (is_barred_arc c.args.steps.now.exits c.args.hop.arc) (sym c.arc-arc.ensures.value) ∙ sym c.is_barred.ensures ∙ c.if-is_barred.false)
     c.requires.reached c.requires.end c.arc-arc.ensures.value c.to_of-v.ensures c.index-there.ensures c.if-there-gt0.false
 
 room-now : (c : After-reach) → c.room_of-room.result ≡ room_over c.args.steps.now.state.now.network c.args.steps.now.flows.now c.args.back c.args.hop.against c.args.hop.arc
