@@ -31,9 +31,11 @@ SOLVED = "program/test_worked.py::test_worked[two ways that cross"
 ENDED = "program/test_program.py::test_ends[an empty problem]"
 HELPED = "program/test_program.py::test_help[--help]"
 CHECKED = "program/test_worked.py::test_worked[a greatest flow, its lines in any order]"
+REFUSED = "program/test_program.py::test_refused_words[an unknown word]"
 HELD = "program/test_worked.py::test_worked[an added arc is taken back]"
 ON_TERMINAL = "program/test_terminal.py::test_session"
 ASKED = "program/test_progress.py::test_asked_session"
+STDOUT, STDERR = "StdSink::new(rt.stdout())", "StdSink::new(rt.stderr())"
 SINK = "WatchedSink::new(out, &progress)"
 UNWATCHED = (
     "let silent = Progress::new(rt, false);\n    let mut watch = Dialogue::new(rt, "
@@ -45,7 +47,9 @@ ASKED_FOR = "Progress::new(rt, asked.progress)"
 WIRINGS = [
     *in_file(
         "dmf/src/main.rt",
-        ("a status is another", "end(&rt, &outcome)", "end(&rt, &outcome) / 2", ENDED),
+        ("a status is another", "ExitCode::from(status)", "ExitCode::from(status / 2)", ENDED),
+        ("help is on standard error", STDOUT, STDERR, HELPED),
+        ("wrong words are told on standard output", STDERR, STDOUT, REFUSED),
         ("nothing says why a run ends", "let _ = tell(rt, fault);", "", ENDED),
         (
             "a fault is not explained",
@@ -107,27 +111,15 @@ WIRINGS = [
             "program/test_progress.py::test_asked_solve",
         ),
         (
-            "no help is printed",
-            "Err(WordsFault::Help(text)) => print_help(rt, text.as_str())",
-            "Err(WordsFault::Help(_)) => Ok(Status::Well)",
-            HELPED,
+            "the help names a page that is not there",
+            "help_without_page(rt, help).is_some()",
+            "false",
+            "program/test_terminal.py::test_help",
         ),
     ),
     *in_file(
         "dmf_host/src/told.rt",
-        (
-            "lost help is no fault",
-            "Err(_) => Err(Fault::Run(EngineFault::Write))",
-            "Err(_) => Ok(Status::Well)",
-            "program/test_streams.py::test_closed[no output of the help]",
-        ),
         ("a fault does not say whose it is", '"dmf: {fault}"', '"{fault}"', ENDED),
-        (
-            "help is on standard error",
-            'None => print!(rt; "{text}")',
-            'None => eprint!(rt; "{text}")',
-            HELPED,
-        ),
     ),
     *in_file(
         "dmf_host/src/files.rt",
@@ -140,24 +132,13 @@ WIRINGS = [
     ),
 ]
 MUTANTS = [
-    # What `rt try` builds has an allocator of its own, so that no request for memory is refused
-    # there.
-    *in_file(
-        "dmf/src/main.rt",
-        (
-            "want of memory is a wrong word",
-            "Err(Fault::NO_MEMORY)",
-            "Err(Fault::Words)",
-            "program/test_refusals.py::test_refusals[the version, 1 in a row]",
-        ),
-    ),
     *in_file(
         "dmf_host/src/told.rt",
         (
             "wrong words have another status",
             "Fault::Words) => 2",
             "Fault::Words) => 3",
-            "program/test_program.py::test_refused_words[an unknown word]",
+            REFUSED,
         ),
     ),
     *in_file(

@@ -27,7 +27,8 @@ SHORTEST = 200
 # A function: what stands before its name, its name, its lifetimes, its parameters, and what stands
 # before its body.
 FUNCTION = re.compile(
-    r"^((?:(?:///|#\[)[^\n]*\n)*(?:pub )?)fn (\w+)((?:<[^>]*>)?)\((.*?)\)( ->.*?)\{\n.*?^\}\n",
+    r"^((?:(?:///|#\[)[^\n]*\n)*(?:pub )?)fn (\w+)((?:<[^>]*>)?)\((.*?)\)((?: ->.*?)?\s)"
+    r"\{\n.*?^\}\n",
     re.MULTILINE | re.DOTALL,
 )
 NAME_LENGTH = """

@@ -1,20 +1,18 @@
-//! The program `dmf`: reads its arguments, opens what a run needs, calls the run that they ask for, and reports how it ended.
+//! The program `dmf`: opens what its words and a run need, calls what does what they ask for, and exits with its status.
 #![tactic(auto)]
 
-ghost use Rattle.std.specs.Prelude.{◌≡◌, map};
 ghost use Rattle.dmf_arguments.specs.Words.{HasBound, task_of};
-ghost use Rattle.dmf_host.specs.Ending.{IsPrinted, exit_status};
-ghost use Rattle.dmf_program.specs.Program.{MayRun, RunsWords};
+ghost use Rattle.dmf_program.specs.Program.{MayRun};
 
-use dmf_arguments::{Arguments, MAX_HISTORY, Mode, WordsFault, read_arguments};
-use dmf_explain::invite;
-use dmf_host::{Fault, exit_status, explain, open_problem, output, print, tell, words};
-use dmf_program::{Files, run_program};
+use dmf_arguments::{Arguments, MAX_HISTORY, Mode};
+use dmf_explain::{help_without_page, invite};
+use dmf_host::{Fault, explain, open_problem, output, tell, words};
+use dmf_program::{Files, Host, run_program, run_words};
 use dmf_progress::{Progress, WatchedSink, WatchedSolve, WatchedSource};
 use dmf_session::MAX_BOUND;
 use dmf_streams::Status;
 use dmf_terminal::Dialogue;
-use dmf_text::StdSource;
+use dmf_text::{StdSink, StdSource};
 use std::fs::File;
 use std::process::ExitCode;
 use std::rt::{HostRuntime, Stdin};
@@ -23,44 +21,45 @@ use std::rt::{HostRuntime, Stdin};
 const _: () = prove!(MAX_HISTORY == MAX_BOUND);
 
 fn main(rt: HostRuntime) -> ExitCode {
-    let outcome = match words(&rt) {
-        Ok(words) => run(&rt, words),
-        Err(fault) => Err(fault),
-    };
-    ExitCode::from(end(&rt, &outcome))
+    let mut out = StdSink::new(rt.stdout());
+    let mut err = StdSink::new(rt.stderr());
+    let system = System { rt: &rt };
+    let status = run_words(rt.alloc(), words(&rt), &system, &mut out, &mut err);
+    ExitCode::from(status)
 }
 
-/// Tells a fault, and returns the exit status.
-fn end(rt: &HostRuntime, outcome: &Result<Status, Fault>) -> u8
-    ensures { result ≡ exit_status outcome.now }
-{
-    if let Err(fault) = outcome {
-        // If this cannot be written, the exit status still says it.
-        let _ = tell(rt, fault);
-        explain(rt, fault);
+/// The system on which the program runs.
+#[derive(Drop)]
+struct System<'a> {
+    rt: &'a HostRuntime,
+}
+
+impl<'a> Host for System<'a> {
+    fn run(&self, asked: &Arguments) -> Result<Status, Fault> {
+        run_asked(self.rt, asked)
     }
-    exit_status(outcome)
-}
 
-/// Reads the words of the arguments, and does what they ask for.
-#[inline(never)]
-fn run(rt: &HostRuntime, words: Vec<String>) -> Result<Status, Fault>
-    ensures { RunsWords (map (λ word. word.bytes.items) words.items) result }
-{
-    match read_arguments(rt.alloc(), words) {
-        Ok(asked) => run_asked(rt, &asked),
-        Err(WordsFault::Help(text)) => print_help(rt, text.as_str()),
-        Err(WordsFault::Usage(text)) => Err(Fault::Usage(text)),
-        Err(WordsFault::NoMemory) => Err(Fault::NO_MEMORY),
+    fn lacks_page(&self, help: &str) -> bool {
+        lacks_page(self.rt, help)
+    }
+
+    fn tell(&self, fault: &Fault) {
+        tell_fault(self.rt, fault);
     }
 }
 
-/// Writes the text that was asked for. It has a frame of its own, of some kilobytes, so that a run does not have it on its stack.
+/// Whether the help is for a terminal, and names a manual page that is not found. It has a frame of its own, of some kilobytes, so that a
+/// run does not have it on its stack.
 #[inline(never)]
-fn print_help(rt: &HostRuntime, text: &str) -> Result<Status, Fault>
-    ensures { IsPrinted result }
-{
-    print(rt, text)
+fn lacks_page(rt: &HostRuntime, help: &str) -> bool {
+    help_without_page(rt, help).is_some()
+}
+
+/// Tells why the program gives no answer, and explains it on a terminal.
+fn tell_fault(rt: &HostRuntime, fault: &Fault) {
+    // If this cannot be written, the exit status still says it.
+    let _ = tell(rt, fault);
+    explain(rt, fault);
 }
 
 /// Runs what the arguments ask for, over the files of the program.

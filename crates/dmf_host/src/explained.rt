@@ -17,7 +17,7 @@ pub fn explain(rt: &HostRuntime, fault: &Fault) {
     let Ok(words) = words(rt) else {
         return;
     };
-    if let Fault::Usage(_) = fault {
+    if let Fault::Usage = fault {
         explain_words(rt, &words, MAX_HISTORY);
     } else if let Ok(mode) = read_words(rt.alloc(), words) {
         explain_run(rt, &mode, fault);

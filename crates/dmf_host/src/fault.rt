@@ -4,9 +4,9 @@ use thiserror::Error;
 /// Why the program gives no answer.
 #[derive(Debug, Drop, Error)]
 pub enum Fault {
-    /// The arguments are invalid, and this text, the one of `clap`, names the word and says why.
-    #[error("{0}")]
-    Usage(String),
+    /// The arguments are invalid. The text of `clap`, which names the word and says why, is told before.
+    #[error("invalid arguments")]
+    Usage,
     /// A word is no UTF-8, so that it cannot be read.
     #[error("a word is not UTF-8")]
     Words,

@@ -5,7 +5,7 @@ pub use arguments::words;
 pub use explained::explain;
 pub use fault::Fault;
 pub use files::{open_problem, output};
-pub use told::{exit_status, print, tell};
+pub use told::{exit_status, tell};
 
 mod arguments;
 mod explained;

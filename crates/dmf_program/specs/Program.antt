@@ -1,13 +1,18 @@
 -- What the program does: which run its arguments ask for, on what, and how it ends.
 -- Public: a public contract says no more than this.
-use Rattle.std.specs.Prelude.{ℕ, ◌≡◌, ◌⊎◌, List, Bool, true, false, Result, Ok, Err, ⊤}
+use Rattle.std.specs.Prelude.{ℕ, ◌≡◌, ◌⊎◌, List, [], ◌∷◌, ◌++◌, Bool, true, false, Result, Ok, Err, codes, ⊤}
+use Rattle.std.specs.Str.{trim_end}
 use Rattle.dmf_arguments.specs.Words.{Task, solving, holding, checking, valuing, task_of, ReadsWords}
 use Rattle.dmf_arguments.specs.declared.words.Arguments.{Arguments}
 use Rattle.dmf_arguments.specs.declared.words.WordsFault.{WordsFault}
 use Rattle.dmf_arguments.specs.declared.words.WordsFault.TheVariants as words
 use Rattle.dmf_text.specs.Streams.{Reader, Writer}
+use Rattle.dmf_text.specs.Writing.{Writes}
+use Rattle.dmf_text.specs.declared.writer.WriteFault.{WriteFault}
 use Rattle.dmf_streams.specs.declared.fault.Status.{Status}
+use Rattle.dmf_streams.specs.declared.fault.Status.TheVariants.{Well}
 use Rattle.dmf_streams.specs.declared.fault.EngineFault.{EngineFault}
+use Rattle.dmf_streams.specs.declared.fault.EngineFault.TheVariants as engine
 use Rattle.dmf_solving.specs.SolveRun.{RunsSolve, RunsBrief, RunsAny}
 use Rattle.dmf_solving.specs.CheckRun.{RunsCheck}
 use Rattle.dmf_valuing.specs.Rows.{AreArcRows}
@@ -16,7 +21,7 @@ use Rattle.dmf_runs.specs.Streams.{Streams}
 use Rattle.dmf_runs.specs.Session.{RunsSessionWith}
 use Rattle.dmf_host.specs.declared.fault.Fault.{Fault}
 use Rattle.dmf_host.specs.declared.fault.Fault.TheVariants.{Usage, Run}
-use Rattle.dmf_host.specs.Ending.{IsPrinted, no_memory}
+use Rattle.dmf_host.specs.Ending.{exit_status, no_memory}
 
 -- ---- files
 
@@ -90,16 +95,56 @@ pub record HasRun (task : Task) (result : Result Status Fault) : Type 0 where
 abbrev pub MayRun : Task → Result Status Fault → Type 0
 MayRun task result = HasRun task result ⊎ (result ≡ Err no_memory)
 
+-- ---- what is written beside a run
+
+-- the two streams on which words are answered
+pub record Outputs : Type 0 where
+  pub out : Writer
+  pub err : Writer
+
+abbrev pub outputs_of : Writer → Writer → Outputs
+outputs_of out err = record { out = out; err = err }
+
+-- A text that was asked for is shown whole, or, where there is no manual page, without the sentence on that and the blanks before it.
+abbrev pub IsShown : List ℕ → List ℕ → Type 0
+IsShown text shown =
+    (shown ≡ text) ⊎ ((front : List ℕ) × (text ≡ front ++ codes "man dmf has the formats.\n") × (shown ≡ trim_end front ++ 10 ∷ []))
+
+-- A writer got what is shown of the text, or a write failed.
+abbrev pub WritesShown : List ℕ → Writer → Writer → Result (Unit {0}) WriteFault → Type 0
+WritesShown text old new outcome = (shown : List ℕ) × IsShown text shown × Writes old new outcome shown
+
+abbrev pub printed : Result (Unit {0}) WriteFault → Result Status Fault
+printed (Ok done) = Ok Well
+printed (Err fault) = Err (Run engine.Write)
+
+-- The text that was asked for was written, and all is well, or a write failed.
+pub record IsPrinted (text : List ℕ) (old new : Writer) (result : Result Status Fault) : Type 0 where
+  pub outcome : Result (Unit {0}) WriteFault
+  pub writes : WritesShown text old new outcome
+  pub result_is : result ≡ printed outcome
+
+-- The program ends with this fault, and has written nothing.
+abbrev pub has_ended : Fault → Outputs → Outputs → Result Status Fault → Type 0
+has_ended fault old new result = (new ≡ old) × (result ≡ Err fault)
+
 -- What follows on these arguments: their task is run, unless memory is refused before. What follows where there are none: the text that
--- was asked for is written, or the program ends with the fault of the words.
-abbrev pub Follows : Result Arguments WordsFault → Result Status Fault → Type 0
-Follows (Ok asked) result = MayRun (task_of asked) result
-Follows (Err (words.Help text)) result = IsPrinted result
-Follows (Err (words.Usage text)) result = result ≡ Err (Usage text)
-Follows (Err words.NoMemory) result = result ≡ Err no_memory
+-- was asked for is written on standard output, or that of wrong words on standard error, of which the other gets nothing.
+abbrev pub Follows : Result Arguments WordsFault → Outputs → Outputs → Result Status Fault → Type 0
+Follows (Ok asked) old new result = (new ≡ old) × MayRun (task_of asked) result
+Follows (Err (words.Help text)) old new result = (new.err ≡ old.err) × IsPrinted text.bytes.items old.out new.out result
+Follows (Err (words.Usage text)) old new result =
+    (new.out ≡ old.out) × ((told : Result (Unit {0}) WriteFault) × Writes old.err new.err told text.bytes.items) × (result ≡ Err Usage)
+Follows (Err words.NoMemory) old new result = has_ended no_memory old new result
 
 -- What the program makes of its words, of which the first is its name: it reads them, and does what follows.
-pub record RunsWords (words : List (List ℕ)) (result : Result Status Fault) : Type 0 where
+pub record RunsWords (words : List (List ℕ)) (old new : Outputs) (result : Result Status Fault) : Type 0 where
   pub read : Result Arguments WordsFault
   pub reads : ReadsWords words read
-  pub follows : Follows read result
+  pub follows : Follows read old new result
+
+-- The program ends with the status of a result that is so.
+pub record Ends (IsSo : Result Status Fault → Type 0) (status : ℕ) : Type 0 where
+  pub result : Result Status Fault
+  pub is_so : IsSo result
+  pub status_is : status ≡ exit_status result
