@@ -293,3 +293,44 @@ def test_generated_maps(tmp_path: Path, seed: int) -> None:
         return
     with dmf.read_table(tmp_path / "t.csv", tolerance=0.05) as network:
         assert network.solve().value == greatest(arcs) == expected
+
+
+@pytest.mark.parametrize(
+    "name, words, told",
+    [
+        (
+            "t.csv",
+            ["--velocity", "1.5"],
+            "--velocity is for a network of EPANET, and this is a CSV file: leave it out",
+        ),
+        (
+            "t.csv",
+            ["--tanks", "none"],
+            "--tanks is for a network of EPANET, and this is a CSV file: leave it out",
+        ),
+        (
+            "t.geojson",
+            ["--velocity", "2"],
+            "--velocity is for a network of EPANET, and this is a GeoJSON file: leave it out",
+        ),
+        (
+            "t.csv",
+            ["--tolerance", "0.5"],
+            "--tolerance is for lines on a map, and this has none: leave it out",
+        ),
+    ],
+)
+def test_settings_of_other_files(tmp_path: Path, name: str, words: list[str], told: str) -> None:
+    """An option that a file of this kind does not read is refused, not passed over."""
+    path = tmp_path / name
+    if name == "t.geojson":
+        geojson(path)
+    else:
+        path.write_text("from,to,capacity\ns,t,4\n")
+    ran = run("dmf-plan", str(path), *words, typed="solve\n")
+    assert (ran.returncode, ran.stdout, ran.stderr) == (3, "", f"dmf-plan: {path}: {told}\n")
+    keyword = words[0].removeprefix("--")
+    given: dict[str, Any] = {keyword: words[1]}
+    with pytest.raises(dmf.TableFault) as caught:
+        dmf.read_table(path, **given)
+    assert told.replace(words[0], f"{keyword}=") in str(caught.value)

@@ -20,7 +20,8 @@ class Package(NamedTuple):
 
 class FileKind(NamedTuple):
     """A kind of file: what messages call it, the endings of such files, whether a file is one, what
-    reads it, and the package that this needs, with what to do without."""
+    reads it, and the package that this needs, with what to do without. `settings` are the options
+    that no other kind reads."""
 
     what: str
     endings: tuple[str, ...]
@@ -28,12 +29,19 @@ class FileKind(NamedTuple):
     read: Callable[[TableFile], list[Sheet]]
     package: Package = Package("", "")
     instead: str = ""
+    settings: tuple[str, ...] = ()
 
 
 CSV = FileKind("a CSV file", (".csv", ".tsv"), lambda file: True, csv_file.sheets_of)
 # A file is of the first kind that it can be.
 KINDS = [
-    FileKind("a network of EPANET", (".inp",), epanet_sections.is_one, epanet.sheets_of),
+    FileKind(
+        "a network of EPANET",
+        (".inp",),
+        epanet_sections.is_one,
+        epanet.sheets_of,
+        settings=("velocity", "tanks"),
+    ),
     FileKind("a GeoJSON file", (".geojson",), geojson.is_one, geojson.sheets_of),
     FileKind(
         "a shapefile",
@@ -72,6 +80,18 @@ def has_table(file: TableFile) -> bool:
     """Return True if a file is of a kind of its own, or its name ends as that of a table."""
     kind = kind_of(file)
     return kind is not CSV or file.path.endswith(CSV.endings)
+
+
+def refuse_settings(file: TableFile) -> None:
+    """Raise a `TableFault` if an option was given that files of this kind do not read."""
+    read_here = kind_of(file).settings
+    for other in KINDS:
+        for option in other.settings:
+            if getattr(file.reading, option) and option not in read_here:
+                raise TableFault(
+                    f"--{option} is for {other.what}, and this is {kind_of(file).what}: leave it"
+                    " out"
+                )
 
 
 def sheets_of(file: TableFile) -> list[Sheet]:

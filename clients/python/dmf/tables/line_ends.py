@@ -14,6 +14,7 @@ from decimal import Decimal
 from functools import partial
 from typing import NamedTuple, Optional
 
+from ..errors import TableFault
 from ..quantity import plain_text
 from .headings import ARCS
 from .sheet import Faults, Positions, Rows, Sheet, cell_of, is_blank
@@ -84,6 +85,8 @@ def lines_of(sheet: Sheet, reading: ReadOptions) -> Sheet:
     named = {reading.titles[column] for column in (TAIL, HEAD) if column in reading.titles}
     found = _found(sheet)
     if found is None or named - {START_OF_LINE, END_OF_LINE} or has_places(found.titles, ARCS):
+        if reading.tolerance:
+            raise TableFault("--tolerance is for lines on a map, and this has none: leave it out")
         return sheet
     faults = Faults(sheet.path, found.titles)
     rows = list(_lines(sheet, found, faults))

@@ -20,7 +20,7 @@ from ..text.spelling import MOST_TOLD, quoted_name
 from ..text.table_comments import TableComments, described
 from .arcs_and_places import Term, read_arcs, read_places, terms_of
 from .column_question import ColumnQuestion
-from .file_kinds import has_table, kind_of, sheets_of
+from .file_kinds import has_table, kind_of, refuse_settings, sheets_of
 from .headings import ARCS, PLACE_COLUMNS, STATES, Form, spoken
 from .other_columns import Extra, extra_in, extra_of, left_out
 from .problem_builder import KINDS, NetworkTables, ends_alone, net_of, problem_text, term_of
@@ -83,6 +83,7 @@ def load_tables(wanted: TableOptions, path: Optional[str], data: bytes) -> Netwo
     told, name = split_path(path or "")
     file = TableFile(data, told, wanted.encoding, wanted.reading, 3, wanted.read)
     with naming(told):
+        refuse_settings(file)
         sheet, others = _arcs_sheet(file, name)
     return plan_of_sheet(wanted, sheet, others)
 
