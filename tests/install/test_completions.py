@@ -110,7 +110,7 @@ def tool_cases(tool: str) -> Iterator[Offer]:
     options = {
         name: entry.partition(name)[2].partition(",")[0].strip()
         for entry in [*listed("options", text), *listed("options", TABLES.read_text())]
-        for name in re.findall(r"--?[a-z][-a-z]*", entry)
+        for name in re.findall(r"(?<!\w)--?[a-z][-a-z]*", entry)
     }
     assert {"--help", "--node-limits"} <= options.keys()
     yield f"{tool} -", set(options), {PROBLEM}
