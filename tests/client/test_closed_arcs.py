@@ -125,7 +125,7 @@ def test_a_second_arc_past_64_bits() -> None:
         with_solve=True,
     )
     assert list(trials_of(desk, [1, 2])) == [Trial(1, 0, None), Trial(2, 0, 8)]
-    with pytest.raises(DeskFault, match="together past 18446744073709551615"):
+    with pytest.raises(DeskFault, match="sum of the capacities would be past 18446744073709551615"):
         desk.double(1)
     desk.close(1)
     desk.add(desk.network.names.place("#1"), desk.network.names.place("#2"), 2)

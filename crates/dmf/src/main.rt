@@ -14,6 +14,8 @@ use dmf_streams::Status;
 use dmf_terminal::Dialogue;
 use dmf_text::{StdSink, StdSource};
 use std::fs::File;
+use std::io;
+use std::io::Write;
 use std::process::ExitCode;
 use std::rt::{HostRuntime, Stdin};
 
@@ -21,11 +23,32 @@ use std::rt::{HostRuntime, Stdin};
 const _: () = prove!(MAX_HISTORY == MAX_BOUND);
 
 fn main(rt: HostRuntime) -> ExitCode {
-    let mut out = StdSink::new(rt.stdout());
-    let mut err = StdSink::new(rt.stderr());
+    let mut out = StdSink::new(WholeWrites {
+        writer: rt.stdout(),
+    });
+    let mut err = StdSink::new(WholeWrites {
+        writer: rt.stderr(),
+    });
     let system = System { rt: &rt };
     let status = run_words(rt.alloc(), words(&rt), &system, &mut out, &mut err);
     ExitCode::from(status)
+}
+
+/// A writer whose writes take all bytes, and go on where a signal interrupts them.
+#[derive(Drop)]
+struct WholeWrites<W> {
+    writer: W,
+}
+
+impl<W: Write> Write for WholeWrites<W> {
+    fn write(&mut self, bytes: &[u8]) -> io::Result<usize> {
+        self.writer.write_all(bytes)?;
+        Ok(bytes.len())
+    }
+
+    fn flush(&mut self) -> io::Result<()> {
+        self.writer.flush()
+    }
 }
 
 /// The system on which the program runs.
