@@ -35,7 +35,7 @@ REFUSED = "program/test_program.py::test_refused_words[an unknown word]"
 HELD = "program/test_worked.py::test_worked[an added arc is taken back]"
 ON_TERMINAL = "program/test_terminal.py::test_session"
 ASKED = "program/test_progress.py::test_asked_session"
-STDOUT, STDERR = "StdSink::new(rt.stdout())", "StdSink::new(rt.stderr())"
+STDOUT, STDERR = "writer: rt.stdout()", "writer: rt.stderr()"
 SINK = "WatchedSink::new(out, &progress)"
 UNWATCHED = (
     "let silent = Progress::new(rt, false);\n    let mut watch = Dialogue::new(rt, "
@@ -54,7 +54,7 @@ WIRINGS = [
         (
             "a fault is not explained",
             "explain(rt, fault);",
-            "if let Fault::Usage(_) = fault { explain(rt, fault); }",
+            "if let Fault::Usage = fault { explain(rt, fault); }",
             "program/test_terminal.py::test_folder",
         ),
         (
