@@ -164,10 +164,10 @@ def test_igraph(seed: int, is_directed: bool) -> None:
     assert value == wanted.value == network.solve().value
     # In an undirected graph a flow below 0 leads from the larger vertex to the smaller.
     ends = [edge.tuple if is_directed else sorted(edge.tuple) for edge in g.es]
-    led = [
-        (*(pair if flow >= 0 else pair[::-1]), most)
-        for pair, flow, most in zip(ends, flows, g.es["capacity"])
-    ]
+    led: list[tuple[Any, Any, int]] = []
+    for pair, flow, most in zip(ends, flows, g.es["capacity"]):
+        tail, head = pair if flow >= 0 else pair[::-1]
+        led.append((tail, head, most))
     judge(led, [abs(flow) for flow in flows], value, seed % 4, 7)
     here, _, whole = run(sides.here, names)
     assert [*here] == [set(nodes) for nodes in whole]
