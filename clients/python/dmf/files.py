@@ -27,8 +27,8 @@ def scratch() -> IO[bytes]:
 
 
 def _past_streams(number: int) -> int:
-    """The number of an open file that is no number of a standard stream, since there another
-    process has a stream of its own."""
+    """Return the number of an open file, moved above those of the standard streams, where another
+    process has its own."""
     if number > 2:
         return number
     import fcntl

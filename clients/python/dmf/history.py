@@ -85,7 +85,7 @@ class History:
         self._back: _Back | None = None
 
     def value_at(self, place: int) -> int:
-        """The value of the flow after so many changes, of which the last one is not forgotten."""
+        """Return the value of the flow after the first `place` changes, whose last one is kept."""
         change = self._changes[place - 1] if place else self._start
         assert isinstance(change, (Change, _Now))
         return change.value
@@ -107,12 +107,12 @@ class History:
         return self._now
 
     def has_after(self, place: int, changes: Sequence[Change]) -> bool:
-        """Return True if these very changes follow the first so many, made or undone."""
+        """Return True if these very changes follow the first `place` ones, made or undone."""
         there = self._changes[place : place + len(changes)]
         return len(there) == len(changes) and all(map(is_, there, changes))
 
     def changes_after(self, place: int) -> tuple[Change, ...]:
-        """Return the changes that are made, but for the first so many, of which none is
+        """Return the changes that are made after the first `place` ones. None of them may be
         forgotten."""
         made = self._changes[place : self.place]
         return tuple(change for change in made if isinstance(change, Change))
@@ -145,7 +145,7 @@ class History:
         self._now = _Now(now.place + 1, value)
 
     def redo(self, count: int, value: int) -> None:
-        """Redoes so many changes, which exist. The flow has this value then."""
+        """Redo `count` changes, which exist, up to a flow of this value."""
         now = self._now
         changes = [
             change
@@ -158,7 +158,7 @@ class History:
         self._now = _Now(now.place + count, value)
 
     def undo(self, count: int, value: int) -> None:
-        """Undoes so many changes, which exist. The flow has this value then."""
+        """Undo `count` changes, which exist, back to a flow of this value."""
         now = self._now
         changes = [
             change

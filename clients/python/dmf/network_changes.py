@@ -343,8 +343,8 @@ class ChangeableNetwork(Presentable[Node]):
         judge: Callable[[int], None],
         follow: Callable[[int, int], None],
     ) -> int:
-        """Steps so many changes back or on, and returns the value. `judge` raises if there are not
-        so many, and `follow` makes the same steps in what is kept, to a flow of a value.
+        """Step `count` changes back or on, and return the value. `judge` raises if there are fewer
+        changes, and `follow` makes the same steps in the history, to a flow of that value.
         """
         steps = whole(count, word, "a number of steps")
         judge(steps)

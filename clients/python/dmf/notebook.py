@@ -116,7 +116,7 @@ def _circle(drawing: Drawing, axes: Any) -> None:
 
 
 def table(title: str, head: Iterable[str], count: int, rows: Iterable[Iterable[object]]) -> str:
-    """A table in HTML with the first of so many rows."""
+    """Return a table in HTML with the first of `count` rows."""
     lines = [f"<p>{html.escape(title)}</p><table><thead>{_row('th', head)}</thead><tbody>"]
     lines += [_row("td", row) for row in islice(rows, MOST_ROWS)]
     lines.append("</tbody></table>")

@@ -133,8 +133,8 @@ def refuse_node(columns: Columns[Any], capacities: array[int], node: object) -> 
 
 
 class _ColumnBuilder:
-    """The columns of the rows so far, of so many that are expected. `numbers` gives each new node
-    the next number. It becomes a dictionary at the first node that is no whole number, or so large
+    """The columns of the rows so far, of `expected` rows in all. `numbers` gives each new node the
+    next number. It becomes a dictionary at the first node that is not a whole number, or so large
     that a dictionary takes less memory.
     """
 

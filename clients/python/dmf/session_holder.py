@@ -179,8 +179,8 @@ class SessionHolder(Generic[Node]):
         self._is_broken, self._why_over = True, ""
 
     def _go_without_session(self, place: int, value: int) -> None:
-        """Goes to the state after so many of the changes, with a flow of this value, without the
-        session. If that still goes on, it is ended, since something broke off its `undo`."""
+        """Go to the state after the first `place` changes, with a flow of this value, without the
+        session. A session that still runs is ended, since something broke off its `undo`."""
         self._lose_flows()
         if self._is_running:
             self._session.kill("the session was ended when a call was broken off")

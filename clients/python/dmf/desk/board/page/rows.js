@@ -15,7 +15,7 @@ export const COLUMNS = [["name", ""], ["from", "From"], ["to", "To"], ["flow", "
 export const title = (column, told) => make("th", make("span", told, { class: "unseen" }), { class: column, scope: "col" });
 
 /**
- * What stands for so many rows that cannot be seen.
+ * Returns a row as high as `count` rows, in place of those that are scrolled out of sight.
  * @param {number} count
  */
 export function spacer(count) {
@@ -44,7 +44,7 @@ function use(arc) {
 }
 
 /**
- * Has a row say what is so of an arc. The row stays where it is, since a click on one that is made anew under the pointer would be lost.
+ * Writes the state of an arc into its row. The row is reused: a click on one that was replaced under the pointer would be lost.
  * @param {HTMLTableRowElement} made
  * @param {Arc} arc
  */

@@ -27,7 +27,7 @@ let signs = 0;
 const words = () => `filter=${encodeURIComponent(field("filter").value.trim())}&sort=${order}`;
 
 /**
- * The numbers of so many arcs of the table. None where the board had another state when they were told: then other rows may stand there.
+ * Returns the numbers of `count` arcs of the table, or null if the board has changed since: other rows may stand there.
  * @param {number} first
  * @param {number} count
  * @returns {Promise<number[] | null>}
