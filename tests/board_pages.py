@@ -70,6 +70,14 @@ class Page:
             )
         )
 
+    def know_worth(self) -> None:
+        """Waits until the page shows what each arc is worth in the present state."""
+        script = (
+            "return document.getElementById('worst').ariaBusy === 'false' && "
+            "!document.querySelector('#grid td.old')"
+        )
+        self.wait(lambda: self.driver.execute_script(script))
+
     def wait(self, is_so: Callable[[], object]) -> None:
         """Waits until something is so. The longer it takes, the more seldom it is asked for, which
         takes time from the page too."""

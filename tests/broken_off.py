@@ -4,8 +4,8 @@ to open, its calls, and all that it tells."""
 from __future__ import annotations
 
 import contextlib
-from collections.abc import Callable
-from typing import Any
+from collections.abc import Callable, Iterable
+from typing import Any, Protocol
 
 from client_shared import PIPES, dmf
 
@@ -17,6 +17,21 @@ ROWS: list[Any] = [
     ("town", "mill", 2, "back"),
 ]
 Step = Callable[["dmf.Network[str]"], object]
+Call = Callable[[Any], object]
+
+
+class Breaker(Protocol):
+    """Breaks a call off at one of its places, which are counted from 1. At 0 it only counts
+    them."""
+
+    at: int
+    count: int
+
+    def call(self, call: Call, about: Any) -> bool:
+        """Return whether the call was broken off. Its end may come first."""
+        ...
+
+
 # Each call that asks the program, on a network that has something to undo, to redo and to open.
 CALLS: dict[str, Step] = {
     "solve": lambda network: network.solve(),
@@ -75,3 +90,32 @@ def all_told(network: dmf.Network[str]) -> list[tuple[object, ...]]:
             found.append(told(network))
     network.undo(on)
     return found
+
+
+States = tuple[tuple[object, ...], tuple[object, ...], tuple[object, ...]]
+
+
+def states(call: Call, counting: Breaker, **options: Any) -> States:
+    """Return all that a network tells before a call, after it, and after a solve that follows."""
+    with prepared(**options) as network:
+        before = told(network)
+        assert not counting.call(call, network)
+        after = told(network)
+        network.solve()
+        return before, after, told(network)
+
+
+def judge(call: Call, wanted: States, breaking: Iterable[Breaker], **options: Any) -> None:
+    """Break a call of networks off in each of these ways: the state is that before the call or that
+    after it, and the next calls are right."""
+    before, after, later = wanted
+    for it in breaking:
+        with prepared(**options) as network:
+            was_broken_off = it.call(call, network)
+            found = told(network)
+            assert found in ([before, after] if was_broken_off else [after]), it.at
+            if found != after:
+                call(network)
+                assert told(network) == after, it.at
+            network.solve()
+            assert told(network) == later, it.at

@@ -204,17 +204,28 @@ def installed(tmp_path_factory: pytest.TempPathFactory) -> Path:
     return folder
 
 
-@pytest.fixture(scope="session")
-def faults(tmp_path_factory: pytest.TempPathFactory) -> str:
-    """The library of tests/faults.c, which is preloaded to refuse memory and to let reads and
-    writes fail."""
-    with shared(tmp_path_factory, "faults.so") as library:
+def preloaded(factory: pytest.TempPathFactory, name: str) -> str:
+    """Return the library of a C file of tests/, which is made to be preloaded."""
+    with shared(factory, f"{name}.so") as library:
         if not library.exists():
-            source = ROOT / "tests" / "faults.c"
+            source = ROOT / "tests" / f"{name}.c"
             subprocess.run(
-                ["gcc", "-shared", "-fPIC", "-O1", "-Wall", "-o", library, source], check=True
+                ["gcc", "-shared", "-fPIC", "-O1", "-Wall", "-Wextra", "-o", library, source],
+                check=True,
             )
     return str(library)
+
+
+@pytest.fixture(scope="session")
+def faults(tmp_path_factory: pytest.TempPathFactory) -> str:
+    """The library that refuses memory, and lets reads and writes fail."""
+    return preloaded(tmp_path_factory, "faults")
+
+
+@pytest.fixture(scope="session")
+def interrupts(tmp_path_factory: pytest.TempPathFactory) -> str:
+    """The library that interrupts calls to the system."""
+    return preloaded(tmp_path_factory, "interrupts")
 
 
 class Types(NamedTuple):

@@ -240,7 +240,10 @@ def test_a_click_is_one_request(driver: Any) -> None:
         page.settle()
         clicks = [lambda: page.press("Close it"), lambda: page.click("#undo")]
         for click, looks in zip(clicks, ("closed", "of 15 litres")):
+            page.know_worth()
             driver.execute_script("performance.clearResourceTimings()")
             assert page.after(click) == 165
             assert looks in page.text("#what")
-            assert driver.execute_script(ASKED) == ["do"]
+            # What each is worth is asked for after that.
+            asked = [*driver.execute_script(ASKED), "worth"]
+            assert asked[: asked.index("worth")] == ["do"]

@@ -60,6 +60,7 @@ def settled(page: Page) -> Any:
     """What a page shows once all of it is there."""
     page.wait(lambda: page.text("#filter-told"))
     page.settle()
+    page.know_worth()
     return page.driver.execute_script(SHOWN)
 
 
@@ -71,7 +72,13 @@ def test_what_stays(driver: Any) -> None:
         before = rows_of(it)
         driver.execute_script(f"for (const it of {PIECES}) it.isOld = true")
         assert "error" not in it.do(what="cap", arc=12, capacity="20")
-        changed = {row["number"] for row, old in zip(rows_of(it), before) if row != old}
+        # What each is worth is found later.
+        unknown = {"without": "", "lost": ""}
+        changed = {
+            row["number"]
+            for row, old in zip(rows_of(it), before)
+            if {**row, **unknown} != {**old, **unknown}
+        }
         # Rows of the table stay, and say what is so now.
         wanted = {f"arc-{number}" for number in changed}
         assert 12 in changed and len(changed) < len(before) / 2

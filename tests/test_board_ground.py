@@ -34,7 +34,7 @@ const near = pen.getImageData(right - 2, down - 2, 5, 5).data;
 return Array.from({ length: 25 }, (_, place) => [...near.slice(4 * place, 4 * place + 3)]);
 """
 )
-LIMIT = {"light": [183, 28, 28], "dark": [255, 138, 128]}
+LIMIT = {"light": [200, 67, 11], "dark": [255, 141, 77]}
 
 
 def city(folder: Path, side: int) -> list[str]:
@@ -104,7 +104,7 @@ def judge_looks(it: Board) -> None:
     ground, looks, rows = it.told("ground"), it.told("looks"), rows_of(it)
     side, count = reached(rows), len(ground["tails"])
     told = {number: look for number, look in enumerate(looks["arcs"], 1) if look != " "}
-    told.update((number, look) for number, _, _, look in looks["added"])
+    told.update((number, mark[0]) for number, _, _, mark in looks["added"])
     assert told == {row["number"]: sign(row, side) for row in rows}
     names = dict(zip(ground["nodes"], ground["names"]))
     ends = {

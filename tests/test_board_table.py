@@ -5,7 +5,9 @@ file and from all sets of places."""
 from __future__ import annotations
 
 import json
+import math
 from collections.abc import Callable
+from fractions import Fraction
 from pathlib import Path
 from typing import Any
 from urllib.parse import quote
@@ -73,12 +75,26 @@ FILTERS: list[tuple[str, Callable[[Pipe], bool], str]] = [
         "capacity >= 60 and capacity <= 90",
     ),
     ("flows < 0", lambda pipe: False, "flow < 0"),
+    ("not capacity < 60", lambda pipe: pipe.capacity >= 60, "not capacity < 60"),
+    ("Not mill", lambda pipe: "Mill" not in str(pipe), "not 'mill' in the name"),
+    (
+        "limit and not mill lane",
+        lambda pipe: pipe.name in ("North rise", "South main"),
+        "limit and not 'mill lane' in the name",
+    ),
+    ("added", lambda pipe: False, "added"),
+    ("capacity > before", lambda pipe: False, "capacity > before"),
+    ("flow = before", lambda pipe: True, "flow = before"),
 ]
 # Filters without a meaning, and what is said.
 WRONG = [
     ("capacity < many", "'many' is not a number"),
     ("capacity <", "'capacity <' is not a condition"),
-    ("capacity ~ 5", "is not a condition; expected: name ~ TEXT"),
+    ("capacity ~ 5", "'capacity ~ 5' is not a condition; type a part of a name, or use > 80"),
+    ("use ~ 5", "'use ~ 5' is not a condition"),
+    ("use > most", "'most' is not a number"),
+    ("use > 80 l/s", "'80 l/s' is not a number"),
+    ("name > before", "'name > before' is not a condition"),
     ("length < 5", "'length < 5' is not a condition"),
     ("capacity < 1,200", "may be 1.2 or 1200"),
 ]
@@ -106,6 +122,72 @@ def test_filters() -> None:
             "rows?filter=&sort=&first=0",
         ):
             assert it.ask(it.root + path)[0] == 400, path
+
+
+def used(row: Any) -> Fraction:
+    """How much of a capacity is used, in hundredths, by what the table says."""
+    return Fraction(row["flow"]) * 100 / Fraction(row["capacity"])
+
+
+SHARES: list[tuple[str, Callable[[Fraction], bool]]] = [
+    ("use > 80", lambda share: share > 80),
+    ("USE<=75 %", lambda share: share <= 75),
+    ("use = 100", lambda share: share == 100),
+    ("use >= 50 and not use >= 80", lambda share: 50 <= share < 80),
+    ("use < 33.3", lambda share: share < Fraction("33.3")),
+]
+
+
+def test_use(tmp_path: Path) -> None:
+    """How much is used is compared exactly, of whole amounts and of decimals. What is closed uses
+    nothing of its capacity, and is not meant."""
+    decimals = tmp_path / "decimals.csv"
+    decimals.write_text("from,to,litres\nA,B,0.3\nA,C,0.9\nB,D,1.2\nC,D,0.6\nC,B,2\n")
+    for table in PIPES, str(decimals):
+        with board(table) as it:
+            it.do(what="close", arc=2)
+            of_all = rows(it)["rows"]
+            assert [row["number"] for row in of_all if row["closed"]] == [2]
+            for text, is_so in SHARES:
+                wanted = [row for row in of_all if not row["closed"] and is_so(used(row))]
+                assert rows(it, text)["rows"] == wanted, (table, text)
+
+
+def test_since_the_beginning() -> None:
+    """The table tells what was added, made wider and narrower, and where more and less flows than
+    at the beginning. A board that does not know the flows there says so."""
+    with board(PIPES) as it:
+        before = {row["number"]: int(row["flow"]) for row in rows(it)["rows"]}
+        assert "error" not in it.do(what="cap", arc=9, capacity="+30")
+        assert "error" not in it.do(what="cap", arc=12, capacity="-5")
+        assert "error" not in it.do(what="double", arc=1)
+        assert "error" not in it.do(what="close", arc=3)
+        now = {row["number"]: int(row["flow"]) for row in rows(it)["rows"]}
+        added = max(now)
+        assert added not in before
+        wanted = {
+            "added": {added},
+            "capacity > before": {9},
+            "capacity < before": {12},
+            "changed": {3, 9, 12, added},
+            "flow > before": {it for it, flow in now.items() if flow > before.get(it, 0)},
+            "flow < before": {it for it, flow in now.items() if flow < before.get(it, 0)},
+        }
+        for text, numbers in wanted.items():
+            assert {row["number"] for row in rows(it, text)["rows"]} == numbers, text
+        marks = {arc["number"]: arc["mark"] for arc in it.told("picture?near=")["arcs"]}
+        signs = {number: mark[2] for number, mark in marks.items()}
+        assert [signs[number] for number in (3, 9, 12, added)] == ["c", "w", "n", "a"]
+        for number in now.keys() - {3, 9, 12, added}:
+            by = now[number] - before[number]
+            assert signs[number] == ("+" if by > 0 else "-" if by < 0 else "."), number
+        # The square root of a capacity against the largest, and the tenths of it that are used.
+        most = max(int(row["capacity"]) for row in rows(it)["rows"])
+        for row in rows(it)["rows"]:
+            capacity, flow = int(row["capacity"]), int(row["flow"])
+            _, use, _, width = marks[row["number"]]
+            assert int(width) == round(9 * math.sqrt(capacity / most)), row
+            assert int(use) == min(9, 10 * flow // capacity), row
 
 
 def test_order(tmp_path: Path) -> None:

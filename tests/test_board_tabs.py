@@ -114,6 +114,7 @@ def test_late(driver: Any) -> None:
     with board(PIPES) as it:
         page = Page(driver, it.address)
         page.choose("arc-3", "North rise")
+        page.know_worth()
         driver.execute_script("window.deaf = true")
         it.do(what="close", arc=10)
         it.do(what="close", arc=9)

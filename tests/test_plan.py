@@ -168,7 +168,7 @@ def test_random() -> None:
     )
     desk.begin_again()
     again = [(it.text, it.value) for it in desk.steps[: desk.at]]
-    assert (again, desk.at, desk.network.lines) == (
+    assert (again, desk.at, [*desk.network.lines]) == (
         steps,
         at,
         lines,

@@ -93,8 +93,7 @@ def test_scripts() -> None:
 
 
 def test_lists() -> None:
-    """Places with what comes in and goes out, arcs by conditions and by their beginning, and the
-    worst to lose of all."""
+    """Places with what comes in and goes out, and arcs by conditions and by their beginning."""
     ran = run("dmf-plan", PIPES, typed="solve\nplaces\npipes\n")
     flows = {
         name: int(flow)
@@ -136,16 +135,6 @@ def test_lists() -> None:
     )
     small = [pipe.name for pipe in water() if pipe.capacity < 30 and pipe.tail[0] == "M"]
     assert [name for name in re.findall("#[0-9]+ (.*?),", ran.stdout)][-len(small) :] == small
-    losses = sorted(swept().items(), key=lambda it: it[1][0])
-    for words, count in ("", 10), (" 3", 3), (" 99", 14):
-        ran = run("dmf-plan", PIPES, typed=f"solve\nworst{words}\n")
-        found = [
-            (int(closed), int(second))
-            for closed, second in re.findall(
-                "closed ([0-9]+) .*, a second one ([0-9]+)", ran.stdout
-            )
-        ]
-        assert [closed for closed, _ in found] == [closed for _, (closed, _) in losses[:count]]
     for line, why in (
         ("worst no", "'no' is not a number"),
         ("pipes full", "usage: pipes"),
@@ -157,13 +146,13 @@ def test_lists() -> None:
     objects = [
         json.loads(line)
         for line in run(
-            "dmf-plan", "--json", PIPES, typed="solve\nfrom Mill\nworst 2\npipes\n"
+            "dmf-plan", "--json", PIPES, typed="solve\nfrom Mill\nwhat-if each arc\npipes\n"
         ).stdout.splitlines()
     ]
     assert [it["event"] for it in objects] == ["change", "flow", "sweep", "flow"]
     assert [len(objects[1]["arcs"]), len(objects[2]["trials"]), len(objects[3]["arcs"])] == [
         2,
-        2,
+        14,
         14,
     ]
 
@@ -287,10 +276,11 @@ def test_page(tmp_path: Path) -> None:
     ]
     prompt = re.compile("[0-9]+, .*greatest> ")
     typed = [line.partition("> ")[2] for line in lines if prompt.match(line)]
-    assert len(typed) == 5 and typed[3:] == ["quit", "cost to 175"]
+    assert len(typed) == 7 and typed[5:] == ["quit", "cost to 175"]
     # A terminal solves at first, and a script is told so.
-    ran = run("dmf-plan", PIPES, typed="".join(f"{line}\n" for line in ["solve", *typed[:4]]))
-    told = [line for line in lines if re.match("value |  #.*: closed ", line)]
+    ran = run("dmf-plan", PIPES, typed="".join(f"{line}\n" for line in ["solve", *typed[:6]]))
+    session = lines[: lines.index("165, greatest> quit")]
+    told = [line for line in session if re.match("value |  |closing ", line)]
     found = ran.stdout.replace(", 165 more", "", 1).splitlines()
     assert (found, ran.returncode) == (told, 0), f"the session of docs/PLAN.md: {ran}"
     costs = {3: 4, 9: 9, 14: 6}
@@ -415,3 +405,41 @@ def test_what_was_closed_last_is_opened() -> None:
         without(),
         without(),
     ] and ran.stderr.endswith(": nothing is closed\n"), ran
+
+
+def test_demands() -> None:
+    """Which shops get what they ordered: the flows on the routes to them beside their orders."""
+    supply = ROOT / "examples/supply"
+    rows = (supply / "orders.csv").read_text().splitlines()[1:]
+    orders = {shop: int(pallets) for shop, pallets in (row.split(",") for row in rows)}
+    ran = run(
+        "dmf-plan",
+        f"--sources={supply}/stock.csv",
+        f"--sinks={supply}/orders.csv",
+        f"{supply}/routes.csv",
+        typed='solve\nplaces\nshut "East Depot"\nsolve\npipes\nplaces\nshut Abbey\nplaces\n',
+    )
+    all_met, _, flooded, shut = re.split("^value .*\n", ran.stdout, flags=re.MULTILINE)[1:]
+    assert shops(all_met) == {shop: (ordered, ordered, 0) for shop, ordered in orders.items()}
+    assert all_met.splitlines()[-1] == "all demands are met"
+    brought = dict.fromkeys(orders, 0)
+    for shop, flow in re.findall("^  #[0-9]+ .* -> (.*): ([0-9]+) of", flooded, re.MULTILINE):
+        brought[shop] += int(flow)
+    wanted = {shop: (met, orders[shop], orders[shop] - met) for shop, met in brought.items()}
+    # examples/supply/README.md has the value.
+    assert shops(flooded) == wanted and sum(short for *_, short in wanted.values()) == 150 - 126
+    short = {shop: it for shop, it in wanted.items() if it[2]}
+    told = ", ".join(f"{shop} ({it[0]} of {it[1]})" for shop, it in sorted(short.items()))
+    assert flooded.splitlines()[-1] == f"short by 24 pallets: {' and '.join(told.rsplit(', ', 1))}"
+    assert shops(shut) == {**wanted, "Abbey": (0, 18, 18)}
+    assert shut.splitlines()[-1].startswith("short by 42 pallets: Abbey (0 of 18), ")
+
+
+def shops(text: str) -> dict[str, tuple[int, int, int]]:
+    """What comes into each sink, what it asks for, and what it is said to be short of."""
+    lines = re.findall(
+        "^  (.*): ([0-9]+) of ([0-9]+) in, 0 out, a sink(?:, ([0-9]+) short)?(?:, |$)",
+        text,
+        re.MULTILINE,
+    )
+    return {shop: (int(met), int(ordered), int(short or 0)) for shop, met, ordered, short in lines}

@@ -25,6 +25,7 @@ ONE_CALL = (
     "value",
     "minimum_cut",
     "maximum_flow",
+    "vital",
     "from_networkx",
     "from_igraph",
     "from_scipy",

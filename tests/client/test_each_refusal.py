@@ -203,7 +203,9 @@ def test_no_flow_that_is_understood() -> None:
             f"case $line in solve) echo c solve value 5;; *) echo s 5; {five} {line}; done;; esac"
         ) as network:
             plan = network.solve()
-            with pytest.raises(dmf.SessionEnded, match="was not understood: it told no flow"):
+            with pytest.raises(
+                dmf.SessionEnded, match="was not understood: it does not have a flow"
+            ):
                 list(plan.values())
 
 

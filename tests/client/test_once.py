@@ -16,7 +16,7 @@ from packages import load
 names = "numpy", "pandas", "networkx", "scipy.sparse", "scipy.sparse.csgraph"
 numpy, pandas, networkx, sparse, csgraph = map(load, names)
 SECONDS = 20
-ONE_CALL: list[Any] = [dmf.value, dmf.minimum_cut, dmf.maximum_flow]
+ONE_CALL: list[Any] = [dmf.value, dmf.minimum_cut, dmf.maximum_flow, dmf.vital]
 DICTIONARY = {"lake": {"mill": 3, "town": 2}, "mill": {"town": 5, "sea": 2}, "town": {"sea": 3}}
 FLOWS = {
     "lake": {"mill": 3, "town": 2},
@@ -186,10 +186,10 @@ def test_edges_without_a_bound() -> None:
     )
     assert dmf.maximum_flow(graph, "a", "c") == networkx.maximum_flow(graph, "a", "c")
     assert dmf.minimum_cut(graph, "a", "c")[0] == networkx.minimum_cut_value(graph, "a", "c") == 6
-    theirs_of = [networkx.maximum_flow_value, networkx.minimum_cut, networkx.maximum_flow]
-    for call, theirs in zip(ONE_CALL, theirs_of):
+    for theirs in networkx.maximum_flow_value, networkx.minimum_cut, networkx.maximum_flow:
         with pytest.raises(networkx.NetworkXUnbounded):
             theirs(graph, "a", "d")
+    for call in ONE_CALL:
         with pytest.raises(dmf.Unbounded, match="^the flow has no bound: "):
             call(graph, "a", "d")
     assert dmf.value(graph, "a", "d", infinite=3) == 3

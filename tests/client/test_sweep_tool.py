@@ -240,11 +240,14 @@ def test_an_interrupt() -> None:
     """It ends the tool and its programs, the table has whole lines, and the next run goes on after
     them."""
     wanted = large()
+    # Each case is tried; --close-each would answer them together.
+    Path("cases.txt").write_text("".join(f"{row[1]}\n" for row in wanted))
     command = [
         sys.executable,
         f"{ROOT}/tools/dmf-sweep",
         "net.max",
-        "--close-each",
+        "--cases",
+        "cases.txt",
         "--table",
         "table.csv",
         "--jobs",

@@ -177,7 +177,8 @@ def test_it_is_lazy_and_leaves_nothing() -> None:
         assert [next(results).value for _ in range(5)] == [2, 3, 4, 5, 5]
         assert len(taken) < 30
         results.close()
-    assert children() == before
+    # Networks of earlier tests may be collected meanwhile.
+    assert children() <= before
 
 
 @pytest.mark.pipe
@@ -228,7 +229,8 @@ def test_an_interrupt_ends_all() -> None:
             signal.signal(signal.SIGALRM, old)
         assert time.monotonic() - began < SECONDS
         assert network.solve().value == 5
-    assert children() == before
+    # Networks of earlier tests may be collected meanwhile.
+    assert children() <= before
 
 
 def test_errors_of_the_caller() -> None:

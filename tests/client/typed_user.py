@@ -29,6 +29,8 @@ def changes(network: dmf.Network[str]) -> list[str]:
         for result in dmf.sweep(copy, dmf.each_arc_closed(), jobs=1):
             case: dmf.SweepResult[str] = result
             print(case.value, case.difference, case.refusal)
+        lost: dmf.VitalArcs[str] = copy.vital(top=3)
+        print([(arc.tail, left, loss) for arc, left, loss in lost], dmf.vital([], "a", "b").value)
         for cases in (
             dmf.each_node_shut(),
             dmf.each_capacity_raised(1),

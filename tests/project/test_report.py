@@ -4,6 +4,8 @@ other, in which names are text; and that it fits a screen, a phone and a sheet o
 from __future__ import annotations
 
 import base64
+import itertools
+import random
 import re
 import shutil
 import subprocess
@@ -15,6 +17,7 @@ from xml.etree import ElementTree
 
 import dmf
 import pytest
+from client_shared import BUILT
 from desk_shared import ODD, PIPES, ROOT, STORY, desk_of, run, swept, water, water_problem, without
 from dmf.desk.project import report as project_findings
 from dmf.desk.project.report import checked, findings, report
@@ -108,18 +111,81 @@ def test_water(tmp_path: Path) -> None:
         for name, (_, doubled) in wanted.items()
         if doubled > 165
     }
-    assert losses | gains == {it for it in tried if it[1].isdigit()}
+    # Ten of each are listed, those that cost and bring most first, and how many more there are.
+    shown = {it for it in tried if it[1].isdigit()}
+    assert shown <= losses | gains and shown >= gains
+    listed = sorted((int(loss) for _, loss, _ in shown & losses - gains), reverse=True)
+    assert listed == sorted((int(loss) for _, loss, _ in losses), reverse=True)[:10]
+    assert f"and {len(losses) - 10} more" in page.text
     assert [*map(str, re.findall("c greatest ([0-9]+)", page.text))] == ["165", "155", "180", "165"]
     assert len(page.pictures) == 4 and all(
         ElementTree.fromstring(it).tag.endswith("svg") for it in page.pictures
     )
-    assert (
-        "Bridge pipe" in page.pictures[1]
-        and "closed" in page.pictures[1]
-        and "New" in page.pictures[2]
-    )
+    # What is closed is dashed, and has a label only where that can be read.
+    assert ["stroke-dasharray" in it for it in page.pictures] == [False, True, False, False]
+    assert "Bridge pipe" in page.text
     assert (project_of(desk).scenario.name, desk.value) == ("today", 165)
     desk.end()
+
+
+def test_demands(tmp_path: Path) -> None:
+    """What each place takes and gets, those that are short of most first, and how many are short:
+    of places at one source, whose only ways are of these capacities."""
+    (tmp_path / "ways.csv").write_text(
+        "from,to,litres\nWell,North,5\nWell,South,9\nWell,East,2\nEast,West,1\n"
+    )
+    (tmp_path / "takes.csv").write_text("place,litres\nNorth,7\nSouth,9\nWest,8\n")
+    words = ["--source", "Well", "--sinks", f"{tmp_path}/takes.csv", f"{tmp_path}/ways.csv"]
+    ran = run("dmf-plan", *words, typed=f"solve\nreport {tmp_path}/report.html\n")
+    assert ran.returncode == 0, ran.stderr
+    page = Page((tmp_path / "report.html").read_text())
+    assert [row for row in page.rows if row[0] in ("North", "South", "West")] == [
+        ["West", "8", "1", "7 litres short"],
+        ["North", "7", "5", "2 litres short"],
+        ["South", "9", "9", "met"],
+    ]
+    assert "2 of 3 demands are short." in page.text
+
+
+def test_labels_are_read_on_paper(tmp_path: Path) -> None:
+    """The picture of a town has at most 30 labels, each at least 8 points high on a sheet of A4,
+    and none on another; some of the bottleneck are among them. No list has more than five names
+    without saying how many more there are."""
+    chance = random.Random(4)
+    rows = [
+        f"P{row}{column},P{row + down}{column + 1 - down},{chance.randint(3, 9)},{row}{column}"
+        for row in range(9)
+        for column in range(9)
+        for down in (0, 1)
+    ]
+    rows += [f"P9{at},P9{at + 1},4,last {at}" for at in range(9)]
+    rows += [f"P{at}9,P{at + 1}9,4,right {at}" for at in range(9)]
+    (tmp_path / "town.csv").write_text("from,to,litres,pipe\n" + "\n".join(rows) + "\n")
+    words = ["--source", "P00", "--sink", "P99", f"{tmp_path}/town.csv"]
+    ran = run("dmf-plan", *words, typed=f"solve\nreport {tmp_path}/report.html\n")
+    assert ran.returncode == 0, ran.stderr
+    page = Page((tmp_path / "report.html").read_text())
+    [picture] = page.pictures
+    root = ElementTree.fromstring(picture)
+    _, _, width, height = map(float, (root.get("viewBox") or "").split())
+    # In points: a sheet of 210 mm less its margins of 16 mm and those of the frame.
+    by = min((210 - 2 * 16) / 25.4 * 72 / width, 116 / 25.4 * 72 / height)
+    labels = []
+    for group in root.iter("{http://www.w3.org/2000/svg}g"):
+        texts = group.findall("{http://www.w3.org/2000/svg}text")
+        if texts:
+            labels.append([(float(it.get("x") or 0), float(it.get("y") or 0)) for it in texts])
+            assert all(float(it.get("font-size") or 0) * by >= 8 for it in texts)
+    assert 5 < len(labels) <= 30
+    spots = [spot for label in labels for spot in label]
+    assert all(
+        abs(one[1] - other[1]) * by >= 8 or abs(one[0] - other[0]) * by >= 8
+        for one, other in itertools.combinations(spots, 2)
+    )
+    limit = {row[0].partition(",")[0] for rows in limits(page) for row in rows}
+    names = {it.text for it in root.iter("{http://www.w3.org/2000/svg}text")}
+    assert limit & names
+    assert re.search("Before it: (?:[^,]+, ){4}[^,]+ and [0-9]+ more", page.text)
 
 
 def limits(page: Page) -> list[list[list[str]]]:
@@ -160,6 +226,8 @@ def test_alone(tmp_path: Path) -> None:
 
 def test_without_graphviz(tmp_path: Path, monkeypatch: pytest.MonkeyPatch) -> None:
     desk = water_project(tmp_path)
+    # `./dmf` needs other programs too.
+    monkeypatch.setenv("DMF", BUILT)
     monkeypatch.setenv("PATH", str(tmp_path))
     page = Page(report(desk))
     assert (
@@ -218,7 +286,7 @@ def test_the_check_is_one(monkeypatch: pytest.MonkeyPatch) -> None:
     wrong = desk.flows()[:]
     wrong[0] -= 1
     monkeypatch.setattr(Desk, "flows", lambda self: wrong)
-    with pytest.raises(DeskFault, match="dmf check does not find the flow greatest"):
+    with pytest.raises(DeskFault, match="dmf check does not confirm the flow"):
         checked(desk)
     monkeypatch.undo()
     desk.end()

@@ -39,6 +39,8 @@ close Mill Lane
 keep
 what-if close North rise
 what-if each arc of the cut
+worst 2
+worth Mill Lane
 scenario
 scenario new B from first
 cap where name ~ Market +10 %
@@ -152,7 +154,7 @@ def test_the_water_story(folder: Path) -> None:
             "dmf-plan",
             f"{folder}/water.max",
             "--json",
-            typed=SCRIPT + "undo 2\ncut\nwhat-if each arc\n",
+            typed=SCRIPT + "undo 2\ncut\nwhat-if each arc\nworst 2\nworth Mill Lane\n",
         ).stdout
     )
     solves = [at for at, line in enumerate(SCRIPT.splitlines(), 1) if line == "solve"]
@@ -168,6 +170,17 @@ def test_the_water_story(folder: Path) -> None:
     assert {
         it["arc"]["name"]: (it["closed"]["raw"], it["doubled"]["raw"]) for it in trials
     } == swept()
+    worst, worth = (it for it in told if it["event"] == "worth")
+    left = {name: closed for name, (closed, _) in swept().items()}
+    losses = [*worst["losses"], *worth["losses"]]
+    assert [it["arc"]["name"] for it in losses] == [*sorted(left, key=left.__getitem__)[:2], LANE]
+    assert all(it["without"]["raw"] == left[it["arc"]["name"]] for it in losses)
+    assert all(it["loss"]["raw"] == 165 - left[it["arc"]["name"]] for it in losses)
+    assert worst["more"] == sum(value < 165 for value in left.values()) - 2
+    assert (worst["together"], worth["together"]["raw"]) == (None, left[LANE])
+
+
+LANE = "Mill Lane"
 
 
 def test_names(folder: Path) -> None:

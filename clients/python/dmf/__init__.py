@@ -10,7 +10,8 @@ help(dmf.Network)         a network: its changes, flows and cuts; undo
 help(dmf.Solution)        a flow: by arcs, as an array, a frame, a matrix, a dictionary
 help(dmf.Cut)             the limit: its capacity, its arcs, its two sides
 help(dmf.maximum_flow)    of a graph of networkx or igraph, or a matrix of scipy, in one call;
-                          also minimum_cut, and value alone
+                          also minimum_cut, value alone, and vital: what is
+                          lost without each arc
 help(dmf.read)            a network of a file; also from_networkx, from_igraph, from_scipy, and
                           Network.from_arrays, Network.from_frame
 help(dmf.open_project)    a project of dmf-plan: its scenarios, compared; its steps
@@ -90,6 +91,7 @@ if TYPE_CHECKING:
     from .graphs import maximum_flow as maximum_flow
     from .graphs import minimum_cut as minimum_cut
     from .graphs import value as value
+    from .graphs import vital as vital
     from .network import Network as Network
     from .network import Row as Row
     from .network import ScaledNetwork as ScaledNetwork
@@ -107,6 +109,7 @@ if TYPE_CHECKING:
     from .tables.network_loader import read_table as read_table
     from .tables.problem_networks import read as read
     from .tables.table_network import TableNetwork as TableNetwork
+    from .vital_arcs import VitalArcs as VitalArcs
 
 # The public names of each module, but for those of the exceptions, which the module `errors` knows
 # itself.
@@ -118,7 +121,7 @@ _NAMES = {
     "desk.project.strict_json": ["ProjectFault"],
     "graph_flows": ["EdgeFlow", "MatrixFlow"],
     "graph_networks": ["from_igraph", "from_networkx", "from_scipy"],
-    "graphs": ["maximum_flow", "minimum_cut", "value"],
+    "graphs": ["maximum_flow", "minimum_cut", "value", "vital"],
     "network": ["Network", "Row", "ScaledNetwork"],
     "scaled_solution": ["ScaledSolution"],
     "session.executable": ["program"],
@@ -135,6 +138,7 @@ _NAMES = {
     "tables.network_loader": ["read_table"],
     "tables.problem_networks": ["read"],
     "tables.table_network": ["TableNetwork"],
+    "vital_arcs": ["VitalArcs"],
 }
 _HOMES = {name: module for module, names in _NAMES.items() for name in names}
 if not TYPE_CHECKING:

@@ -2,13 +2,14 @@
 
 from __future__ import annotations
 
+from array import array
 from collections.abc import Hashable, Mapping
 from functools import partial
 from typing import TYPE_CHECKING, Any, Dict, overload
 
 from .capacities import CapacityReader, Scale
 from .columns import Node
-from .errors import Refused
+from .errors import CapacitiesPast64Bits, Refused
 from .graph_flows import EdgeFlow, MatrixFlow, flow_dictionaries, flows_on_edges, net_matrix
 from .graph_rows import GivenNetwork, given_network, is_igraph, is_networkx
 from .rows import Whole
@@ -24,11 +25,13 @@ from .session.base import (
 )
 from .session.fresh import CUT, FLOW, VALUE, Solved, solved
 from .session.runners import chosen, program_of
-from .text.lexical import LARGEST
+from .text.lexical import AMOUNTS, LARGEST
 from .unbounded_arcs import BoundlessFlow, flows_of, solve_unbounded
 
 if TYPE_CHECKING:
     from decimal import Decimal
+
+    from .vital_arcs import VitalArcs
 
     Flows = Dict[Node, Dict[Node, int]]
 
@@ -298,6 +301,76 @@ def maximum_flow(
     if is_igraph(graph):
         return EdgeFlow(amount, list(map(reader.quantity, flows_on_edges(graph, flows))))
     return amount, flow_dictionaries(graph, given, flows, reader)
+
+
+def vital(
+    graph: Any,
+    source: Hashable,
+    sink: Hashable,
+    capacity: str = "capacity",
+    *,
+    top: int | None = None,
+    infinite: Any = None,
+    scale: Scale | None = None,
+    program: Program = None,
+) -> VitalArcs[Any]:
+    """Return the greatest value, and for each arc the greatest value without it.
+
+    The program finds all of them from one greatest flow, in a fraction of the time that it takes
+    to close each arc and solve. No session is left.
+
+    An undirected edge is two opposite arcs, and each value is that without one of them. The value
+    without both is the lesser of the two.
+
+    Parameters
+    ----------
+    graph, source, sink, capacity, infinite, scale, program
+        As those of `value`.
+    top
+        How many arcs are returned: those whose loss costs most, the greatest loss first, and of
+        equal losses the first arc. By default all are returned, in their order.
+
+    Returns
+    -------
+    VitalArcs
+        The value, the arcs, the value without each, and the loss of each.
+
+    Raises
+    ------
+    CapacitiesPast64Bits
+        Also if arcs without a bound may carry more than 2^64 - 1 together.
+    Error
+        What `maximum_flow` raises.
+
+    Examples
+    --------
+    >>> graph = {"lake": {"mill": 3, "sea": 1}, "mill": {"sea": 2}}
+    >>> found = vital(graph, "lake", "sea")
+    >>> found.value, list(found.values), list(found.losses)
+    (3, [1, 2, 1], [2, 1, 2])
+    """
+    from .vital_arcs import VitalArcs
+
+    reader = CapacityReader(infinite, scale)
+    given = given_network(graph, source, sink, capacity, reader)
+    state = given.state
+    problem = _bounded(given, program) if given.unbounded else state.problem()
+    try:
+        return VitalArcs.of(state.every_arc(), problem, program, reader.measure, top)
+    except Refused as refused:
+        raise where(refused, state.handle) from None
+
+
+def _bounded(given: GivenNetwork, program: Program) -> ProblemColumns:
+    """Return a problem in which no arc carries more than the greatest value. With or without any
+    arc, its greatest value is the same as if arcs had no bound."""
+    problem, most = given.state.problem(), _solved(given, VALUE, program).value
+    rooms = [min(room, most) for room in problem.capacities]
+    for place in given.unbounded:
+        rooms[place] = most
+    if sum(rooms) > LARGEST:
+        raise CapacitiesPast64Bits("arcs without a bound")
+    return problem._replace(capacities=array(AMOUNTS, rooms))
 
 
 def _solved(given: GivenNetwork, words: list[str], program: Program) -> Solved | BoundlessFlow:

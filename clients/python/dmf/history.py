@@ -80,7 +80,7 @@ class History:
     def begin_with(self, value: int) -> None:
         """Takes the present state, with a flow of this value, as the first one."""
         self._changes: list[Change | Command] = []
-        self._now = self._start = _Now(0, value)
+        self.moment = self._start = _Now(0, value)
         # The way back to the state before the present call, if that has changed anything.
         self._back: _Back | None = None
 
@@ -93,18 +93,12 @@ class History:
     @property
     def place(self) -> int:
         """How many changes led to the present state, forgotten ones counted."""
-        return self._now.place
+        return self.moment.place
 
     @property
     def value(self) -> int:
         """The value of the present flow."""
-        return self._now.value
-
-    @property
-    def moment(self) -> object:
-        """Something that is another one after each change, and where changes were undone or
-        redone."""
-        return self._now
+        return self.moment.value
 
     def has_after(self, place: int, changes: Sequence[Change]) -> bool:
         """Return True if these very changes follow the first `place` ones, made or undone."""
@@ -114,8 +108,8 @@ class History:
     def changes_after(self, place: int) -> tuple[Change, ...]:
         """Return the changes that are made after the first `place` ones. None of them may be
         forgotten."""
-        made = self._changes[place : self.place]
-        return tuple(change for change in made if isinstance(change, Change))
+        made = self._changes[place : self.moment.place]
+        return tuple([change for change in made if isinstance(change, Change)])
 
     def commands(self) -> list[Command]:
         """The commands that lead from the first state to the present one, by way of all that was
@@ -129,7 +123,7 @@ class History:
     def begin_call(self) -> None:
         """Takes the present state as that to which `roll_back` leads, and forgets what the change
         past the bound did."""
-        self._back, place = None, self._now.place
+        self._back, place = None, self.moment.place
         oldest = self._changes[place - self.most - 1] if place > self.most else None
         if isinstance(oldest, Change):
             self._changes[place - self.most - 1] = oldest.command
@@ -137,16 +131,16 @@ class History:
     def note(self, change: Change, value: int) -> None:
         """Notes a change that the session made, makes it here, and drops what was undone. The flow
         has this value then."""
-        now = self._now
+        now = self.moment
         self._back = _Back(now, made=[change], dropped=self._changes[now.place :])
         change.value = value
         self._changes[now.place :] = [change]
         self._make(change)
-        self._now = _Now(now.place + 1, value)
+        self.moment = _Now(now.place + 1, value)
 
     def redo(self, count: int, value: int) -> None:
         """Redo `count` changes, which exist, up to a flow of this value."""
-        now = self._now
+        now = self.moment
         changes = [
             change
             for change in self._changes[now.place : now.place + count]
@@ -155,11 +149,11 @@ class History:
         self._back = _Back(now, made=changes)
         for change in changes:
             self._make(change)
-        self._now = _Now(now.place + count, value)
+        self.moment = _Now(now.place + count, value)
 
     def undo(self, count: int, value: int) -> None:
         """Undo `count` changes, which exist, back to a flow of this value."""
-        now = self._now
+        now = self.moment
         changes = [
             change
             for change in self._changes[now.place - count : now.place]
@@ -168,7 +162,7 @@ class History:
         self._back = _Back(now, unmade=changes)
         for change in reversed(changes):
             self._unmake(change)
-        self._now = _Now(now.place - count, value)
+        self.moment = _Now(now.place - count, value)
 
     def roll_back(self) -> None:
         """Goes back to the state before the present call, whatever of the call was done."""
@@ -180,7 +174,7 @@ class History:
                 self._make(change)
             if back.dropped is not None:
                 self._changes[back.now.place :] = back.dropped
-            self._now = back.now
+            self.moment = back.now
             self._back = None
 
     def _make(self, change: Change) -> None:
@@ -196,7 +190,7 @@ class History:
             _with_own_arc(change, again) if isinstance(change, Change) else change
             for change in other._changes
         ]
-        self._now, self._back = _Now(other.place, other.value), None
+        self.moment, self._back = _Now(other.place, other.value), None
 
     def forget_undone(self) -> None:
         """Forgets what was undone, so that nothing of it can be made again."""

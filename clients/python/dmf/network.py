@@ -8,6 +8,7 @@ from collections.abc import Hashable, Iterable, Iterator
 from typing import TYPE_CHECKING, Any, NoReturn, Tuple, Union
 
 from . import arrays
+from .arcs import OpenArcs
 from .capacities import CapacityReader, Scale
 from .columns import Columns, Node
 from .errors import Refused, SessionEnded
@@ -20,6 +21,7 @@ from .state import NetworkState
 
 if TYPE_CHECKING:
     from .quantity import Measure
+    from .vital_arcs import VitalArcs
 
 # An arc as the caller gives it: its tail, its head, its capacity and, if it has one, its key.
 Row = Union[Tuple[Node, Node, Whole], Tuple[Node, Node, Whole, Hashable]]
@@ -336,6 +338,55 @@ class Network(ChangeableNetwork[Node]):
         copy = type(self)._of(self._kept.twin(), self._session.way)
         copy._session.program = self._session.program
         return copy
+
+    def vital(self, top: int | None = None) -> VitalArcs[Node]:
+        """Find for each arc the greatest value without it.
+
+        The program finds all of them from one greatest flow, in a fraction of the time that it
+        takes to close each arc and solve. It reads the network as it is now, with all changes; the
+        network stays as it is, and its flow need not be greatest. The library does not have this,
+        so a program is needed.
+
+        Parameters
+        ----------
+        top
+            How many arcs are returned: those whose loss costs most, the greatest loss first, and
+            of equal losses the first arc. By default all are returned, in their order.
+
+        Returns
+        -------
+        VitalArcs
+            The greatest value, the arcs, the value without each, and the loss of each. A closed
+            arc is one of them, and costs nothing to lose.
+
+        Raises
+        ------
+        NoProgram
+            If no program is found that fits.
+        NotANumber
+            If `top` is not a whole number.
+
+        Examples
+        --------
+        >>> network = Network(
+        ...     [("lake", "mill", 3), ("mill", "sea", 2), ("lake", "sea", 1)], "lake", "sea")
+        >>> found = network.vital()
+        >>> found.value, list(found.values), list(found.losses)
+        (3, [1, 1, 2], [2, 2, 1])
+        >>> [(arc.tail, arc.head, loss) for arc, _, loss in network.vital(top=1)]
+        [('lake', 'mill', 2)]
+        """
+        from .vital_arcs import VitalArcs
+
+        self._ready()
+        kept = self._kept.copy()
+        return VitalArcs.of(
+            self._every_arc(), kept.problem(), self._session.program, self._measure, top
+        )
+
+    def _every_arc(self) -> OpenArcs[Node]:
+        """All arcs that callers see, closed ones too."""
+        return self._kept.every_arc()
 
     def end(self) -> None:
         """End the session. The network answers nothing after that.

@@ -19,9 +19,9 @@ Other = TypeVar("Other")
 
 
 class Flows(Generic[Node]):
-    """The flow of one state of a network. It asks the session for it when somebody looks at it, and
-    at the latest before the network changes. It keeps what it was told, a text or an array, and
-    reads a text when somebody looks at a flow.
+    """The flow of one state of a network, fetched from the session when it is first needed, and at
+    the latest before the network changes. It keeps the session's answer, a text or an array, and
+    parses a text when a flow is first looked up.
     """
 
     def __init__(
@@ -35,18 +35,18 @@ class Flows(Generic[Node]):
         self._told: Told = b""
 
     def settle(self, ask: Callable[[], Told] | None = None) -> None:
-        """Takes the flow, if it was not asked for yet. A caller who is using the session passes the
-        function that asks for it."""
+        """Fetch the flow, unless that was done before. A caller that is using the session passes
+        the function that asks it."""
         own = self._ask
         if own:
             told = (ask or own)()
-            # Another thread that changed the network meanwhile took it first.
+            # Another thread that changed the network meanwhile may have fetched it first.
             if self._ask:
                 self._told, self._ask = told, None
 
     def lose(self, error: SessionEnded) -> None:
-        """Notes that the session can tell the flow no more, if it was not asked for yet: whoever
-        asks for it gets this error."""
+        """Record that the session can no longer answer. If the flow was not fetched before, asking
+        for it raises this error."""
 
         def ask() -> Told:
             raise error
@@ -55,31 +55,30 @@ class Flows(Generic[Node]):
             self._ask = ask
 
     def part(self, ask: Callable[[], Told]) -> None:
-        """Takes all that the network no longer has after a change."""
+        """Fetch and copy everything that the network will no longer have after a change."""
         self.settle(ask)
         self._capacities = self._capacities[:]
 
     def told(self) -> Told:
-        """The text of the solution, or the flow on each open arc."""
+        """Return the session's answer: the text of the solution, or the flow on each open arc."""
         self.settle()
         return self._told
 
     def numbers(self) -> array[int]:
-        """The flow on each open arc. Raises `SessionEnded` if the program answered something
-        else."""
+        """Return the flow on each open arc, or raise `SessionEnded` if the answer has none."""
         told = self.told()
         if isinstance(told, array):
             return told
         numbers = read_flows(told, len(self.arcs))
         if numbers is None:
             raise SessionEnded(
-                "what dmf answered was not understood: it told no flow for each open arc"
+                "the answer of dmf was not understood: it does not have a flow for each open arc"
             )
         self._told = numbers
         return numbers
 
     def capacities(self) -> array[int]:
-        """The capacities of the open arcs."""
+        """Return the capacities of the open arcs."""
         return self.arcs.chosen(self._capacities)
 
     def __reduce__(self) -> tuple[Any, ...]:
@@ -95,7 +94,7 @@ def _settled(
 
 
 class _Values(ValuesView[int]):
-    """The flows in the order of the arcs. Looks up no arc."""
+    """The flows in the order of the arcs, without looking up each arc."""
 
     def __init__(self, solution: Solution[Any]) -> None:
         super().__init__(solution)
@@ -106,7 +105,7 @@ class _Values(ValuesView[int]):
 
 
 class _Items(ItemsView[Arc[Node], int]):
-    """The arcs with their flows. Looks up no arc."""
+    """The arcs with their flows, without looking up each arc."""
 
     def __init__(self, solution: Solution[Node]) -> None:
         super().__init__(solution)
@@ -117,11 +116,10 @@ class _Items(ItemsView[Arc[Node], int]):
 
 
 class Solution(Mapping[Arc[Node], int], Generic[Node]):
-    """A flow: the flow on each open arc of a network, in their order. `value` is the flow from the
-    source to the sink.
+    """The flow on each open arc of a network, in the order of the arcs, and its value.
 
-    `solution[arc]` looks an arc up by its handle, by its key, or by `(tail, head)`. It raises
-    `NoSuchArc` if that names no open arc, and `AmbiguousArc` if it names several:
+    `solution[arc]` looks up an arc by its handle, its key, or its ends `(tail, head)`. It raises
+    `NoSuchArc` if no open arc matches, and `AmbiguousArc` if several do:
 
     >>> rows = [("a", "b", 3), ("a", "b", 4), ("b", "c", 5, "pipe")]
     >>> with Network(rows, source="a", sink="c") as network:
@@ -129,8 +127,8 @@ class Solution(Mapping[Arc[Node], int], Generic[Node]):
     >>> solution["pipe"], solution["b", "c"], solution.between("a", "b"), solution.value
     (5, 5, 5, 5)
 
-    The session tells the flows when somebody looks at one, and at the latest before the network
-    changes or ends; so a value alone costs nothing more.
+    The flows are fetched from the session when one is first looked up, and at the latest before
+    the network changes or is closed, so reading only the value costs nothing more.
     """
 
     __module__ = __package__
@@ -140,7 +138,7 @@ class Solution(Mapping[Arc[Node], int], Generic[Node]):
 
     @property
     def value(self) -> int:
-        """Return the value of the flow, from the source to the sink.
+        """Return the value of the flow: the net amount that leaves the source.
 
         Examples
         --------
@@ -163,19 +161,19 @@ class Solution(Mapping[Arc[Node], int], Generic[Node]):
         ...
 
     def get(self, arc: Hashable, /, default: Any = None) -> Any:
-        """Return `solution[arc]`, or `default` if that names no open arc.
+        """Return `solution[arc]`, or `default` if no open arc matches.
 
         Parameters
         ----------
         arc
-            A handle, a key, or the ends `(tail, head)`.
+            The arc's handle, its key, or its ends `(tail, head)`.
         default
-            What is returned instead.
+            The value to return if no open arc matches.
 
         Raises
         ------
         AmbiguousArc
-            If it names several open arcs.
+            If several open arcs match.
 
         Examples
         --------
@@ -230,12 +228,12 @@ class Solution(Mapping[Arc[Node], int], Generic[Node]):
         return _Items(self)
 
     def between(self, tail: Node, head: Node) -> int:
-        """Return the flow on all arcs from one node to another together.
+        """Return the total flow on all arcs from `tail` to `head`.
 
         Raises
         ------
         NoSuchNode
-            If the network does not have one of them.
+            If the network does not have one of these nodes.
 
         Examples
         --------
@@ -249,9 +247,9 @@ class Solution(Mapping[Arc[Node], int], Generic[Node]):
         return sum(flows[arcs.place(number)] for number in numbers)
 
     def array(self) -> Any:
-        """Return the flows as an array of numpy, in the order of the arcs.
+        """Return the flows as a numpy array, in the order of the arcs.
 
-        Its numbers are signed, of 64 bits, or unsigned if a flow is 2^63 or more.
+        The array has the type int64, or uint64 if a flow is 2^63 or more.
 
         Raises
         ------
@@ -267,10 +265,10 @@ class Solution(Mapping[Arc[Node], int], Generic[Node]):
         return flow_array(self._flows.told(), len(self))
 
     def frame(self) -> Any:
-        """Return a frame of pandas with a row for each open arc.
+        """Return a pandas frame with a row for each open arc.
 
-        Its index is the number of the arc, and its columns are the tail, the head and the key, the
-        flow, and the capacity that the arc had.
+        The index is the arc's number; the columns are its tail, head and key, its flow, and its
+        capacity when the flow was found.
 
         Raises
         ------
@@ -286,10 +284,9 @@ class Solution(Mapping[Arc[Node], int], Generic[Node]):
         return arrays.frame(self._flows.arcs, self.array(), self._flows.capacities())
 
     def flow_dict(self) -> dict[Node, dict[Node, int]]:
-        """Return the flows as networkx has them.
+        """Return the flows as networkx returns them.
 
-        For each node they are those to each node to which an open arc leads, on all these arcs
-        together.
+        `flow_dict()[tail][head]` is the total flow on all open arcs from `tail` to `head`.
 
         Examples
         --------
@@ -308,9 +305,9 @@ class Solution(Mapping[Arc[Node], int], Generic[Node]):
     def flow_matrix(self) -> Any:
         """Return the flows as a sparse matrix of scipy.
 
-        Row i and column j have the flow from node i to node j on all arcs together. Nodes are
-        counted from 0 in the order of `Network.nodes`. The numbers are signed, or unsigned if one
-        is 2^63 or more.
+        The entry in row i and column j is the total flow on all arcs from node i to node j. Nodes
+        are counted from 0, in the order of `Network.nodes`. The matrix has the type int64, or
+        uint64 if an entry is 2^63 or more.
 
         Raises
         ------
@@ -341,11 +338,21 @@ class Solution(Mapping[Arc[Node], int], Generic[Node]):
 
 
 class Cut(Generic[Node]):
-    """The smallest minimum cut: `capacity` is its capacity, `side` the nodes that every minimum cut
-    has on the side of the source, `other_side` all other nodes, and `arcs` the open arcs that lead
-    from the first to the second, in their order. A notebook shows it as a picture if Graphviz is
-    installed and the network is not large, and else as a table. Two cuts are equal if their
-    capacities, sides and arcs are.
+    """The minimum cut with the fewest nodes on the source's side.
+
+    Two cuts are equal if their capacities, sides and arcs are equal. A notebook shows a cut as a
+    picture if Graphviz is installed and the network is small, and otherwise as a table.
+
+    Attributes
+    ----------
+    capacity
+        The sum of the capacities of `arcs`.
+    side
+        The nodes that every minimum cut has on the source's side.
+    other_side
+        All other nodes.
+    arcs
+        The open arcs that lead from `side` to `other_side`, in order.
     """
 
     __module__ = __package__

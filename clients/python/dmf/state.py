@@ -135,6 +135,10 @@ class NetworkState(History, Generic[Node]):
             self._opened = OpenArcs(self.handles, tuple(self.added), self.closed)
         return self._opened
 
+    def every_arc(self) -> OpenArcs[Node]:
+        """All arcs as they are now, closed ones too."""
+        return OpenArcs(self.handles, tuple(self.added), ())
+
     def handle(self, number: int) -> Arc[Node]:
         """The handle of an existing arc's number."""
         return (

@@ -1,7 +1,9 @@
 //! The program `dmf`: opens what its words and a run need, calls what does what they ask for, and exits with its status.
 #![tactic(auto)]
 
+ghost use Rattle.std.specs.Prelude.{IfErr};
 ghost use Rattle.dmf_arguments.specs.Words.{HasBound, task_of};
+ghost use Rattle.dmf_host.specs.Ending.{IsUnopened};
 ghost use Rattle.dmf_program.specs.Program.{MayRun};
 
 use dmf_arguments::{Arguments, MAX_HISTORY, Mode};
@@ -130,7 +132,9 @@ fn open_watched<'a>(
     rt: &HostRuntime,
     path: &str,
     progress: &'a Progress<'a>,
-) -> Result<WatchedSource<'a, StdSource<File>>, Fault> {
+) -> Result<WatchedSource<'a, StdSource<File>>, Fault>
+    ensures { IfErr result IsUnopened }
+{
     let file = StdSource::new(open_problem(rt, path)?);
     Ok(WatchedSource::of_file(file, path, progress))
 }

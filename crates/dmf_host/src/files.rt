@@ -1,6 +1,6 @@
 //! The files of a run: the problem, and standard output.
 ghost use Rattle.std.specs.Prelude.{◌≡◌, IfErr};
-ghost use Rattle.dmf_host.specs.Ending.{no_memory};
+ghost use Rattle.dmf_host.specs.Ending.{IsUnopened, no_memory};
 
 use crate::fault::Fault;
 use dmf_streams::{EngineFault, MAX_BYTES};
@@ -27,7 +27,9 @@ pub fn output(rt: &HostRuntime) -> Result<StdSink<BufWriter<Stdout>>, Fault>
 /// Where standard input was closed when the program began, the system gives its descriptor to the next file that is opened,
 /// and the problem would be read as the commands too. So the problem is read by a copy of the first descriptor, which is
 /// none of the standard streams', and the first one is closed.
-pub fn open_problem(rt: &HostRuntime, path: &str) -> Result<File, Fault> {
+pub fn open_problem(rt: &HostRuntime, path: &str) -> Result<File, Fault>
+    ensures { IfErr result IsUnopened }
+{
     let Ok(file) = File::open(rt, path).and_then(|file| file.try_clone()) else {
         return Err(Fault::Open);
     };

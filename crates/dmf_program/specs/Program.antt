@@ -1,6 +1,6 @@
 -- What the program does: which run its arguments ask for, on what, and how it ends.
 -- Public: a public contract says no more than this.
-use Rattle.std.specs.Prelude.{ℕ, ◌≡◌, ◌⊎◌, List, [], ◌∷◌, ◌++◌, Bool, true, false, Result, Ok, Err, codes, ⊤}
+use Rattle.std.specs.Prelude.{ℕ, ◌≡◌, ◌⊎◌, List, [], ◌∷◌, ◌++◌, Bool, true, false, Result, Ok, Err, IfErr, codes}
 use Rattle.std.specs.Str.{trim_end}
 use Rattle.dmf_arguments.specs.Words.{Task, solving, holding, checking, valuing, task_of, ReadsWords}
 use Rattle.dmf_arguments.specs.declared.words.Arguments.{Arguments}
@@ -21,7 +21,7 @@ use Rattle.dmf_runs.specs.Streams.{Streams}
 use Rattle.dmf_runs.specs.Session.{RunsSessionWith}
 use Rattle.dmf_host.specs.declared.fault.Fault.{Fault}
 use Rattle.dmf_host.specs.declared.fault.Fault.TheVariants.{Usage, Run}
-use Rattle.dmf_host.specs.Ending.{exit_status, no_memory}
+use Rattle.dmf_host.specs.Ending.{IsUnopened, exit_status, no_memory}
 
 -- ---- files
 
@@ -81,9 +81,9 @@ RunsTask Opens (valuing progress) old new result = EndsAs (RunsVital AreArcRows 
 
 -- ---- the program
 
--- Nothing is known of the files of a host.
+-- Nothing is known of the files of a host. If one is not opened, the fault says that it cannot be, or that it is too long.
 abbrev pub AnyFile : Opening
-AnyFile path found = ⊤
+AnyFile path found = IfErr found IsUnopened
 
 -- There were streams on which the task was run, and the program ends with the result of that run.
 pub record HasRun (task : Task) (result : Result Status Fault) : Type 0 where

@@ -404,16 +404,6 @@ expanded-more n flows e back k v old nodes found longer was grown kept h is befo
     λ against i. leads-kept n flows e old nodes back against u i kept (expanded against i))
     (cases_lt k (place_of nodes u))
 
--- What is expanded stays expanded.
-pub expanded-kept : (n : Network) (flows : List ℕ) (e : Exits) (back : Bool) (k : ℕ) (old nodes : List Reached) (found longer : List ℕ)
-    → IsGrown n flows e old found → IsGrown n flows e nodes longer → KeepsReached old nodes → k ≤ length found
-    → AreExpanded n flows e old back k → AreExpanded n flows e nodes back k
-expanded-kept n flows e back k old nodes found longer was grown kept h before u node some end within =
-    let place = reached-before n.nodes old nodes found longer u was.are grown.are kept node some (omega (arith, within, h)) in
-    let some_old : 0 < place_of old u = omega (arith, place, some) in
-    let expanded = before u node some_old (sym (back-kept old nodes u kept some_old) ∙ end) (omega (arith, place, within)) in
-    λ against i. leads-kept n flows e old nodes back against u i kept (expanded against i)
-
 -- If all nodes in the list are looked at, all that were reached from this end are expanded.
 pub expanded-all : (n : Network) (flows : List ℕ) (e : Exits) (back : Bool) (k : ℕ) (nodes : List Reached) (found : List ℕ) → IsGrown n flows e nodes found
     → AreExpanded n flows e nodes back k → length found ≤ k → (v : ℕ) → IsNode n.nodes v → 0 < place_of nodes v → back_of nodes v ≡ back

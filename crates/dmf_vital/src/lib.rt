@@ -9,6 +9,7 @@ pub use laws::{
 pub use loss::{arc_losses, node_losses, value_without_arc, value_without_node};
 
 mod chains;
+mod cursor;
 mod exits;
 mod hop;
 mod laws;

@@ -1,4 +1,5 @@
 use crate::chains::Chains;
+use crate::cursor::{Cursor, begin_at, next_hop, no_steps, read};
 use crate::hop::{Hop, to_of};
 use dmf_state::{Arc, State};
 use std::alloc::{AllocError, Global};
@@ -10,10 +11,8 @@ struct Visit {
     place: u32,
     /// The first place of a node in its part that is known to be led to.
     low: u32,
-    /// The next arc to look along; 0 past the last.
-    along: u32,
-    /// The next arc to look against; 0 past the last.
-    against: u32,
+    /// The steps from it that were not looked at.
+    left: Cursor,
 }
 
 /// The search for the strongly connected parts of a residual network, depth first (Tarjan 1972). Nodes are indices. Its contracts say no
@@ -47,8 +46,7 @@ pub fn number_parts(
     let none = Visit {
         place: 0,
         low: 0,
-        along: 0,
-        against: 0,
+        left: no_steps(),
     };
     let mut parts = Parts {
         visits: vec![in alloc; none; nodes as usize]?,
@@ -76,8 +74,7 @@ fn visit_of(parts: &Parts, v: u32) -> Visit {
         Visit {
             place: 1,
             low: 1,
-            along: 0,
-            against: 0,
+            left: no_steps(),
         }
     }
 }
@@ -90,15 +87,6 @@ fn note(parts: &mut Parts, v: u32, visit: Visit) {
     }
 }
 
-/// The number at an index; 0 past the last.
-fn read(numbers: &[u32], index: usize) -> u32 {
-    if index < numbers.len() {
-        numbers[index]
-    } else {
-        0
-    }
-}
-
 /// Begins with node `v`.
 fn begin(parts: &mut Parts, along: &Chains, against: &Chains, v: u32) -> Result<(), AllocError> {
     let place = parts.visited.wrapping_add(1);
@@ -106,8 +94,7 @@ fn begin(parts: &mut Parts, along: &Chains, against: &Chains, v: u32) -> Result<
     let begun = Visit {
         place,
         low: place,
-        along: read(&along.last, v as usize),
-        against: read(&against.last, v as usize),
+        left: begin_at(along, against, v as usize),
     };
     note(parts, v, begun);
     parts.path.push(v)?;
@@ -128,7 +115,9 @@ fn search_on(
             Some(v) => *v,
             None => return Ok(()),
         };
-        let hop = next_hop(parts, along, against, v);
+        let mut seen = visit_of(parts, v);
+        let hop = next_hop(&mut seen.left, along, against);
+        note(parts, v, seen);
         if hop.arc == 0 {
             leave(parts, v)?;
         } else {
@@ -136,28 +125,6 @@ fn search_on(
         }
     }
     Ok(())
-}
-
-/// The next step from node `v`, over arc number 0 past the last.
-fn next_hop(parts: &mut Parts, along: &Chains, against: &Chains, v: u32) -> Hop {
-    let mut seen = visit_of(parts, v);
-    let mut hop = Hop {
-        arc: seen.along,
-        against: false,
-    };
-    if hop.arc != 0 {
-        seen.along = read(&along.before, hop.arc as usize - 1);
-    } else {
-        hop = Hop {
-            arc: seen.against,
-            against: true,
-        };
-        if hop.arc != 0 {
-            seen.against = read(&against.before, hop.arc as usize - 1);
-        }
-    }
-    note(parts, v, seen);
-    hop
 }
 
 /// Goes over a step from node `v`, if it has room: visits the node to which it leads, or notes that it leads back.

@@ -5,11 +5,12 @@ ghost use Rattle.dmf_state.specs.Network.{arc_number, has_arc};
 ghost use Rattle.dmf_vital.specs.Chains.{AreChains};
 ghost use Rattle.dmf_vital.specs.Exits.{AreExits};
 ghost use Rattle.dmf_vital.specs.Hop.{from_of, turned};
-ghost use Rattle.dmf_vital.specs.Tree.{AreListed, IsGrown, AreBehind, AreEntered, IsEntered, AreExpanded, KeepsReached, IsBridge, IsStepped, IsLooked, HasSearched, at_node, back_of, place_of};
+ghost use Rattle.dmf_vital.specs.Tree.{AreListed, IsGrown, AreBehind, AreEntered, IsEntered, AreExpanded, KeepsReached, IsBridge, IsStepped, IsLooked, IsCrossing, HasSearched, at_node, back_of, place_of};
 
 use crate::chains::Chains;
+use crate::cursor::{Cursor, begin_at, has_none, next_hop, no_steps};
 use crate::exits::{Exits, is_barred, is_exit};
-use crate::hop::{Hop, room_of, to_of, turned};
+use crate::hop::{Hop, from_of, room_of, to_of, turned};
 use crate::ranks::is_across;
 use crate::tree::{Reached, Tree, forget, reach};
 use dmf_state::State;
@@ -52,7 +53,11 @@ pub fn search(
     forget(tree);
     reach(tree, steps.exits.node, first)?;
     enter(steps, along, tree)?;
-    meet(steps, along, against, tree)
+    let met = meet(steps, along, against, tree)?;
+    if met.hop.arc != 0 {
+        return Ok(met.hop);
+    }
+    exhaust(steps, along, against, met.back, tree)
 }
 
 fn no_hop() -> Hop
@@ -124,17 +129,144 @@ fn enter_over(steps: &Steps, arc: u32, tree: &mut Tree) -> Result<(), AllocError
     reach(tree, ends.head, by)
 }
 
-/// One end of a search: which it is, and how many of the reached nodes it has looked at.
+/// Where one end of a search stands.
 #[derive(Clone, Copy)]
 pub struct Front {
-    /// Whether it is the end behind.
-    pub back: bool,
-    /// The index of the next node.
+    /// The index of the next reached node.
     pub next: usize,
+    /// The steps that are left of the node before it.
+    pub left: Cursor,
 }
 
-/// Searches from both ends in turn, until they meet or one of them has reached all that it can.
-fn meet(steps: &Steps, along: &Chains, against: &Chains, tree: &mut Tree) -> Result<Hop, AllocError>
+/// What came of the turns of both ends.
+#[derive(Clone, Copy)]
+pub struct Meeting {
+    /// The step in which they met, from the node that was reached ahead; over arc number 0 if they did not.
+    pub hop: Hop,
+    /// Whether the last turn was that of the end behind.
+    pub back: bool,
+}
+
+/// How many steps an end looks at in one turn. A node may have thousands.
+const TURN: u32 = 16;
+
+/// Searches from both ends in turn, a few steps at a time, until they meet or one of them has no steps left.
+fn meet(
+    steps: &Steps,
+    along: &Chains,
+    against: &Chains,
+    tree: &mut Tree,
+) -> Result<Meeting, AllocError>
+    requires within { AreWithinCapacities steps.now.state.now.network.arcs steps.now.flows.now }
+    requires grown { IsGrown steps.now.state.now.network steps.now.flows.now steps.now.exits tree.old.nodes.items tree.old.found.items }
+    ensures grown { IsGrown steps.now.state.now.network steps.now.flows.now steps.now.exits tree.new.nodes.items tree.new.found.items }
+    ensures kept { KeepsReached tree.old.nodes.items tree.new.nodes.items }
+    ensures crossing { IfOk result (λ met. met.hop.arc ≢ 0 → IsCrossing steps.now.state.now.network steps.now.flows.now steps.now.exits tree.new.nodes.items met.hop) }
+{
+    let mut back = true;
+    let mut now = Front {
+        next: 0,
+        left: no_steps(),
+    };
+    let mut other = now;
+    for _ in 0..u64::MAX {
+        let hop = take_turn(steps, along, against, back, &mut now, tree)?;
+        if hop.arc != 0 {
+            return Ok(Meeting {
+                hop: ahead(back, hop),
+                back,
+            });
+        }
+        if is_done(now, tree) {
+            return Ok(Meeting { hop, back });
+        }
+        let next = other;
+        other = now;
+        now = next;
+        back = !back;
+    }
+    Ok(Meeting {
+        hop: no_hop(),
+        back,
+    })
+}
+
+/// Whether an end has no steps left.
+fn is_done(front: Front, tree: &Tree) -> bool {
+    front.next >= tree.found.len() && has_none(front.left)
+}
+
+/// Looks at the next steps from one end: those of one node, and at most `TURN`. Returns a step to a node that was reached from the other end, or
+/// one over arc number 0.
+fn take_turn(
+    steps: &Steps,
+    along: &Chains,
+    against: &Chains,
+    back: bool,
+    front: &mut Front,
+    tree: &mut Tree,
+) -> Result<Hop, AllocError>
+    requires within { AreWithinCapacities steps.now.state.now.network.arcs steps.now.flows.now }
+    requires grown { IsGrown steps.now.state.now.network steps.now.flows.now steps.now.exits tree.old.nodes.items tree.old.found.items }
+    ensures grown { IsGrown steps.now.state.now.network steps.now.flows.now steps.now.exits tree.new.nodes.items tree.new.found.items }
+    ensures kept { KeepsReached tree.old.nodes.items tree.new.nodes.items }
+    ensures bridge { IfOk result (λ hop. hop.arc ≢ 0 → IsBridge steps.now.state.now.network steps.now.flows.now steps.now.exits tree.new.nodes.items back hop) }
+{
+    if has_none(front.left) {
+        begin_next(along, against, back, front, tree);
+    }
+    for _ in 0..TURN {
+        let hop = next_hop(&mut front.left, along, against);
+        if hop.arc == 0 {
+            return Ok(hop);
+        }
+        if look_over(steps, hop, back, tree)? {
+            return Ok(hop);
+        }
+    }
+    Ok(no_hop())
+}
+
+/// Begins with the steps of the next node that was reached from this end.
+fn begin_next(along: &Chains, against: &Chains, back: bool, front: &mut Front, tree: &Tree) {
+    for k in front.next..tree.found.len() {
+        front.next = k + 1;
+        let index = (tree.found[k] as usize).wrapping_sub(1);
+        if index < tree.nodes.len() && tree.nodes[index].back == back {
+            front.left = begin_at(along, against, index);
+            return;
+        }
+    }
+}
+
+/// Goes over a step, if it leads from a node that was reached from this end. Returns whether it leads to one that was reached from the other.
+fn look_over(steps: &Steps, hop: Hop, back: bool, tree: &mut Tree) -> Result<bool, AllocError>
+    requires within { AreWithinCapacities steps.now.state.now.network.arcs steps.now.flows.now }
+    requires some { hop.arc ≢ 0 }
+    requires grown { IsGrown steps.now.state.now.network steps.now.flows.now steps.now.exits tree.old.nodes.items tree.old.found.items }
+    ensures grown { IsGrown steps.now.state.now.network steps.now.flows.now steps.now.exits tree.new.nodes.items tree.new.found.items }
+    ensures kept { KeepsReached tree.old.nodes.items tree.new.nodes.items }
+    ensures bridge { IfOk result (λ met. met ≡ true → IsBridge steps.now.state.now.network steps.now.flows.now steps.now.exits tree.new.nodes.items back hop) }
+{
+    if hop.arc as usize > steps.state.arcs().len() {
+        return Ok(false);
+    }
+    let v = from_of(hop.against, steps.state.arc(hop.arc));
+    let from = tree.nodes[v as usize - 1];
+    if from.place == 0 || turned(back, from.back) {
+        return Ok(false);
+    }
+    step_over(steps, hop, back, from.width, tree)
+}
+
+/// Expands all nodes that were reached from one end, until it meets the other or has reached all that it can.
+fn exhaust(
+    steps: &Steps,
+    along: &Chains,
+    against: &Chains,
+    back: bool,
+    tree: &mut Tree,
+) -> Result<Hop, AllocError>
     requires within { AreWithinCapacities steps.now.state.now.network.arcs steps.now.flows.now }
     requires along { AreChains false steps.now.state.now.network.nodes steps.now.state.now.network.arcs along.now.last.items along.now.before.items }
     requires against { AreChains true steps.now.state.now.network.nodes steps.now.state.now.network.arcs against.now.last.items against.now.before.items }
@@ -143,31 +275,13 @@ fn meet(steps: &Steps, along: &Chains, against: &Chains, tree: &mut Tree) -> Res
     ensures grown { IsGrown steps.now.state.now.network steps.now.flows.now steps.now.exits tree.new.nodes.items tree.new.found.items }
     ensures ended { IfOk result (HasSearched steps.now.state.now.network steps.now.flows.now steps.now.exits tree.new.nodes.items) }
 {
-    let mut now = Front {
-        back: false,
-        next: 0,
-    };
-    let mut other = Front {
-        back: true,
-        next: 0,
-    };
-    for turn in 0..usize::MAX {
-        if now.next >= tree.found.len() {
+    for next in 0..usize::MAX {
+        if next >= tree.found.len() {
             return Ok(no_hop());
         }
-        let look = look_at_next(steps, along, against, now, tree)?;
-        if look.hop.arc != 0 {
-            return Ok(ahead(now.back, look.hop));
-        }
-        let next = Front {
-            back: now.back,
-            next: now.next + 1,
-        };
-        if look.expanded {
-            now = other;
-            other = next;
-        } else {
-            now = next;
+        let hop = look_at(steps, along, against, back, next, tree)?;
+        if hop.arc != 0 {
+            return Ok(ahead(back, hop));
         }
     }
     Ok(no_hop())
@@ -183,61 +297,44 @@ fn ahead(back: bool, hop: Hop) -> Hop
     }
 }
 
-/// What came of looking at a node.
-#[derive(Clone, Copy)]
-pub struct Look {
-    /// A step to a node that was reached from the other end; over arc number 0 if there is none.
-    pub hop: Hop,
-    /// Whether the node was reached from this end.
-    pub expanded: bool,
-}
-
-/// Expands the next node, if it was reached from this end.
-fn look_at_next(
+/// Expands the reached node at an index, if it was reached from this end. Returns a step to a node that was reached from the other end, or one
+/// over arc number 0.
+fn look_at(
     steps: &Steps,
     along: &Chains,
     against: &Chains,
-    front: Front,
+    back: bool,
+    next: usize,
     tree: &mut Tree,
-) -> Result<Look, AllocError>
+) -> Result<Hop, AllocError>
     requires within { AreWithinCapacities steps.now.state.now.network.arcs steps.now.flows.now }
     requires along { AreChains false steps.now.state.now.network.nodes steps.now.state.now.network.arcs along.now.last.items along.now.before.items }
     requires against { AreChains true steps.now.state.now.network.nodes steps.now.state.now.network.arcs against.now.last.items against.now.before.items }
     requires grown { IsGrown steps.now.state.now.network steps.now.flows.now steps.now.exits tree.old.nodes.items tree.old.found.items }
-    requires is_there { front.next < length tree.old.found.items }
-    requires expanded { AreExpanded steps.now.state.now.network steps.now.flows.now steps.now.exits tree.old.nodes.items front.back front.next }
+    requires is_there { next < length tree.old.found.items }
+    requires expanded { AreExpanded steps.now.state.now.network steps.now.flows.now steps.now.exits tree.old.nodes.items back next }
     ensures grown { IsGrown steps.now.state.now.network steps.now.flows.now steps.now.exits tree.new.nodes.items tree.new.found.items }
     ensures kept { KeepsReached tree.old.nodes.items tree.new.nodes.items }
     ensures longer { length tree.old.found.items ≤ length tree.new.found.items }
-    ensures some { IfOk result (λ look. look.hop.arc ≢ 0 → IsBridge steps.now.state.now.network steps.now.flows.now steps.now.exits tree.new.nodes.items front.back look.hop) }
-    ensures none { IfOk result (λ look. look.hop.arc ≡ 0
-        → AreExpanded steps.now.state.now.network steps.now.flows.now steps.now.exits tree.new.nodes.items front.back (front.next + 1)) }
+    ensures some { IfOk result (λ hop. hop.arc ≢ 0 → IsBridge steps.now.state.now.network steps.now.flows.now steps.now.exits tree.new.nodes.items back hop) }
+    ensures none { IfOk result (λ hop. hop.arc ≡ 0 → AreExpanded steps.now.state.now.network steps.now.flows.now steps.now.exits tree.new.nodes.items back (next + 1)) }
 {
-    let v = tree.found[front.next];
-    let other = turned(front.back, tree.nodes[v as usize - 1].back);
+    let v = tree.found[next];
+    let other = turned(back, tree.nodes[v as usize - 1].back);
     if other {
-        return Ok(Look {
-            hop: no_hop(),
-            expanded: false,
-        });
+        return Ok(no_hop());
     }
-    let met = expand(steps, along, false, front.back, v, tree)?;
+    let met = expand(steps, along, false, back, v, tree)?;
     if met != 0 {
-        return Ok(Look {
-            hop: Hop {
-                arc: met,
-                against: false,
-            },
-            expanded: true,
+        return Ok(Hop {
+            arc: met,
+            against: false,
         });
     }
-    let met_against = expand(steps, against, true, front.back, v, tree)?;
-    Ok(Look {
-        hop: Hop {
-            arc: met_against,
-            against: true,
-        },
-        expanded: true,
+    let met_against = expand(steps, against, true, back, v, tree)?;
+    Ok(Hop {
+        arc: met_against,
+        against: true,
     })
 }
 

@@ -23,16 +23,14 @@ from ..text.spelling import quoted_name
 from .live_network import LiveNetwork
 from .steps import Add, DeskFault, Follow, Node, Trial
 from .workspace import Desk
+from .worth import judge_greatest
 
 
 def trials_of(desk: Desk, numbers: Iterable[int]) -> Generator[Trial, None, None]:
     """Return a sweep over these arcs: the greatest values if each alone is closed, and if each
     alone has a second one beside it. Each is tried on a copy of the network as it is at the call,
     on all processors. Raise a `DeskFault` unless the flow is greatest and the arcs are open."""
-    if not desk.is_greatest:
-        raise DeskFault(
-            "the flow is not greatest, so nothing can be compared with it; `solve` first"
-        )
+    judge_greatest(desk)
     wanted = list(numbers)
     for number in wanted:
         desk.network.open_line(number)

@@ -12,7 +12,7 @@ from typing import NamedTuple
 
 from ..errors import Error, FlowIsNotGreatest
 from ..session.base import Program
-from ..session.fresh import CUT, Solved, solved
+from ..session.fresh import CUT, Solved, ValuesWithout, solved
 from ..session.runners import program_of
 from .live_network import LiveNetwork
 
@@ -64,6 +64,8 @@ class Answers:
         The nodes on the source's side of the smallest minimum cut, if the first answer has them.
     promised
         The greatest value, while the flows that reach it are not known.
+    worth
+        The greatest value without each arc.
     """
 
     inside: Sequence[int] | None = None
@@ -71,6 +73,7 @@ class Answers:
     is_greatest: bool | None = None
     limit: Limit | None = None
     flows: array[int] | None = None
+    worth: ValuesWithout | None = None
 
     def find_limit(self, network: LiveNetwork) -> Limit:
         """Return the limit of this state, in which the network has to stand. Raise

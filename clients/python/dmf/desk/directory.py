@@ -2,14 +2,15 @@
 
 from __future__ import annotations
 
-from collections.abc import Hashable, Iterable, Iterator, Mapping, Sequence
+from collections.abc import Iterable, Iterator, Sequence
 from functools import cached_property
 from typing import NamedTuple
 
 from ..text.lexical import display
-from ..text.spelling import cleaned, folded, near, quoted_name
+from ..text.spelling import cleaned, folded, near, numbers_by_name, quoted_name
 from ..text.table_comments import Role, TableRoles, listed, role_phrase, role_words
-from .steps import DeskArc, DeskFault, Node, Place
+from .arc_lines import ArcLines
+from .steps import DeskFault, Node, Place
 
 MOST_LISTED = 6
 # What stands between the ends of an arc that is named by them, the longest first.
@@ -37,66 +38,86 @@ class Directory:
 
     def __init__(
         self,
-        node_names: dict[int, str],
-        lines: Sequence[DeskArc],
-        keys: Mapping[int, Hashable],
+        node_names: Sequence[str],
+        lines: ArcLines,
         nodes: Sequence[Node],
         folding: TableRoles,
     ) -> None:
-        """`lines` are the arcs by their numbers, and `keys` the names that were given to some; both
-        may grow."""
+        """`lines` are the arcs, which may grow."""
         self._lines = lines
-        self._keys = keys
         self._folding = folding
         self._has_roles = folding.has_roles
         # Whether a name that is only one without regard to case and accents means that one.
         self.is_any_case = False
-        self._node_names = [
-            node_names.get(number, str(number)) for number in range(1, len(nodes) + 1)
-        ]
-        labels = [*map(display, self._node_names)]
-        self.nodes = {node: number for number, node in enumerate(nodes, 1)}
-        self.places: dict[str, Place] = {}
-        self._several: dict[str, list[int]] = {}
-        called: dict[str, list[int]] = {}
-        for number in folding.places(range(1, len(labels) + 1)):
-            called.setdefault(cleaned(labels[number - 1]), []).append(number)
-        for label, numbers in called.items():
-            if len(numbers) == 1:
-                self.places[label] = Place(numbers[0], folding.second(numbers[0]))
-            else:
-                self._several[label] = numbers
-        # Both nodes of a place are called as it is.
-        self._labels = (
-            [labels[folding.place(number) - 1] for number in range(1, len(labels) + 1)]
+        self._node_names = node_names
+        self._nodes = nodes
+
+    @cached_property
+    def nodes(self) -> dict[Node, int]:
+        """Return the nodes, each with its number."""
+        return {node: number for number, node in enumerate(self._nodes, 1)}
+
+    @cached_property
+    def _labels(self) -> list[str]:
+        """Return what each node is called. Both nodes of a place are called as it is."""
+        labels, place = [*map(display, self._node_names)], self._folding.place
+        return (
+            [labels[place(number) - 1] for number in range(1, len(labels) + 1)]
             if self._has_roles
             else labels
         )
 
     @cached_property
-    def _between(self) -> dict[tuple[int, int], list[int]]:
-        """Return the arcs by their ends, without those that were opened again as other ones."""
-        found: dict[tuple[int, int], list[int]] = {}
-        for number, line in enumerate(self._lines, 1):
-            if not line.is_replaced:
-                found.setdefault(line[:2], []).append(number)
+    def _called(self) -> dict[str, list[int]]:
+        """Return the first nodes of places, by what can be typed for them."""
+        found: dict[str, list[int]] = {}
+        for number in self._folding.places(range(1, len(self._labels) + 1)):
+            found.setdefault(cleaned(self._labels[number - 1]), []).append(number)
         return found
 
     @cached_property
-    def _arcs(self) -> dict[str, list[int]]:
-        """Return the arcs by the names by which they can be typed."""
-        found: dict[str, list[int]] = {}
-        for numbers in self._between.values():
-            for number in numbers:
-                for name in self._typed(number):
-                    found.setdefault(name, []).append(number)
+    def places(self) -> dict[str, Place]:
+        """Return the places by their names, if one place alone has it."""
+        second = self._folding.second
+        return {
+            name: Place(numbers[0], second(numbers[0]))
+            for name, numbers in self._called.items()
+            if len(numbers) == 1
+        }
+
+    @cached_property
+    def _several(self) -> dict[str, list[int]]:
+        """Return the nodes of the names that several places have."""
+        return {name: numbers for name, numbers in self._called.items() if len(numbers) > 1}
+
+    @cached_property
+    def _between(self) -> dict[tuple[int, int], list[int]]:
+        """Return the arcs by their ends, without those that were opened again as other ones."""
+        found: dict[tuple[int, int], list[int]] = {}
+        for number, ends in enumerate(self._lines.ends(), 1):
+            found.setdefault(ends, []).append(number)
+        for number in self._lines.replaced():
+            found[self._ends(number)].remove(number)
+        return found
+
+    @cached_property
+    def _arcs(self) -> dict[str, tuple[int, ...]]:
+        """Return the arcs by the names by which they can be typed, likewise."""
+        found = numbers_by_name(self._lines.names())
+        if self._has_roles:
+            for number, ends in enumerate(self._lines.ends(), 1):
+                if role := self._folding.role(*ends):
+                    _put(found, cleaned(role_words(role, self.node)), number)
+        for number in self._lines.replaced():
+            for name in self._typed(number):
+                _drop(found, name, number)
         return found
 
     def put(self, number: int) -> None:
         """Take in an arc."""
         if "_arcs" in vars(self):
             for name in self._typed(number):
-                self._arcs.setdefault(name, []).append(number)
+                _put(self._arcs, name, number)
         if "_between" in vars(self):
             self._between.setdefault(self._ends(number), []).append(number)
 
@@ -104,9 +125,11 @@ class Directory:
         """Take out an arc that was taken in, or half of it: Ctrl-C may have come between."""
         if "_arcs" in vars(self):
             for name in self._typed(number):
-                _remove(self._arcs.get(name, []), number)
+                _drop(self._arcs, name, number)
         if "_between" in vars(self):
-            _remove(self._between.get(self._ends(number), []), number)
+            numbers = self._between.get(self._ends(number), [])
+            if number in numbers:
+                numbers.remove(number)
 
     def _typed(self, number: int) -> set[str]:
         """Return the names by which an arc can be typed: how it is called, and its name in the
@@ -118,7 +141,7 @@ class Directory:
         }
 
     def _ends(self, number: int) -> tuple[int, int]:
-        return self._lines[number - 1][:2]
+        return self._lines.ends_of(number)
 
     def node(self, number: int) -> str:
         """Return the name of a node's place."""
@@ -155,7 +178,7 @@ class Directory:
 
     def given_arc(self, number: int) -> str:
         """Return the name of an arc as it was given, or nothing."""
-        key = self._keys.get(number)
+        key = self._lines.key(number)
         return key if isinstance(key, str) else ""
 
     def ends(self, number: int) -> str:
@@ -164,7 +187,7 @@ class Directory:
 
     def arc_names(self, number: int) -> ArcNames:
         """Return all that an arc is called."""
-        (tail, head), key = self._lines[number - 1][:2], self._keys.get(number)
+        tail, head, key = self._lines.ends_and_key(number)
         ends = (tail_label, head_label) = self._labels[tail - 1], self._labels[head - 1]
         role, place = None, tail
         if self._has_roles:
@@ -317,6 +340,14 @@ class Directory:
         return listed + ", .." * (len(numbers) > MOST_LISTED)
 
 
-def _remove(numbers: list[int], number: int) -> None:
-    if number in numbers:
-        numbers.remove(number)
+def _put(found: dict[str, tuple[int, ...]], name: str, number: int) -> None:
+    """Add an arc to those of a name."""
+    others = found.get(name, ())
+    if number not in others:
+        found[name] = (*others, number)
+
+
+def _drop(found: dict[str, tuple[int, ...]], name: str, number: int) -> None:
+    """Remove an arc from those of a name, if it is one of them."""
+    if name in found:
+        found[name] = tuple(other for other in found[name] if other != number)

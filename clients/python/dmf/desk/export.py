@@ -192,14 +192,15 @@ def taken(desk: Desk, data: bytes) -> bytes:
     return carrying(data, problem(desk))
 
 
-def drawn(desk: Desk, path: str) -> bytes:
-    """Return the picture of a desk, as the end of a file's name says. Raise a `DeskFault`."""
+def drawn(desk: Desk, path: str, engine: str = "dot", *words: str) -> bytes:
+    """Return the picture of a desk, as the end of a file's name says, by an engine of Graphviz with
+    these words. Raise a `DeskFault`."""
     text = picture_text(desk)
     kind = DRAWN.get(Path(path).suffix)
     if kind is None:
         return text.encode()
     try:
-        return graphviz(text.encode(), "dot", f"-T{kind}", patience=PATIENCE)
+        return graphviz(text.encode(), engine, f"-T{kind}", *words, patience=PATIENCE)
     except FileNotFoundError:
         raise DeskFault(
             "Graphviz, which draws it, is not installed; its program is called dot. A FILE.dot can "

@@ -9,8 +9,8 @@ from collections.abc import Iterable
 
 from ..arcs import Arc
 from ..errors import Error, Refused
-from ..quantity import moved
-from ..session.base import Program
+from ..quantity import Quantity, moved
+from ..session.base import ProblemColumns, Program
 from ..tables.loader import LoadedProblem
 from ..tables.problem_networks import whole_network
 from .network_arcs import NetworkArcs
@@ -119,7 +119,7 @@ class LiveNetwork(NetworkArcs):
         if self.has_ended:
             raise self.network._session.ended()
         kept = self.network._kept
-        place, before = kept.place, kept.value
+        before = kept.moment
         self._is_moving = True
         try:
             for change in changes:
@@ -132,9 +132,9 @@ class LiveNetwork(NetworkArcs):
             self.marks = self.marks._replace(shut=self.marks.shut - opened)
         self._mark(self.marks)
         self._is_moving = False
-        quantity, made = self.measure.quantity, kept.changes_after(place)
-        value = quantity(kept.value)
-        by = moved(quantity(before), value) if place else ""
+        quantity, made = self.measure.quantity, kept.changes_after(before.place)
+        value = quantity(kept.moment.value)
+        by = moved(quantity(before.value), value) if before.place else ""
         return Step(text, changes, value, self.marks, made, by)
 
     def _change(self, change: Change) -> None:
@@ -159,6 +159,15 @@ class LiveNetwork(NetworkArcs):
             network.cap(self.handle(change.arc), self.measure.whole(change.capacity))
 
     # What is so there.
+
+    @property
+    def program(self) -> Program:
+        """Return the program, if the caller named one."""
+        return self.network._session.program
+
+    def problem(self) -> ProblemColumns:
+        """Return the problem of all arcs as they are, in which a closed one carries nothing."""
+        return self.network._kept.copy().problem()
 
     def flows(self) -> array[int]:
         """Return the flow on each arc, in the whole numbers of the session: that on arc 1 first,
@@ -186,3 +195,12 @@ class LiveNetwork(NetworkArcs):
             ):
                 found.add(number)
         return found
+
+    def first_capacity(self, number: int) -> Quantity | None:
+        """Return the capacity that the problem gives an arc, or None if it was added later. One
+        that was closed and opened again is the arc that it was."""
+        first = self.lines[number - 1].first or number
+        kept = self.network._kept
+        return (
+            self.measure.quantity(kept.first_capacity(first)) if first <= self.first_count else None
+        )

@@ -7,6 +7,7 @@ scale of the problem.
 
 from __future__ import annotations
 
+import contextlib
 from collections.abc import Collection, Iterable, Iterator, Sequence
 from functools import cached_property
 from itertools import chain
@@ -20,6 +21,7 @@ from ..tables.loader import LoadedProblem
 from ..text.lexical import NODE
 from ..text.spelling import cleaned, names_in, naming_pieces, quoted_name
 from ..text.table_comments import Role, TableRoles
+from .arc_lines import ArcLines
 from .directory import Directory
 from .steps import Add, Cap, Change, DeskArc, DeskFault, Follow, Marks, Node, Reopen
 
@@ -34,14 +36,10 @@ class NetworkArcs:
         self.subject = subject
         # How the session's numbers stand for quantities.
         self.measure: Measure = subject.measure
-        columns, quantity = state.columns, self.measure.quantity
         self._nodes = nodes
         self.folding = TableRoles(subject.described)
-        self.lines = [*map(DeskArc, columns.tails, columns.heads, map(quantity, state.capacities))]
-        # The names of arcs, those of added ones too.
-        self._keys = dict(columns.keys)
-        node_names = names_in(naming_pieces(subject.text, NODE), NODE)
-        self.names = Directory(node_names, self.lines, self._keys, nodes, self.folding)
+        self.lines = ArcLines(state.columns, state.capacities, self.measure)
+        self.names = Directory(_node_names(subject.text, nodes), self.lines, nodes, self.folding)
         # The nodes of the problem's source and sink, which may join several places.
         self.source, self.sink = state.number(state.source), state.number(state.sink)
         # The arcs of unlimited sources and sinks.
@@ -88,9 +86,10 @@ class NetworkArcs:
 
     def line(self, number: int) -> DeskArc:
         """Return an arc as it is. Raise a `DeskFault` if no arc has this number."""
-        if not 1 <= number <= len(self.lines):
-            raise DeskFault(f"arc #{number} does not exist")
-        return self.lines[number - 1]
+        if number >= 1:
+            with contextlib.suppress(IndexError):
+                return self.lines[number - 1]
+        raise DeskFault(f"arc #{number} does not exist")
 
     def open_line(self, number: int) -> DeskArc:
         """Return an open arc as it is. Raise a `DeskFault` if it is closed."""
@@ -267,18 +266,13 @@ class NetworkArcs:
     def _put(self, arc: Arc[Node], capacity: int, replaced: int | None) -> None:
         """Take in the line of an arc that was added, in place of a closed one if that was opened
         again."""
-        if arc.given_key is not None:
-            self._keys[arc.number] = arc.given_key
         if replaced:
             was = self.lines[replaced - 1]
-            self.lines.append(
-                was._replace(is_closed=False, was_shut=False, first=was.first or replaced)
-            )
+            line = was._replace(is_closed=False, was_shut=False, first=was.first or replaced)
         else:
             nodes = self.names.nodes
-            self.lines.append(
-                DeskArc(nodes[arc.tail], nodes[arc.head], self.measure.quantity(capacity))
-            )
+            line = DeskArc(nodes[arc.tail], nodes[arc.head], self.measure.quantity(capacity))
+        self.lines.append(line, arc.given_key)
         self.names.put(arc.number)
         if replaced:
             self.names.drop(replaced)
@@ -287,8 +281,16 @@ class NetworkArcs:
     def _drop(self, number: int, replaced: int | None) -> None:
         """Drop the line of the last arc."""
         self.names.drop(number)
-        self._keys.pop(number, None)
         self.lines.pop()
         if replaced:
             self.names.put(replaced)
             self.lines[replaced - 1] = self.lines[replaced - 1]._replace(is_replaced=False)
+
+
+def _node_names(text: bytes, nodes: Sequence[Node]) -> Sequence[str]:
+    """Return the name of each node: the comment's, or else its number. Nodes that go by their
+    numbers have a name that several have, or none."""
+    if all(isinstance(node, str) for node in nodes):
+        return [*map(str, nodes)]
+    named = names_in(naming_pieces(text, NODE), NODE)
+    return [named.get(number, str(number)) for number in range(1, len(nodes) + 1)]

@@ -266,12 +266,11 @@ class Desk:
 
     def flows_on(self, numbers: Sequence[int]) -> list[Quantity]:
         """Return the flow on each of these arcs."""
-        network = self.network
-        lines, answers = network.lines, self.state.answers
+        network, answers = self.network, self.state.answers
         limit = self.limit() if answers.promised is not None else answers.limit
         if limit and limit.arcs.keys() >= {*numbers}:
             # Each maximum flow fills the arcs of a minimum cut.
-            return [lines[number - 1].capacity for number in numbers]
+            return [line.capacity for line in network.lines.of(numbers)]
         flows, quantity = self.flows(), network.measure.quantity
         return [quantity(flows[number - 1]) for number in numbers]
 

@@ -10,7 +10,17 @@ from typing import TYPE_CHECKING, NamedTuple
 from ..errors import SessionEnded, UnknownCommand
 from ..files import scratch
 from ..history import Command
-from .base import FilePath, Session, Told, Way, command_line, refused
+from ..text.lexical import AMOUNTS
+from .base import (
+    FilePath,
+    ProblemColumns,
+    Session,
+    Told,
+    Way,
+    command_line,
+    problem_pieces,
+    refused,
+)
 
 if TYPE_CHECKING:
     import subprocess
@@ -18,6 +28,7 @@ if TYPE_CHECKING:
     from .process import Begun
 
 VALUE, CUT, FLOW = ["solve", "--brief"], ["solve", "--brief", "--cut"], ["solve", "--any"]
+VITAL = ["vital"]
 
 
 class Solved(NamedTuple):
@@ -28,19 +39,20 @@ class Solved(NamedTuple):
     side: Sequence[int] = ()
 
 
+class ValuesWithout(NamedTuple):
+    """The greatest value, and for each arc the greatest value without it, arc 1 first."""
+
+    value: int
+    without: array[int]
+
+
 def solved(
     problem: Iterable[bytes], words: list[str], program: FilePath, begun: Begun | None = None
 ) -> Solved:
     """Return the program's answer to these words about a problem in pieces. `begun` is called with
     its process. Raises what `answer_to` raises, and `SessionEnded` if the answer is not understood.
     """
-    # Small networks are solved without a program.
-    from .process import answer_to
-
-    with scratch() as file:
-        file.writelines(problem)
-        file.seek(0)
-        text = answer_to(file, program, words, begun)
+    text = _answer(problem, words, program, begun)
     try:
         value = int(text[: text.find(b"\n")].split()[-1])
         side = (
@@ -49,8 +61,43 @@ def solved(
             else []
         )
     except (ValueError, IndexError):
-        raise SessionEnded(f"dmf's answer to `{' '.join(words)}` was not understood") from None
+        raise _not_understood(words) from None
     return Solved(value, text if words == FLOW else b"", side)
+
+
+def values_without(
+    problem: ProblemColumns, program: FilePath, begun: Begun | None = None
+) -> ValuesWithout:
+    """Return the program's answer to `vital` about a problem. Raises what `solved` raises."""
+    fields = _answer(problem_pieces(problem), VITAL, program, begun).split()
+    try:
+        without = array(AMOUNTS, map(int, fields[5::3]))
+        numbers = [*map(int, fields[4::3])]
+        if (
+            fields[:2] != [b"c", b"value"]
+            or numbers != [*range(1, len(problem.tails) + 1)]
+            or len(without) != len(numbers)
+        ):
+            raise ValueError
+        return ValuesWithout(int(fields[2]), without)
+    except (IndexError, OverflowError, ValueError):
+        raise _not_understood(VITAL) from None
+
+
+def _answer(
+    problem: Iterable[bytes], words: list[str], program: FilePath, begun: Begun | None
+) -> bytes:
+    # Small networks are solved without a program.
+    from .process import answer_to
+
+    with scratch() as file:
+        file.writelines(problem)
+        file.seek(0)
+        return answer_to(file, program, words, begun)
+
+
+def _not_understood(words: list[str]) -> SessionEnded:
+    return SessionEnded(f"dmf's answer to `{' '.join(words)}` was not understood")
 
 
 class FreshSession(Session):

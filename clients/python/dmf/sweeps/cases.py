@@ -19,6 +19,7 @@ from ..network import Network
 from ..rows import Whole, is_unordered
 from ..session.base import MOST_KEPT, import_package
 from ..session.runners import program_of
+from .closed_arcs import ClosedArcs, is_worthwhile
 from .copies import CaseAnswer, Command, Plain
 from .pool import ExecutorPool, LocalPool, Pending, RemoteCopy, Tries
 
@@ -77,6 +78,13 @@ class _Each(Iterator[Case]):
         return self._left
 
 
+class _EachClosed(_Each):
+    """Cases that each close one of these arcs."""
+
+    def __init__(self, arcs: Iterable[Hashable]) -> None:
+        super().__init__(lambda arc: [("close", arc)], arcs)
+
+
 def each_arc_closed(
     arcs: Iterable[Hashable] | None = None,
 ) -> Callable[[Network[Any]], Iterator[Case]]:
@@ -94,9 +102,7 @@ def each_arc_closed(
     ...     [result.difference for result in sweep(network, each_arc_closed())]
     [-2, -2]
     """
-    return lambda network: _Each(
-        lambda arc: [("close", arc)], network.arcs if arcs is None else arcs
-    )
+    return lambda network: _EachClosed(network.arcs if arcs is None else arcs)
 
 
 def each_node_shut(
@@ -204,7 +210,8 @@ def sweep(
 
     The network itself does not change, and can be used meanwhile: the cases are tried on the
     network as it is when the sweep begins. Cases are taken when they are needed, so there may be
-    any number of them.
+    any number of them. If most arcs are closed, each alone, and only values are wanted, one run of
+    the program finds them all, as for `Network.vital`.
 
     If a case is refused, or if its function raises an error of this package, its result says so.
     Any other exception ends the sweep. An exception while the cases are made is raised after the
@@ -274,6 +281,9 @@ def sweep(
         begin = functools.partial(
             ExecutorPool, RemoteCopy.of(swept.kept, named, anew, swept.kind), executor, want_cut
         )
+    elif not want_cut and isinstance(made, _EachClosed):
+        if is_worthwhile(count, swept.kept.open_count):
+            begin = functools.partial(ClosedArcs.begun, swept.kept, named, begin)
     results = _results(swept, iter(made), begin)
     return _shown(results, count if count > 0 else None) if progress else results
 

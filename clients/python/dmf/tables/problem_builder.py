@@ -415,31 +415,27 @@ PIECE = 1 << 11
 
 def problem_text(net: BuiltProblem, extra: Extra = Extra()) -> str:
     """Return the problem, with what it is, its names and these columns in comments."""
-    names = (f"c node {number} {name}\n" for number, name in enumerate(net.node_names, 1))
     arc_names = (
-        f"c arc {number} {name}\n"
+        _lines("c arc %d %s\n", [*named], [*named.values()])
         for named in (net.row_names(), net.inner_names)
-        for number, name in named.items()
     )
     head = f"p max {len(net.node_names)} {len(net.tails)}\nn {net.source} s\nn {net.sink} t\n"
     return "".join(
         chain(
             [table_comments(net.described)],
-            names,
-            arc_names,
+            _lines("c node %d %s\n", range(1, len(net.node_names) + 1), net.node_names),
+            *arc_names,
             [extra.comments(range(1, net.row_count + 1)), head],
-            _arc_lines(net),
+            _lines("a %d %d %d\n", net.tails, net.heads, net.capacities),
         )
     )
 
 
-def _arc_lines(net: BuiltProblem) -> Iterator[str]:
-    for begin in range(0, len(net.tails), PIECE):
-        columns = [
-            column[begin : begin + PIECE] for column in (net.tails, net.heads, net.capacities)
-        ]
-        count = len(columns[0])
-        numbers = [0] * (3 * count)
-        for place, column in enumerate(columns):
-            numbers[place::3] = column
-        yield "a %d %d %d\n" * count % tuple(numbers)
+def _lines(form: str, *columns: Sequence[object]) -> Iterator[str]:
+    """Yield pieces of lines of a form, each with a field of each column."""
+    for begin in range(0, len(columns[0]), PIECE):
+        pieces = [column[begin : begin + PIECE] for column in columns]
+        fields: list[object] = [None] * (len(columns) * len(pieces[0]))
+        for place, piece in enumerate(pieces):
+            fields[place :: len(columns)] = piece
+        yield form * len(pieces[0]) % tuple(fields)

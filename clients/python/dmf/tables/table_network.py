@@ -117,6 +117,9 @@ class TableNetwork(ScaledNetwork[str]):
             self._shown = opened, opened.without(self._roles)
         return self._shown[1]
 
+    def _every_arc(self) -> OpenArcs[str]:
+        return super()._every_arc().without(self._roles)
+
     @cached_property
     def _extra(self) -> Extra:
         return self._load()

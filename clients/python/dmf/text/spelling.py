@@ -29,6 +29,30 @@ def cleaned(text: str) -> str:
     return " ".join(text.replace("\ufeff", " ").split())
 
 
+def numbers_by_name(names: Mapping[int, str]) -> dict[str, tuple[int, ...]]:
+    """Return the numbers by what can be typed for these names."""
+    typed = [*names.values()]
+    if not _are_typed("\n".join(typed)):
+        typed = [cleaned(display(name)) for name in typed]
+    numbers: Iterable[tuple[int, ...]] = zip(names)
+    found = dict(zip(typed, numbers))
+    if len(found) < len(typed):
+        found = {}
+        for number, name in zip(names, typed):
+            found[name] = (*found.get(name, ()), number)
+    return found
+
+
+def _are_typed(lines: str) -> bool:
+    """Return True if each of these lines is surely typed as it is: in printable ASCII, without more
+    space than `cleaned` leaves."""
+    return (
+        lines.isascii()
+        and lines.replace("\n", "").isprintable()
+        and not any(space in f"\n{lines}\n" for space in ("  ", "\n ", " \n"))
+    )
+
+
 def quoted_name(text: str) -> str:
     """Return a text in quotes as messages show it: on one line, without control characters, and
     shortened if it is long."""

@@ -209,6 +209,7 @@ def main() -> int:
         server.serve_forever(poll_interval=0.1)
     finally:
         server.server_close()
+        board.end()
         if door:
             door.remove()
         if server.lock.acquire(timeout=PATIENCE):

@@ -13,7 +13,7 @@ from ..errors import Refused
 from ..files import read_file
 from ..network import Network
 from ..quantity import POINT
-from ..sweeps.cases import SweepResult, sweep
+from ..sweeps.cases import Cases, SweepResult, each_arc_closed, sweep
 from ..tables.sheet import cell_of, line, number_cell
 from ..text.events import case_line
 from ..text.lexical import NODE, Fault
@@ -134,6 +134,7 @@ class SweepRun:
         self.cases = (
             cases_of_arcs(network, words.of) if words.cases is None else cases_of_file(words.cases)
         )
+        self._is_close_each = words.cases is None
         self.jobs: int | None = words.jobs
         self.anew: bool = words.anew
         self.head = [
@@ -184,7 +185,10 @@ class SweepRun:
 
     def rows(self, done: int) -> Iterator[list[str]]:
         """Yield the rows of the cases after the first `done` ones."""
-        asked = [self._named.case(numbered) for numbered in self.cases[done:]]
+        cases = [self._named.case(numbered) for numbered in self.cases[done:]]
+        asked: Cases = cases
+        if self._is_close_each:
+            asked = each_arc_closed([arc for ((_, arc),) in cases])
         is_watched = sys.stderr is not None and sys.stderr.isatty()
         for at, result in enumerate(
             sweep(self.network, asked, jobs=self.jobs, progress=is_watched, anew=self.anew),

@@ -26,8 +26,9 @@ from ..project.comparison import (
 )
 from ..project.scenarios import project_of
 from ..workspace import Desk
+from .arrows import SVG
 from .layout import NoPicture, Places
-from .picture import SVG, DrawnArc, DrawnNode, Picture, Shape, marked, written
+from .picture import DrawnArc, DrawnNode, Picture, Shape, marked, written
 from .responses import Json, WrongForm
 
 MORE, LESS, SAME = "#0b5394", "#a84300", "#767676"

@@ -16,9 +16,9 @@ from ...text.table_comments import AT_PLACE
 from ..export import LEGEND, said_of
 from ..steps import DeskArc
 from ..workspace import Desk
+from .arrows import SVG, add_arrows
 from .layout import Places, Way, run
 
-SVG = "http://www.w3.org/2000/svg"
 # Among how many places new arcs are led around others: that takes a second for 50 of them.
 MOST_ROUTED = 20
 # How many layouts are kept.
@@ -117,6 +117,7 @@ class Picture:
         self._layouts[shape] = layout
         root = ElementTree.fromstring(layout)
         _seen(root)
+        add_arrows(root)
         return root
 
     def _lay_out(self, shape: Shape) -> str:

@@ -24,6 +24,8 @@ from ..workspace import Desk
 from .actions import ACTS, SCENARIO_ACTS, BoardAct, Sweeps
 from .differences import Comparisons
 from .layout import NoPicture, Spot
+from .looks import Beginning, Looks
+from .overview import Overview
 from .picture import Picture
 from .positions import keep_spots, kept_spots
 from .responses import (
@@ -39,7 +41,7 @@ from .responses import (
     judged_addresses,
     whole,
 )
-from .selection import ArcList, Nearby, Overview
+from .selection import ArcList, Nearby
 from .views import (
     arc_view,
     arc_views,
@@ -50,7 +52,9 @@ from .views import (
     scenarios_view,
     state_view,
     trial_view,
+    worth_view,
 )
+from .worth_finder import WorthFinder
 
 MOST_SWEPT = 5_000
 Keep = Callable[[str, Desk], Desk]
@@ -102,12 +106,15 @@ class Board:
         self.desk = desk
         self.picture = Picture(desk)
         self.picture.places.spots.update({**kept_spots(desk), **spots})
-        self._overview = Overview(desk, self.picture.places)
+        self._beginning = Beginning(desk)
+        self._looks = Looks(desk, self._beginning)
+        self._overview = Overview(desk, self.picture.places, self._looks)
         # How many places had been put when a project was asked to keep where.
         self._put_count = -1
         self._nearby = Nearby(desk)
-        self._rows_of_all = ArcList(desk)
+        self._rows_of_all = ArcList(desk, self._beginning)
         self._sweeps = Sweeps(desk)
+        self._worth_finder = WorthFinder(desk)
         self._comparisons = Comparisons(desk, self.picture.places)
 
     def _keep(self, _: Json) -> None:
@@ -117,6 +124,10 @@ class Board:
         before = self.desk
         self._show(self._keep_in(self._offer, before), self.picture.places.spots)
         before.end()
+
+    def end(self) -> None:
+        """End what goes on beside the requests."""
+        self._worth_finder.end()
 
     def get(self, path: str, words: dict[str, str]) -> Response:
         """Return the answer to a request that changes nothing."""
@@ -218,6 +229,8 @@ class Board:
     def _done(self, route: PageRoute, content: Json, shown: list[str]) -> Json:
         self._judge_turn(content.pop("turn"))
         self._sweeps.end()
+        self._worth_finder.end()
+        self._beginning.heed()
         before = self.desk.value
         with self._stoppable():
             route.handler(self, content)
@@ -264,7 +277,7 @@ class Board:
     def _found(self, text: str) -> Json:
         return self._rows_of_all.found(text)
 
-    def _looks(self) -> Json:
+    def _looks_of_all(self) -> Json:
         return self._overview.looks()
 
     def _comparison(self, one: str, two: str, first: int, count: int) -> Json:
@@ -290,7 +303,8 @@ class Board:
         except NoPicture as fault:
             reason = str(fault)
         self._keep_places()
-        told = arc_views(self.desk, arcs)
+        marks = map("".join, self._looks.marks(arcs))
+        told = [{**arc, "mark": mark} for arc, mark in zip(arc_views(self.desk, arcs), marks)]
         return {"svg": svg, "reason": reason, "arcs": told, "has_ground": self._overview.is_there}
 
     def _ground(self) -> Json:
@@ -318,6 +332,11 @@ class Board:
         return Response(
             200, "text/plain; charset=utf-8", problem(self.desk).encode(), "problem.max"
         )
+
+    def _worth(self) -> Json:
+        """Return what each arc is worth, or whether it is being found. It is asked again then."""
+        is_finding = self._worth_finder.is_finding()
+        return {"is_finding": is_finding, **({} if is_finding else worth_view(self.desk))}
 
     def _swept(self, arcs: list[int], turn: int) -> Json:
         """Return the result for each of the first arcs."""
@@ -368,10 +387,11 @@ ROUTES = {
     "state": PageRoute({}, Board._state),
     "picture": PageRoute(NEAR, Board._picture),
     "ground": PageRoute({}, Board._ground),
-    "looks": PageRoute({}, Board._looks),
+    "looks": PageRoute({}, Board._looks_of_all),
     "arc": PageRoute({"number": int}, lambda board, number: arc_view(board.desk, number)),
     "place": PageRoute({"node": int}, lambda board, node: place_view(board.desk, node)),
     "find": PageRoute({"text": str}, Board._found),
+    "worth": PageRoute({}, Board._worth),
     "opened": PageRoute({}, lambda board: opened_view(board.desk)),
     "rows": PageRoute(ROWS, Board._rows),
     "numbers": PageRoute(ROWS, Board._numbers),

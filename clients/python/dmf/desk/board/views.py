@@ -10,10 +10,12 @@ from decimal import Decimal
 from ...quantity import EXACT, Quantity, moved, plain_text
 from ...text.spelling import cleaned
 from ..analysis import cheapest, priced, prices
+from ..demands import told_demands
 from ..expressions import amount, successors
 from ..project.scenarios import Scenarios
 from ..steps import Trial
 from ..workspace import Desk
+from ..worth import losses, worst
 from .responses import Json, whole
 
 
@@ -119,23 +121,51 @@ def state_view(desk: Desk, offer: str = "") -> Json:
         "limit_count": len(cut),
         "side": side[:MOST_SIDE],
         "side_count": len(side),
+        "demands": (
+            told_demands(desk) if network.folding.has_roles and not desk.flows_follow else ""
+        ),
         "names": list(names.places)[:MOST_LISTED],
     }
 
 
 def arc_view(desk: Desk, number: int) -> Json:
-    """Return an arc as it is. Raise a `DeskFault` if no arc has this number."""
+    """Return an arc as it is, and what is left without both arcs of a pipe that leads both ways.
+    Raise a `DeskFault` if no arc has this number."""
     desk.network.line(number)
-    return arc_views(desk, [number])[0]
+    told = with_worth(desk, arc_views(desk, [number]))[0]
+    return {**told, "without_both": _left_without_both(desk, number)}
+
+
+def _left_without_both(desk: Desk, number: int) -> str:
+    """Return what is left without an arc and the one that leads back, if that has the same name;
+    nothing if there is none, or that is not known.
+
+    The greatest value is a concave function of what flows forward on the two, less what flows
+    back. Without one of them it is the greatest at 0 and on one side of 0; so at 0, which is
+    without both, it is the lesser of these.
+    """
+    network, worth = desk.network, desk.state.answers.worth
+    line, name = network.lines[number - 1], network.names.given_arc(number)
+    if worth is None or line.is_closed or not name:
+        return ""
+    back = [
+        other
+        for other, it in network.opened()
+        if it[:2] == (line.head, line.tail) and network.names.given_arc(other) == name
+    ]
+    if len(back) != 1:
+        return ""
+    left = min(worth.without[number - 1], worth.without[back[0] - 1])
+    return plain_text(network.measure.quantity(left))
 
 
 def arc_views(desk: Desk, numbers: Sequence[int]) -> list[Json]:
     """Return these arcs as they are."""
     network, cut = desk.network, desk.cut_arcs()
-    lines, names_of = network.lines, network.names.arc_names
+    names_of = network.names.arc_names
     found = []
-    for number, flow in zip(numbers, desk.flows_on(numbers)):
-        line, names = lines[number - 1], names_of(number)
+    for number, line, flow in zip(numbers, network.lines.of(numbers), desk.flows_on(numbers)):
+        names = names_of(number)
         found.append(
             {
                 "number": number,
@@ -156,6 +186,43 @@ def arc_views(desk: Desk, numbers: Sequence[int]) -> list[Json]:
             }
         )
     return found
+
+
+def with_worth(desk: Desk, arcs: list[Json]) -> list[Json]:
+    """Return what is told of arcs, with what is left without each and what is lost, which are empty
+    while that is not known."""
+    worth, quantity = desk.state.answers.worth, desk.network.measure.quantity
+    if worth is None:
+        return [{**arc, "without": "", "lost": ""} for arc in arcs]
+    left = [worth.without[arc["number"] - 1] for arc in arcs]
+    return [
+        {
+            **arc,
+            "without": plain_text(quantity(without)),
+            "lost": plain_text(quantity(worth.value - without)),
+        }
+        for arc, without in zip(arcs, left)
+    ]
+
+
+# How many arcs are listed as the worst to lose, and the losses of how many are told.
+MOST_WORST, MOST_LOSSES = 10, 5_000
+
+
+def worth_view(desk: Desk) -> Json:
+    """Return the arcs that are worst to lose, how many more cost something, and the loss of each
+    arc of the table by its number: of many, those of the worst. Nothing is known if the program
+    failed, or the network is too large."""
+    if desk.state.answers.worth is None:
+        return {"is_known": False, "worst": [], "more": 0, "losses": {}}
+    (found, more), pictured = worst(desk, MOST_LOSSES), desk.network.pictured()
+    told = losses(desk, pictured) if len(pictured) <= MOST_LOSSES else found
+    return {
+        "is_known": True,
+        "worst": with_worth(desk, arc_views(desk, [it.arc for it in found[:MOST_WORST]])),
+        "more": more + max(0, len(found) - MOST_WORST),
+        "losses": {it.arc: plain_text(it.loss) for it in told},
+    }
 
 
 def place_view(desk: Desk, node: int) -> Json:

@@ -126,6 +126,14 @@ def arcs_named(desk: Desk, words: list[str]) -> list[int]:
     return [number for number in numbers if not network.line(number).is_replaced]
 
 
+def arcs_of_name(desk: Desk, name: str) -> list[int]:
+    """Return the open arcs that a name means: several if a pipe leads both ways. Raise a
+    `DeskFault` if all are closed."""
+    network = desk.network
+    opened = [it for it in network.names.arcs(name) if not network.lines[it - 1].is_closed]
+    return opened or [network.the_arc(name)]
+
+
 def arcs_to_try(desk: Desk, words: list[str]) -> list[int]:
     """Return the open arcs that the words of `what-if each` mean: those of the limit, those at a
     place, or all."""

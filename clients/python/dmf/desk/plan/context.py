@@ -10,6 +10,7 @@ from ..project.comparison import Comparison
 from ..project.scenarios import Scenarios
 from ..steps import Trial
 from ..workspace import Desk
+from ..worth import Loss
 from .written_files import WrittenFiles
 
 # Keeps the steps of a desk in a new project at a path, whose desk goes on in its place.
@@ -49,6 +50,15 @@ class Output:
 
     def trials(self, desk: Desk, trials: list[Trial]) -> None:
         """Write what each of some arcs means for the value."""
+        raise NotImplementedError
+
+    def worst(self, desk: Desk, losses: list[Loss], more: int) -> None:
+        """Write what is lost without each of the worst arcs, and how many more cost something."""
+        raise NotImplementedError
+
+    def worth(self, desk: Desk, losses: list[Loss], together: Quantity) -> None:
+        """Write what is lost without each of the arcs of a name, and the value that is left without
+        all of them."""
         raise NotImplementedError
 
     def what_if(self, desk: Desk, before: Quantity, value: Quantity) -> None:

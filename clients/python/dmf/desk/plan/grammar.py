@@ -59,7 +59,10 @@ COMMANDS = {
         "pipes [where CONDITIONS]",
         "Lists the arcs of the table, or those that meet conditions: pipes where limit.",
     ),
-    "places": Help("places", "Lists the places, with what comes in and goes out."),
+    "places": Help(
+        "places",
+        "Lists the places, with what comes in and goes out, and says which demands are short.",
+    ),
     "from": Help("from PLACE", "Shows what flows on each arc out of a place.", PLACE),
     "close": Help("close ARC", f"Closes an arc. {ARCS_SAID} {MANY_SAID}", ARC),
     "open": Help(
@@ -109,8 +112,15 @@ COMMANDS = {
     ),
     "worst": Help(
         "worst [NUMBER]",
-        "Tries closing each arc, and lists the NUMBER arcs (10 by default) whose loss lowers the "
-        "value most. Nothing changes.",
+        "Lists the NUMBER arcs (10 by default) whose loss lowers the value most, each with the "
+        "value that is left without it. Nothing changes.",
+    ),
+    "worth": Help(
+        "worth ARC",
+        "Shows the value that is left without an arc. If several arcs have the name, as where a "
+        "pipe leads both ways, it shows what is left without each, and without all of them. "
+        "Nothing changes.",
+        ARC,
     ),
     "draw": Help(
         "draw FILE",

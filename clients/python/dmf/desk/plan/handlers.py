@@ -12,11 +12,13 @@ from ..analysis import trials_of
 from ..export import DRAWN, drawn, problem, table, taken
 from ..expressions import amount
 from ..steps import DeskFault, Trial
+from ..worth import judge_greatest, left_without_all, losses, worst
 from .arguments import (
     WHERE,
     arcs_from,
     arcs_listed,
     arcs_named,
+    arcs_of_name,
     arcs_to_try,
     arcs_told,
     arcs_where,
@@ -160,10 +162,16 @@ def _places(context: Context, words: list[str]) -> None:
 
 
 def _worst(context: Context, words: list[str]) -> None:
-    network = context.desk.network
     most = count_of(words, "worst") if words else MOST_WORST
-    opened = [number for number in network.pictured() if not network.lines[number - 1].is_closed]
-    context.output.trials(context.desk, _tried(context, opened)[:most])
+    context.output.worst(context.desk, *worst(context.desk, most))
+
+
+def _worth(context: Context, words: list[str]) -> None:
+    desk = context.desk
+    numbers = arcs_of_name(desk, one_name(words, "worth"))
+    found = losses(desk, numbers)
+    together = left_without_all(desk, numbers) if len(numbers) > 1 else found[0].left
+    context.output.worth(desk, found, together)
 
 
 def _tried(context: Context, numbers: list[int]) -> list[Trial]:
@@ -194,10 +202,7 @@ def _what_if(context: Context, words: list[str]) -> None:
 
 def _value_after(context: Context, words: list[str]) -> Quantity:
     """Return the greatest value after a change, which is taken back."""
-    if not context.desk.is_greatest:
-        raise DeskFault(
-            "the flow is not greatest, so nothing can be compared with it; `solve` first"
-        )
+    judge_greatest(context.desk)
     with context.desk.aside() as desk:
         HANDLERS[words[0]](Context(desk, TextOutput(_nothing)), words[1:])
         desk.solve()
@@ -267,6 +272,7 @@ HANDLERS: dict[str, Callable[[Context, list[str]], object]] = {
     "places": _places,
     "from": _from,
     "worst": _worst,
+    "worth": _worth,
     "close": _close,
     "open": _open,
     "cap": _cap,

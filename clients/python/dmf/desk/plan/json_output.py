@@ -8,6 +8,7 @@ from ..project.comparison import ArcState, Comparison, Standing
 from ..project.scenarios import Scenarios
 from ..steps import Trial
 from ..workspace import Desk
+from ..worth import Loss
 from .context import Output
 
 
@@ -47,6 +48,13 @@ class JsonOutput(Output):
             for it, arc in zip(trials, _arcs(desk, [it.arc for it in trials]))
         ]
         self._write("sweep", {**_state(desk), "trials": told})
+
+    def worst(self, desk: Desk, losses: list[Loss], more: int) -> None:
+        self._write("worth", {**_state(desk), **_losses(desk, losses), "more": more})
+
+    def worth(self, desk: Desk, losses: list[Loss], together: Quantity) -> None:
+        said = {**_losses(desk, losses), "together": _number(desk, together)}
+        self._write("worth", {**_state(desk), **said})
 
     def what_if(self, desk: Desk, before: Quantity, value: Quantity) -> None:
         numbers = {"before": _number(desk, before), "value": _number(desk, value)}
@@ -88,6 +96,17 @@ def _state(desk: Desk) -> Json:
         "scenario": desk.state.scenario or None,
         "scale": plain_text(measure.divisor),
     }
+
+
+def _losses(desk: Desk, losses: list[Loss]) -> Json:
+    """Return what is lost without each of some arcs. `more` is how many others cost something, and
+    `together` the value without all of these, if that was asked for."""
+    arcs = _arcs(desk, [it.arc for it in losses])
+    told = [
+        {"arc": arc, "without": _number(desk, it.left), "loss": _number(desk, it.loss)}
+        for arc, it in zip(arcs, losses)
+    ]
+    return {"losses": told, "more": 0, "together": None}
 
 
 def _arcs(desk: Desk, numbers: list[int]) -> list[Json]:

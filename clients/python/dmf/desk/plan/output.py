@@ -8,12 +8,15 @@ from collections.abc import Iterable, Iterator
 from ...quantity import EXACT, Quantity, moved, plain_text
 from ...text.lexical import display
 from ...text.spelling import cleaned, quoted_name
+from ...text.table_comments import DEMAND, SUPPLY
 from ..analysis import cheapest, prices, purchase_lines
+from ..demands import demand_sentence, limited_amounts
 from ..expressions import amount
 from ..project.comparison import Comparison
 from ..project.scenarios import Scenarios
 from ..steps import Trial
 from ..workspace import Desk
+from ..worth import Loss
 from .context import Output
 
 TO, SECONDS = "to", ["of", "seconds"]
@@ -40,6 +43,12 @@ class TextOutput(Output):
 
     def trials(self, desk: Desk, trials: list[Trial]) -> None:
         self.tell(*_trial_lines(desk, trials))
+
+    def worst(self, desk: Desk, losses: list[Loss], more: int) -> None:
+        self.tell(*_worst_lines(desk, losses, more))
+
+    def worth(self, desk: Desk, losses: list[Loss], together: Quantity) -> None:
+        self.tell(*_worth_lines(desk, losses, together))
 
     def what_if(self, desk: Desk, before: Quantity, value: Quantity) -> None:
         self.tell(f"it would be {desk.network.told(value)}: {moved(before, value)}")
@@ -117,7 +126,8 @@ def arc_lines(desk: Desk, numbers: list[int], *, with_limit: bool) -> Iterator[s
 
 
 def place_lines(desk: Desk) -> list[str]:
-    """Return what comes into each place, and what goes out."""
+    """Return what comes into each place, and what goes out; of a source or a sink with a limit, out
+    of how much; and whether all demands are met."""
     network = desk.network
     entering: dict[int, Quantity] = defaultdict(int)
     leaving: dict[int, Quantity] = defaultdict(int)
@@ -128,20 +138,25 @@ def place_lines(desk: Desk) -> list[str]:
         leaving[place(line.tail)] = EXACT.add(leaving[place(line.tail)], flow)
         entering[place(line.head)] = EXACT.add(entering[place(line.head)], flow)
     side = desk.side() if desk.is_greatest else set()
+    supplies, demands = (limited_amounts(desk, kind) for kind in (SUPPLY, DEMAND))
 
     def told(node: int) -> str:
+        short = demands[node].short if node in demands else 0
         said = (
             ["a source"] * (node in network.sources)
             + ["a sink"] * (node in network.sinks)
+            + [f"{plain_text(short)} short"] * (short > 0)
             + ["shut"] * (node in network.shut_nodes)
+            + ["before the limit"] * (node in side)
         )
-        amounts = [f"{plain_text(entering[node])} in", f"{plain_text(leaving[node])} out"]
-        return (
-            f"  {network.names.node(node)}: "
-            f"{', '.join([*amounts, *said, *['before the limit'] * (node in side)])}"
+        amounts = (
+            f"{demands[node].text if node in demands else plain_text(entering[node])} in",
+            f"{supplies[node].text if node in supplies else plain_text(leaving[node])} out",
         )
+        return f"  {network.names.node(node)}: {', '.join([*amounts, *said])}"
 
-    return [*map(told, network.folding.places(range(1, len(network.names.nodes) + 1)))]
+    lines = [*map(told, network.folding.places(range(1, len(network.names.nodes) + 1)))]
+    return [*lines, demand_sentence(desk, demands)] if demands else lines
 
 
 def _present_scenario(project: Scenarios) -> str:
@@ -165,6 +180,45 @@ def _scenario_lines(project: Scenarios) -> list[str]:
             f"{project.kept_value(it)}{left}{note}"
         )
     return lines
+
+
+def _worst_lines(desk: Desk, losses: list[Loss], more: int) -> Iterator[str]:
+    """Yield a table of the worst arcs: the value without each, its loss, and its name."""
+    network = desk.network
+    rows = [
+        [network.measure.title("without"), "loss", ""],
+        *(
+            [plain_text(it.left), plain_text(it.loss), f"#{it.arc} {network.names.arc(it.arc)}"]
+            for it in losses
+        ),
+    ]
+    if losses:
+        first, second = (max(len(row[at]) for row in rows) for at in (0, 1))
+        for left, loss, name in rows:
+            yield f"  {left:>{first}}  {loss:>{second}}  {name}".rstrip()
+    if more:
+        yield f"  and {more} more"
+    elif not losses:
+        yield "  no arc alone costs anything to lose"
+
+
+def _worth_lines(desk: Desk, losses: list[Loss], together: Quantity) -> Iterator[str]:
+    """Yield what closing the arcs of a name leaves: of several, closing each, and all of them."""
+    names = desk.network.names
+    if len(losses) == 1:
+        yield f"closing {names.short(losses[0].arc)}: {_left_of(desk, together)}"
+        return
+    yield f"{len(losses)} arcs have this name"
+    for it in losses:
+        yield f"  closing #{it.arc} {names.arc(it.arc)}: {_left_of(desk, it.left)}"
+    both = "both" if len(losses) == 2 else f"all {len(losses)}"
+    yield f"  closing {both}: {_left_of(desk, together)}"
+
+
+def _left_of(desk: Desk, left: Quantity) -> str:
+    """Return what is left of the value: `165 to 120 litres per second, 45 less`."""
+    value = desk.value
+    return f"{plain_text(value)} to {desk.network.told(left)}, {moved(value, left)}"
 
 
 def _trial_lines(desk: Desk, trials: list[Trial]) -> list[str]:

@@ -6,82 +6,32 @@ flow greatest. `report.html` is its frame."""
 
 from __future__ import annotations
 
-import base64
 import os
 import subprocess
 import tempfile
-import time
-from collections.abc import Callable, Iterable, Iterator
-from dataclasses import dataclass
+from collections.abc import Iterator
 from html import escape
 from pathlib import Path
 
-from ... import __version__
-from ...quantity import EXACT, Quantity, moved, plain_text
 from ...session import executable
 from ...session.base import Program
 from ...text.lexical import display
+from ...text.table_comments import DEMAND
 from ..analysis import trials_of
-from ..export import drawn, problem, taken
+from ..demands import limited_amounts
+from ..export import problem, taken
 from ..steps import DeskFault, Trial
 from ..workspace import Desk
 from .comparison import ArcDifference, compare
 from .records import ENDING, Scenario
+from .report_findings import Demand, Findings, Section, Tried
+from .report_picture import readable
+from .report_text import report_lines
 from .scenarios import BASE, Scenarios
 
 # How many arcs are tried for what is worst to lose, and how long a check may take, in seconds.
 MOST_TRIED = 300
 PATIENCE = 60
-
-
-@dataclass(frozen=True)
-class Section:
-    """A scenario in a report. `picture` is the text of an SVG, or empty if there is no picture, for
-    the reason `no_picture`; `check` is what `dmf check` wrote about the flow."""
-
-    name: str
-    begun_from: str
-    note: str
-    value: Quantity
-    steps: tuple[tuple[str, Quantity], ...]
-    left_out: tuple[str, ...]
-    limit: tuple[tuple[str, Quantity], ...]
-    side: tuple[str, ...]
-    differences: tuple[ArcDifference, ...]
-    picture: str
-    no_picture: str
-    check: str
-
-
-@dataclass(frozen=True)
-class Tried:
-    """What the arcs mean for the value of a scenario, by their names: the losses if one alone is
-    closed, the largest first, and the gains if a second one lies beside one. `said` says which were
-    tried."""
-
-    scenario: str
-    value: Quantity
-    losses: tuple[tuple[str, Quantity], ...]
-    gains: tuple[tuple[str, Quantity], ...]
-    said: str
-
-
-@dataclass(frozen=True)
-class Findings:
-    """Everything that a report says about the network and the scenarios of a desk. The first
-    section is the network of the table."""
-
-    title: str
-    notes: str
-    unit: str
-    noun: str
-    source: str
-    sink: str
-    arcs: int
-    places: int
-    assumed: tuple[str, ...]
-    sections: tuple[Section, ...]
-    tried: Tried
 
 
 def checked(desk: Desk, program: Program = None) -> str:
@@ -110,8 +60,14 @@ def checked(desk: Desk, program: Program = None) -> str:
             raise DeskFault(f"dmf check took more than {PATIENCE} seconds") from None
     told = (ran.stdout or ran.stderr).decode(errors="replace").strip()
     if ran.returncode:
-        raise DeskFault(f"dmf check does not find the flow greatest: {told}")
+        raise DeskFault(f"dmf check does not confirm the flow: {told}")
     return told
+
+
+def _demands(desk: Desk) -> Iterator[Demand]:
+    """Yield what each place takes, where that is limited."""
+    for node, it in limited_amounts(desk, DEMAND).items():
+        yield Demand(desk.network.names.node(node), it.limit, it.flow)
 
 
 def _section(
@@ -126,8 +82,7 @@ def _section(
     network = desk.network
     picture, why = "", ""
     try:
-        text = drawn(desk, "picture.svg").decode()
-        picture = text[text.index("<svg") :]
+        picture = readable(desk)
     except DeskFault as fault:
         why = str(fault)
     made = desk.steps[first : desk.at]
@@ -142,6 +97,7 @@ def _section(
             (network.names.arc(number), network.line(number).capacity) for number in desk.cut_arcs()
         ),
         tuple(network.names.side(desk.side())),
+        tuple(sorted(_demands(desk), key=lambda it: it.arrives - it.wanted)),
         differences,
         picture,
         why,
@@ -229,206 +185,13 @@ def findings(desk: Desk) -> Findings:
     )
 
 
-# How many rows of a table are shown, and how many places in a sentence.
-MOST_ROWS, MOST_PLACES = 40, 30
-
-
-def _text(text: str) -> str:
-    """Return a text of the planner in the page: never markup."""
-    return escape(display(text))
-
-
-def _lines(text: str) -> str:
-    """Return a text of the planner of several lines."""
-    return "\n".join(map(_text, text.splitlines()))
-
-
-def _told(amount: Quantity, unit: str) -> str:
-    return _text(f"{plain_text(amount)} {unit}".rstrip())
-
-
-def _table(titles: Iterable[tuple[str, bool]], rows: list[list[str]]) -> Iterator[str]:
-    """Yield a table of cells that are markup already. Columns of numbers stand to the right."""
-    heads = list(titles)
-
-    def cells(tag: str, row: Iterable[str]) -> str:
-        marks = (' class="number"' if is_number else "" for _, is_number in heads)
-        return "".join(f"<{tag}{mark}>{cell}</{tag}>" for mark, cell in zip(marks, row))
-
-    yield f"<table><thead><tr>{cells('th', (title for title, _ in heads))}</tr></thead><tbody>"
-    yield from (f"<tr>{cells('td', row)}</tr>" for row in rows[:MOST_ROWS])
-    yield "</tbody></table>"
-    if len(rows) > MOST_ROWS:
-        yield f'<p class="faint">and {len(rows) - MOST_ROWS} more rows that are not shown</p>'
-
-
-def _counted(count: int, noun: str) -> str:
-    return f"{count} {noun}{'s' * (count != 1)}"
-
-
-def _head(found: Findings) -> Iterator[str]:
-    yield (
-        f"<h1>{_text(found.title)}: what can be sent from {_text(found.source)} to "
-        f"{_text(found.sink)}</h1>"
-    )
-    unit = f", in {_text(found.unit)}" if found.unit else ""
-    yield (
-        f'<p class="faint">{_counted(found.arcs, _text(found.noun))} between {found.places} '
-        f'places{unit}. {time.strftime("%-d %B %Y")}.</p>'
-    )
-    if found.notes:
-        yield f'<p class="note">{_lines(found.notes)}</p>'
-    base = found.sections[0].value
-    if len(found.sections) > 1:
-        yield "<h2>The scenarios</h2>"
-        rows = [
-            [
-                _text(it.name),
-                plain_text(it.value),
-                "" if it.name == BASE else moved(base, it.value),
-                str(len(it.steps)),
-            ]
-            for it in found.sections
-        ]
-        titles = ("scenario", False), (
-            _text(f"greatest value ({found.unit})" if found.unit else "greatest value"),
-            True,
-        )
-        yield from _table([*titles, ("against base", True), ("steps", True)], rows)
-        yield f'<p class="faint">{BASE} is the network of the table, without a step.</p>'
-
-
-def _section_lines(found: Findings, it: Section) -> Iterator[str]:
-    base = found.sections[0]
-    yield f"<section><h2>{_text(it.name)}</h2>"
-    if it.begun_from:
-        yield f'<p class="faint">begun with the steps of {_text(it.begun_from)}</p>'
-    if it.note:
-        yield f'<p class="note">{_lines(it.note)}</p>'
-    by = (
-        ""
-        if it is base
-        else f" <small>({moved(base.value, it.value)} than base)</small>"
-        if it.value != base.value
-        else " <small>(as base)</small>"
-    )
-    yield f'<p class="value">{_told(it.value, found.unit)}{by}</p>'
-    if it.steps:
-        yield "<h3>What was changed</h3><ol>"
-        yield from (
-            f"<li>{_text(text)} <span class='faint'>then {_told(value, found.unit)}</span></li>"
-            for text, value in it.steps
-        )
-        yield "</ol>"
-    if it.left_out:
-        steps = "; ".join(map(_text, it.left_out))
-        yield (
-            "<p>Left out, since the table has changed and they mean nothing in it any more: "
-            f"{steps}.</p>"
-        )
-    yield from _limit(found, it)
-    if it.picture:
-        data = base64.b64encode(it.picture.encode()).decode()
-        yield (
-            f'<figure><img alt="The network of {_text(it.name)}; what is the limit is red" '
-            f'src="data:image/svg+xml;base64,{data}"></figure>'
-        )
-    else:
-        yield f'<p class="faint">There is no picture: {_text(it.no_picture)}.</p>'
-    if it.differences:
-        yield from _differences(it.differences)
-    yield (
-        '<p class="faint">The flow was judged by <code>dmf check</code>: '
-        f"<code>{_text(it.check)}</code></p></section>"
-    )
-
-
-def _limit(found: Findings, it: Section) -> Iterator[str]:
-    """Yield the limit in plain words."""
-    yield "<h3>What is the limit</h3>"
-    if not it.limit:
-        yield (
-            f"<p>Nothing leads from {_text(found.source)} to {_text(found.sink)} any more, so "
-            "nothing can be sent.</p>"
-        )
-        return
-    one = len(it.limit) == 1
-    yield (
-        f"<p>All that is sent has to pass {'this one' if one else f'these {len(it.limit)}'}, and "
-        f"together {'it carries' if one else 'they carry'} "
-        f"{_told(it.value, found.unit)} at most. To widen only others brings nothing.</p>"
-    )
-    yield from _table(
-        [("limit", False), ("carries at most", True)],
-        [[f'<span class="limit">{_text(arc)}</span>', plain_text(most)] for arc, most in it.limit],
-    )
-    if it.side:
-        more = f" and {len(it.side) - MOST_PLACES} more" if len(it.side) > MOST_PLACES else ""
-        side = ", ".join(map(_text, it.side[:MOST_PLACES]))
-        yield f'<p class="faint">Before it: {side}{more}.</p>'
-
-
-def _differences(differences: tuple[ArcDifference, ...]) -> Iterator[str]:
-    yield f"<h3>What differs from {BASE}</h3>"
-    rows = [[_text(it.arc), _text(it.first.told()), _text(it.second.told())] for it in differences]
-    yield from _table([("", False), (BASE, False), ("here", False)], rows)
-
-
-def _trial_lines(found: Findings, tried: Tried) -> Iterator[str]:
-    yield f"<h2>Worst to lose, best to have twice: {_text(tried.scenario)}</h2>"
-    yield f'<p class="faint">{_text(tried.said[:1].upper() + tried.said[1:])}.</p>'
-    columns: list[
-        tuple[
-            str,
-            str,
-            tuple[tuple[str, Quantity], ...],
-            Callable[[Quantity, Quantity], Quantity],
-            str,
-        ]
-    ] = [
-        ("closed", "loses", tried.losses, EXACT.subtract, "Closed alone, none costs anything."),
-        (
-            "with a second one beside it",
-            "gains",
-            tried.gains,
-            EXACT.add,
-            "A second one beside any of them brings nothing.",
-        ),
-    ]
-    for title, word, rows, sign, none in columns:
-        if not rows:
-            yield f"<p>{none}</p>"
-            continue
-        cells = [
-            [_text(arc), plain_text(by), plain_text(sign(tried.value, by))] for arc, by in rows
-        ]
-        yield from _table([(title, False), (word, True), ("then", True)], cells)
-
-
 def report(desk: Desk) -> str:
     """Return the report of a desk: of a project with all its scenarios, or else of the present
     state. It carries the present problem. This takes as long as the steps of all scenarios, a
     comparison of each, and a sweep. Raise a `DeskFault` if the flow is not greatest, and what a
     session raises."""
     found = findings(desk)
-    lines = [*_head(found)]
-    for section in found.sections:
-        lines += _section_lines(found, section)
-    lines += _trial_lines(found, found.tried)
-    lines += ["<h2>What this rests on</h2>"]
-    if found.assumed:
-        lines += [
-            "<p>Taken for granted when the table was read:</p><ul>",
-            *(f"<li>{_text(it)}</li>" for it in found.assumed),
-            "</ul>",
-        ]
-    lines.append(
-        f"<p>Values and limits are those of dmf {__version__}, whose solves are proved to find the "
-        "greatest value; this report is only "
-        "tested. A limit is a set of arcs that all has to pass, of the least capacity; of several, "
-        "the one nearest to the source.</p>"
-    )
     page = (Path(__file__).with_name("report.html")).read_text(encoding="utf-8")
     title = f"{display(found.title)}: report"
-    page = page.replace("{title}", escape(title)).replace("{body}", "\n".join(lines))
+    page = page.replace("{title}", escape(title)).replace("{body}", "\n".join(report_lines(found)))
     return taken(desk, page.encode()).decode()

@@ -1,6 +1,6 @@
 use Rattle.std.proofs.Common.{ℕ, false, [], ◌∷◌, ◌++◌, ◌+◌, ◌-◌, length, set, refl, ap, ◌∙◌, arith}
 use Rattle.dmf_vital.specs.declared.tree.Reached.{Reached}
-use Rattle.dmf_vital.proofs.Growing.{grown-root, grown-same}
+use Rattle.dmf_vital.proofs.Growing.{entered-kept, grown-root, grown-same}
 use Rattle.dmf_vital.proofs.Listed.{listed-stay}
 use Rattle.dmf_vital.proofs.search.search.Goals as goal
 
@@ -27,3 +27,20 @@ enter-requires-clause-grown c =
     (omega (arith, ap length c.forget.ensures.empty)) (omega arith) refl in
     grown-same n s.flows.now s.exits (set c.forget.new.tree.nodes.items (v - 1) now) c.reach.new.tree.nodes.items (v ∷ []) c.reach.new.tree.found.items
     c.in_ok-reach.ensures.nodes (c.in_ok-reach.ensures.found ∙ ap (λ xs. xs ++ v ∷ []) c.forget.ensures.empty) grown
+
+-- Both ends have met in turns.
+pub returns-then-met-ne0-clause-ended : goal.returns-then-met-ne0-clause-ended
+returns-then-met-ne0-clause-ended c =
+    let s = c.args.steps.now in
+    record {
+      entered = λ i. entered-kept s.state.now.network s.flows.now s.exits c.enter.new.tree.nodes.items c.meet.new.tree.nodes.items i c.meet.ensures.kept
+          (c.in_ok-enter.ensures.entered i);
+      some = c.in_ok-met.ensures.crossing;
+      none = λ none. absurd (c.if-met-ne0.true none);
+    }
+
+pub exhaust-requires-clause-entered : goal.exhaust-requires-clause-entered
+exhaust-requires-clause-entered c = λ i.
+    let s = c.args.steps.now in
+    entered-kept s.state.now.network s.flows.now s.exits c.enter.new.tree.nodes.items c.meet.new.tree.nodes.items i c.meet.ensures.kept
+    (c.in_ok-enter.ensures.entered i)

@@ -9,6 +9,7 @@ import { at, button, form, make, replace } from "./elements.js";
 import { isPart, showNear } from "./picture.js";
 import { act, ask, noun, present, units } from "./state.js";
 import { upper } from "./words.js";
+import { closingWords } from "./worth.js";
 
 export async function showChosen() {
   const chosen = theChoice();
@@ -26,6 +27,14 @@ export async function showChosen() {
   replace(at("what"), chosen.arc ? aboutArc(told) : aboutPlace(told));
 }
 
+/** Says what closing the chosen arc leaves, once that is known. All else stays, also what is being typed. */
+export async function showClosing() {
+  const chosen = theChoice();
+  if (!chosen?.arc) return;
+  const told = await ask(`arc?number=${chosen.arc}`, undefined, true), place = document.getElementById("closing");
+  if (told && place && chosen === theChoice()) place.textContent = closingWords(told);
+}
+
 /** @param {Arc} arc */
 function aboutArc(arc) {
   const is = arc.full ? "It is full" : arc.flow === "0" ? "Nothing flows here" : "It is not full";
@@ -34,7 +43,7 @@ function aboutArc(arc) {
   /** @type {HTMLElement[]} */
   const about = [make("h3", arc.short), make("p", `From ${arc.tail} to ${arc.head}. ${words}`)];
   if (arc.closed) return [...about, button("Open it again", () => act({ what: "open", arc: arc.number }, `${arc.short} is open`))];
-  return [...about,
+  return [...about, make("p", closingWords(arc), { id: "closing" }),
     button("Close it", () => act({ what: "close", arc: arc.number }, `${arc.short} is closed`)),
     button("Put a second one beside it", () => act({ what: "double", arc: arc.number }, `a second ${arc.short}`)),
     setting(arc, "What it can carry", "capacity")];

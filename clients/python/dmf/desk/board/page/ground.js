@@ -1,10 +1,14 @@
 /**
  * All arcs where they lie, behind the picture, which has a part of them with their numbers: what lies where, and what is near a point.
  * @typedef {import("./view.js").Box} Box
- * @typedef {{ number: number, tail: number, head: number, from: [number, number], to: [number, number], look: string }} Line
+ * @typedef {import("./colourings.js").Mark} Mark
+ * @typedef {{ number: number, tail: number, head: number, from: [number, number], to: [number, number], aside: [number, number],
+ *   mark: Mark }} Line
+ *   from and to where, and which way and how many lanes aside of that, since it has the same ends as others
  * @typedef {{ node: number, name: string, x: number, y: number, look: string, isEnd: boolean }} Spot
  */
 import { choose, theChoice } from "./choice.js";
+import { markOf, thicker, usualLength } from "./colourings.js";
 import { at } from "./elements.js";
 import { isPicked } from "./many.js";
 import { ask } from "./state.js";
@@ -12,8 +16,8 @@ import { freeBox, scale, seenBox } from "./view.js";
 
 /** The look of an arc that is not there. */
 const NONE = " ";
-/** How far apart arcs with the same ends lie, in units; how near a click has to be, in pixels; from how many pixels for a unit on names
- * are read. */
+/** How far apart arcs with the same ends lie, and how near a click has to be, in pixels; from how many pixels for a unit on names are
+ * read. */
 const APART = 5, NEAR = 9;
 export const NAMES = 0.3;
 /** @type {Map<number, Spot>} */
@@ -21,12 +25,15 @@ export const places = new Map();
 /** @type {number[][] | null} */
 let ends = null;
 /**
- * The lines that lie there, and the arcs and places that the picture before them has.
- * @type {{ lines: Line[], before: Set<string> }}
+ * The lines that lie there, how long they usually are, and the arcs and places that the picture before them has.
+ * @type {{ lines: Line[], usual: number, before: Set<string> }}
  */
-export const ground = { lines: [], before: new Set() };
+export const ground = { lines: [], usual: 1, before: new Set() };
 
 export const isGround = () => ground.lines.length > 0;
+
+/** @param {Line} line */
+export const isOfLimit = (line) => line.mark.state === "l";
 
 /**
  * Asks for all that lies there, and then for how it looks.
@@ -50,27 +57,39 @@ export async function lookAtGround(isThere) {
   [...places.values()].forEach((place, number) => {
     place.look = told.places[number];
   });
-  ground.lines = linesOf([...ends.map((one, number) => [...one, told.arcs[number]]), ...told.added]);
+  const signs = (/** @type {number} */ place) => told.arcs[place] + told.uses[place] + told.changes[place] + told.widths[place];
+  ground.lines = linesOf([...ends.map((one, place) => [...one, signs(place)]), ...told.added]);
+  ground.usual = usualLength(ground.lines.map(({ from, to }) => Math.hypot(to[0] - from[0], to[1] - from[1])));
 }
 
 /**
  * The lines of arcs: side by side where they have the same ends.
- * @param {any[][]} arcs their numbers, ends and looks
+ * @param {any[][]} arcs their numbers, ends and signs
  */
 function linesOf(arcs) {
   /** @type {Map<string, any[][]>} */
   const beside = new Map();
   for (const arc of arcs) {
-    if (arc[3] === NONE) continue;
+    if (arc[3][0] === NONE) continue;
     const key = arc[1] < arc[2] ? `${arc[1]} ${arc[2]}` : `${arc[2]} ${arc[1]}`;
     beside.set(key, [...beside.get(key) ?? [], arc]);
   }
-  return [...beside.values()].flatMap((alike) => alike.map(([number, tail, head, look], rank) => {
+  return [...beside.values()].flatMap((alike) => alike.map(([number, tail, head, signs], rank) => {
     const from = /** @type {Spot} */ (places.get(tail)), to = /** @type {Spot} */ (places.get(head));
-    const long = Math.hypot(to.x - from.x, to.y - from.y) || 1, by = (rank - (alike.length - 1) / 2) * APART * (tail < head ? 1 : -1);
-    const right = (to.y - from.y) / long * by, down = (from.x - to.x) / long * by;
-    return /** @type {Line} */ ({ number, tail, head, look, from: [from.x + right, from.y + down], to: [to.x + right, to.y + down] });
+    const long = Math.hypot(to.x - from.x, to.y - from.y) || 1, by = (rank - (alike.length - 1) / 2) * (tail < head ? 1 : -1);
+    const aside = [(to.y - from.y) / long * by, (from.x - to.x) / long * by], mark = markOf(number, signs);
+    return /** @type {Line} */ ({ number, tail, head, mark, aside, from: [from.x, from.y], to: [to.x, to.y] });
   }));
+}
+
+/**
+ * Where a line begins and ends, beside those with the same ends.
+ * @param {Line} line
+ * @returns {[number, number][]}
+ */
+export function endsOf({ from, to, aside }) {
+  const by = APART * thicker(ground.usual * scale()) / scale();
+  return [from, to].map(([x, y]) => [x + by * aside[0], y + by * aside[1]]);
 }
 
 /** @param {Iterable<string>} ids the parts that the picture has */
@@ -84,7 +103,7 @@ export function setBefore(ids) {
  */
 export function groundBox(like) {
   const { lines } = ground;
-  const drawn = like === ".cut" ? lines.filter((line) => line.look === "l") : like === ".chosen" ? lines.filter(isMarked) : [];
+  const drawn = like === ".cut" ? lines.filter(isOfLimit) : like === ".chosen" ? lines.filter(isMarked) : [];
   const put = !isGround() || like === ".cut" ? [] : [...places.values()].filter((place) => like !== ".chosen" || isMarked(place));
   const spots = [...drawn.flatMap((line) => [line.from, line.to]), ...put.map((place) => [place.x, place.y])];
   if (!spots.length) return null;
@@ -136,8 +155,8 @@ function nearest(all, far) {
  * @param {number} x
  * @param {number} y
  */
-function away({ from, to }, x, y) {
-  const [right, down] = [to[0] - from[0], to[1] - from[1]], long = right * right + down * down;
+function away(line, x, y) {
+  const [from, to] = endsOf(line), [right, down] = [to[0] - from[0], to[1] - from[1]], long = right * right + down * down;
   const part = long ? Math.min(1, Math.max(0, ((x - from[0]) * right + (y - from[1]) * down) / long)) : 0;
   return Math.hypot(from[0] + part * right - x, from[1] + part * down - y);
 }

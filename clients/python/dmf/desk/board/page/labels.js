@@ -4,12 +4,18 @@
  * @typedef {{ part: SVGElement, texts: SVGTextElement[], x: number, y: number, width: number, height: number, size: number,
  *   rank: number, oval: Oval | null, line: DOMPoint[] }} Label
  * @typedef {{ x: number, y: number, right: number, down: number }} Oval the middle of a place, and how far it reaches
- * @typedef {{ left: number, right: number, top: number, bottom: number }} Edges
+ * @typedef {import("./ink.js").Edges} Edges
+ * @typedef {import("./ink.js").Ink} Ink
+ * @typedef {{ ink: Ink, view: Edges }} Ground where lines lead, and what is seen, in pixels
+ * @typedef {[number, number, boolean]} Place the middle of a label, and whether that is in its own place
  */
+import { Boxes, edges } from "./boxes.js";
 /** How high letters are, in pixels; how high a line is for them; how far a label stays from its place, in pixels. */
 const LEAST = 11.2, MOST = 17, LINE = 1.25, APART = 3;
-/** How much of an oval a label may take, for it to lie in it; the side of a field in which boxes are sought, in pixels. */
-const FILLED = 1.6, FIELD = 64;
+/** How much of an oval a label may take, for it to lie in it. */
+const FILLED = 1.6;
+/** How much a label costs of which a part is not seen, in fields with lines under it; how far away one is that costs a field, in pixels. */
+const CUT = 100, AWAY = 1.5;
 /** The spots of a label of a place, around that; and of an arc, from where Graphviz has it: by parts of its size. */
 const AROUND = [[1, 0], [-1, 0], [0, -1], [0, 1], [1, -1], [1, 1], [-1, -1], [-1, 1]];
 const BESIDE = [[0, 0], [0, -0.3], [0, 0.3], [0.3, 0], [-0.3, 0], [0, -0.6], [0, 0.6], [0.3, -0.3], [-0.3, 0.3]];
@@ -85,55 +91,66 @@ function rank(part) {
   return part.matches(".cut") ? 1 : part.matches(".full") ? 3 : 4;
 }
 
-/** Boxes, found by the fields of a grid. */
-class Boxes {
-  /** @type {Map<string, Edges[]>} */
-  #fields = new Map();
-
-  /**
-   * @param {Edges} box
-   * @returns {string[]}
-   */
-  static #keys({ left, right, top, bottom }) {
-    const keys = [];
-    for (let column = Math.floor(left / FIELD); column <= right / FIELD; column += 1) {
-      for (let row = Math.floor(top / FIELD); row <= bottom / FIELD; row += 1) keys.push(`${column} ${row}`);
-    }
-    return keys;
+/**
+ * Of these spots the one under which the least of lines is, and which is near the first: a label further away would be read as that of
+ * another line. One within its place is taken.
+ * @param {Place[]} found
+ * @param {number} right how far the label reaches
+ * @param {number} down
+ * @param {Ground} ground
+ */
+function clearest(found, right, down, { ink, view }) {
+  let best = found[0], least = Infinity;
+  for (const spot of found) {
+    const box = edges(spot[0], spot[1], right, down), away = Math.hypot(spot[0] - found[0][0], spot[1] - found[0][1]) / AWAY;
+    const isCut = box.left < view.left || box.right > view.right || box.top < view.top || box.bottom > view.bottom;
+    const cost = away >= least ? away : spot[2] ? 0 : away + ink.under(box) + Number(isCut) * CUT;
+    if (cost < least) [best, least] = [spot, cost];
   }
-
-  /** @param {Edges} box */
-  add(box) {
-    for (const key of Boxes.#keys(box)) this.#fields.set(key, [...this.#fields.get(key) ?? [], box]);
-  }
-
-  /**
-   * Whether no other box than this one's own meets a box.
-   * @param {Edges} box
-   * @param {Edges | null} own
-   */
-  isFree(box, own) {
-    return Boxes.#keys(box).every((key) => (this.#fields.get(key) ?? []).every((it) => it === own
-      || it.right <= box.left || box.right <= it.left || it.bottom <= box.top || box.bottom <= it.top));
-  }
+  return best;
 }
 
 /**
- * @param {number} x
- * @param {number} y
- * @param {number} right how far it reaches
- * @param {number} down
- * @returns {Edges}
+ * What labels lie on, since they were arranged last, and what boxes are taken.
+ * @type {Ground & { taken: Boxes } | null}
  */
-const edges = (x, y, right, down) => ({ left: x - right, right: x + right, top: y - down, bottom: y + down });
+let present = null;
+
+/**
+ * Lets no name lie here that finds its spot from now on.
+ * @param {number} x in pixels
+ * @param {number} y
+ * @param {number} reach
+ */
+export const cover = (x, y, reach) => present?.taken.add(edges(x, y, reach, reach));
+
+/**
+ * The middle of a name beside a place, by the rule of all labels, or nothing if it has no room. It is taken then.
+ * @param {number} x the place's middle, in pixels
+ * @param {number} y
+ * @param {number} reach how far the place reaches
+ * @param {number} right how far the name reaches
+ * @param {number} down
+ */
+export function nameSpot(x, y, reach, right, down) {
+  if (!present) return undefined;
+  const { taken } = present, out = reach + APART;
+  const found = AROUND.map(([along, below]) => /** @type {Place} */ ([x + along * (out + right), y + below * (out + down), false]))
+    .filter((spot) => taken.isFree(edges(spot[0], spot[1], right, down), null));
+  const spot = clearest(found, right, down, present);
+  if (spot) taken.add(edges(spot[0], spot[1], right, down));
+  return spot;
+}
 
 /**
  * Shows the labels that find a spot.
  * @param {Label[]} labels
  * @param {number} scale the pixels for a unit
+ * @param {Ground} ground
  */
-export function arrange(labels, scale) {
+export function arrange(labels, scale, ground) {
   const taken = new Boxes();
+  present = { taken, ...ground };
   const ovals = new Map(labels.map((label) => {
     const { oval } = label, box = oval && edges(oval.x * scale, oval.y * scale, oval.right * scale, oval.down * scale);
     if (box) taken.add(box);
@@ -144,8 +161,9 @@ export function arrange(labels, scale) {
     const by = Math.min(MOST, Math.max(LEAST, label.size * scale)) / (label.size * scale);
     const [right, down] = [label.width * scale * by / 2, label.height * scale * by / 2], own = ovals.get(label) ?? null;
     const isChosen = first(label) < 0, rings = RINGS.filter((ring) => isChosen || !label.oval && ring * down < FURTHEST * scale);
-    const spot = spots(label, right, down, scale).concat(further(label, right, down, scale, rings))
-      .find(([x, y, isIn]) => taken.isFree(edges(x, y, right, down), isIn ? own : null));
+    const found = spots(label, right, down, scale).concat(further(label, right, down, scale, rings))
+      .filter(([x, y, isIn]) => taken.isFree(edges(x, y, right, down), isIn ? own : null));
+    const spot = clearest(found, right, down, ground);
     if (spot) taken.add(edges(spot[0], spot[1], right, down));
     put(label, by, spot && { x: spot[0] / scale, y: spot[1] / scale, isIn: spot[2] });
   }
@@ -157,13 +175,13 @@ export function arrange(labels, scale) {
  * @param {number} right how far it reaches
  * @param {number} down
  * @param {number} scale
- * @returns {[number, number, boolean][]}
+ * @returns {Place[]}
  */
 function spots({ oval, line, x, y }, right, down, scale) {
   if (!oval) {
-    const near = BESIDE.map(([along, below]) => /** @type {[number, number, boolean]} */ (
+    const near = BESIDE.map(([along, below]) => /** @type {Place} */ (
       [x * scale + 2 * along * right, y * scale + 2 * below * down, false]));
-    return near.concat(line.flatMap((point) => SIDES.map(([along, below]) => /** @type {[number, number, boolean]} */ (
+    return near.concat(line.flatMap((point) => SIDES.map(([along, below]) => /** @type {Place} */ (
       [point.x * scale + along * (right + APART), point.y * scale + below * (down + APART), false]))));
   }
   const [ovalRight, ovalDown] = [oval.right * scale, oval.down * scale];
@@ -180,11 +198,11 @@ function spots({ oval, line, x, y }, right, down, scale) {
  * @param {number} down
  * @param {number} scale
  * @param {number[]} rings
- * @returns {[number, number, boolean][]}
+ * @returns {Place[]}
  */
 function further({ oval, line, x, y }, right, down, scale, rings) {
   const from = oval ?? line[0] ?? { x, y }, [aside, above] = oval ? [oval.right * scale, oval.down * scale] : [0, 0];
-  return rings.flatMap((ring) => AROUND.map(([along, below]) => /** @type {[number, number, boolean]} */ (
+  return rings.flatMap((ring) => AROUND.map(([along, below]) => /** @type {Place} */ (
     [from.x * scale + along * (aside + right + ring * down), from.y * scale + below * (above + down + ring * down), false])));
 }
 

@@ -4,15 +4,21 @@
  * @typedef {import("./ground.js").Line} Line
  * @typedef {import("./ground.js").Spot} Spot
  */
+import { INSIDE, SHORT } from "./arrows.js";
+import { shadeOf, thicker, thickness } from "./colourings.js";
 import { at } from "./elements.js";
-import { ground, isGround, isMarked, NAMES, places } from "./ground.js";
+import { isFaded } from "./filter.js";
+import { endsOf, ground, isGround, isMarked, isOfLimit, NAMES, places } from "./ground.js";
+import { cover, nameSpot } from "./labels.js";
+import { shades } from "./legend.js";
 import { scale, seenBox } from "./view.js";
 
-/** How an arc looks: nothing flows, closed, something flows, full, of the limit; by these signs, and in this order over one another. */
-const LOOKS = "ucfFl", BEFORE = "b", SHUT = "s";
-/** From how many pixels for a unit on arrows are drawn, and how many names at most; how large letters are; and in units a shade, and half
- * of a place in the picture before it, which hides what lies there. */
-const ARROWS = 0.2, MOST_NAMES = 400, LETTERS = 12, ROUND = 90, HALF = 36;
+/** How a place looks that is before the limit, and one that is shut. */
+const BEFORE = "b", SHUT = "s";
+/** How much is seen of what a filter leaves out. */
+const FADED = 0.16;
+/** How many names there are at most; how large letters are, in pixels, and by how much a line is higher; and a shade, in units. */
+const MOST_NAMES = 400, LETTERS = 12, LINE = 1.25, ROUND = 90;
 
 /** Whether nothing can be read. Then the arcs of the picture are drawn as the others are. */
 const isFar = () => isGround() && scale() < NAMES;
@@ -31,24 +37,46 @@ export function paint() {
   pen.clearRect(0, 0, wide, high);
   pen.setTransform(scale() * by, 0, 0, scale() * by, -box.x * scale() * by, -box.y * scale() * by);
   const seen = ground.lines.filter((line) => isIn(box, line)), colour = colours();
-  if (isFar()) shade(pen, colour("side"));
+  if (isFar()) shadeBefore(pen, colour("side"));
   stroke(pen, seen.filter(isMarked), colour("mark"), 9);
-  for (const look of LOOKS) {
-    const alike = seen.filter((line) => line.look === look && (isFar() || !ground.before.has(`arc-${line.number}`)));
-    const ink = colour(look === "l" ? "limit" : look === "u" || look === "c" ? "unused" : "ink");
-    stroke(pen, alike, ink, look === "l" ? 3 : look === "F" ? 2 : isFar() ? 0.6 : 1, look === "c" ? [5, 3] : []);
-    if (scale() >= ARROWS && look !== "c") point(pen, alike, ink);
-  }
+  paintLines(pen, seen.filter((line) => isFar() || !ground.before.has(`arc-${line.number}`)), colour);
   const named = paintPlaces(pen, box, colour);
   // Places that lie close would hide the limit, which is what is looked for from afar.
-  if (isFar()) stroke(pen, seen.filter((line) => line.look === "l"), colour("limit"), 3);
+  if (isFar()) paintLines(pen, seen.filter(isOfLimit), colour);
   paintNames(pen, named, colour);
+}
+
+/**
+ * Draws lines: what a filter leaves out first, then what the legend has last, and at once those that look alike.
+ * @param {CanvasRenderingContext2D} pen
+ * @param {Line[]} drawn
+ * @param {(name: string) => string} colour
+ */
+function paintLines(pen, drawn, colour) {
+  const now = shades(), by = thicker(ground.usual * scale());
+  /** @type {Map<string, Line[]>} */
+  const alike = new Map();
+  for (const line of drawn) {
+    const place = now.length - now.indexOf(shadeOf(now, line.mark));
+    const key = `${isFaded(line.mark) ? 0 : 1}${String.fromCharCode(48 + place)}${line.mark.width}`;
+    const group = alike.get(key);
+    if (group) group.push(line);
+    else alike.set(key, [line]);
+  }
+  for (const [key, lines] of [...alike].sort(([one], [other]) => (one < other ? -1 : 1))) {
+    const shade = shadeOf(now, lines[0].mark), wide = by * thickness(lines[0].mark);
+    pen.globalAlpha = key.startsWith("0") ? FADED : 1;
+    stroke(pen, lines, colour(shade.ink), wide, shade.isDashed ? [5, 3] : []);
+    if (lines[0].mark.state !== "c") point(pen, lines, colour(wide < INSIDE ? shade.ink : "paper"), Math.min(5, 0.4 * wide + 2.6));
+  }
+  pen.globalAlpha = 1;
 }
 
 /** The page's colours, by their names. To ask for one takes longer than to draw with it. */
 function colours() {
   const style = getComputedStyle(document.documentElement);
-  const found = new Map(["ink", "limit", "mark", "paper", "side", "unused"].map((name) => [name, style.getPropertyValue(`--${name}`)]));
+  const names = ["ink", "mark", "paper", "side", "unused", ...shades().map((shade) => shade.ink)];
+  const found = new Map(names.map((name) => [name, style.getPropertyValue(`--${name}`)]));
   return (/** @type {string} */ name) => found.get(name) ?? "";
 }
 
@@ -57,7 +85,7 @@ function colours() {
  * @param {CanvasRenderingContext2D} pen
  * @param {string} ink
  */
-function shade(pen, ink) {
+function shadeBefore(pen, ink) {
   pen.beginPath();
   for (const { x, y, look } of places.values()) {
     if (look !== BEFORE) continue;
@@ -87,7 +115,7 @@ function isIn(box, { from, to }) {
  */
 function stroke(pen, drawn, ink, wide, dashes = []) {
   pen.beginPath();
-  for (const { from, to } of drawn) {
+  for (const [from, to] of drawn.map(endsOf)) {
     pen.moveTo(...from);
     pen.lineTo(...to);
   }
@@ -97,17 +125,18 @@ function stroke(pen, drawn, ink, wide, dashes = []) {
 }
 
 /**
- * Points in the middle of each line to where it leads.
+ * Points in the middle of each line that is long enough to where it leads.
  * @param {CanvasRenderingContext2D} pen
  * @param {Line[]} drawn
  * @param {string} ink
+ * @param {number} pixels how large an arrow is
  */
-function point(pen, drawn, ink) {
-  const size = 5 / scale();
+function point(pen, drawn, ink, pixels) {
+  const size = pixels / scale();
   pen.beginPath();
-  for (const { from, to } of drawn) {
+  for (const [from, to] of drawn.map(endsOf)) {
     const long = Math.hypot(to[0] - from[0], to[1] - from[1]);
-    if (long < 5 * size) continue;
+    if (long * scale() < SHORT) continue;
     const [right, down] = [(to[0] - from[0]) / long * size, (to[1] - from[1]) / long * size];
     const [x, y] = [(from[0] + to[0]) / 2, (from[1] + to[1]) / 2];
     pen.moveTo(x + right, y + down);
@@ -155,36 +184,45 @@ function paintPlaces(pen, box, colour) {
  * @param {Spot[]} spots
  */
 function circle(pen, spots) {
-  const size = Math.min(5, Math.max(1, 14 * scale())) / scale(), end = Math.max(1.6 * size, 5 / scale());
   pen.beginPath();
-  for (const { x, y, isEnd } of spots) {
-    pen.moveTo(x + (isEnd ? end : size), y);
-    pen.arc(x, y, isEnd ? end : size, 0, 2 * Math.PI);
+  for (const place of spots) {
+    const { x, y } = place, size = reach(place) / scale();
+    pen.moveTo(x + size, y);
+    pen.arc(x, y, size, 0, 2 * Math.PI);
   }
 }
 
+/** The lines that names keep off, where names are read. */
+export const strokesSeen = () => (!isGround() || isFar() ? [] : ground.lines.filter((line) => isIn(seenBox(), line)).map((line) => ({
+  points: endsOf(line).map(([x, y]) => ({ x, y })), thick: thickness(line.mark) })));
+
 /**
- * Writes the names that have room, those of the source and the sink first.
+ * Writes the names that have room, those of the source and the sink first, and then of what is chosen.
  * @param {CanvasRenderingContext2D} pen
  * @param {Spot[]} seen
  * @param {(name: string) => string} colour
  */
 function paintNames(pen, seen, colour) {
-  const high = LETTERS / scale(), style = getComputedStyle(at("picture")).fontFamily;
-  /** @type {Box[]} */
-  const taken = [];
-  Object.assign(pen, { font: `${high}px ${style}`, textBaseline: "middle", lineWidth: 3 / scale() });
-  for (const place of [...seen].sort((one, other) => Number(other.isEnd) - Number(one.isEnd))) {
-    if (taken.length >= MOST_NAMES) return;
-    const long = pen.measureText(place.name).width, edge = seenBox().x + seenBox().width;
-    // To the left of a place that lies at the right edge.
-    const aside = Math.max(high / 2, ground.before.has(`node-${place.node}`) ? HALF : 0);
-    const x = place.x + aside + long > edge ? place.x - aside - long : place.x + aside;
-    const box = { x, y: place.y - 1.4 * high, width: long, height: high };
-    if (taken.some((it) => it.x < box.x + box.width && box.x < it.x + it.width && Math.abs(it.y - box.y) < high)) continue;
-    taken.push(box);
-    Object.assign(pen, { strokeStyle: colour("paper"), fillStyle: colour("ink") });
-    pen.strokeText(place.name, box.x, box.y + high / 2);
-    pen.fillText(place.name, box.x, box.y + high / 2);
+  const by = scale(), style = getComputedStyle(at("picture")).fontFamily;
+  const order = (/** @type {Spot} */ it) => 2 * Number(it.isEnd) + Number(isMarked(it));
+  // The picture before it has covered its own places.
+  const others = seen.filter((place) => isFar() || !ground.before.has(`node-${place.node}`));
+  for (const place of others) cover(place.x * by, place.y * by, reach(place));
+  Object.assign(pen, { font: `${LETTERS / by}px ${style}`, textBaseline: "middle", textAlign: "center", lineWidth: 3 / by });
+  Object.assign(pen, { strokeStyle: colour("paper"), fillStyle: colour("ink") });
+  for (const place of others.sort((one, other) => order(other) - order(one)).slice(0, MOST_NAMES)) {
+    const spot = nameSpot(place.x * by, place.y * by, reach(place), pen.measureText(place.name).width * by / 2, LETTERS * LINE / 2);
+    if (!spot) continue;
+    pen.strokeText(place.name, spot[0] / by, spot[1] / by);
+    pen.fillText(place.name, spot[0] / by, spot[1] / by);
   }
+}
+
+/**
+ * How far a place reaches, in pixels.
+ * @param {Spot} place
+ */
+function reach({ isEnd }) {
+  const size = Math.min(5, Math.max(1, 14 * scale()));
+  return isEnd ? Math.max(1.6 * size, 5) : size;
 }

@@ -1,5 +1,6 @@
 /** The panel beside the picture: its tabs, and how much of it is seen. On a narrow page it is a sheet from below, of three heights. */
 import { at, onClick } from "./elements.js";
+import { keepFree } from "./view.js";
 
 const HEIGHTS = ["low", "middle", "full"];
 /** @type {((part: string) => unknown)[]} */
@@ -59,10 +60,12 @@ const height = () => at("panel").dataset.height ?? HEIGHTS[0];
 
 /** @param {string} now */
 function setHeight(now) {
-  at("panel").dataset.height = now;
-  at("panel-more").toggleAttribute("disabled", now === HEIGHTS[2]);
-  at("panel-less").toggleAttribute("disabled", now === HEIGHTS[0]);
-  document.body.dataset.panel = now;
+  keepFree(() => {
+    at("panel").dataset.height = now;
+    at("panel-more").toggleAttribute("disabled", now === HEIGHTS[2]);
+    at("panel-less").toggleAttribute("disabled", now === HEIGHTS[0]);
+    document.body.dataset.panel = now;
+  });
 }
 
 /** Leaves the window to what lies over the picture, where the panel is a sheet. */

@@ -2,17 +2,25 @@
  * The picture of the network, or of the part of it that lies near a place or the limit.
  * @typedef {import("./state.js").State} State
  * @typedef {import("./labels.js").Label} Label
+ * @typedef {import("./arrows.js").Arrow} Arrow
  */
+import { arrowsOf, pointArrows } from "./arrows.js";
+import { hintBeyond } from "./beyond.js";
 import { choose, theChoice } from "./choice.js";
+import { markOf, shadeOf, thicker, thickness, usualLength } from "./colourings.js";
 import { boxOf, parts, show } from "./drawing.js";
 import { at, make, onClick } from "./elements.js";
-import { chooseNear, groundBox, isGround, lookAtGround, middlePlace, setBefore } from "./ground.js";
+import { isFaded } from "./filter.js";
+import { chooseNear, ground, groundBox, isGround, isOfLimit, lookAtGround, middlePlace, setBefore } from "./ground.js";
+import { Ink, pointsOf } from "./ink.js";
 import { arrange, labelsOf } from "./labels.js";
+import { markAt, setMarks, shades } from "./legend.js";
 import { isPicked, pickedCount } from "./many.js";
 import { news } from "./messages.js";
-import { paint } from "./painting.js";
+import { paint, strokesSeen } from "./painting.js";
 import { ask, noun, present, units } from "./state.js";
-import { beginView, fit, reveal, scale, see, zoom } from "./view.js";
+import { freePart } from "./room.js";
+import { beginView, fit, reveal, scale, see, seenBox, zoom } from "./view.js";
 import { listed } from "./words.js";
 
 /** How much larger a button or a key makes it. */
@@ -23,6 +31,15 @@ let asked = 0, count = 0, pending = 0, moving = 0;
 let near = "", nearShown = "none";
 /** @type {Label[]} */
 let labels = [];
+/** How long lines usually are, in units of the picture. */
+let usual = 1;
+/** @type {Arrow[]} */
+let arrows = [];
+/**
+ * The middles of the arcs of the bottleneck, in units of the picture.
+ * @type {number[][]}
+ */
+let limits = [];
 
 /** Whether not all arcs are shown. */
 export const isPart = () => count < present().arcs;
@@ -62,6 +79,8 @@ export async function showPicture() {
     make("span", `Click a ${noun()} or a place to see more, and to change it.`, { class: "hint" }));
   at("near-limit").hidden = !near;
   at("take-svg").setAttribute("href", `picture.svg?near=${near}&turn=${present().turn}`);
+  setMarks(isGround() ? ground.lines.map((line) => line.mark)
+    : told.arcs.map((/** @type {any} */ arc) => markOf(arc.number, arc.mark)), isGround() || !isPart());
   draw(told.svg);
 }
 
@@ -77,6 +96,10 @@ function draw(text) {
   labels = labelsOf(parts());
   setBefore(parts().map((part) => part.id));
   mark();
+  arrows = arrowsOf(parts());
+  usual = isGround() ? ground.usual : usualLength(arrows.map(({ long }) => long));
+  limits = isGround() ? ground.lines.filter(isOfLimit).map(({ from, to }) => [(from[0] + to[0]) / 2, (from[1] + to[1]) / 2])
+    : arrows.filter(({ part }) => part.matches(".cut")).map(({ path, long }) => path.getPointAtLength(long / 2)).map(({ x, y }) => [x, y]);
   see();
   if (held && document.activeElement?.id !== held) (document.getElementById(held) ?? at("picture")).focus();
 }
@@ -90,13 +113,20 @@ function takeRoom(box) {
   nearShown = near;
 }
 
-/** Marks what is chosen, and has its label seen. */
+/** Colours what is shown, marks what is chosen, and has its label seen. */
 export function mark() {
-  const chosen = partOf(theChoice());
+  const chosen = partOf(theChoice()), now = shades();
   for (const part of parts()) {
     const is = part === chosen || part.matches(".arc") && isPicked(Number(part.id.slice("arc-".length)));
     part.classList.toggle("chosen", is);
     if (part.ariaPressed !== String(is)) part.ariaPressed = String(is);
+    const it = part.matches(".arc") && markAt(Number(part.id.slice("arc-".length)));
+    if (!it) continue;
+    const shade = shadeOf(now, it);
+    part.style.setProperty("--shade", `var(--${shade.ink})`);
+    part.style.setProperty("--thick", String(thickness(it)));
+    part.classList.toggle("dashed", Boolean(shade.isDashed));
+    part.classList.toggle("faded", isFaded(it));
   }
   label();
 }
@@ -118,7 +148,15 @@ export async function revealChosen() {
 function label() {
   pending = pending || requestAnimationFrame(() => {
     pending = 0;
-    arrange(labels, scale());
+    const by = thicker(usual * scale());
+    at("picture").style.setProperty("--thicker", String(by));
+    at("picture").style.setProperty("--scale", String(scale()));
+    pointArrows(arrows, scale(), by);
+    hintBeyond(limits.map(([x, y]) => [(x - seenBox().x) * scale(), (y - seenBox().y) * scale()]), freePart());
+    const strokes = arrows.map(({ path, thick }) => ({ points: pointsOf(path), thick: by * thick }));
+    const { x, y, width, height } = seenBox();
+    const view = { left: x * scale(), right: (x + width) * scale(), top: y * scale(), bottom: (y + height) * scale() };
+    arrange(labels, scale(), { ink: new Ink([...strokes, ...strokesSeen()], scale()), view });
     paint();
   });
   clearTimeout(moving);
@@ -172,7 +210,7 @@ export function beginPicture() {
   onClick("larger", () => zoom(LARGER));
   onClick("smaller", () => zoom(1 / LARGER));
   onClick("fit-all", fitAll);
-  for (const id of ["fit-limit", "show-limit"]) onClick(id, () => fitTo(".cut", "The limit"));
+  for (const id of ["fit-limit", "show-limit", "beyond"]) onClick(id, () => fitTo(".cut", "The limit"));
   onClick("fit-chosen", () => (pickedCount() || theChoice() ? fitTo(".chosen", "What is chosen") : fitAll()));
   onClick("near-limit", () => {
     near = "";

@@ -6,7 +6,8 @@ import { make } from "./elements.js";
 
 /** The height of a row in pixels, as the style has it. */
 export const HEIGHT = 32;
-export const COLUMNS = [["name", ""], ["from", "From"], ["to", "To"], ["flow", "flows"], ["capacity", "fits"], ["use", "use"]];
+export const COLUMNS = [
+  ["name", ""], ["from", "From"], ["to", "To"], ["flow", "flows"], ["capacity", "fits"], ["use", "use"], ["lost", "if lost"]];
 
 /**
  * @param {string} column
@@ -43,6 +44,20 @@ function use(arc) {
   return arc.closed || !Number.isFinite(used) ? "" : `${Math.round(100 * used)} %`;
 }
 
+/** Where the losses stand among the columns. */
+const LOST = COLUMNS.findIndex(([column]) => column === "lost");
+
+/**
+ * What is lost without an arc, if that is something. Until it is known, what stands there is marked as old.
+ * @param {Arc} arc
+ * @param {HTMLTableCellElement} cell
+ */
+function lost(arc, cell) {
+  const isOld = !arc.closed && !arc.without;
+  cell.classList.toggle("old", isOld);
+  return isOld ? cell.textContent : arc.closed || arc.lost === "0" ? "" : arc.lost;
+}
+
 /**
  * Writes the state of an arc into its row. The row is reused: a click on one that was replaced under the pointer would be lost.
  * @param {HTMLTableRowElement} made
@@ -51,7 +66,8 @@ function use(arc) {
 export function fill(made, arc) {
   const marks = [arc.closed && "closed", arc.full && "full", arc.limit && "limit", arc.changed && !arc.closed && "changed"];
   const [tick, ...cells] = made.cells, flow = arc.closed ? "" : arc.flow;
-  const texts = [arc.name || arc.label, arc.tail, arc.head, flow, arc.capacity, use(arc), marks.filter(Boolean).join(", ")];
+  const amounts = [flow, arc.capacity, use(arc), lost(arc, cells[LOST])];
+  const texts = [arc.name || arc.label, arc.tail, arc.head, ...amounts, marks.filter(Boolean).join(", ")];
   for (const [column, cell] of cells.entries()) if (cell.textContent !== texts[column]) cell.textContent = texts[column];
   cells[0].title = arc.label;
   tick.firstElementChild?.setAttribute("aria-label", `choose ${arc.label}`);

@@ -1,14 +1,15 @@
 /**
  * The state that the board told last, and what is asked of the board.
  * @typedef {{ number: number, node: number, tail_node: number, name: string, label: string, short: string, tail: string, head: string,
- *   flow: string, capacity: string, closed: boolean, replaced: boolean, unlimited: boolean, full: boolean, limit: boolean }} Arc
+ *   flow: string, capacity: string, closed: boolean, replaced: boolean, unlimited: boolean, full: boolean, limit: boolean,
+ *   without: string, lost: string, without_both?: string }} Arc
  * @typedef {{ node: number, name: string, in: string, out: string, roles: Arc[], is_source: boolean, is_sink: boolean, shut: boolean,
  *   open: boolean, side: boolean }} Place
  * @typedef {{ turn: number, title: string, unit: string, noun: string, notes: string[], source: string, sink: string, value: string,
  *   arcs: number, given: number, places: number, kept_in: string, scenario: string, why_not: string, floor: number, offer: string,
  *   flows_follow: boolean, at: number, by: string,
  *   steps: { text: string, value: string, by: string }[], limit: Arc[], limit_count: number, side: string[], side_count: number,
- *   names: string[], parts?: Record<string, any> }} State
+ *   demands: string, names: string[], parts?: Record<string, any> }} State
  * @typedef {{ arc?: number, node?: number }} Choice
  */
 import { heard, ONCE } from "./asking.js";

@@ -22,6 +22,8 @@ function tell(state) {
   const since = state.at ? ` (${state.by} than at the beginning).`.replace("no change than", "as much as") : ".";
   at("value").replaceChildren(
     make("strong", state.value), `${units()} can be sent from ${state.source} to ${state.sink}, and not more${since}`);
+  at("demands").hidden = !state.demands;
+  at("demands").textContent = `${upper(state.demands)}.`;
   at("show-limit").hidden = !state.limit_count;
   // A limit may also be what a place gives, takes or lets through.
   const word = state.limit.some((arc) => arc.node) ? "part" : noun();

@@ -4,7 +4,8 @@
  * @typedef {{ total: number, first: number, rows: Arc[], reading: string, fault: string }} Part
  */
 import { choose, theChoice } from "./choice.js";
-import { at, field, make, onClick, replace } from "./elements.js";
+import { at, make, onClick, replace } from "./elements.js";
+import { filterWords, typeFilter } from "./filter.js";
 import { isPicked, pickMore, pickThese, toggle, watchPicked } from "./many.js";
 import { trouble } from "./messages.js";
 import { COLUMNS, fill, HEIGHT, row, spacer, title } from "./rows.js";
@@ -24,7 +25,9 @@ let order = "", asked = 0, current = 0, anchor = 0, isAsking = false, isLate = f
 /** How many signs the longest amount has that was shown, for which there is room. */
 let signs = 0;
 
-const words = () => `filter=${encodeURIComponent(field("filter").value.trim())}&sort=${order}`;
+const words = () => `filter=${encodeURIComponent(filterWords())}&sort=${order}`;
+/** The filter of which rows are shown. */
+let filtered = "";
 
 /**
  * Returns the numbers of `count` arcs of the table, or null if the board has changed since: other rows may stand there.
@@ -193,16 +196,24 @@ export function beginTable() {
   at("grid").addEventListener("keydown", typed);
   onClick("pick-all", pickAll);
   at("filter").addEventListener("input", () => {
-    at("rows").scrollTop = 0;
-    current = anchor = 0;
-    showTable();
+    showFiltered();
+    typeFilter();
   });
   watchPicked(point);
 }
 
-/** Says how amounts are told, beside the filter. */
+/** Shows the rows of another filter, from the first on. */
+export function showFiltered() {
+  if (filterWords() === filtered) return undefined;
+  filtered = filterWords();
+  at("rows").scrollTop = 0;
+  current = anchor = 0;
+  return showTable();
+}
+
+/** Says what can be typed into the filter, and in what amounts are. */
 export const showForms = () => {
   at("listed-head").textContent = `All ${noun()}s`;
-  at("filter-forms").textContent = "A part of a name, or full, limit, closed, changed, capacity < 60, flow >= 10, from ~ Mill"
-    + `; with “and” between two. Amounts are in${units() || " the table’s unit"}.`;
+  at("filter-forms").textContent = "A part of a name, or use > 80, changed, full, limit, closed, capacity < 60, flow >= 10, from ~ Mill;"
+    + ` with “and” between two, and “not” before one. Amounts are in${units() || " the table’s unit"}, and use in %.`;
 };

@@ -6,13 +6,20 @@ import { at } from "./elements.js";
 import { freePart } from "./room.js";
 
 /** The largest number of pixels for a unit of the picture, also where that is fitted; the smallest; what a drag is, and
- * the room for labels at each side, in pixels. */
-const MOST = 6, MOST_FITTED = 1.8, LEAST = 0.004, DRAG = 4, ASIDE = 60;
+ * the room for labels at each side, and how high a part is free that is looked at, in pixels. */
+const MOST = 6, MOST_FITTED = 1.8, LEAST = 0.004, DRAG = 4, ASIDE = 60, LEAST_FREE = 80;
 /** @type {Box} */
 let seen = { x: 0, y: 0, width: 1, height: 1 };
 /** @type {Map<number, { x: number, y: number }>} */
 const pointers = new Map();
 let isDragged = false, wide = 1, high = 1;
+/**
+ * What the picture was fitted to last, if it was not moved since.
+ * @type {Box | null}
+ */
+let fitted = null;
+/** The middle of what was free when something of the picture was last. */
+let focus = { x: 0, y: 0 };
 /** @type {() => unknown} */
 let told = () => undefined;
 
@@ -42,7 +49,9 @@ export function see() {
   told();
 }
 
-const middle = () => ({ x: seen.x + seen.width / 2, y: seen.y + seen.height / 2 });
+/** @param {Box} box */
+const middleOf = ({ x, y, width, height }) => ({ x: x + width / 2, y: y + height / 2 });
+const middle = () => middleOf(seen);
 
 /** Shows the same middle again, if the room is another one. */
 function refresh() {
@@ -56,6 +65,7 @@ function refresh() {
  * @param {{ x: number, y: number }} [point]
  */
 export function zoom(by, point) {
+  fitted = null;
   const box = at("picture").getBoundingClientRect(), pixels = Math.min(MOST, Math.max(LEAST, scale() * by));
   const free = freePart(), about = point ?? { x: box.x + (free.left + free.right) / 2, y: box.y + (free.top + free.bottom) / 2 };
   const [right, down] = [about.x - box.x - box.width / 2, about.y - box.y - box.height / 2];
@@ -68,6 +78,7 @@ export function zoom(by, point) {
  * @param {number} down
  */
 export function move(right, down) {
+  fitted = null;
   show(middle().x + right / scale(), middle().y + down / scale(), scale());
 }
 
@@ -92,8 +103,25 @@ function showFree(x, y, pixels) {
   show(x + (clientWidth - left - right) / 2 / by, y + (clientHeight - top - bottom) / 2 / by, by);
 }
 
+/**
+ * Shows the same in what is free after a change of what lies over the picture: what was fitted is fitted again, and else the middle stays.
+ * @param {() => unknown} change
+ */
+export function keepFree(change) {
+  const before = freePart();
+  if (before.bottom - before.top > LEAST_FREE) focus = middleOf(freeBox());
+  change();
+  const now = freePart();
+  if (!at("picture").querySelector("svg") || now.bottom - now.top <= LEAST_FREE) return;
+  if (now.bottom === before.bottom && now.right === before.right) return;
+  if (fitted) fit(fitted);
+  else showFree(focus.x, focus.y, scale());
+}
+
 /** @param {Box} box what is seen whole, in the free part, with room for labels beside it */
-export function fit({ x, y, width, height }) {
+export function fit(box) {
+  const { x, y, width, height } = box;
+  fitted = box;
   const { left, top, right, bottom } = freePart(), aside = right - left > 5 * ASIDE ? 2 * ASIDE : 0;
   const pixels = Math.min((right - left - aside) / Math.max(width, 1), (bottom - top) / Math.max(height, 1));
   showFree(x + width / 2, y + height / 2, Math.min(MOST_FITTED, pixels));

@@ -7,15 +7,15 @@ use Rattle.dmf_vital.specs.declared.tree.Reached.{Reached}
 use Rattle.dmf_vital.specs.Hop.{turned}
 use Rattle.dmf_vital.specs.Tree.{IsExpanded, LeadsToReached, not_reached, back_of, place_of}
 use Rattle.dmf_vital.proofs.Growing.{back-kept, expanded-more, found-next, kept-in_turn, kept-none, leads-kept, longer-kept, place-kept, turned-false, turned-same}
-use Rattle.dmf_vital.proofs.search.look_at_next.Goals.{After-index}
-use Rattle.dmf_vital.proofs.search.look_at_next.Goals as goal
+use Rattle.dmf_vital.proofs.search.look_at.Goals.{After-index}
+use Rattle.dmf_vital.proofs.search.look_at.Goals as goal
 
 -- the next node is reached
 next : (c : After-index) → IsNode c.args.steps.now.state.now.network.nodes c.index-v.result.now
-    × (0 < place_of c.args.tree.now.nodes.items c.index-v.result.now) × (c.index-v.result.now ≡ get_or c.args.tree.now.found.items c.args.front.next 0)
+    × (0 < place_of c.args.tree.now.nodes.items c.index-v.result.now) × (c.index-v.result.now ≡ get_or c.args.tree.now.found.items c.args.next 0)
 next c =
     let s = c.args.steps.now in
-    found-next s.state.now.network s.flows.now s.exits c.args.front.next c.index-v.result.now c.args.tree.now.nodes.items c.args.tree.now.found.items
+    found-next s.state.now.network s.flows.now s.exits c.args.next c.index-v.result.now c.args.tree.now.nodes.items c.args.tree.now.found.items
     c.requires.grown c.requires.is_there c.index-v.ensures
 
 -- what is read of it is that
@@ -32,10 +32,10 @@ returns-then-other-clause-none c =
     let s = c.args.steps.now in
     let nodes = c.args.tree.now.nodes.items in
     let found = c.args.tree.now.found.items in
-    λ _. expanded-more s.state.now.network s.flows.now s.exits c.args.front.back c.args.front.next c.index-v.result.now nodes nodes found found
+    λ _. expanded-more s.state.now.network s.flows.now s.exits c.args.back c.args.next c.index-v.result.now nodes nodes found found
     c.requires.grown c.requires.grown (kept-none nodes) c.requires.is_there (next at).2 c.requires.expanded
-    (λ same. absurd (both_ways (turned c.args.front.back c.index.result.now.back)
-    (ap (turned c.args.front.back) (side at ∙ same) ∙ turned-same c.args.front.back) (sym c.turned-other.ensures ∙ c.if-other.true)))
+    (λ same. absurd (both_ways (turned c.args.back c.index.result.now.back)
+    (ap (turned c.args.back) (side at ∙ same) ∙ turned-same c.args.back) (sym c.turned-other.ensures ∙ c.if-other.true)))
 
 pub returns-in_err-met-clause-longer : goal.returns-in_err-met-clause-longer
 returns-in_err-met-clause-longer c =
@@ -61,7 +61,7 @@ pub expand-requires-2-clause-end : goal.expand-requires-2-clause-end
 expand-requires-2-clause-end c =
     let at = (goal.at.expand-requires-2-clause-end c).After-index in
     back-kept c.args.tree.now.nodes.items c.expand.new.tree.nodes.items c.index-v.result.now c.expand.ensures.kept (next at).1
-    ∙ sym (side at) ∙ turned-false c.args.front.back c.index.result.now.back (sym c.turned-other.ensures ∙ c.if-other.false)
+    ∙ sym (side at) ∙ turned-false c.args.back c.index.result.now.back (sym c.turned-other.ensures ∙ c.if-other.false)
 
 pub returns-in_err-met_against-clause-longer : goal.returns-in_err-met_against-clause-longer
 returns-in_err-met_against-clause-longer c =
@@ -83,7 +83,7 @@ returns-clause-none c =
     let s = c.args.steps.now in
     let n : Network = s.state.now.network in
     let flows : List ℕ = s.flows.now in
-    let back : Bool = c.args.front.back in
+    let back : Bool = c.args.back in
     let v : ℕ = c.index-v.result.now in
     let old = c.args.tree.now.nodes.items in
     let middle = c.expand.new.tree.nodes.items in
@@ -94,5 +94,5 @@ returns-clause-none c =
       | true ↦ c.in_ok-met_against.ensures.looked.none none i
       | false ↦ leads-kept n flows s.exits middle nodes back false v i c.expand-2.ensures.kept (c.in_ok-met.ensures.looked.none c.if-met-ne0.false i)
     ] in
-    expanded-more n flows s.exits back c.args.front.next v old nodes c.args.tree.now.found.items c.expand-2.new.tree.found.items c.requires.grown
+    expanded-more n flows s.exits back c.args.next v old nodes c.args.tree.now.found.items c.expand-2.new.tree.found.items c.requires.grown
     c.expand-2.ensures.grown kept c.requires.is_there (next at).2 c.requires.expanded (λ _. expanded)

@@ -1,0 +1,151 @@
+"""The filter of the table: the words that a planner types, and which arcs they leave."""
+
+from __future__ import annotations
+
+import re
+from collections.abc import Callable
+from itertools import groupby
+
+from ...quantity import EXACT, Quantity, QuantityFault, number_in
+from ...text.spelling import folded, quoted_name
+from ..expressions import COMPARED, Condition, condition
+from ..steps import DeskFault
+from ..workspace import Desk
+from .looks import Beginning
+
+AND, NOT, BEFORE = "and", "not", "before"
+FORMS = (
+    "a part of a name, or use > 80, flow >= 10, capacity < 60, flow > before, from ~ Mill, to ~ "
+    'Mill, full, limit, closed, added, changed; with "and" between two, and "not" before one'
+)
+# What else the page calls a column.
+_CALLED = {"flows": "flow", "fits": "capacity", "carries": "capacity"}
+# The longest signs come first.
+_SIGN = re.compile(
+    rf"(name|from|to|capacity|flow|use|{'|'.join(_CALLED)})\s*"
+    rf"(~|{'|'.join(sorted(COMPARED, key=len, reverse=True))})(.*)",
+    re.IGNORECASE | re.DOTALL,
+)
+# A word, which may have others in quotes.
+_WORD = re.compile(r'(?:"[^"]*"|\S)+')
+Reading = tuple[Condition, str]
+
+
+class Filters:
+    """Reads the filters of a desk's table. `label` is what an arc is found by, without case and
+    accents."""
+
+    def __init__(self, desk: Desk, beginning: Beginning, label: Callable[[int], str]) -> None:
+        self._desk = desk
+        self._beginning = beginning
+        self._label = label
+
+    def read(self, text: str) -> tuple[list[Condition], list[str]]:
+        """Return the conditions of a filter, and what each is in words. Raise a `DeskFault` if one
+        has no meaning."""
+        words: list[str] = _WORD.findall(text)
+        parts = [
+            " ".join(part)
+            for is_and, part in groupby(words, lambda word: word.casefold() == AND)
+            if not is_and
+        ]
+        read = [self._signed(part) for part in parts]
+        return [is_so for is_so, _ in read], [words for _, words in read]
+
+    def _signed(self, part: str) -> Reading:
+        """Return a condition, or with `not` before it the opposite."""
+        first, _, rest = part.partition(" ")
+        if first.casefold() != NOT or not rest:
+            return self._read(part)
+        is_so, words = self._read(rest)
+        return lambda number: not is_so(number), f"{NOT} {words}"
+
+    def _read(self, part: str) -> Reading:
+        """Return what a part of a filter is: a condition, or else a part of a name."""
+        desk, word = self._desk, part.casefold()
+        network = desk.network
+        if word == "closed":
+            return lambda number: network.lines[number - 1].is_closed, word
+        if word == "changed":
+            return network.changed().__contains__, word
+        if word == "added":
+            return lambda number: self._beginning.capacity(number) is None, word
+        compared = _SIGN.fullmatch(part)
+        if not compared:
+            return self._named(part)
+        column = compared[1].casefold()
+        words = [_CALLED.get(column, column), compared[2], *_unquoted(compared[3]).split()]
+        found = self._compared(words) or condition(desk, words)
+        if not found:
+            raise _wrong(part)
+        return found, " ".join(words)
+
+    def _named(self, part: str) -> Reading:
+        """Return the condition that is one word, or else that the name has this part."""
+        found = condition(self._desk, [part.casefold()])
+        if found:
+            return found, part.casefold()
+        if any(sign in part.split() for sign in COMPARED):
+            raise _wrong(part)
+        name = _unquoted(part)
+        sought = folded(name)
+        return lambda number: sought in self._label(number), f"{quoted_name(name)} in the name"
+
+    def _compared(self, words: list[str]) -> Condition | None:
+        """Return a condition that only the table has: on how much of a capacity is used, or against
+        the beginning. Return None if the words are not one of these."""
+        column, sign, *rest = words
+        text = " ".join(rest)
+        if sign not in COMPARED or not text:
+            return None
+        if column == "use":
+            return self._used(sign, text)
+        if text.casefold() != BEFORE:
+            return None
+        return self._since(column, COMPARED[sign])
+
+    def _used(self, sign: str, text: str) -> Condition:
+        """Return the condition on the share of a capacity that is used, in hundredths. A closed arc
+        uses nothing of it, and is never meant."""
+        network, flows = self._desk.network, self._desk.flows()
+        quantity, is_so = network.measure.quantity, COMPARED[sign]
+        try:
+            bound = number_in(text.removesuffix("%").rstrip(), network.measure.sign)
+        except QuantityFault as fault:
+            raise DeskFault(f"{quoted_name(text)} {fault}") from None
+
+        def holds(number: int) -> bool:
+            line = network.lines[number - 1]
+            used = EXACT.multiply(quantity(flows[number - 1]), 100)
+            of_all: Quantity = EXACT.multiply(bound, line.capacity) if line.capacity else bound
+            return not line.is_closed and is_so(used, of_all)
+
+        return holds
+
+    def _since(self, column: str, is_so: Callable[[Quantity, Quantity], bool]) -> Condition | None:
+        """Return the condition on a flow or a capacity against that of the beginning, which an arc
+        that was added does not have. Return None for another column."""
+        beginning, lines = self._beginning, self._desk.network.lines
+        if column == "capacity":
+
+            def is_other(number: int) -> bool:
+                before = beginning.capacity(number)
+                return before is not None and is_so(lines[number - 1].capacity, before)
+
+            return is_other
+        if column != "flow":
+            return None
+        if not beginning.is_known:
+            raise DeskFault("the flows at the beginning are not known here: go back to it once")
+        flows = self._desk.flows()
+        return lambda number: is_so(flows[number - 1], beginning.flow(number))
+
+
+def _wrong(part: str) -> DeskFault:
+    return DeskFault(f"{quoted_name(part)} is not a condition; type {FORMS}")
+
+
+def _unquoted(text: str) -> str:
+    """Return a text without the quotes around it."""
+    plain = text.strip()
+    return plain[1:-1] if re.fullmatch('"[^"]*"', plain) else plain

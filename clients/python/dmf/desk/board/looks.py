@@ -1,0 +1,109 @@
+"""How an arc looks in the picture: what the page colours it by, and how wide it is."""
+
+from __future__ import annotations
+
+import math
+from collections.abc import Sequence
+from typing import NamedTuple
+
+from ...quantity import Quantity
+from ..workspace import Desk
+
+# The state of an arc: nothing flows, something flows, it is full, it is in the bottleneck, closed.
+UNUSED, FLOWS, FULL, LIMIT, CLOSED = "u", "f", "F", "l", "c"
+# What changed since the beginning: the arc is new, closed, wider or narrower; it carries more or
+# less; nothing; or whether it carries more or less is not known.
+ADDED, SHUT, WIDER, NARROWER, MORE, LESS, SAME, UNKNOWN = "a", "c", "w", "n", "+", "-", ".", "?"
+# The largest digit.
+MOST = 9
+
+
+class Mark(NamedTuple):
+    """A sign for each thing that the page may show of an arc: its state; the tenths of its capacity
+    that are used; what changed; and the square root of its capacity, from 0 to 9, the widest."""
+
+    state: str
+    use: str
+    change: str
+    width: str
+
+
+class Beginning:
+    """What a desk began with: the capacities of the problem, and the flows of its first solve. The
+    flows are known once the desk has stood there since the board began."""
+
+    def __init__(self, desk: Desk) -> None:
+        self._desk = desk
+        self._flows: Sequence[int] | None = None
+
+    def heed(self) -> None:
+        """Remember the flows if the desk stands at the beginning."""
+        if self._desk.at == 1:
+            self._flows = self._desk.flows()
+
+    @property
+    def is_known(self) -> bool:
+        """Return True if the flows of the beginning are known."""
+        self.heed()
+        return self._flows is not None
+
+    def flow(self, number: int) -> int:
+        """Return the flow that an arc had, in the whole numbers of the session: 0 if it was added
+        later."""
+        network = self._desk.network
+        first = network.lines[number - 1].first or number
+        return self._flows[first - 1] if self._flows and first <= network.first_count else 0
+
+    def capacity(self, number: int) -> Quantity | None:
+        """Return the capacity that an arc had, or None if it was added later."""
+        return self._desk.network.first_capacity(number)
+
+
+class Looks:
+    """How the arcs of a desk look."""
+
+    def __init__(self, desk: Desk, beginning: Beginning) -> None:
+        self._desk = desk
+        self._beginning = beginning
+
+    def marks(self, numbers: Sequence[int]) -> list[Mark]:
+        """Return the mark of each of these arcs. The widest of them has the largest width."""
+        desk = self._desk
+        network, flows, cut = desk.network, desk.flows(), desk.cut_arcs()
+        is_known, whole = self._beginning.is_known, network.measure.whole
+        capacities = [whole(network.lines[number - 1].capacity) for number in numbers]
+        largest = max(capacities, default=0) or 1
+        found = []
+        for number, capacity in zip(numbers, capacities):
+            line, flow = network.lines[number - 1], flows[number - 1]
+            state = (
+                CLOSED
+                if line.is_closed
+                else LIMIT
+                if number in cut
+                else UNUSED
+                if not flow
+                else FULL
+                if flow == capacity
+                else FLOWS
+            )
+            use = min(MOST, 10 * flow // capacity) if capacity else 0
+            width = round(MOST * math.sqrt(capacity / largest))
+            change = self._change(number, flow, is_known=is_known)
+            found.append(Mark(state, str(use), change, str(width)))
+        return found
+
+    def _change(self, number: int, flow: int, *, is_known: bool) -> str:
+        """Return the sign of what changed on an arc."""
+        line = self._desk.network.lines[number - 1]
+        before = self._beginning.capacity(number)
+        if line.is_closed:
+            return SHUT
+        if before is None:
+            return ADDED
+        if line.capacity != before:
+            return WIDER if line.capacity > before else NARROWER
+        if not is_known:
+            return UNKNOWN
+        flowed = self._beginning.flow(number)
+        return MORE if flow > flowed else LESS if flow < flowed else SAME

@@ -1,0 +1,108 @@
+"""Everything on a map: where all places of a large network lie, and how each arc between them
+looks."""
+
+from __future__ import annotations
+
+from collections import defaultdict
+
+from ..export import MOST_DRAWN
+from ..steps import DeskFault
+from ..workspace import Desk
+from .layout import Places, Spot
+from .looks import Looks
+from .responses import Json
+
+# The sign of an arc that is not drawn: it belongs to a place, or was opened again as another.
+NONE = " "
+# A place before the limit, one that is shut, and any other.
+BEFORE, SHUT, PLAIN = "b", "s", "."
+
+
+class Overview:
+    """The positions of all places of a desk and the arcs between them, if most positions are known
+    when the board begins."""
+
+    def __init__(self, desk: Desk, places: Places, looks: Looks) -> None:
+        """`places` are those of the picture, with the spots of a map or of a project."""
+        network = desk.network
+        self._desk = desk
+        self._looks = looks
+        self._places = places
+        self._nodes = network.folding.places(range(1, len(network.names.nodes) + 1))
+        # Else most of what is drawn would be what nobody has said.
+        self._is_known = 2 * sum(node in places.spots for node in self._nodes) > len(self._nodes)
+
+    @property
+    def is_there(self) -> bool:
+        """Return True if it shows more than a picture does."""
+        return self._is_known and len(self._desk.network.pictured()) > MOST_DRAWN
+
+    def ground(self) -> Json:
+        """Return what no step changes: each place with its name, how far it lies to the right and
+        downwards, and the ends of each arc of the file. Raise a `DeskFault`."""
+        if not self.is_there:
+            raise DeskFault(
+                "the positions of the places are not known, or the picture shows all of them"
+            )
+        self._put_all()
+        spots, desk = [self._places.spots[node] for node in self._nodes], self._desk
+        ends = [*map(self._ends, range(1, desk.network.first_count + 1))]
+        return {
+            "nodes": self._nodes,
+            "names": [*map(desk.network.names.node, self._nodes)],
+            "right": [round(spot.x, 2) for spot in spots],
+            "down": [round(-spot.y, 2) for spot in spots],
+            "tails": [tail for tail, _ in ends],
+            "heads": [head for _, head in ends],
+            "terminals": [*desk.network.sources, *desk.network.sinks],
+        }
+
+    def looks(self) -> Json:
+        """Return what a step may change: how each arc of the file looks and each place, by a sign
+        for each, and the arcs that were added with their numbers, their ends and their signs. An
+        arc has a sign in each of four texts, one for each field of a `Mark`."""
+        desk = self._desk
+        network = desk.network
+        side, shown = desk.side(), network.pictured()
+        marks = dict(zip(shown, self._looks.marks(shown)))
+        shut = {network.folding.place(node) for node in network.shut_nodes}
+        added = range(network.first_count + 1, len(network.lines) + 1)
+        given = [marks.get(number, NONE * 4) for number in range(1, network.first_count + 1)]
+        return {
+            **{
+                name: "".join(mark[place] for mark in given)
+                for place, name in enumerate(("arcs", "uses", "changes", "widths"))
+            },
+            "places": "".join(
+                SHUT if node in shut else BEFORE if node in side else PLAIN for node in self._nodes
+            ),
+            "added": [
+                [number, *self._ends(number), "".join(marks[number])]
+                for number in added
+                if number in marks
+            ],
+        }
+
+    def _ends(self, number: int) -> tuple[int, int]:
+        network = self._desk.network
+        line, place = network.lines[number - 1], network.folding.place
+        return place(line.tail), place(line.head)
+
+    def _put_all(self) -> None:
+        """Put each place that has no position among its neighbours, or, if they have none, in the
+        middle of all."""
+        spots = self._places.spots
+        beside: dict[int, list[int]] = defaultdict(list)
+        for tail, head in map(self._ends, self._desk.network.pictured()):
+            beside[tail].append(head)
+            beside[head].append(tail)
+        while left := [node for node in self._nodes if node not in spots]:
+            near = {node: [spots[one] for one in beside[node] if one in spots] for node in left}
+            rough = {node: _middle(found) for node, found in near.items() if found}
+            self._places.put_near(rough or dict.fromkeys(left, _middle(list(spots.values()))))
+
+
+def _middle(spots: list[Spot]) -> Spot:
+    return Spot(
+        sum(spot.x for spot in spots) / len(spots), sum(spot.y for spot in spots) / len(spots)
+    )

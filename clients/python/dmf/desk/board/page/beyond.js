@@ -1,0 +1,39 @@
+/**
+ * What of the bottleneck lies beyond the edge of the picture: a button at that edge says how much, and shows it.
+ * @typedef {import("./room.js").Room} Room
+ */
+import { at } from "./elements.js";
+import { grouped } from "./words.js";
+
+const SIGNS = { left: "←", right: "→", top: "↑", bottom: "↓" };
+
+/**
+ * At which edge a point lies that is out of a room, or nothing.
+ * @param {number[]} point in pixels
+ * @param {Room} room
+ */
+function edgeOf([x, y], { left, right, top, bottom }) {
+  const over = { left: left - x, right: x - right, top: top - y, bottom: y - bottom };
+  const [edge, by] = Object.entries(over).reduce((most, one) => (one[1] > most[1] ? one : most));
+  return by > 0 ? /** @type {keyof typeof SIGNS} */ (edge) : null;
+}
+
+/**
+ * Says at the edge where most of the bottleneck is that is not seen how much that is, unless some is seen.
+ * @param {number[][]} points the middles of its arcs, in pixels of the picture
+ * @param {Room} room the free part of the picture
+ */
+export function hintBeyond(points, room) {
+  const edges = points.map((point) => edgeOf(point, room)), out = edges.flatMap((edge) => edge ?? []), hint = at("beyond");
+  hint.hidden = !out.length || out.length < edges.length;
+  if (hint.hidden) return;
+  const counts = new Map(out.map((edge) => [edge, out.filter((it) => it === edge).length]));
+  const [edge] = [...counts].reduce((most, one) => (one[1] > most[1] ? one : most));
+  const text = `${grouped(points.length)} of the bottleneck`;
+  hint.textContent = edge === "right" ? `${text} ${SIGNS[edge]}` : `${SIGNS[edge]} ${text}`;
+  const { offsetWidth: wide, offsetHeight: high } = hint, [x, y] = [(room.left + room.right) / 2, (room.top + room.bottom) / 2];
+  const left = edge === "left" ? room.left : edge === "right" ? room.right - wide : x - wide / 2;
+  const top = edge === "top" ? room.top : edge === "bottom" ? room.bottom - high : y - high / 2;
+  hint.style.setProperty("left", `${left}px`);
+  hint.style.setProperty("top", `${top}px`);
+}

@@ -1,0 +1,112 @@
+/**
+ * What the picture is coloured by: one table of colourings, which the picture, the legend and the filter of the table share.
+ * @typedef {{ number: number, state: string, use: number, change: string, width: number }} Mark what the board tells of how an arc looks
+ * @typedef {{ words: string, ink: string, filter: string, isDashed?: boolean, has: (mark: Mark) => boolean }} Shade
+ *   `ink` is a colour of the style, and `filter` what shows the same arcs in the table, if that can be typed
+ * @typedef {{ name: string, words: string, shades: () => Shade[] }} Colouring the first shade that has an arc is its own
+ */
+
+/** @type {Shade} */
+const CLOSED = { words: "closed", ink: "unused", filter: "closed", isDashed: true, has: (mark) => mark.state === "c" };
+/** @type {Shade} */
+const LIMIT = { words: "bottleneck", ink: "limit", filter: "limit", has: (mark) => mark.state === "l" };
+/** @type {Shade[]} */
+const USE = [
+  LIMIT,
+  { words: "full", ink: "use-4", filter: "full and not limit", has: (mark) => mark.state === "F" },
+  { words: "80–99 %", ink: "use-3", filter: "use >= 80 and not full and not limit", has: (mark) => mark.state === "f" && mark.use >= 8 },
+  { words: "50–79 %", ink: "use-2", filter: "use >= 50 and use < 80 and not limit", has: (mark) => mark.state === "f" && mark.use >= 5 },
+  { words: "under 50 %", ink: "use-1", filter: "flow > 0 and use < 50 and not limit", has: (mark) => mark.state === "f" },
+  CLOSED,
+  { words: "no flow", ink: "unused", filter: "flow = 0 and not closed and not limit", has: () => true },
+];
+/** @type {Shade[]} */
+const BOTTLENECK = [
+  LIMIT,
+  { words: "full elsewhere", ink: "use-4", filter: "full and not limit", has: (mark) => mark.state === "F" },
+  CLOSED,
+  { words: "a wider one brings nothing", ink: "unused", filter: "not limit and not full and not closed", has: () => true },
+];
+/** @type {Shade[]} */
+const CHANGE = [
+  { words: "closed", ink: "less", filter: "closed", isDashed: true, has: (mark) => mark.change === "c" },
+  { words: "new", ink: "more", filter: "added and not closed", isDashed: true, has: (mark) => mark.change === "a" },
+  { words: "wider", ink: "use-4", filter: "capacity > before and not closed", has: (mark) => mark.change === "w" },
+  { words: "narrower", ink: "limit", filter: "capacity < before and not closed", has: (mark) => mark.change === "n" },
+  { words: "carries more", ink: "more", filter: "flow > before and not changed", has: (mark) => mark.change === "+" },
+  { words: "carries less", ink: "less", filter: "flow < before and not changed", has: (mark) => mark.change === "-" },
+  { words: "not changed (the flows before are not known)", ink: "unused", filter: "not changed", has: (mark) => mark.change === "?" },
+  { words: "as at the beginning", ink: "unused", filter: "flow = before and not changed", has: () => true },
+];
+/** How many shades of loss there are. */
+const BANDS = 4;
+/**
+ * What is lost without each arc, by their numbers; none where that is not known.
+ * @type {Map<number, number>}
+ */
+let losses = new Map();
+
+/**
+ * Gives the fourth colouring its numbers, or takes it away where they are none.
+ * @param {Map<number, number>} found
+ */
+export function setLosses(found) {
+  losses = found;
+}
+
+/** The shades of loss: the largest loss in parts of one size, each named by the losses that it has. */
+function worth() {
+  const largest = Math.max(0, ...losses.values());
+  const band = (/** @type {number} */ loss) => Math.ceil(loss / largest * BANDS);
+  /** @type {Shade[]} */
+  const found = [];
+  for (let rank = BANDS; rank > 0 && largest; rank -= 1) {
+    const inside = [...losses.values()].filter((loss) => band(loss) === rank);
+    if (!inside.length) continue;
+    const [low, high] = [Math.min(...inside), Math.max(...inside)];
+    found.push({ words: `${low === high ? low : `${low}–${high}`} lost`, ink: `worth-${rank}`, filter: "",
+      has: ({ number }) => band(losses.get(number) ?? 0) === rank });
+  }
+  return [...found, CLOSED,
+    { words: "nothing lost", ink: "unused", filter: "", has: (/** @type {Mark} */ { number }) => losses.has(number) },
+    { words: "not tried", ink: "unused", filter: "", isDashed: true, has: () => true }];
+}
+
+/** @type {Colouring[]} */
+const ALL = [
+  { name: "use", words: "use", shades: () => USE },
+  { name: "bottleneck", words: "bottleneck", shades: () => BOTTLENECK },
+  { name: "change", words: "what changed", shades: () => CHANGE },
+  { name: "worth", words: "what is lost without it", shades: worth },
+];
+
+/** The colourings that there are now. */
+export const colourings = () => ALL.filter((it) => it.name !== "worth" || losses.size);
+
+/**
+ * @param {number} number
+ * @param {string} signs as the board writes them
+ * @returns {Mark}
+ */
+export const markOf = (number, [state, use, change, width]) => ({ number, state, use: Number(use), change, width: Number(width) });
+
+/**
+ * @param {Shade[]} shades
+ * @param {Mark} mark
+ */
+export const shadeOf = (shades, mark) => /** @type {Shade} */ (shades.find((shade) => shade.has(mark)));
+
+/**
+ * The thickness of a line in pixels by its capacity, for lines of the usual length.
+ * @param {Mark} mark
+ */
+export const thickness = (mark) => 1.3 + 5.7 * mark.width / 9;
+
+/**
+ * By how much thicker lines are, if they are usually as long as this, in pixels.
+ * @param {number} usual
+ */
+export const thicker = (usual) => Math.min(1.5, Math.max(0.55, usual / 55));
+
+/** @param {number[]} lengths */
+export const usualLength = (lengths) => [...lengths].sort((one, other) => one - other)[Math.floor(lengths.length / 2)] ?? 55;

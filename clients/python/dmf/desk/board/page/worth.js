@@ -1,0 +1,76 @@
+/**
+ * What each arc is worth: what is left without it. The board finds that beside each new state, and the page asks until it is known.
+ * @typedef {import("./state.js").Arc} Arc
+ * @typedef {{ is_finding: boolean, is_known: boolean, worst: Arc[], more: number, losses: Record<string, string> }} Worth
+ */
+import { pick } from "./choice.js";
+import { at, fill, numberCell } from "./elements.js";
+import { colourByLoss } from "./legend.js";
+import { ask, caption, noun, present, units } from "./state.js";
+import { grouped, upper } from "./words.js";
+
+/** How long it is waited before the board is asked again, at first and at most, in milliseconds. */
+const SOON = 100, LATE = 2000;
+let asked = 0;
+/** @type {(() => unknown)[]} */
+const watchers = [];
+
+/**
+ * Has a part of the page told when it becomes known.
+ * @param {() => unknown} watcher
+ */
+export function watchWorth(watcher) {
+  watchers.push(watcher);
+}
+
+/** Finds it for a new state. Until then the old one is marked as such, and nothing waits for it. */
+export function findWorth() {
+  asked += 1;
+  markOld(true);
+  follow(asked);
+}
+
+/** @param {boolean} isOld */
+function markOld(isOld) {
+  at("worst").classList.toggle("old", isOld);
+  at("worst").setAttribute("aria-busy", String(isOld));
+  if (isOld) at("worst-note").textContent = "These are from before the change. The new ones are being found ..";
+}
+
+/** @param {number} turn */
+async function follow(turn) {
+  /** @type {Worth | null | undefined} */
+  let told = null;
+  for (let pause = SOON; !told || told.is_finding; pause = Math.min(2 * pause, LATE)) {
+    await new Promise((go) => setTimeout(go, pause));
+    if (turn !== asked) return;
+    told = await ask("worth", undefined, true);
+    if (turn !== asked || !told) return;
+  }
+  markOld(false);
+  show(told);
+  colourByLoss(new Map(Object.entries(told.losses).map(([number, loss]) => [Number(number), Number(loss)])));
+  for (const watcher of watchers) watcher();
+}
+
+/** @param {Worth} told */
+function show(told) {
+  const { worst, more } = told;
+  at("worst").hidden = !told.is_known;
+  at("worst-table").hidden = !worst.length;
+  at("worst-note").textContent = !worst.length ? `No ${noun()} alone costs anything to lose.`
+    : `Of ${present().value}${units()}, so much is left if one of these is closed.${more ? ` ${grouped(more)} more cost something.` : ""}`;
+  fill("worst-table", caption(), [upper(noun()), "without it", "lost"],
+    worst.map((arc) => [pick(arc), numberCell(arc.without), numberCell(arc.lost)]));
+}
+
+/**
+ * What closing an arc leaves, in words; empty while that is not known.
+ * @param {Arc} arc
+ */
+export function closingWords(arc) {
+  const { value } = present();
+  if (!arc.without) return "";
+  const one = `Closing this: ${value} to ${arc.without}${units()}${arc.lost === "0" ? ", nothing lost." : "."}`;
+  return one + (arc.without_both ? ` Closing it both ways: ${value} to ${arc.without_both}${units()}.` : "");
+}

@@ -1,0 +1,234 @@
+"""The text of a report: what was found, as markup."""
+
+from __future__ import annotations
+
+import base64
+import time
+from collections.abc import Callable, Iterable, Iterator
+from html import escape
+
+from ... import __version__
+from ...quantity import EXACT, Quantity, moved, plain_text
+from ...text.lexical import display
+from .comparison import ArcDifference
+from .report_findings import Demand, Findings, Section, Tried
+from .scenarios import BASE
+
+# How many rows of a table are shown, and how many places in a sentence.
+MOST_ROWS, MOST_PLACES = 10, 5
+
+
+def _text(text: str) -> str:
+    """Return a text of the planner in the page: never markup."""
+    return escape(display(text))
+
+
+def _lines(text: str) -> str:
+    """Return a text of the planner of several lines."""
+    return "\n".join(map(_text, text.splitlines()))
+
+
+def _told(amount: Quantity, unit: str) -> str:
+    return _text(f"{plain_text(amount)} {unit}".rstrip())
+
+
+def _table(titles: Iterable[tuple[str, bool]], rows: list[list[str]]) -> Iterator[str]:
+    """Yield a table of cells that are markup already. Columns of numbers stand to the right."""
+    heads = list(titles)
+
+    def cells(tag: str, row: Iterable[str]) -> str:
+        marks = (' class="number"' if is_number else "" for _, is_number in heads)
+        return "".join(f"<{tag}{mark}>{cell}</{tag}>" for mark, cell in zip(marks, row))
+
+    yield f"<table><thead><tr>{cells('th', (title for title, _ in heads))}</tr></thead><tbody>"
+    yield from (f"<tr>{cells('td', row)}</tr>" for row in rows[:MOST_ROWS])
+    yield "</tbody></table>"
+    if len(rows) > MOST_ROWS:
+        yield f'<p class="faint">and {len(rows) - MOST_ROWS} more</p>'
+
+
+def _counted(count: int, noun: str) -> str:
+    return f"{count} {noun}{'s' * (count != 1)}"
+
+
+def _head(found: Findings) -> Iterator[str]:
+    yield (
+        f"<h1>{_text(found.title)}: what can be sent from {_text(found.source)} to "
+        f"{_text(found.sink)}</h1>"
+    )
+    unit = f", in {_text(found.unit)}" if found.unit else ""
+    yield (
+        f'<p class="faint">{_counted(found.arcs, _text(found.noun))} between {found.places} '
+        f'places{unit}. {time.strftime("%-d %B %Y")}.</p>'
+    )
+    if found.notes:
+        yield f'<p class="note">{_lines(found.notes)}</p>'
+    base = found.sections[0].value
+    if len(found.sections) > 1:
+        yield "<h2>The scenarios</h2>"
+        rows = [
+            [
+                _text(it.name),
+                plain_text(it.value),
+                "" if it.name == BASE else moved(base, it.value),
+                str(len(it.steps)),
+            ]
+            for it in found.sections
+        ]
+        titles = ("scenario", False), (
+            _text(f"greatest value ({found.unit})" if found.unit else "greatest value"),
+            True,
+        )
+        yield from _table([*titles, ("against base", True), ("steps", True)], rows)
+        yield f'<p class="faint">{BASE} is the network of the table, without a step.</p>'
+
+
+def _section_lines(found: Findings, it: Section) -> Iterator[str]:
+    base = found.sections[0]
+    yield f"<section><h2>{_text(it.name)}</h2>"
+    if it.begun_from:
+        yield f'<p class="faint">begun with the steps of {_text(it.begun_from)}</p>'
+    if it.note:
+        yield f'<p class="note">{_lines(it.note)}</p>'
+    by = (
+        ""
+        if it is base
+        else f" <small>({moved(base.value, it.value)} than base)</small>"
+        if it.value != base.value
+        else " <small>(as base)</small>"
+    )
+    yield f'<p class="value">{_told(it.value, found.unit)}{by}</p>'
+    if it.steps:
+        yield "<h3>What was changed</h3><ol>"
+        yield from (
+            f"<li>{_text(text)} <span class='faint'>then {_told(value, found.unit)}</span></li>"
+            for text, value in it.steps
+        )
+        yield "</ol>"
+    if it.left_out:
+        steps = "; ".join(map(_text, it.left_out))
+        yield (
+            "<p>Left out, since the table has changed and they mean nothing in it any more: "
+            f"{steps}.</p>"
+        )
+    yield from _limit(found, it)
+    if it.picture:
+        data = base64.b64encode(it.picture.encode()).decode()
+        yield (
+            f'<figure><img alt="The network of {_text(it.name)}; the bottleneck is red" '
+            f'src="data:image/svg+xml;base64,{data}"></figure>'
+        )
+    else:
+        yield f'<p class="faint">There is no picture: {_text(it.no_picture)}.</p>'
+    if it.demands:
+        yield from _demands(it.demands, found.unit)
+    if it.differences:
+        yield from _differences(it.differences)
+    yield (
+        '<p class="faint">The flow was judged by <code>dmf check</code>: '
+        f"<code>{_text(it.check)}</code></p></section>"
+    )
+
+
+def _limit(found: Findings, it: Section) -> Iterator[str]:
+    """Yield the limit in plain words."""
+    yield "<h3>The bottleneck</h3>"
+    if not it.limit:
+        yield (
+            f"<p>Nothing leads from {_text(found.source)} to {_text(found.sink)} any more, so "
+            "nothing can be sent.</p>"
+        )
+        return
+    one = len(it.limit) == 1
+    yield (
+        f"<p>All that is sent has to pass {'this one' if one else f'these {len(it.limit)}'}, and "
+        f"together {'it carries' if one else 'they carry'} "
+        f"{_told(it.value, found.unit)} at most. To widen only others brings nothing.</p>"
+    )
+    yield from _table(
+        [("limit", False), ("carries at most", True)],
+        [[f'<span class="limit">{_text(arc)}</span>', plain_text(most)] for arc, most in it.limit],
+    )
+    if it.side:
+        more = f" and {len(it.side) - MOST_PLACES} more" if len(it.side) > MOST_PLACES else ""
+        side = ", ".join(map(_text, it.side[:MOST_PLACES]))
+        yield f'<p class="faint">Before it: {side}{more}.</p>'
+
+
+def _demands(demands: tuple[Demand, ...], unit: str) -> Iterator[str]:
+    """Yield which places get what they take, those that are short of most first."""
+    short = [it for it in demands if it.arrives < it.wanted]
+    count = len(demands)
+    met = (
+        f"{len(short)} of {_counted(count, 'demand')} {'is' if len(short) == 1 else 'are'} short"
+        if short
+        else f"{'The demand is' if count == 1 else f'All {count} demands are'} met"
+    )
+    yield f"<h3>Demands</h3><p>{met}.</p>"
+    rows = [
+        [
+            _text(it.place),
+            plain_text(it.wanted),
+            plain_text(it.arrives),
+            f'<span class="limit">{_told(EXACT.subtract(it.wanted, it.arrives), unit)} short</span>'
+            if it.arrives < it.wanted
+            else "met",
+        ]
+        for it in demands
+    ]
+    titles = [("place", False), ("takes at most", True), ("gets", True), ("", True)]
+    yield from _table(titles, rows)
+
+
+def _differences(differences: tuple[ArcDifference, ...]) -> Iterator[str]:
+    yield f"<h3>What differs from {BASE}</h3>"
+    rows = [[_text(it.arc), _text(it.first.told()), _text(it.second.told())] for it in differences]
+    yield from _table([("", False), (BASE, False), ("here", False)], rows)
+
+
+def _trial_lines(found: Findings, tried: Tried) -> Iterator[str]:
+    yield f"<h2>Worst to lose, best to have twice: {_text(tried.scenario)}</h2>"
+    yield f'<p class="faint">{_text(tried.said[:1].upper() + tried.said[1:])}.</p>'
+    columns: list[
+        tuple[
+            str,
+            str,
+            tuple[tuple[str, Quantity], ...],
+            Callable[[Quantity, Quantity], Quantity],
+            str,
+        ]
+    ] = [
+        ("closed", "loses", tried.losses, EXACT.subtract, "Closed alone, none costs anything."),
+        (
+            "with a second one beside it",
+            "gains",
+            tried.gains,
+            EXACT.add,
+            "A second one beside any of them brings nothing.",
+        ),
+    ]
+    for title, word, rows, sign, none in columns:
+        if not rows:
+            yield f"<p>{none}</p>"
+            continue
+        cells = [
+            [_text(arc), plain_text(by), plain_text(sign(tried.value, by))] for arc, by in rows
+        ]
+        yield from _table([(title, False), (word, True), ("then", True)], cells)
+
+
+def report_lines(found: Findings) -> Iterator[str]:
+    """Yield the lines of a report."""
+    yield from _head(found)
+    for section in found.sections:
+        yield from _section_lines(found, section)
+    yield from _trial_lines(found, found.tried)
+    yield "<h2>How it was reckoned</h2>"
+    if found.assumed:
+        yield "<p>Taken for granted when the table was read:</p><ul>"
+        yield from (f"<li>{_text(it)}</li>" for it in found.assumed)
+        yield "</ul>"
+    yield (
+        f"<p>Values and bottlenecks are those of dmf {__version__}, whose solves are proved to "
+        "find the greatest value; this report is only tested.</p>"
+    )

@@ -1,0 +1,69 @@
+"""What each arc is worth: what is left of the greatest value without it.
+
+The program finds that for all arcs of a state from one greatest flow, and the desk asks it once for
+each state."""
+
+from __future__ import annotations
+
+from collections.abc import Iterable, Sequence
+from heapq import nsmallest
+from typing import NamedTuple
+
+from ..quantity import Quantity
+from ..session.fresh import ValuesWithout, values_without
+from ..session.runners import program_of
+from .steps import DeskFault
+from .workspace import Desk
+
+
+class Loss(NamedTuple):
+    """The greatest value without an arc, and what is lost then."""
+
+    arc: int
+    left: Quantity
+    loss: Quantity
+
+
+def judge_greatest(desk: Desk) -> None:
+    """Raise a `DeskFault` unless the flow is greatest."""
+    if not desk.is_greatest:
+        raise DeskFault(
+            "the flow is not greatest, so nothing can be compared with it; `solve` first"
+        )
+
+
+def worth_of(desk: Desk) -> ValuesWithout:
+    """Return the greatest value and the value without each arc, in the whole numbers of the
+    session. Raises what a network's `vital` raises."""
+    network, answers = desk.network, desk.state.answers
+    if answers.worth is None:
+        answers.worth = values_without(network.problem(), program_of(network.program))
+    return answers.worth
+
+
+def losses(desk: Desk, numbers: Iterable[int]) -> list[Loss]:
+    """Return what is lost without each of these arcs alone. Raise a `DeskFault` unless the flow is
+    greatest."""
+    judge_greatest(desk)
+    worth, quantity = worth_of(desk), desk.network.measure.quantity
+    return [
+        Loss(number, quantity(left), quantity(worth.value - left))
+        for number, left in ((number, worth.without[number - 1]) for number in numbers)
+    ]
+
+
+def worst(desk: Desk, most: int) -> tuple[list[Loss], int]:
+    """Return what is lost without each of the arcs of the table that cost most, at most so many,
+    and how many more cost something. Raise a `DeskFault` unless the flow is greatest."""
+    costly = [it for it in losses(desk, desk.network.pictured()) if it.loss]
+    found = nsmallest(most, costly, key=lambda it: (it.left, it.arc))
+    return found, len(costly) - len(found)
+
+
+def left_without_all(desk: Desk, numbers: Sequence[int]) -> Quantity:
+    """Return the greatest value if all these open arcs are closed at once. They are closed on a
+    desk beside this one, which solves."""
+    with desk.aside() as other:
+        other.close(*numbers)
+        other.solve()
+        return other.value

@@ -1,0 +1,127 @@
+"""A board's page on a narrow screen, and the names on the map: what is free of the picture when the
+sheet rises and sinks, and that names lie on no place and on no other name, in headless Chromium."""
+
+from __future__ import annotations
+
+from pathlib import Path
+from typing import Any
+
+import pytest
+from board_pages import Page
+from board_running import board
+from desk_shared import PIPES
+from test_board_access import as_before, show
+from test_board_ground import city
+
+pytestmark = pytest.mark.seconds(20)
+# The boxes of all places, and of what lies over the picture: the headline, the legend, the panel.
+PLACES = """
+return [...document.querySelectorAll("#picture .node ellipse.inner")].map((it) => {
+  const { left, top, right, bottom } = it.getBoundingClientRect();
+  return [left, top, right, bottom];
+});
+"""
+OVER = """
+return ["header", "aside", "[aria-label=Legend]"].map((at) => {
+  const { left, top, right, bottom } = document.querySelector(at).getBoundingClientRect();
+  return [left, top, right, bottom];
+});
+"""
+# Notes each name that is written on the canvas, and each place, in pixels of the picture.
+NOTED = """
+const own = CanvasRenderingContext2D.prototype, write = own.fillText, arc = own.arc;
+const clear = own.clearRect;
+own.clearRect = function (...words) {
+  window.noted = { names: [], places: [] };
+  return clear.apply(this, words);
+};
+own.fillText = function (text, x, y) {
+  const { a, e, f } = this.getTransform(), half = this.measureText(text).width * a / 2;
+  window.noted.names.push([x * a + e - half, y * a + f - 6, x * a + e + half, y * a + f + 6]);
+  return write.call(this, text, x, y);
+};
+own.arc = function (x, y, size, ...words) {
+  const { a, e, f } = this.getTransform(), [right, down, far] = [x * a + e, y * a + f, size * a];
+  window.noted.places.push([right - far, down - far, right + far, down + far]);
+  return arc.call(this, x, y, size, ...words);
+};
+"""
+Box = tuple[float, float, float, float]
+
+
+def meet(one: Box, other: Box) -> bool:
+    """Whether two boxes have a part in common, of more than half a pixel."""
+    return all(one[at] + 0.5 < other[at + 2] and other[at] + 0.5 < one[at + 2] for at in (0, 1))
+
+
+def is_free(driver: Any) -> bool:
+    """Whether all places are seen, and nothing lies over them."""
+    places, over = driver.execute_script(PLACES), driver.execute_script(OVER)
+    wide, high = driver.execute_script("return [innerWidth, innerHeight]")
+    is_seen = all(
+        x >= 0 and y >= 0 and right <= wide and down <= high for x, y, right, down in places
+    )
+    return bool(places) and is_seen and not any(meet(one, it) for one in places for it in over)
+
+
+def test_sheet(driver: Any) -> None:
+    """All places are seen beside the sheet, low and middle, after it was full too; and what was
+    moved to stays in the middle of what is free."""
+    with board(PIPES) as it:
+        show(driver, 400, "light")
+        page = Page(driver, it.address)
+        page.wait(lambda: is_free(driver))
+        for word in "More", "Less", "More", "More", "Less":
+            page.driver.find_element(
+                "xpath", f"//button[@aria-label='{word} of the panel']"
+            ).click()
+            is_full = driver.execute_script("return document.body.dataset.panel === 'full'")
+            page.wait(lambda: is_full or is_free(driver))  # noqa: B023
+        page.press("Larger")
+        page.press("Larger")
+        before = middle(driver)
+        driver.find_element("xpath", "//button[@aria-label='Less of the panel']").click()
+        page.wait(lambda: max(abs(a - b) for a, b in zip(middle(driver), before)) < 1)
+        as_before(driver)
+
+
+def middle(driver: Any) -> tuple[float, float]:
+    """What of the picture is in the middle between the headline and the legend, in its units."""
+    x, y = driver.execute_script(
+        """
+        const box = document.querySelector("#picture svg").viewBox.baseVal;
+        const top = document.querySelector("header").getBoundingClientRect().bottom;
+        const bottom = document.querySelector("[aria-label=Legend]").closest(".card")
+          .getBoundingClientRect().top;
+        const by = innerWidth / box.width;
+        return [box.x + box.width / 2, box.y + (top + bottom) / 2 / by];
+        """
+    )
+    return float(x), float(y)
+
+
+@pytest.mark.parametrize("width", [1280, 400])
+def test_names_on_a_map(driver: Any, tmp_path: Path, width: int) -> None:
+    """No name on the canvas lies on another name, at each size, or on a place there, where names
+    of all places can be read."""
+    found = driver.execute_cdp_cmd("Page.addScriptToEvaluateOnNewDocument", {"source": NOTED})
+    with board(*city(tmp_path, 20)) as it:
+        show(driver, width, "light")
+        page = Page(driver, it.address)
+        counts = []
+        for _ in range(7):
+            page.settle()
+            driver.execute_async_script("requestAnimationFrame(() => setTimeout(arguments[0], 50))")
+            noted = driver.execute_script("return window.noted")
+            names, places = noted["names"], noted["places"]
+            is_far = driver.execute_script("return Boolean(document.querySelector('#picture.far'))")
+            counts.append(len(names))
+            for at, name in enumerate(names):
+                # From afar places are dots, close to each other.
+                assert is_far or not any(meet(name, place) for place in places), (name, counts)
+                assert not any(meet(name, other) for other in names[:at]), (name, counts)
+            page.press("Larger")
+        assert max(counts) > 4, counts
+        as_before(driver)
+    words = {"identifier": found["identifier"]}
+    driver.execute_cdp_cmd("Page.removeScriptToEvaluateOnNewDocument", words)

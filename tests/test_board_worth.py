@@ -1,0 +1,174 @@
+"""Tests what a board finds of each pipe's worth beside its requests, and how its page shows it, by
+headless Chromium, beside values that are found by trying all sets of places."""
+
+from __future__ import annotations
+
+import time
+from pathlib import Path
+from random import Random
+from typing import Any
+
+import pytest
+from board_pages import Page
+from board_running import Board, board
+from built import heed_interrupts
+from client_shared import BUILT, is_running, script
+from desk_shared import PIPES, SECONDS, Pipe, greatest, swept, water
+
+NAMES = [pipe.name for pipe in water()]
+# A program whose `vital` waits, and tells its process first.
+WAITING = f"""test "$1" = vital || exec "{BUILT}" "$@"
+echo $$ >>"$0.processes"
+test ! -e "$0.go" || exec "{BUILT}" "$@"
+exec sleep 60"""
+
+
+def worth(it: Board) -> Any:
+    """What the board tells once it is found."""
+    until = time.monotonic() + SECONDS
+    while (told := it.told("worth"))["is_finding"]:
+        assert time.monotonic() < until
+        time.sleep(0.01)
+    return told
+
+
+def left_of(pipes: list[Pipe]) -> dict[str, int]:
+    """What is left without each of some pipes."""
+    return {pipe.name: greatest([it for it in pipes if it != pipe]) for pipe in pipes}
+
+
+def judge(it: Board, pipes: list[Pipe], numbers: dict[str, int]) -> None:
+    """Judge what a board tells of pipes, by their numbers."""
+    value, left = greatest(pipes), left_of(pipes)
+    told = worth(it)
+    costly = [name for name in left if left[name] < value]
+    wanted = sorted(costly, key=lambda name: (left[name], numbers[name]))
+    assert [row["name"] for row in told["worst"]] == wanted[:10]
+    assert (told["is_known"], told["more"]) == (True, max(0, len(wanted) - 10))
+    losses = {int(number): int(loss) for number, loss in told["losses"].items()}
+    assert {name: losses[number] for name, number in numbers.items() if name in left} == {
+        name: value - closed for name, closed in left.items()
+    }
+    for name in left:
+        row = it.told(f"arc?number={numbers[name]}")
+        assert (row["without"], row["lost"]) == (str(left[name]), str(value - left[name]))
+        assert row["without_both"] == ""
+
+
+def test_each_state() -> None:
+    """It is of the network as it is, after each change and each step back."""
+    numbers = {name: number for number, name in enumerate(NAMES, 1)}
+    with board(PIPES) as it:
+        # Before it is found nothing is told of it.
+        assert it.told("arc?number=9")["without"] == ""
+        judge(it, water(), numbers)
+        it.do(what="close", arc=numbers["Bridge pipe"])
+        assert it.told("arc?number=9")["without"] == ""
+        pipes = [pipe for pipe in water() if pipe.name != "Bridge pipe"]
+        judge(it, pipes, numbers)
+        it.do(what="cap", arc=numbers["Mill Lane"], capacity="120")
+        wider = [it._replace(capacity=120) if it.name == "Mill Lane" else it for it in pipes]
+        judge(it, wider, numbers)
+        it.do(what="go", step=0)
+        judge(it, water(), numbers)
+        rows = it.told("rows?filter=&sort=-lost&first=0&count=14")["rows"]
+        losses = [int(row["lost"]) for row in rows]
+        assert losses == sorted((165 - left for left, _ in swept().values()), reverse=True)
+
+
+def test_both_ways(tmp_path: Path) -> None:
+    """What is left without both directions of a pipe is what is left when both are closed."""
+    for seed in range(12):
+        random = Random(f"both ways {seed}")
+        places = ["S", "A", "B", "C", "T"]
+        rows = ["from,to,capacity,name,direction"]
+        for number in range(9):
+            tail, head = random.sample(places, 2)
+            rows.append(f"{tail},{head},{random.randint(1, 9)},p{number},<->")
+        table = tmp_path / f"{seed}.csv"
+        table.write_text("\n".join([*rows, "S,A,3,in,->", "B,T,3,out,->", ""]))
+        with board("--source", "S", "--sink", "T", str(table)) as it:
+            assert worth(it)["is_known"]
+            for number in range(1, 19, 2):
+                first, second = (it.told(f"arc?number={at}") for at in (number, number + 1))
+                assert first["name"] == second["name"]
+                assert first["without_both"] == second["without_both"] != ""
+                closed = it.do(what="close-all", arcs=[number, number + 1])
+                assert closed["value"] == first["without_both"]
+                it.do(what="go", step=0)
+                worth(it)
+
+
+def test_a_click_does_not_wait() -> None:
+    """While it is being found, the board answers; a change ends the run, and so does the end of the
+    board."""
+    with script(WAITING) as program:
+        processes = Path(f"{program}.processes")
+
+        def begun() -> list[int]:
+            """The runs, once the last one has begun."""
+            return [int(line) for line in processes.read_text().split()]
+
+        with pytest.MonkeyPatch.context() as patched:
+            patched.setenv("DMF", program)
+            it = Board(PIPES, preexec=heed_interrupts)
+        try:
+            assert it.told("worth") == {**it.told("turn"), "is_finding": True}
+            waited(lambda: processes.exists() and len(begun()) == 1)
+            assert it.do(what="close", arc=10)["value"] == "155"
+            waited(lambda: not is_running(begun()[0]))
+            assert it.told("worth")["is_finding"]
+            waited(lambda: len(begun()) == 2)
+            it.end()
+            waited(lambda: not is_running(begun()[1]))
+        finally:
+            it.ended() if it.process.poll() is not None else it.end()
+
+
+def waited(is_so: Any) -> None:
+    until = time.monotonic() + SECONDS
+    while not is_so():
+        assert time.monotonic() < until
+        time.sleep(0.01)
+
+
+def test_page(driver: Any) -> None:
+    """The page lists the ten that are worst to lose, shows what closing one leaves before it is
+    closed, and has a column of the losses; after a change these are of the new state."""
+    left = {name: closed for name, (closed, _) in swept().items()}
+    with board(PIPES) as it:
+        page = Page(driver, it.address)
+        page.know_worth()
+        wanted = sorted(left, key=lambda name: (left[name], NAMES.index(name)))[:10]
+        assert shown(page) == [[name, str(left[name]), str(165 - left[name])] for name in wanted]
+        assert "3 more cost something" in page.text("#worst-note")
+        driver.execute_script("document.querySelector('#worst-table tbody button').click()")
+        page.wait(lambda: wanted[0] in page.text("#what h3"))
+        text = f"Closing this: 165 to {left[wanted[0]]} litres per second."
+        page.wait(lambda: page.text("#closing") == text)
+        page.press("All")
+        cells = (
+            "return [...document.querySelectorAll('#grid tbody td.lost')].map(it => it.textContent)"
+        )
+        page.wait(
+            lambda: driver.execute_script(cells)
+            == [str(165 - left[name]) if left[name] < 165 else "" for name in NAMES]
+        )
+        it.do(what="close", arc=NAMES.index("Bridge pipe") + 1)
+        page.wait(lambda: page.value() == 155)
+        page.know_worth()
+        less = left_of([pipe for pipe in water() if pipe.name != "Bridge pipe"])
+        wanted = sorted(less, key=lambda name: (less[name], NAMES.index(name)))[:10]
+        page.wait(
+            lambda: shown(page)
+            == [[name, str(less[name]), str(155 - less[name])] for name in wanted]
+        )
+
+
+def shown(page: Page) -> list[list[str]]:
+    """The rows of the worst, without the ends of the pipes."""
+    rows = page.driver.execute_script(
+        "return [...document.querySelectorAll('#worst-table tbody tr')].map(row => "
+        "[...row.cells].map(it => it.textContent))"
+    )
+    return [[name.partition(",")[0], *numbers] for name, *numbers in rows]
