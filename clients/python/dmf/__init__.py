@@ -148,7 +148,7 @@ if not TYPE_CHECKING:
 
 
 class _EarlierModules:
-    """Finds the modules of version 0.1.0, which pickles of then name."""
+    """Finds the modules that pickles of version 0.1.0 name."""
 
     @staticmethod
     def find_spec(name: str, path: object = None, target: object = None) -> ModuleSpec | None:
@@ -164,7 +164,7 @@ sys.meta_path.append(_EarlierModules)
 
 
 def __getattr__(name: str) -> object:
-    """A public name, from its module. Raises an AttributeError for any other name."""
+    """Return a public name from its module. Raises an AttributeError for any other name."""
     from importlib import import_module
 
     home = _HOMES.get(name)

@@ -22,19 +22,19 @@ MISSING = 70
 
 
 def run_tool(word: str, words: list[str]) -> NoReturn:
-    """Runs a tool in this process."""
+    """Run a tool in this process."""
     sys.argv = [f"dmf-{word}", *words]
     run(sys.argv[0], import_module(f".tools.{word}", __package__).main)
 
 
 def print_text(name: str) -> int:
-    """Prints a text of the tools."""
+    """Print a text file of the tools."""
     write((Path(__file__).parent / "tools" / name).read_text())
     return 0
 
 
 def print_help(path: str, word: str) -> int:
-    """Prints the help of a program, and the tools below it."""
+    """Print the help of the program at `path`, and then the list of the tools."""
     import subprocess
 
     try:
@@ -46,7 +46,7 @@ def print_help(path: str, word: str) -> int:
 
 
 def become(path: str) -> NoReturn:
-    """Runs a program in place of this one. Raises `NoProgram`."""
+    """Replace this process by the program. Raises `NoProgram`."""
     # Python ignores this signal, and what runs in its place would too. `run` sees to the others.
     signal.signal(signal.SIGXFSZ, signal.SIG_DFL)
     try:
@@ -57,8 +57,8 @@ def become(path: str) -> NoReturn:
 
 
 def told(network: Any) -> list[str]:
-    """The value of a network, and what its smallest minimum cut has, with what each carries: in the
-    numbers of its table, if it has one."""
+    """Return lines with the network's value, and each part of its smallest minimum cut with what it
+    carries, in the numbers of its table if it has one."""
     from .quantity import plain_text
     from .text.table_comments import DOES, listed
 
@@ -79,7 +79,7 @@ def told(network: Any) -> list[str]:
 
 
 def tell(path: str) -> int:
-    """Writes what a problem comes to."""
+    """Print a problem's value and its limit."""
     from .tables.problem_networks import read
     from .text.lexical import display
 

@@ -65,20 +65,20 @@ class Arc(Generic[Node]):
 
     @property
     def is_open(self) -> bool:
-        """Whether the arc is there now, and not closed."""
+        """Return True if the arc exists in the network's present state and is open."""
         return self._network().is_open_now(self)
 
     @property
     def capacity(self) -> int:
-        """Its capacity now. Raises `ArcIsClosed`, and `NoSuchArc` where the change that added it
-        was undone."""
+        """The arc's present capacity. Raises `ArcIsClosed` if it is closed, and `NoSuchArc` if the
+        change that added it was undone."""
         return self._network().capacity_now(self)
 
     @property
     def flow(self) -> int:
-        """The flow on it now, which is 0 if it is closed. Raises `NoSuchArc` if the change that
-        added it was undone. The first look at an arc after a change asks the session for all flows.
-        """
+        """The present flow on the arc, which is 0 if it is closed. Raises `NoSuchArc` if the change
+        that added it was undone. The first look at an arc after a change asks the session for all
+        flows."""
         return self._network().flow_now(self)
 
     def _network(self) -> Owner:
@@ -88,7 +88,7 @@ class Arc(Generic[Node]):
         return owner
 
     def again(self) -> Arc[Node]:
-        """An arc of another network that has the same number, ends and key."""
+        """Return an arc with the same number, ends and key, for another network."""
         return Arc(self.number, self.tail, self.head, self.given_key)
 
     def __copy__(self) -> Arc[Node]:
@@ -114,13 +114,13 @@ class Handles(Generic[Node]):
         self._made: dict[int, Arc[Node]] = {}
 
     def with_columns(self, columns: Columns[Node]) -> Handles[Node]:
-        """The handles of the same arcs in other columns."""
+        """Return the handles of the same arcs for other columns."""
         handles = Handles(columns)
         handles.owner, handles._made = self.owner, self._made
         return handles
 
     def of(self, number: int) -> Arc[Node]:
-        """The handle of a number."""
+        """Return the handle of the arc with this number."""
         arc = self._made.get(number)
         if arc is None:
             columns = self.columns
@@ -150,17 +150,17 @@ class Added(Generic[Node]):
             self.put(arc)
 
     def put(self, arc: Arc[Node]) -> None:
-        """Takes in an arc."""
+        """Add an arc."""
         for key in _keys(arc):
             self._arcs.setdefault(key, []).append(arc)
 
     def drop(self, arc: Arc[Node]) -> None:
-        """Takes out an arc that is there."""
+        """Remove an arc that was added."""
         for key in _keys(arc):
             self._arcs[key].remove(arc)
 
     def named(self, key: Hashable) -> list[Arc[Node]]:
-        """The arcs of a key, or of a pair of ends, in their order."""
+        """Return the arcs that have this key or this pair of ends, in their order."""
         return self._arcs.get(key, [])
 
 
@@ -170,8 +170,8 @@ def _keys(arc: Arc[Node]) -> list[Hashable]:
 
 
 def one_of(found: list[Arc[Node]], key: Hashable, state: str = "open") -> Arc[Node]:
-    """The only arc among those found. Raises `NoSuchArc` if there is none, and `AmbiguousArc` if
-    there are several."""
+    """Return the only arc in `found`. Raises `NoSuchArc` if it is empty, and `AmbiguousArc` if it
+    has several arcs."""
     if not found:
         raise NoSuchArc(shown_value(key))
     if len(found) > 1:
@@ -214,7 +214,7 @@ class OpenArcs(Sequence[Arc[Node]], Generic[Node]):
         return self.handle(self._number_at(places))
 
     def _number_at(self, place: int) -> int:
-        """The number of the open arc at a place, from 0 on."""
+        """Return the number of the open arc at a place, counted from 0."""
         low, high = 0, len(self.closed)
         while low < high:
             middle = (low + high) // 2
@@ -242,13 +242,13 @@ class OpenArcs(Sequence[Arc[Node]], Generic[Node]):
     __hash__ = None  # type: ignore[assignment]
 
     def without(self, numbers: Collection[int]) -> OpenArcs[Node]:
-        """The same arcs without those of some numbers."""
+        """Return these open arcs without those that have one of the given numbers."""
         if not numbers:
             return self
         return OpenArcs(self.handles, self.added, {*self.closed, *numbers})
 
     def numbers(self) -> Iterable[int]:
-        """The numbers of the open arcs."""
+        """Return the numbers of the open arcs, in order."""
         everything = range(1, len(self.columns) + len(self.added) + 1)
         if not self.closed:
             return everything
@@ -261,7 +261,7 @@ class OpenArcs(Sequence[Arc[Node]], Generic[Node]):
         return map(self.handle, self.numbers())
 
     def handle(self, number: int) -> Arc[Node]:
-        """The arc of a number."""
+        """Return the handle of the arc with this number."""
         return (
             self.handles.of(number)
             if number <= len(self.columns)
@@ -273,11 +273,11 @@ class OpenArcs(Sequence[Arc[Node]], Generic[Node]):
         return self.closed[place : place + 1] != array(NODES, [number])
 
     def place(self, number: int) -> int:
-        """The place of an open arc among the open ones, from 0 on."""
+        """Return the place of an open arc among the open ones, counted from 0."""
         return number - 1 - bisect_left(self.closed, number)
 
     def has(self, arc: Arc[Any]) -> bool:
-        """Whether this is one of the arcs, open or closed."""
+        """Return True if this is one of the arcs, open or closed."""
         if arc.number > len(self.columns):
             place = arc.number - len(self.columns) - 1
             return self.added[place : place + 1] == (arc,)
@@ -288,7 +288,7 @@ class OpenArcs(Sequence[Arc[Node]], Generic[Node]):
         return Added(self.added)
 
     def find(self, key: Hashable) -> Arc[Node]:
-        """The open arc of a handle, a key or a pair of ends. Raises `NoSuchArc` and
+        """Return the open arc that a handle, a key or a pair of ends names. Raises `NoSuchArc` and
         `AmbiguousArc`."""
         if isinstance(key, Arc):
             if not self.has(key) or not self.is_open(key.number):
@@ -302,28 +302,28 @@ class OpenArcs(Sequence[Arc[Node]], Generic[Node]):
         return one_of(found + [arc for arc in added if self.is_open(arc.number)], key)
 
     def between(self, tail: Node, head: Node) -> list[int]:
-        """The numbers of the open arcs from one node to another. Raises `NoSuchNode`."""
+        """Return the numbers of the open arcs from `tail` to `head`. Raises `NoSuchNode`."""
         numbers = self.columns.between(self.columns.number(tail), self.columns.number(head))
         added = (arc.number for arc in self.added if (arc.tail, arc.head) == (tail, head))
         return [number for number in (*numbers, *added) if self.is_open(number)]
 
     def tails(self) -> list[Node]:
-        """The tails of the open arcs."""
+        """Return the tail of each open arc."""
         return [self.columns.names[node - 1] for node in self.ends()[0]]
 
     def heads(self) -> list[Node]:
-        """The heads of the open arcs."""
+        """Return the head of each open arc."""
         return [self.columns.names[node - 1] for node in self.ends()[1]]
 
     def keys(self) -> list[Hashable]:
-        """The keys of the open arcs; None for an arc that was given none."""
+        """Return the key of each open arc, or None where it was given none."""
         return [
             self.columns.keys.get(n) if n <= len(self.columns) else self.handle(n).given_key
             for n in self.numbers()
         ]
 
     def ends(self) -> tuple[array[int], array[int]]:
-        """The numbers of the tails and of the heads of the open arcs."""
+        """Return the node numbers of the tails, and of the heads, of the open arcs."""
         tails, heads = self.columns.tails[:], self.columns.heads[:]
         for arc in self.added:
             tails.append(self.columns.outlet(arc.tail))
@@ -331,7 +331,7 @@ class OpenArcs(Sequence[Arc[Node]], Generic[Node]):
         return self.chosen(tails), self.chosen(heads)
 
     def chosen(self, column: array[int]) -> array[int]:
-        """The entries of the open arcs in a column of all arcs."""
+        """Return the entries of the open arcs from a column of all arcs."""
         if not self.closed:
             return column
         return array(column.typecode, [column[number - 1] for number in self.numbers()])

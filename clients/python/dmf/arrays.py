@@ -32,9 +32,9 @@ def columns_of_arrays(
     nodes: Iterable[Node],
     reader: CapacityReader,
 ) -> tuple[Columns[Node], array[int]]:
-    """The columns of three sequences of one length, and their capacities. Numbers in arrays of
-    numpy are taken as they are, all together, and everything else row by row. Raises `NotAnArc` for
-    sequences of several lengths or with a node that is missing, and what `columns_of` raises."""
+    """Return the columns of three sequences of one length, and their capacities. Numbers in arrays
+    of numpy are taken all together, and everything else row by row. Raises `NotAnArc` if the
+    lengths differ or a node is missing, and what `columns_of` raises."""
     tail, head, capacity, key = (_plain(column) for column in (tail, head, capacity, key))
     lengths = {len(column) for column in (tail, head, capacity, key) if column is not None}
     if len(lengths) > 1:
@@ -86,10 +86,9 @@ def column_of(frame: Any, title: str) -> Any:
 
 
 def _plain(column: Any) -> Any:
-    """A series of pandas as an array of numpy, and an array that hides some of its values as a
-    list, in which these are None; any other column as it is, or as a list where its length is not
-    known. Raises `NotAnArc` for a table, a set and a dictionary, and for times that Python has not.
-    """
+    """Return a series of pandas as an array of numpy, a masked array as a list with None for its
+    hidden values, an iterable without a length as a list, and any other column as it is. Raises
+    `NotAnArc` for a table, a set and a dictionary, and for times that Python cannot represent."""
     if is_unordered(column):
         raise NotAnArc(f"not an arc: a column is a {type(column).__name__}, and not a list")
     if getattr(column, "ndim", 1) != 1:
@@ -120,7 +119,8 @@ def _scaled(tail: Any, head: Any, capacity: Any, reader: CapacityReader) -> Any:
 
 
 def _kind(column: Any) -> str:
-    """The kind of numbers of an array of numpy, or nothing for another column."""
+    """Return the kind of numbers that an array of numpy has, or an empty text for another
+    column."""
     return str(column.dtype.kind) if hasattr(column, "dtype") else ""
 
 
@@ -129,14 +129,14 @@ def _listed(column: Any) -> Any:
 
 
 def _known(value: Any) -> Any:
-    """A value of a frame: None where it is missing, as pandas writes it."""
+    """Return a value of a frame, or None if it is missing."""
     return None if is_missing(value) else value
 
 
 def _of_numbers(
     np: Any, tail: Any, head: Any, capacity: Any, nodes: Iterable[Node], infinite: int | None
 ) -> tuple[Columns[Node], array[int]]:
-    """The columns of arrays of whole numbers."""
+    """Return the columns, and the capacities, of arrays of whole numbers."""
     for column in tail, head:
         if column.dtype.kind == "u" and column.size and int(column.max()) >> 63:
             raise NumberTooLarge(
@@ -150,7 +150,7 @@ def _of_numbers(
 
 
 def _column(np: Any, kind: str, numbers: Any) -> array[int]:
-    """A column of an array's numbers."""
+    """Return an array of numbers as a column."""
     column = array(kind, [0]) * len(numbers)
     np.frombuffer(column, kind)[...] = numbers
     return column
@@ -159,8 +159,8 @@ def _column(np: Any, kind: str, numbers: Any) -> array[int]:
 def _numbered(
     np: Any, tail: Any, head: Any, nodes: Iterable[Any]
 ) -> tuple[Mapping[Any, int], Any, Any]:
-    """The numbers of the given nodes, and then of the ends of arcs in the order in which they first
-    come, from 1 on; and the arrays of the numbers of the tails and of the heads."""
+    """Number the given nodes, and then the ends of arcs in the order in which they first occur,
+    from 1 on. Return these numbers, and arrays of the numbers of the tails and of the heads."""
     low, high = (
         (min(int(tail.min()), int(head.min())), max(int(tail.max()), int(head.max())))
         if tail.size
@@ -193,8 +193,8 @@ def _numbered(
 
 
 def _in_order(np: Any, tail: Any, head: Any, width: int) -> Any:
-    """The different ends of arcs, numbers from 0 on and below the width, in the order in which they
-    first come."""
+    """Return the different ends of arcs, numbers from 0 to `width` - 1, in the order in which they
+    first occur."""
     count = tail.size
     backward = np.arange(count - 1, -1, -1, dtype=np.int64 if count >> 30 else np.int32)
     places = []
@@ -212,8 +212,8 @@ def _in_order(np: Any, tail: Any, head: Any, width: int) -> Any:
 def _known_nodes(
     np: Any, given: list[Any], names: Any, limit: int
 ) -> tuple[Mapping[Any, int], Any]:
-    """The numbers of the given nodes and then of these names; and an array of the numbers of the
-    names. `limit` bounds the whole numbers for which no dictionary is made."""
+    """Number the given nodes, and then these names. Return these numbers, and an array of the
+    numbers of the names. No dictionary is made if all are whole numbers below `limit`."""
     if not given and 0 <= int(names.min(initial=0)) and int(names.max(initial=0)) < limit:
         return _whole_nodes(np, names), np.arange(1, names.size + 1)
     known: dict[Any, int] = {}
@@ -225,15 +225,15 @@ def _known_nodes(
 
 
 def _whole_nodes(np: Any, names: Any) -> WholeNodes:
-    """Different whole numbers from 0 on as nodes, in their order."""
+    """Return these names, different whole numbers from 0 on, as nodes in this order."""
     numbers = np.full(int(names.max(initial=-1)) + 1, NO_NODE, np.int32)
     numbers[names] = np.arange(1, names.size + 1)
     return WholeNodes(_column(np, NODES, names), _column(np, NUMBERS, numbers))
 
 
 def _amounts(np: Any, tail: Any, head: Any, capacity: Any, infinite: int | None) -> Any:
-    """An array of capacities, whole numbers from 0 on. The first that is none is told with its
-    arc."""
+    """Return an array of capacities as whole numbers from 0 on. Raises `NotANumber` and
+    `NumberTooLarge`, which name the first arc whose capacity is not one."""
     if capacity.dtype.kind == "f":
         missing = np.isnan(capacity) | (capacity == np.inf)
         if infinite is not None and missing.any():
@@ -260,7 +260,7 @@ def _amounts(np: Any, tail: Any, head: Any, capacity: Any, infinite: int | None)
 
 
 def frame(arcs: OpenArcs[Any], flow: Any, capacities: array[int]) -> Any:
-    """A frame of pandas with a row for each open arc."""
+    """Return a frame of pandas with a row for each open arc."""
     pd = import_package("pandas", "a frame of flows")
     columns = {
         "tail": arcs.tails(),
@@ -273,15 +273,15 @@ def frame(arcs: OpenArcs[Any], flow: Any, capacities: array[int]) -> Any:
 
 
 def flow_matrix(arcs: OpenArcs[Any], flow: Any) -> Any:
-    """The flows as a sparse matrix of scipy, of the type that `kind_for` returns."""
+    """Return the flows as a sparse matrix of scipy, of the type that `kind_for` returns."""
     matrix = matrix_of(flow, *arcs.ends(), len(arcs.columns.numbers))
     return matrix.astype(kind_for(matrix.data))
 
 
 def matrix_of(flow: Any, tails: array[int], heads: array[int], count: int) -> Any:
-    """The flows between nodes that are counted from 1, as a sparse matrix of scipy of unsigned
-    numbers. What flows on several arcs is added up: all flows of a network are below 2^64 together,
-    since its capacities are."""
+    """Return the flows between nodes, which are counted from 1, as a sparse matrix of scipy of
+    unsigned numbers. Flows on parallel arcs are added up: all flows of a network together are below
+    2^64, since its capacities are."""
     sparse = import_package("scipy.sparse", "a matrix of flows")
     np = import_package("numpy", "a matrix of flows")
     rows, columns = (np.frombuffer(ends, np.uint32).astype(np.int64) - 1 for ends in (tails, heads))

@@ -22,7 +22,8 @@ class CapacityReader:
     the whole numbers stand for capacities, and is None without a scale."""
 
     def __init__(self, infinite: object = None, scale: object = None) -> None:
-        """Raises a ValueError for a scale that is none, `NotANumber` and `NumberTooLarge`."""
+        """Check the scale and the number for missing capacities. Raises a ValueError for an
+        unusable scale, `NotANumber` and `NumberTooLarge`."""
         self.measure: Measure | None = None
         if scale is not None:
             from .scaled_amounts import measure_of

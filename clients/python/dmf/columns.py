@@ -23,14 +23,14 @@ class WholeNodes(Mapping[Any, int]):
     which they came. It works as a dictionary does, in a tenth of the memory and time."""
 
     def __init__(self, names: array[int] | None = None, numbers: array[int] | None = None) -> None:
-        """`names` are the nodes in the order of their numbers, and `numbers` has the number of each
-        node at the place that is the node."""
+        """Take `names`, the nodes in the order of their numbers, and `numbers`, which has the
+        number of each node at the index that is the node."""
         self.names = array(NODES) if names is None else names
         self._numbers = array(NUMBERS) if numbers is None else numbers
 
     @classmethod
     def of(cls, names: list[int]) -> WholeNodes:
-        """The numbers of nodes that all differ."""
+        """Number these nodes, which all differ, in their order."""
         made = cls()
         made.names.extend(names)
         made._make_room(max(names, default=0))
@@ -39,8 +39,8 @@ class WholeNodes(Mapping[Any, int]):
         return made
 
     def take(self, nodes: list[Any], most: int) -> array[int] | None:
-        """The numbers of these nodes. Each new node gets the next number. If one is no whole number
-        from 0 to `most`, takes none, and returns None."""
+        """Return the numbers of these nodes, after giving each new node the next number. If one of
+        them is not a whole number from 0 to `most`, number none and return None."""
         if not nodes or set(map(type, nodes)) != {int} or min(nodes) < 0:
             return None if nodes else array(NODES)
         try:
@@ -57,7 +57,7 @@ class WholeNodes(Mapping[Any, int]):
         return array(NODES, map(self._numbers.__getitem__, nodes))
 
     def _make_room(self, highest: int) -> None:
-        """Makes room for nodes up to this one, and for as many again, so that it is seldom
+        """Make room for nodes up to `highest`, and at least double the room, so that this is seldom
         called."""
         room = len(self._numbers)
         if highest >= room:
@@ -65,7 +65,8 @@ class WholeNodes(Mapping[Any, int]):
 
     @functools.cached_property
     def _dictionary(self) -> dict[Any, int]:
-        """For nodes of other types, of which some are equal to whole numbers."""
+        """A dictionary of the same numbers, for nodes of other types, some of which equal whole
+        numbers."""
         return dict(zip(self.names, count(1)))
 
     def __getitem__(self, node: Any) -> int:
@@ -104,7 +105,7 @@ class Index:
                     self._several[name].append(number)
 
     def find(self, name: Any) -> list[int]:
-        """The numbers of a name, in their order."""
+        """Return the numbers that a name has, in their order."""
         if name in self._several:
             return self._several[name]
         return [self._last[name]] if name in self._last else []
@@ -142,12 +143,13 @@ class Columns(Generic[Node]):
         return Columns, (self.numbers, self.tails, self.heads, self.keys)
 
     def with_node(self, node: Any) -> Columns[Node]:
-        """The same arcs with one more node."""
+        """Return columns of the same arcs with one more node."""
         numbers = {**self.numbers, node: len(self.numbers) + 1}
         return Columns(numbers, self.tails, self.heads, self._same_keys())
 
     def _same_keys(self) -> dict[int, Hashable] | Callable[[], dict[int, Hashable]]:
-        """The keys, for the same arcs with more nodes."""
+        """Return the keys in the form in which the columns of the same arcs with more nodes take
+        them."""
         return self.keys if self._may_be_pairs else lambda: self.keys
 
     @property
@@ -177,8 +179,8 @@ class Columns(Generic[Node]):
         return Index(self.keys.values, list(self.keys))
 
     def between(self, tail: int, head: int) -> list[int]:
-        """The numbers of the arcs from one node to another. The index of all is made after it was
-        missed some times."""
+        """Return the numbers of the arcs from one node to another. After `MOST_MISSED` calls, which
+        look at every arc, the next one makes an index."""
         self._missed_ends += 1
         if self._missed_ends > MOST_MISSED:
             return self._by_ends.find(tail * (len(self.numbers) + 1) + head)
@@ -187,7 +189,8 @@ class Columns(Generic[Node]):
         return [number for number in leaving if heads[number - 1] == head]
 
     def number(self, node: Node) -> int:
-        """The number of a node. Raises `NoSuchNode`, also for a value that cannot be hashed."""
+        """Return the number of a node. Raises `NoSuchNode`, also for a value that cannot be
+        hashed."""
         with contextlib.suppress(KeyError, TypeError):
             return self.numbers[node]
         from .text.spelling import no_such_node
@@ -195,19 +198,19 @@ class Columns(Generic[Node]):
         raise no_such_node(node, self.numbers)
 
     def outlet(self, node: Node) -> int:
-        """The number of the node that arcs out of a node leave: another one only if the place of a
-        table has two. Raises `NoSuchNode`."""
+        """Return the number of the node at which the arcs out of `node` begin. It differs from the
+        node's own number only where a place of a table has two nodes. Raises `NoSuchNode`."""
         return self.number(node)
 
     def no_such_arc(self, key: Hashable) -> NoSuchArc:
-        """The refusal of a key, or of a pair of ends, that no arc has."""
+        """Return the exception for a key, or a pair of ends, that no arc has."""
         from .text.spelling import no_such_arc
 
         return no_such_arc(key, self.numbers, self.keys, self.named)
 
     def named(self, key: Hashable) -> list[int]:
-        """The numbers of the arcs of a key, or of a pair of ends, in their order. Raises
-        `NoSuchArc` for a value that cannot be hashed."""
+        """Return the numbers of the arcs that have this key or this pair of ends, in their order.
+        Raises `NoSuchArc` for a value that cannot be hashed."""
         try:
             found = self._of_key(key)
         except TypeError:
@@ -219,26 +222,26 @@ class Columns(Generic[Node]):
         return found
 
     def _of_key(self, key: Hashable) -> list[int]:
-        """The numbers of the arcs of a key. Raises a TypeError for a value that cannot be
-        hashed."""
+        """Return the numbers of the arcs that have this key. Raises a TypeError for a value that
+        cannot be hashed."""
         hash(key)
         is_none = isinstance(key, tuple) and not self._may_be_pairs
         return [] if is_none else self._by_key.find(key)
 
     @functools.cached_property
     def _at_nodes(self) -> tuple[tuple[array[int], array[int]], tuple[array[int], array[int]]]:
-        """The arcs in the order of their tails, and of their heads; and the places at which the
-        arcs of each node begin."""
+        """The arcs in the order of their tails, and in that of their heads, each with the places at
+        which the arcs of each node begin."""
         return _grouped(self.tails, len(self.numbers)), _grouped(self.heads, len(self.numbers))
 
     def _is_indexed(self) -> bool:
-        """Whether the index of the arcs at each node is made. This happens after it was missed some
-        times."""
+        """Return True once the arcs at each node are to be found by an index: after `MOST_MISSED`
+        searches without one."""
         self._missed += 1
         return self._missed > MOST_MISSED
 
     def at(self, node: int) -> list[int]:
-        """The numbers of the arcs at a node, in their order."""
+        """Return the numbers of the arcs at a node, in their order."""
         if self._is_indexed():
             return sorted(
                 {
@@ -257,7 +260,7 @@ class Columns(Generic[Node]):
         )
 
     def leaving(self, side: list[int]) -> list[int]:
-        """The numbers of the arcs that lead out of a set of nodes, in their order."""
+        """Return the numbers of the arcs that lead out of a set of nodes, in their order."""
         inside = bytearray(len(self.numbers) + 1)
         for node in side:
             inside[node] = 1

@@ -9,7 +9,7 @@ from typing import Any, ClassVar
 
 
 def shown_value(thing: object) -> str:
-    """A value of the caller in a message: its repr, also if Python refuses to write one of its
+    """Return the repr of a caller's value for a message, also if Python refuses to write one of its
     numbers."""
     try:
         return repr(thing)
@@ -90,7 +90,7 @@ class Refused(Error):
         Refused.kinds[cls.text] = cls
 
     def __init__(self, what: str = "") -> None:
-        """`what` was refused."""
+        """Build the message from the reason's text and, if it is given, what was refused."""
         super().__init__(f"{self.text}: {what}" if what else self.text)
         self.what = what
 
@@ -99,7 +99,7 @@ class Refused(Error):
 
     @staticmethod
     def of(text: str, what: str) -> Refused:
-        """The exception for a reason of the program, and for what was refused."""
+        """Return the exception for a reason in the program's words, with what was refused."""
         if text in Refused.kinds:
             return Refused.kinds[text](what)
         refused = Refused(f"{text}: {what}" if what else text)
@@ -237,7 +237,7 @@ class TableFault(Error, ValueError):
         return "\n".join(self.lines())
 
     def told(self) -> str:
-        """This fault alone, in one line."""
+        """Return this fault alone, in one line."""
         column = f"column {self.column_name or self.column}" if self.column and self.line else ""
         place = ", ".join(part for part in (self.path, self._told_lines(), column) if part)
         return f"{place}: {self.reason}" if place else self.reason
@@ -251,12 +251,12 @@ class TableFault(Error, ValueError):
         return f"lines {', '.join(shown)} and {last}"
 
     def lines(self) -> list[str]:
-        """All of it, a line for each fault."""
+        """Return a line for this fault, for each other one, and for those that are only counted."""
         told = [fault.told() for fault in (self, *self.others)]
         return told + [f"and {self.untold} more"] * (self.untold > 0)
 
     def name_path(self, path: str) -> None:
-        """Names the file of the faults that name none."""
+        """Set the file of the faults that do not name one."""
         for fault in (self, *self.others):
             fault.path = fault.path or path
 

@@ -17,8 +17,8 @@ OPENED = "/proc/self/fd"
 
 
 def scratch() -> IO[bytes]:
-    """An empty file that goes when it is closed, and that no other process sees unless it is passed
-    on. Raises an OSError."""
+    """Return an empty file that is deleted when it is closed, and that no other process sees unless
+    it is passed on. Raises an OSError."""
     if hasattr(os, "memfd_create") and os.path.isdir(OPENED):
         return open(_past_streams(os.memfd_create("dmf")), "w+b")
     import tempfile
@@ -40,13 +40,13 @@ def _past_streams(number: int) -> int:
 
 
 def path_of(file: IO[bytes]) -> str:
-    """The path by which this process, and one that the file is passed on to, opens what was written
-    to it."""
+    """Return the path by which this process, and a process that the file is passed on to, can open
+    what was written to `file`."""
     return file.name if isinstance(file.name, str) else f"{OPENED}/{file.fileno()}"
 
 
 def passed_on(path: str) -> tuple[int, ...]:
-    """The numbers of open files that a process needs which opens a path of `path_of`."""
+    """Return the numbers of the open files that a process needs to open this path of `path_of`."""
     folder, _, name = path.rpartition("/")
     return (int(name),) if folder == OPENED else ()
 
@@ -56,7 +56,7 @@ def cannot(do: str, what: str, error: OSError) -> FileFault:
 
 
 def read_file(path: str) -> bytes:
-    """The bytes of a file; `-` is standard input."""
+    """Return the bytes of a file, or of standard input if `path` is `-`."""
     if path == "-":
         return standard_input().read()
     try:
@@ -71,7 +71,8 @@ def read_file(path: str) -> bytes:
 
 
 def _near(path: str) -> str:
-    """The words of a message about files whose names are near to one that is not there."""
+    """Return the part of a message that names files with similar names to one that does not
+    exist."""
     from .text.spelling import near
 
     folder, name = os.path.split(path)
@@ -83,10 +84,10 @@ def _near(path: str) -> str:
 
 
 def write_file(path: str, data: bytes, *, is_new: bool = False) -> None:
-    """Writes a file whole: beside it at first, so that an older one stays as it is if that fails,
-    and keeps its mode if not. What can have no file beside it, such as a pipe or standard output,
-    is written as it is. Raises an OSError, also where there is a file or a link already that has to
-    be new."""
+    """Write a file whole: first to a new file beside it, so that an older one stays as it is if
+    that fails, and keeps its mode if not. What can have no file beside it, such as a pipe or
+    standard output, is written directly. Raises an OSError, also if `is_new` and the path
+    exists."""
     if is_new and os.path.lexists(path):
         raise FileExistsError(errno.EEXIST, os.strerror(errno.EEXIST), path)
     try:
@@ -126,8 +127,8 @@ def write_file(path: str, data: bytes, *, is_new: bool = False) -> None:
 
 
 def _put(beside: str, path: str, is_new: bool) -> None:
-    """Gives a file its name. A new one takes no name that somebody else has put there meanwhile, if
-    the file system has links."""
+    """Rename a file to its final name. If `is_new` and the file system has links, never replace a
+    file that somebody else has put there meanwhile."""
     if is_new:
         try:
             os.link(beside, path)
@@ -142,7 +143,7 @@ def _put(beside: str, path: str, is_new: bool) -> None:
 
 
 def _standard(file: os.stat_result) -> int | None:
-    """Standard output or standard error, if a file is one of them."""
+    """Return the number of the standard stream that a file is, 1 or 2, or None."""
     for stream in 1, 2:
         with contextlib.suppress(OSError):
             if os.path.samestat(file, os.fstat(stream)):
@@ -151,7 +152,7 @@ def _standard(file: os.stat_result) -> int | None:
 
 
 def _sync(file: int) -> None:
-    """Has the system write a file out, if its file system can."""
+    """Tell the system to write a file to the disk, if its file system can."""
     try:
         os.fsync(file)
     except OSError as error:

@@ -374,7 +374,8 @@ def _bounded(given: GivenNetwork, program: Program) -> ProblemColumns:
 
 
 def _solved(given: GivenNetwork, words: list[str], program: Program) -> Solved | BoundlessFlow:
-    """What these words ask for. Raises a `Refused` that names the arc of a fault."""
+    """Run the program's or the library's solve with these words. Raises a `Refused` that names the
+    faulty arc."""
     solver = partial(_solved_problem, way=chosen(program), program=program)
     problem = given.state.problem()
     try:

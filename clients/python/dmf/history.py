@@ -78,7 +78,7 @@ class History:
         self.begin_with(0)
 
     def begin_with(self, value: int) -> None:
-        """Takes the present state, with a flow of this value, as the first one."""
+        """Make the present state, with a flow of this value, the first one."""
         self._changes: list[Change | Command] = []
         self.moment = self._start = _Now(0, value)
         # The way back to the state before the present call, if that has changed anything.
@@ -92,7 +92,7 @@ class History:
 
     @property
     def place(self) -> int:
-        """How many changes led to the present state, forgotten ones counted."""
+        """The number of changes that led to the present state, including forgotten ones."""
         return self.moment.place
 
     @property
@@ -112,8 +112,8 @@ class History:
         return tuple([change for change in made if isinstance(change, Change)])
 
     def commands(self) -> list[Command]:
-        """The commands that lead from the first state to the present one, by way of all that was
-        undone."""
+        """Return the commands that lead from the first state to the present one, through every
+        change that was undone."""
         commands = [
             change.command if isinstance(change, Change) else change for change in self._changes
         ]
@@ -121,16 +121,16 @@ class History:
         return [*commands, ("undo", undone)] if undone else commands
 
     def begin_call(self) -> None:
-        """Takes the present state as that to which `roll_back` leads, and forgets what the change
-        past the bound did."""
+        """Make the present state the one that `roll_back` restores, and forget what the change past
+        the bound did."""
         self._back, place = None, self.moment.place
         oldest = self._changes[place - self.most - 1] if place > self.most else None
         if isinstance(oldest, Change):
             self._changes[place - self.most - 1] = oldest.command
 
     def note(self, change: Change, value: int) -> None:
-        """Notes a change that the session made, makes it here, and drops what was undone. The flow
-        has this value then."""
+        """Record and make a change that the session made, which left a flow of this value, and drop
+        the changes that were undone."""
         now = self.moment
         self._back = _Back(now, made=[change], dropped=self._changes[now.place :])
         change.value = value
@@ -165,7 +165,7 @@ class History:
         self.moment = _Now(now.place - count, value)
 
     def roll_back(self) -> None:
-        """Goes back to the state before the present call, whatever of the call was done."""
+        """Go back to the state before the present call, however far the call got."""
         back = self._back
         if back is not None:
             for change in reversed(back.made):
@@ -184,8 +184,8 @@ class History:
         raise NotImplementedError
 
     def take_changes(self, other: History, again: Callable[[Any], Any]) -> None:
-        """Takes the changes of another one, which it has made already, with handles of its own for
-        the added arcs."""
+        """Take over the changes of another history, which this state already has. `again` makes its
+        own handles of the added arcs."""
         self._changes = [
             _with_own_arc(change, again) if isinstance(change, Change) else change
             for change in other._changes
@@ -193,7 +193,7 @@ class History:
         self.moment, self._back = _Now(other.place, other.value), None
 
     def forget_undone(self) -> None:
-        """Forgets what was undone, so that nothing of it can be made again."""
+        """Forget the changes that were undone, so that none of them can be redone."""
         del self._changes[self.place :]
 
     def judge_change(self) -> None:
@@ -219,7 +219,7 @@ class History:
                 raise NothingToUndo(f"undo {count}")
 
     def judge_redo(self, count: int) -> None:
-        """Raises `NothingToRedo` if fewer changes can be made again."""
+        """Raise `NothingToRedo` if fewer than `count` changes were undone."""
         if count > len(self._changes) - self.place:
             raise NothingToRedo(f"redo {count}")
 

@@ -233,7 +233,8 @@ class Network(ChangeableNetwork[Node]):
         most: int,
         measure: Measure | None,
     ) -> Network[Node]:
-        """A network of columns, whose whole numbers stand for other ones if there is a measure."""
+        """Return a network of columns, whose whole numbers stand for those of `measure` unless it
+        is None."""
         kind: type[Network[Node]] = cls if measure is None else ScaledNetwork
         made = kind.__new__(kind)
         made._make(columns, capacities, source, sink, program, most, measure)
@@ -249,7 +250,7 @@ class Network(ChangeableNetwork[Node]):
         most: int,
         measure: Measure | None = None,
     ) -> None:
-        """Begins the session of a problem."""
+        """Begin the session of a problem."""
         kept = NetworkState(columns, capacities, source, sink, most)
         if measure is not None:
             from .text.table_comments import TableComments
@@ -263,15 +264,15 @@ class Network(ChangeableNetwork[Node]):
 
     @classmethod
     def _of(cls, kept: NetworkState[Node], way: Way, path: str | None = None) -> Network[Node]:
-        """A network on a session of its own that has carried out the commands of what is kept, on
-        the first problem at this path."""
+        """Return a network with a new session that has carried out the commands of `kept` on the
+        first problem, which is at this path if one is given."""
         made = cls.__new__(cls)
         made._begin(start(kept, way, path), kept)
         return made
 
     @staticmethod
     def _class_of_copies() -> type[Network[Any]]:
-        """The class of the copies on which a sweep tries its cases."""
+        """Return the class of the copies on which a sweep tries its cases."""
         return Network
 
     @contextlib.contextmanager
@@ -385,7 +386,7 @@ class Network(ChangeableNetwork[Node]):
         )
 
     def _every_arc(self) -> OpenArcs[Node]:
-        """All arcs that callers see, closed ones too."""
+        """Return all arcs that callers see, including closed ones."""
         return self._kept.every_arc()
 
     def end(self) -> None:
@@ -479,5 +480,6 @@ class ScaledNetwork(ScaledChanges[Node], Network[Node]):
         return ScaledNetwork
 
     def begin_again(self) -> Any:
-        """As `Network.begin_again`, in the numbers of the caller."""
+        """Begin a new session as `Network.begin_again` does, and return the value in the caller's
+        numbers."""
         return super().begin_again()

@@ -36,8 +36,7 @@ class Look:
         side: set[int],
         described: TableComments,
     ) -> None:
-        """`ends` are the source and the sink, and `flows` and `capacities` belong to the open
-        arcs."""
+        """Take the source and the sink as `ends`, and `flows` and `capacities` of the open arcs."""
         drawn = list(zip(*arcs.ends(), capacities))
         keys = {place: key for place, key in enumerate(arcs.keys(), 1) if key is not None}
         problem = Problem(
@@ -50,18 +49,18 @@ class Look:
         self.drawing = Drawing(problem, [ArcRecord(*row) for row in drawn], list(flows), side)
 
     def text(self) -> bytes:
-        """The text for Graphviz."""
+        """Return the text for Graphviz."""
         return "".join(f"{line}\n" for line in picture(self.drawing, MOST_DRAWN)).encode(
             errors="replace"
         )
 
     def drawn(self, form: str) -> bytes:
-        """The picture in a form of Graphviz, such as `svg` or `png`. Raises a FileNotFoundError
-        where Graphviz is not there, and a RuntimeError for what it says."""
+        """Return the picture in a format of Graphviz, such as `svg` or `png`. Raises a
+        FileNotFoundError if Graphviz is not installed, and a RuntimeError with what it reports."""
         return graphviz(self.text(), "dot", f"-T{form}")
 
     def svg(self) -> str | None:
-        """The picture, if Graphviz is there and draws it."""
+        """Return the picture, or None if Graphviz is not installed or fails."""
         try:
             return self.drawn("svg").decode()
         except (OSError, RuntimeError):
@@ -69,14 +68,14 @@ class Look:
 
 
 def draw(look: Look, path: str) -> None:
-    """Writes a picture to a file, in the form of its ending."""
+    """Write a picture to a file, in the format of the file's ending."""
     form = os.path.splitext(path)[1][1:].lower()
     write_file(path, look.text() if form in ("dot", "gv") else look.drawn(form or "svg"))
 
 
 def plot(look: Look) -> Any:
-    """Axes of matplotlib with the picture of Graphviz, or with the nodes on a circle where Graphviz
-    is not there."""
+    """Return axes of matplotlib with the picture of Graphviz, or with the nodes on a circle if
+    Graphviz is not installed."""
     pyplot = import_package("matplotlib.pyplot", "a plot without a path")
     axes = pyplot.subplots()[1]
     axes.set_axis_off()

@@ -47,7 +47,7 @@ class Presentable(SessionHolder[Node]):
         return self._kept.sink
 
     def _ends(self) -> set[Node]:
-        """The source and the sink."""
+        """Return the source and the sink."""
         return {self.source, self.sink}
 
     @property
@@ -123,7 +123,8 @@ class Presentable(SessionHolder[Node]):
         return self._cut_of(*self._session.cut())
 
     def _cut_of(self, capacity: int, side: Sequence[int]) -> Cut[Node]:
-        """The minimum cut that has these nodes, by their numbers, on the side of the source."""
+        """Return the minimum cut that has these nodes, given by their numbers, on the source's
+        side."""
         names = self._kept.columns.names
         look = self._look(set(side)) if self._kept.open_count <= MOST_DRAWN else None
         return Cut(
@@ -311,7 +312,7 @@ class Presentable(SessionHolder[Node]):
         return self._look(set())()
 
     def _look(self, side: set[int]) -> Callable[[], Look]:
-        """What makes the picture of the network as it is now."""
+        """Return a function that makes the picture of the network as it is now."""
         flows = self._flows()
         flows.settle(self._asked_flow)
         kept = self._kept
@@ -335,7 +336,7 @@ def _look_of(
     capacities: array[int],
     side: set[int],
 ) -> Look:
-    """How a network looks. Whoever looks at it needs more modules."""
+    """Return how a network looks. Only this call loads the modules that draw."""
     from .notebook import Look
     from .text.table_comments import TableComments
 

@@ -51,9 +51,9 @@ _PATTERNS = {sign: _pattern(sign) for sign in SIGNS}
 
 
 def readings(text: str) -> dict[str, Decimal]:
-    """The number that a text is, by the decimal sign that is taken for one: `{".": 1200, ",": 1.2}`
-    for `1,200`, the same number twice for `12`, one for `47,3`, and none for a text that is no
-    number."""
+    """Return the numbers that a text may stand for, by the decimal sign: `{".": 1200, ",": 1.2}`
+    for `1,200`, the same number twice for `12`, only one entry for `47,3`, and none for a text that
+    is not a number."""
     plain = _plain(text.strip())
     if len(plain) > LONGEST_NUMBER:
         plain = plain.lstrip("0") or "0"
@@ -67,7 +67,7 @@ def readings(text: str) -> dict[str, Decimal]:
 
 
 def _plain(text: str) -> str:
-    """A text with the digits of ASCII in place of others, and its minus sign."""
+    """Return a text with ASCII digits, and with a hyphen for a minus sign."""
     if text.isascii():
         return text
     digits = (str(unicodedata.decimal(letter, letter)) for letter in text)
@@ -83,8 +83,8 @@ def _number(plain: str, sign: str) -> Decimal | None:
 
 
 def number_in(text: str, sign: str = "") -> Decimal:
-    """The number that a text is, where `sign` is the decimal sign, or without one if both readings
-    agree. Raises a `QuantityFault`: `is not a number`, `may be 1.2 or 1200`."""
+    """Return the number that a text stands for, with `sign` as its decimal sign, or without one if
+    both readings agree. Raises a `QuantityFault`: `is not a number`, `may be 1.2 or 1200`."""
     found = readings(text)
     if sign in found:
         return found[sign]
@@ -97,20 +97,20 @@ def number_in(text: str, sign: str = "") -> Decimal:
 
 
 def plain_text(number: Quantity) -> str:
-    """A number as it is written with a point and without an exponent, marks and zeros at its end:
-    `30.5`."""
+    """Return a number as a text with a point, and without an exponent, thousands separators or
+    trailing zeros: `30.5`."""
     text = f"{Decimal(number):f}"
     return text.rstrip("0").rstrip(POINT) if POINT in text else text
 
 
 def moved(before: Quantity, after: Quantity) -> str:
-    """What is gained or lost, in words."""
+    """Return in words how much is gained or lost."""
     by = EXACT.subtract(after, before)
     return f"{plain_text(abs(by))} {'more' if by > 0 else 'less'}" if by else "no change"
 
 
 def decimals(number: Quantity) -> int:
-    """How many decimals a number has: 1 for 30.5 and for 30.50, 0 for 30."""
+    """Return how many decimals a number has: 1 for 30.5 and for 30.50, 0 for 30."""
     return len(plain_text(number).partition(POINT)[2])
 
 
@@ -131,26 +131,26 @@ class Measure:
 
     @property
     def decimals(self) -> int:
-        """How many decimals a quantity may have."""
+        """The most decimals that a quantity may have."""
         return decimals(self.quantity(1))
 
     @property
     def legend(self) -> str:
-        """What is told beside numbers: `numbers in l/s, from pipes.csv`, or as much of it as is
-        known."""
+        """The line that explains the numbers: `numbers in l/s, from pipes.csv`, or as much of it as
+        is known."""
         parts = [f"numbers in {self.told_unit}"] * bool(self.told_unit) + [
             f"from {self.table}"
         ] * bool(self.table)
         return ", ".join(parts)
 
     def title(self, words: str) -> str:
-        """The title of a column of quantities: `flow (l/s)`."""
+        """Return the title of a column of quantities: `flow (l/s)`."""
         return f"{words} ({self.told_unit})" if self.told_unit else words
 
     def finer(self, quantity: Quantity) -> Measure:
-        """The measure with the least power of ten beside this scale that makes a quantity whole
-        too. Where quantities are the whole numbers although there is a scale, there is no finer
-        one."""
+        """Return this measure with its scale times the least power of ten that makes `quantity`
+        whole too. Where quantities are the whole numbers although there is a scale, return it
+        unchanged."""
         scale = self.scale
         while (
             self.divisor == self.scale
@@ -163,13 +163,15 @@ class Measure:
     def fitting(
         cls, quantities: set[Decimal], unit: str = "", table: str = "", sign: str = ""
     ) -> Measure:
-        """The measure with the least power of ten that makes all of these whole."""
+        """Return the measure whose scale is the least power of ten that makes all these quantities
+        whole."""
         most = max(map(decimals, quantities), default=0)
         return cls(Decimal(10) ** most, unit, table, sign)
 
     @cached_property
     def divisor(self) -> Decimal:
-        """By what a whole number is divided: the scale, or 1 if quotients may have no end."""
+        """The number by which a whole number is divided: the scale, or 1 if some quotients are not
+        finite decimals."""
         numerator = self.scale.as_integer_ratio()[0]
         for prime in 2, 5:
             while numerator % prime == 0:
@@ -178,7 +180,7 @@ class Measure:
 
     @property
     def told_unit(self) -> str:
-        """The unit of quantities, for people: empty if it is not known."""
+        """The unit of quantities, for people; empty if it is not known."""
         return (
             self.unit
             if self.divisor == self.scale
@@ -186,14 +188,15 @@ class Measure:
         )
 
     def quantity(self, whole: int) -> Quantity:
-        """The quantity of a whole number, exactly: a whole number too if the divisor is 1."""
+        """Return the exact quantity of a whole number; it is a whole number too if the divisor is
+        1."""
         if self.divisor == 1:
             return whole
         return EXACT.divide(Decimal(whole), self.divisor)
 
     def whole(self, quantity: Quantity) -> int:
-        """The whole number of a quantity. Raises a `QuantityFault`: `is below 0`, `has 2 decimals,
-        and 1 is the most here`, `is past 1844674407370955161.5`."""
+        """Return the whole number of a quantity. Raises a `QuantityFault`: `is below 0`, `has 2
+        decimals, and 1 is the most here`, `is past 1844674407370955161.5`."""
         number = Decimal(quantity)
         if not number.is_finite():
             raise QuantityFault("is not a number")
@@ -215,13 +218,14 @@ class Measure:
         return int(product)
 
     def text(self, whole: int) -> str:
-        """The quantity of a whole number as it is written with a point: `30.5`."""
+        """Return the quantity of a whole number as a text with a point: `30.5`."""
         return plain_text(self.quantity(whole))
 
     def told(self, whole: int) -> str:
-        """The same with its unit: `30.5 l/s`."""
+        """Return the quantity of a whole number with its unit: `30.5 l/s`."""
         return f"{self.text(whole)} {self.told_unit}".rstrip()
 
     def cell(self, whole: int) -> str:
-        """The quantity as a cell of its table has it: with the table's decimal sign."""
+        """Return the quantity of a whole number as a cell of its table: with the table's decimal
+        sign."""
         return self.text(whole).replace(POINT, self.sign or POINT)

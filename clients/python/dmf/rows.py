@@ -64,7 +64,7 @@ def _has_fraction(number: Any) -> bool:
 
 
 def columns_of(rows: Iterable[Any], nodes: Iterable[Node]) -> tuple[Columns[Node], array[int]]:
-    """The columns of rows of arcs, and their capacities. Raises `NotAnArc`, `NotANumber` and
+    """Return the columns of rows of arcs, and their capacities. Raises `NotAnArc`, `NotANumber` and
     `NumberTooLarge`."""
     nodes = list(nodes)
     taken = _ColumnBuilder(nodes, operator.length_hint(rows, USUAL))
@@ -82,14 +82,14 @@ def columns_of(rows: Iterable[Any], nodes: Iterable[Node]) -> tuple[Columns[Node
 
 
 def is_unordered(values: object) -> bool:
-    """Whether values come in no order that their caller chose, so that each could be taken for
-    another one."""
+    """Return True if values come in an order that their caller did not choose, so that one could be
+    taken for another."""
     return isinstance(values, (Set, Mapping, MappingView))
 
 
 def is_missing(value: object) -> bool:
-    """Whether a value of a table is missing: None, or a value that is not equal to itself, such as
-    NaN and the NA of pandas."""
+    """Return True if a value of a table is missing: None, or a value that is not equal to itself,
+    such as NaN and the NA of pandas."""
     try:
         return value is None or bool(value != value)
     except TypeError:
@@ -100,12 +100,12 @@ def is_missing(value: object) -> bool:
 
 
 def is_unbounded(capacity: object) -> bool:
-    """Whether a capacity is missing or has no bound: None, NaN, or infinite."""
+    """Return True if a capacity is missing or has no bound: None, NaN, or infinite."""
     return is_missing(capacity) or not hasattr(capacity, "__len__") and capacity == float("inf")
 
 
 def _judge_nodes(columns: Columns[Any], capacities: array[int]) -> None:
-    """Raises `NotAnArc` if a node is not equal to itself, since it could not be found again."""
+    """Raise `NotAnArc` if a node is not equal to itself, since it could not be found again."""
     numbers = columns.numbers
     if isinstance(numbers, WholeNodes):
         return
@@ -118,7 +118,7 @@ def _judge_nodes(columns: Columns[Any], capacities: array[int]) -> None:
 
 
 def refuse_node(columns: Columns[Any], capacities: array[int], node: object) -> NoReturn:
-    """Raises `NotAnArc` for a node that is none, with the first arc that has it."""
+    """Raise `NotAnArc` for a value that cannot be a node, with the first arc that has it."""
     number = columns.numbers[node]
     at = next(
         (at for at, ends in enumerate(zip(columns.tails, columns.heads)) if number in ends), None
@@ -146,7 +146,7 @@ class _ColumnBuilder:
         self._numbers_of(list(nodes))
 
     def _numbers_of(self, nodes: list[Any]) -> array[int]:
-        """The numbers of nodes. Raises a TypeError if one cannot be hashed."""
+        """Return the numbers of nodes. Raises a TypeError if one cannot be hashed."""
         if isinstance(self.numbers, WholeNodes):
             numbers = self.numbers.take(nodes, self._most)
             if numbers is not None:
@@ -155,8 +155,9 @@ class _ColumnBuilder:
         return array(NODES, map(self.numbers.__getitem__, nodes))
 
     def take_together(self, rows: list[Any]) -> bool:
-        """Takes rows of the same form column by column, which is several times as fast. Returns
-        whether it did: if one has another form, or a value in it is odd, it takes none."""
+        """Take rows of the same form column by column, which is several times as fast, and return
+        True. If a row has another form, or a value that needs a closer look, take none and return
+        False."""
         if not set(map(type, rows)) <= {tuple, list} or not set(map(len, rows)) in ({3}, {4}):
             return False
         tails, heads, amounts, *others = zip(*rows)
@@ -177,7 +178,7 @@ class _ColumnBuilder:
         return True
 
     def take(self, row: Any) -> None:
-        """Takes a row. Raises what `columns_of` raises."""
+        """Take a row. Raises what `columns_of` raises."""
         try:
             if is_unordered(row) or isinstance(row, (str, bytes, bytearray)):
                 raise TypeError

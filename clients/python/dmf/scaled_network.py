@@ -26,7 +26,7 @@ class ScaledChanges(ChangeableNetwork[Node]):
 
     @property
     def measure(self) -> Measure:
-        """How the program's whole numbers stand for those of the caller."""
+        """The measure by which the program's whole numbers stand for the caller's numbers."""
         return self._kept.described.measure
 
     def _quantity(self, number: int) -> Any:
@@ -57,7 +57,7 @@ class ScaledChanges(ChangeableNetwork[Node]):
         return self._quantity(self._kept.value)
 
     def capacity(self, arc: Any) -> Any:
-        """As `Network.capacity`, in the numbers of the caller."""
+        """Return a capacity as `Network.capacity` does, in the caller's numbers."""
         return self._quantity(super().capacity(arc))
 
     def capacity_now(self, arc: Arc[Any]) -> Any:
@@ -67,21 +67,22 @@ class ScaledChanges(ChangeableNetwork[Node]):
         return self._quantity(super().flow_now(arc))
 
     def cap(self, arc: Any, capacity: Any) -> Any:
-        """As `Network.cap`, in the numbers of the caller."""
+        """Change a capacity as `Network.cap` does, in the caller's numbers."""
         return self._quantity(super().cap(arc, capacity))
 
     def close(self, arc: Any) -> Any:
-        """As `Network.close`, in the numbers of the caller."""
+        """Close an arc as `Network.close` does, and return the value in the caller's numbers."""
         return self._quantity(super().close(arc))
 
     def shut(self, node: Node) -> Any:
-        """As `Network.shut`, in the numbers of the caller."""
+        """Close a node's arcs as `Network.shut` does, and return the value in the caller's
+        numbers."""
         return self._quantity(super().shut(node))
 
     def undo(self, count: int = 1) -> Any:
-        """As `Network.undo`, in the numbers of the caller."""
+        """Undo changes as `Network.undo` does, and return the value in the caller's numbers."""
         return self._quantity(super().undo(count))
 
     def redo(self, count: int = 1) -> Any:
-        """As `Network.redo`, in the numbers of the caller."""
+        """Redo changes as `Network.redo` does, and return the value in the caller's numbers."""
         return self._quantity(super().redo(count))

@@ -35,31 +35,31 @@ class ScaledSolution(Solution[Node]):
         return self._measure.quantity(super().__getitem__(arc))
 
     def _pairs(self) -> Iterator[tuple[int, int]]:
-        """The number of each arc, with its flow as a whole number."""
+        """Return pairs of an arc's number and its flow as a whole number."""
         return zip(self._flows.arcs.numbers(), self._flows.numbers())
 
     def _nodes(self) -> Sequence[Node]:
-        """The nodes, in their order."""
+        """Return the nodes, in their order."""
         return self._flows.arcs.columns.names
 
     def values(self) -> Any:
-        """The flows, in the order of the arcs."""
+        """Return the flows, in the order of the arcs."""
         return [self._measure.quantity(flow) for _, flow in self._pairs()]
 
     def items(self) -> Any:
-        """Each arc with its flow."""
+        """Return pairs of an arc and its flow."""
         return [
             (self._flows.arcs.handle(number), self._measure.quantity(flow))
             for number, flow in self._pairs()
         ]
 
     def between(self, tail: Node, head: Node) -> Any:
-        """The flow on all arcs from one node to another together."""
+        """Return the sum of the flows on all arcs from `tail` to `head`."""
         return self._measure.quantity(super().between(tail, head))
 
     def array(self) -> Any:
-        """The flows as an array of numpy: whole numbers, or floats if the numbers have decimals,
-        each the one nearest to its flow."""
+        """Return the flows as an array of numpy: of whole numbers, or of floats if the numbers have
+        decimals, each the nearest to its flow."""
         return self._numbers(
             import_package("numpy", "an array of flows").array(
                 [flow for _, flow in self._pairs()], "uint64"
@@ -71,8 +71,8 @@ class ScaledSolution(Solution[Node]):
         return numbers_of(self._measure, whole)
 
     def frame(self) -> Any:
-        """A frame of pandas with a row for each open arc: its number, tail, head, key, flow and
-        capacity."""
+        """Return a frame of pandas with a row for each open arc: its number, tail, head, key, flow
+        and capacity."""
         pd = import_package("pandas", "a frame of flows")
         rows = [(arc.number, arc.tail, arc.head, arc.given_key, flow) for arc, flow in self.items()]
         made = pd.DataFrame(rows, columns=["arc", "tail", "head", "key", "flow"]).set_index("arc")
@@ -81,14 +81,14 @@ class ScaledSolution(Solution[Node]):
         return made
 
     def flow_dict(self) -> dict[Node, dict[Node, Any]]:
-        """As `Solution.flow_dict`, in the numbers of the caller."""
+        """Return the dictionary that `Solution.flow_dict` returns, in the caller's numbers."""
         found: dict[Node, dict[Node, Any]] = {node: {} for node in self._nodes()}
         for arc, flow in self.items():
             found[arc.tail][arc.head] = found[arc.tail].get(arc.head, 0) + flow
         return found
 
     def flow_matrix(self) -> Any:
-        """As `Solution.flow_matrix`, with the numbers of `array`."""
+        """Return the matrix that `Solution.flow_matrix` returns, with the numbers of `array`."""
         np = import_package("numpy", "a matrix of flows")
         places = {node: number for number, node in enumerate(self._nodes(), 1)}
         ends = [(places[arc.tail], places[arc.head]) for arc in self]

@@ -35,10 +35,10 @@ Method = TypeVar("Method", bound=Callable[..., Any])
 
 
 def exclusive(method: Method) -> Method:
-    """A method that has the session, and what is kept beside it, for itself. Raises
-    `UsedByTwoThreads` if another call has it, and `UsedByTwoProcesses` in a forked process. If an
-    error such as Ctrl-C breaks the call off, the network is as it was before, and the next call
-    begins a new session."""
+    """Return a method that has the session, and the state kept beside it, to itself. The method
+    raises `UsedByTwoThreads` if another call has them, and `UsedByTwoProcesses` in a forked
+    process. If an error such as Ctrl-C breaks the call off, the network is as it was before, and
+    the next call begins a new session."""
 
     @functools.wraps(method)
     def called(self: SessionHolder[Any], *words: Any, **named: Any) -> Any:
@@ -100,17 +100,17 @@ class SessionHolder(Generic[Node]):
         return self._kept.value
 
     def _whole(self, amount: Any, at: object) -> int:
-        """The whole number that stands for what a caller gives. Raises `NotANumber` and
+        """Return the whole number that stands for an amount of the caller. Raises `NotANumber` and
         `NumberTooLarge`."""
         return whole(amount, at)
 
     def _quantity(self, number: Any) -> Any:
-        """What a caller sees of a whole number."""
+        """Return what the caller sees of a whole number."""
         return number
 
     def _judge_use(self, call: CodeType) -> None:
-        """Raises `UsedByTwoThreads`, unless this thread has the session and is in no call: before
-        Python 3.11 an error may come just when a call begins or ends, and it does not give the
+        """Raise `UsedByTwoThreads`, unless this thread has the session but is not in a call: before
+        Python 3.11 an error may come just as a call begins or ends, which then does not give the
         session back."""
         frame: FrameType | None = sys._getframe(2)
         is_in_call = self._taken.get(0) != [get_ident()]
@@ -127,17 +127,17 @@ class SessionHolder(Generic[Node]):
 
     @exclusive
     def _ready(self) -> None:
-        """Raises what each call raises where the session cannot be asked."""
+        """Raise what every call raises if the session cannot be asked."""
 
     @exclusive
     def _try_cases(self, cases: Sequence[Sequence[Command]], found: list[int]) -> None:
-        """Carries out cases, each of commands, and adds the greatest value of each to what is
-        found. The network is as it was then."""
+        """Carry out the cases, each a list of commands, and append the greatest value of each to
+        `found`. The network is then as it was before."""
         self._session.try_cases(cases, self._kept.value, found)
 
     @exclusive
     def _cut_side(self) -> list[int]:
-        """The side of the smallest minimum cut, by the numbers of its nodes. Raises
+        """Return the source side of the smallest minimum cut, as the numbers of its nodes. Raises
         `FlowIsNotGreatest`."""
         return self._session.cut()[1]
 
@@ -158,8 +158,8 @@ class SessionHolder(Generic[Node]):
 
     @exclusive
     def _leaving_cut(self) -> list[Arc[Node]]:
-        """The open arcs out of the side of the smallest minimum cut, those that are not of a table
-        too. Raises `FlowIsNotGreatest`."""
+        """Return the open arcs of the smallest minimum cut, including those that are not in the
+        table. Raises `FlowIsNotGreatest`."""
         return self._kept.leaving(self._session.cut()[1])
 
     def _begin_call(self) -> None:
@@ -170,8 +170,8 @@ class SessionHolder(Generic[Node]):
         self._kept.begin_call()
 
     def _break_off(self, present: weakref.ref[Flows[Node]] | None) -> None:
-        """Goes back to the state before the present call, which the session may have left.
-        `present` was the present flow then."""
+        """Go back to the state before the present call, which the session may have left. `present`
+        was the present flow then."""
         self._why_over = f"{TWICE} at once"
         self._session.kill("the session was ended when a call was broken off")
         self._kept.roll_back()
@@ -192,12 +192,12 @@ class SessionHolder(Generic[Node]):
             kept.redo(place - kept.place, value)
 
     def _is_shorter_anew(self) -> bool:
-        """Whether a new session would take fewer commands to get here than one that is nearly
-        full."""
+        """Return True if a new session would take fewer commands to get here than one that is
+        nearly full."""
         return self._kept.place < MOST_LINES // 2
 
     def _begin_anew(self) -> None:
-        """Has a new session carry out the commands that stand."""
+        """Start a new session and let it carry out the commands that led to the present state."""
         self._why_over = f"{TWICE} while it began anew"
         try:
             session = start(self._kept, self._session.way)
@@ -212,41 +212,42 @@ class SessionHolder(Generic[Node]):
         self._is_broken, self._why_over = False, ""
 
     def _stop(self, why: str) -> None:
-        """Ends the session at once and for good, for a thread that waits for an answer, or may ask
-        later."""
+        """End the session at once and for good, from another thread than the one that may be
+        waiting for its answer."""
         self._why_stopped = why
         self._session.break_off(why)
 
     @property
     def _is_free(self) -> bool:
-        """Whether nobody else has the session."""
+        """Return True if no call has the session and this process began it."""
         return not self._taken and self._session.is_owned
 
     @property
     def _is_running(self) -> bool:
-        """Whether the session is there, in the state that is kept."""
+        """Return True if the session runs and is in the state that is kept."""
         return self._session.end.alive and not self._is_broken
 
     def _stepped(self, command: Command, at: object = None) -> int:
-        """The value in the reply to a command that changes the network. Reads the flows that
-        somebody has before the change."""
+        """Return the value in the reply to a command that changes the network. If the present flow
+        is still in use, read it first."""
         self._part()
         value = self._session.step(command, at)
         self._present = self._told = None
         return value
 
     def _changed(self, command: Command, at: object = None) -> int:
-        """As `_stepped`, for a new change."""
+        """Do the same as `_stepped` for a new change, and raise `HistoryOutOfRange` if a trial
+        could not be undone after it."""
         self._kept.judge_change()
         return self._stepped(command, at)
 
     def _asked_flow(self) -> Told:
-        """The present flow: its text, or the flow on each open arc."""
+        """Ask for the present flow: its text, or the flow on each open arc."""
         told = self._session.flows(self._kept.value, self._kept.open_count)
         return self._kept.opened().chosen(told) if isinstance(told, array) else told
 
     def _flows(self) -> Flows[Node]:
-        """The present flow. If nobody has looked at it, only its value is known so far."""
+        """Return the present flow, of which only the value is known until somebody looks at it."""
         flows = None if self._present is None else self._present()
         if flows is None:
             flows = Flows(
@@ -257,15 +258,16 @@ class SessionHolder(Generic[Node]):
 
     @exclusive
     def _ask_flow(self) -> Told:
-        """The present flow, for a caller who looks at it later than it was returned."""
+        """Ask for the present flow in a call of its own, for a caller who looks at a flow that was
+        returned earlier."""
         return self._asked_flow()
 
     def _solution(self, flows: Flows[Node]) -> Solution[Node]:
-        """What a caller gets of flows."""
+        """Return what the caller gets of flows."""
         return Solution(flows)
 
     def _lose_flows(self) -> None:
-        """Notes that nobody can tell the present flow any more, if it was not asked for."""
+        """Record that the present flow can no longer be read, unless it was."""
         flows = None if self._present is None else self._present()
         if flows is not None:
             flows.lose(self._session.ended())
@@ -276,22 +278,22 @@ class SessionHolder(Generic[Node]):
         self._part()
 
     def _part(self) -> None:
-        """Makes the present flow take its text before a change, if somebody still has the flow."""
+        """Read the present flow before a change, if it is still in use."""
         flows = None if self._present is None else self._present()
         if flows is not None:
             flows.part(self._asked_flow)
 
     def capacity_now(self, arc: Arc[Any]) -> int:
-        """The capacity of an open arc, for its handle."""
+        """Return the capacity of an open arc, for its handle."""
         self._judge_arc(arc)
         return self._kept.capacity(arc)
 
     def is_open_now(self, arc: Arc[Any]) -> bool:
-        """Whether an arc is open, for its handle."""
+        """Return True if an arc is open, for its handle."""
         return self._kept.has(arc) and arc.number not in self._kept.closed
 
     def flow_now(self, arc: Arc[Any]) -> int:
-        """The flow on an arc, for its handle."""
+        """Return the flow on an arc, for its handle."""
         self._judge_arc(arc)
         if arc.number in self._kept.closed:
             return 0
@@ -299,7 +301,8 @@ class SessionHolder(Generic[Node]):
 
     @exclusive
     def _tell_flows(self) -> Flows[Node]:
-        """The present flow, with its text. It is kept until the next change, for the next arc."""
+        """Return the present flow with its text, which is kept until the next change for questions
+        about other arcs."""
         self._told = self._flows()
         self._told.settle(self._asked_flow)
         return self._told

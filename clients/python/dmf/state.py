@@ -30,7 +30,8 @@ class NetworkState(History, Generic[Node]):
     def __init__(
         self, columns: Columns[Node], capacities: array[int], source: Node, sink: Node, most: int
     ) -> None:
-        """Raises `NoSuchNode` if the source or the sink is no node."""
+        """Begin without changes and with every arc open. Raises `NoSuchNode` if the source or the
+        sink is not a node of the columns."""
         super().__init__(most)
         self.columns = columns
         self.handles = Handles(columns)
@@ -52,7 +53,7 @@ class NetworkState(History, Generic[Node]):
         self.source, self.sink = source, sink
 
     def begin_here(self) -> None:
-        """Takes the present state as the first one."""
+        """Make the present state the first one."""
         self.first_count = len(self.capacities)
         self._first_closed = frozenset(self.closed)
         # The first capacities of those arcs that have another one now.
@@ -60,7 +61,7 @@ class NetworkState(History, Generic[Node]):
 
     @property
     def described(self) -> TableComments:
-        """What the problem tells of its table."""
+        """What the problem's comments say about its table."""
         if self._described is None:
             from .text.table_comments import TableComments
 
@@ -72,12 +73,12 @@ class NetworkState(History, Generic[Node]):
         self._described = described
 
     def number(self, node: Node) -> int:
-        """The number of a node. Raises `NoSuchNode`."""
+        """Return the number of a node. Raises `NoSuchNode`."""
         return self.columns.number(node)
 
     @property
     def arc_count(self) -> int:
-        """How many arcs there are, closed ones counted."""
+        """The number of arcs, including closed ones."""
         return len(self.capacities)
 
     @property
@@ -85,7 +86,7 @@ class NetworkState(History, Generic[Node]):
         return len(self.capacities) - len(self.closed)
 
     def add_node(self, node: Node) -> bool:
-        """Adds a node, and returns whether it was not there. Arcs keep their handles."""
+        """Add a node, and return False if it existed. Arcs keep their handles."""
         if node in self.columns.numbers:
             return False
         if is_missing(node):
@@ -97,7 +98,7 @@ class NetworkState(History, Generic[Node]):
         return True
 
     def problem(self) -> ProblemColumns:
-        """The first problem, from which a session begins anew."""
+        """Return the first problem, with which a new session begins."""
         added = self.added[: self.first_count - len(self.columns)]
         tails, heads = self.columns.tails, self.columns.heads
         if added:
@@ -109,13 +110,13 @@ class NetworkState(History, Generic[Node]):
         )
 
     def first_capacity(self, number: int) -> int:
-        """The capacity that an arc had at first."""
+        """Return the capacity that an arc had in the first state."""
         return self._first.get(number, self.capacities[number - 1])
 
     def first_capacities(self) -> array[int]:
-        """The capacities by which the first arcs stand in the problem of a session that begins
-        anew. Those that were closed already stand there too, with 0. The array may have more
-        entries than that."""
+        """Return the capacities of the first arcs in the problem with which a new session begins.
+        An arc that was closed in the first state has 0 there. The array may have more entries than
+        there are first arcs."""
         if not self._first and not self._first_closed:
             return self.capacities
         capacities = self.capacities[:]
@@ -126,21 +127,22 @@ class NetworkState(History, Generic[Node]):
         return capacities
 
     def commands(self) -> list[Command]:
-        """The commands that lead from the problem of the first capacities to the present state."""
+        """Return the commands that lead from the problem with the first capacities to the present
+        state."""
         return [*(("close", number) for number in sorted(self._first_closed)), *super().commands()]
 
     def opened(self) -> OpenArcs[Node]:
-        """The open arcs as they are now."""
+        """Return the arcs that are open now."""
         if self._opened is None:
             self._opened = OpenArcs(self.handles, tuple(self.added), self.closed)
         return self._opened
 
     def every_arc(self) -> OpenArcs[Node]:
-        """All arcs as they are now, closed ones too."""
+        """Return all arcs as they are now, including closed ones."""
         return OpenArcs(self.handles, tuple(self.added), ())
 
     def handle(self, number: int) -> Arc[Node]:
-        """The handle of an existing arc's number."""
+        """Return the handle of the arc with this number, which exists."""
         return (
             self.handles.of(number)
             if number <= len(self.columns)
@@ -148,7 +150,8 @@ class NetworkState(History, Generic[Node]):
         )
 
     def arc(self, key: Hashable) -> Arc[Node]:
-        """The arc of a handle, a key or a pair of ends. Raises `NoSuchArc` and `AmbiguousArc`."""
+        """Return the arc that a handle, a key or a pair of ends names. Raises `NoSuchArc` and
+        `AmbiguousArc`."""
         if isinstance(key, Arc):
             if self.has(key):
                 return key
@@ -173,14 +176,14 @@ class NetworkState(History, Generic[Node]):
         return self._added_index.named(key)
 
     def has(self, arc: Arc[Any]) -> bool:
-        """Whether a handle names an arc here, open or closed."""
+        """Return True if a handle names an arc of this state, open or closed."""
         if arc.number <= len(self.columns):
             return self.handles.has(arc)
         place = arc.number - len(self.columns) - 1
         return self.added[place : place + 1] == [arc]
 
     def at(self, node: Node) -> list[Arc[Node]]:
-        """The open arcs at a node, in their order."""
+        """Return the open arcs at a node, in their order."""
         numbers = [
             number
             for number in self.columns.at(self.columns.numbers[node])
@@ -194,7 +197,7 @@ class NetworkState(History, Generic[Node]):
         return [*map(self.handles.of, numbers), *added]
 
     def leaving(self, side: list[int]) -> list[Arc[Node]]:
-        """The open arcs that lead out of a set of nodes, in their order."""
+        """Return the open arcs that lead out of a set of nodes, in their order."""
         return [*map(self.handle, self.numbers_leaving(side))]
 
     def numbers_leaving(self, side: list[int]) -> list[int]:
@@ -210,7 +213,7 @@ class NetworkState(History, Generic[Node]):
         return [number for number in numbers if number not in self.closed]
 
     def capacity(self, arc: Arc[Node]) -> int:
-        """The capacity of an open arc. Raises `ArcIsClosed`."""
+        """Return the capacity of an open arc. Raises `ArcIsClosed`."""
         if arc.number in self.closed:
             raise ArcIsClosed(repr(arc))
         return self.capacities[arc.number - 1]
@@ -218,8 +221,8 @@ class NetworkState(History, Generic[Node]):
     def note_capacities(
         self, command: Command, arcs: Iterable[Arc[Node]], after: int | None, value: int
     ) -> None:
-        """Notes a change that gave these open arcs this capacity, or closed them. The flow has this
-        value then."""
+        """Record a change that gave these open arcs the capacity `after`, or closed them if that is
+        None, and left a flow of this value."""
         self.note(
             Change(command, [(arc.number, self.capacities[arc.number - 1], after) for arc in arcs]),
             value,
@@ -253,14 +256,14 @@ class NetworkState(History, Generic[Node]):
             self.watcher(change, False)
 
     def _drop_added(self, place: int) -> None:
-        """Drops the added arcs from this one on, where there are some."""
+        """Drop the added arcs from this place on, if there are any."""
         for arc in self.added[place:]:
             if self._added_index is not None:
                 self._added_index.drop(arc)
         del self.added[place:], self.replaced[place:]
 
     def _put(self, number: int, capacity: int | None) -> None:
-        """Gives an arc a capacity, or closes it."""
+        """Set an arc's capacity, or close the arc."""
         if capacity is None:
             self.closed.add(number)
             return
@@ -275,20 +278,20 @@ class NetworkState(History, Generic[Node]):
             del self._first[number]
 
     def roll_back(self) -> None:
-        """Goes back to the state before the present call, whatever of the call was done."""
+        """Go back to the state before the present call, however far the call got."""
         self._added_index = self._opened = None
         super().roll_back()
 
     def copy(self) -> NetworkState[Node]:
-        """The same arcs as they are now, without changes and without flow. The handles of these
-        arcs name the arcs of the copy too."""
+        """Return a state with the same arcs, without changes and without flow. The handles of these
+        arcs also name the arcs of the copy."""
         copy = self._copy(Arc.again)
         copy.begin_here()
         return copy
 
     def twin(self) -> NetworkState[Node]:
-        """The same arcs, with the same changes, made and undone, and the same flow. The handles of
-        the arcs here name those there too."""
+        """Return a state with the same arcs, the same changes, made and undone, and the same flow.
+        The handles of these arcs also name the arcs of the twin."""
         made: dict[Arc[Node], Arc[Node]] = {}
 
         def again(arc: Arc[Node]) -> Arc[Node]:
@@ -305,7 +308,8 @@ class NetworkState(History, Generic[Node]):
         return twin
 
     def _copy(self, again: Callable[[Arc[Node]], Arc[Node]]) -> NetworkState[Node]:
-        """The same arcs, with handles of their own for the added ones."""
+        """Return a state with the same arcs, in which `again` makes the handles of the added
+        ones."""
         copy = NetworkState(self.columns, self.capacities[:], self.source, self.sink, self.most)
         copy.closed = set(self.closed)
         copy._described = self._described
@@ -315,8 +319,8 @@ class NetworkState(History, Generic[Node]):
         return copy
 
     def put_added(self, arc: Arc[Node], replaced: int | None) -> None:
-        """Takes in an arc that was added before. It replaces this closed one, if there is one; its
-        capacity is there."""
+        """Add an arc that was added in another state, in which it has its capacity. `replaced` is
+        the number of the closed arc that it replaces, or None."""
         self.added.append(arc)
         self.replaced.append(replaced)
         self._added_index = None
