@@ -61,7 +61,7 @@ class NetworkState(History, Generic[Node]):
 
     @property
     def described(self) -> TableComments:
-        """What the problem's comments say about its table."""
+        """The problem's comments about its table."""
         if self._described is None:
             from .text.table_comments import TableComments
 

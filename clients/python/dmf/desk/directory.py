@@ -43,7 +43,7 @@ class Directory:
         nodes: Sequence[Node],
         folding: TableRoles,
     ) -> None:
-        """`lines` are the arcs, which may grow."""
+        """Take as `lines` the arcs, of which there may be more later."""
         self._lines = lines
         self._folding = folding
         self._has_roles = folding.has_roles

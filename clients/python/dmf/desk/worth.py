@@ -53,8 +53,8 @@ def losses(desk: Desk, numbers: Iterable[int]) -> list[Loss]:
 
 
 def worst(desk: Desk, most: int) -> tuple[list[Loss], int]:
-    """Return what is lost without each of the arcs of the table that cost most, at most so many,
-    and how many more cost something. Raise a `DeskFault` unless the flow is greatest."""
+    """Return the `most` arcs of the table whose loss is greatest, with what each loses, and how
+    many other arcs have a loss. Raise a `DeskFault` unless the flow is greatest."""
     costly = [it for it in losses(desk, desk.network.pictured()) if it.loss]
     found = nsmallest(most, costly, key=lambda it: (it.left, it.arc))
     return found, len(costly) - len(found)

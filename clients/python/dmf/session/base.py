@@ -89,12 +89,12 @@ class Session:
 
     @property
     def way(self) -> Way:
-        """What begins another session in the same way."""
+        """The program's path, or the library, that begins another session in the same way."""
         raise NotImplementedError
 
     @property
     def is_owned(self) -> bool:
-        """True if this process began the session, rather than its parent process."""
+        """Return True if this process began the session, rather than its parent process."""
         return os.getpid() == self.owner
 
     def ended(self) -> SessionEnded:

@@ -86,8 +86,9 @@ class LocalPool(Tries):
         anew: FilePath | None = None,
         kind: type[Network[Any]] = Network,
     ) -> None:
-        """`count` is the number of cases, if it is known. `anew` is the program that solves each
-        case from nothing, if one does. `kind` is the class of the copies."""
+        """Begin no session yet. `count` is the number of cases, if it is known. `anew` is the
+        program that solves each case from scratch, if there is one. `kind` is the class of the
+        copies."""
         # Imported here: it takes 1 MB, and nothing else needs it.
         from concurrent.futures import ThreadPoolExecutor
 
@@ -326,7 +327,7 @@ _free_lock = threading.Lock()
 
 
 def _forget_copies() -> None:
-    """In a forked process, forget the copies: they belong to its parent."""
+    """Forget the copies in a forked process, since they belong to its parent."""
     global _free_lock
     _free.clear()
     _free_lock = threading.Lock()

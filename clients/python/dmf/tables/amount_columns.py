@@ -340,6 +340,5 @@ class Amounts:
 
 
 def _folded(unit: str) -> str:
-    """A unit without what is only another way to write it: `m3/h` for `m\xb3 / h` and for
-    `m^3/h`."""
+    """Return a unit in one spelling: `m3/h` for `m³ / h` and for `m^3/h`."""
     return "".join(unicodedata.normalize("NFKC", unit).replace("^", "").split())

@@ -46,7 +46,7 @@ class ColumnQuestion(TableFault):
         words.titles = {**words.titles, self.sought: answer}
 
     def lines(self) -> list[str]:
-        """The question, and a line for each column."""
+        """Return the question, and a line for each column."""
         shown = [
             (self._option(name), shown_cells(cells)) for name, cells in self.choices[:MOST_LISTED]
         ]
@@ -69,7 +69,7 @@ class ColumnQuestion(TableFault):
 
 
 def shown_cells(cells: Sequence[str]) -> str:
-    """Some cells of a column, as they are told."""
+    """Return some cells of a column as messages show them."""
     short = [
         cell if len(cell) <= LONGEST_SHOWN else f"{cell[:LONGEST_SHOWN]}.."
         for cell in map(cleaned, cells)

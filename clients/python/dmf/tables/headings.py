@@ -135,7 +135,7 @@ def called(titles: Sequence[Title], place: int) -> str:
 
 
 def unit_of(title: Title) -> str:
-    """In what the cells below a title are counted: what it has in brackets, or the title itself if
+    """Return the unit of the cells below a title: what it has in brackets, or the title itself if
     it is not a usual one."""
     if title.unit:
         return title.unit if title.unit.isprintable() else ""

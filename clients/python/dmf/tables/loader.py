@@ -60,7 +60,7 @@ class TableOptions:
 
     @property
     def kinds_named(self) -> set[str]:
-        """Of supplies, demands and limits those that these options name."""
+        """The kinds, out of supplies, demands and limits, that these options name."""
         given = [(SUPPLY, self.source), (DEMAND, self.sink)]
         told = {kind for option in self.tables for kind in PLACE_TABLES[option]}
         return {*self.named, *(kind for kind, words in given if words), *told}

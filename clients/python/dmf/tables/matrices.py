@@ -29,8 +29,8 @@ class Matrix(NamedTuple):
 
 
 def is_corner(cell: str) -> bool:
-    """Whether a cell says that rows are where arcs begin and columns where they end, as in `from \\
-    to`."""
+    """Return True if a cell says that arcs lead from the rows' places to the columns' places, as in
+    `from \\ to`."""
     words = folded(cell).split()
     return len(words) == 2 and words[0] in USUAL[TAIL] and words[1] in USUAL[HEAD]
 

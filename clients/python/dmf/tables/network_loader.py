@@ -33,7 +33,7 @@ Terminals = Union[str, Iterable[str], Mapping[str, Any], None]
 
 
 def network_of_plan(plan: NetworkTables, program: Program, history: Optional[int]) -> TableNetwork:
-    """The network of a plan. Raises a `TableFault`, and what `Network` raises."""
+    """Return the network of a plan. Raises a `TableFault`, and what `Network` raises."""
     notes = [*plan.notes, *complete(plan)]
     net = net_of(plan)
     notes += warnings(plan, net)
@@ -89,25 +89,55 @@ def read_table(
     program: Program = None,
     history: Optional[int] = None,
 ) -> TableNetwork:
-    """The network of a table: of a CSV file, a workbook or another file of `man dmf-tables` by its
-    path, with a sheet as in `net.xlsx#Rohre`, or of a frame of pandas or anything else that gives
-    columns by their names. The file is read as `tools/dmf-problem` reads it (`man dmf-problem`).
+    """Return the network of a table, read as `tools/dmf-problem` reads it (`man dmf-problem`).
 
-    `source` and `sink` are a place, several, or a mapping to what each gives or takes at most, with
-    None for no limit. Without them they are those of the table, or the only place that nothing
-    leads to, or leads away from. `limits` has the most that may pass through places. `sources`,
-    `sinks`, `node_limits` and `places` are paths of tables that say so. `columns` has titles by
-    `tail`, `head`, `capacity` and `name`, if they are not usual ones. `decimal` is the decimal
-    sign, if the table leaves it open, and `scale` what numbers are multiplied by, if not the least
-    power of ten that makes them whole. `missing` is what a capacity that is not there is read as, 0
-    or "unlimited". `ignore` has the titles of columns that are read for nothing. `matrix` says that
-    rows are the tails, and the titles of the other columns the heads. In a network of EPANET the
-    capacity of a pipe is its cross-section times `velocity`, in m/s, and `tanks` are "source" or
-    "none". Ends of lines on a map that lie no farther apart than `tolerance` are one place. The
-    other arguments are those of `Network`.
+    Parameters
+    ----------
+    table
+        The path of a CSV file, a workbook or another file of `man dmf-tables`, with a sheet as in
+        `net.xlsx#Rohre`; or a frame of pandas, or anything else that gives columns by their names.
+    source, sink
+        A place, several, or a mapping to the most that each gives or takes, with None for no limit.
+        The default is what the table says, or else the only place that no arc enters, or leaves.
+    limits
+        The most that may pass through places.
+    sources, sinks, node_limits, places
+        Paths of tables with the same for `source`, `sink`, `limits`, or all of them.
+    columns
+        The titles of the columns `tail`, `head`, `capacity` and `name`, if they are not usual ones.
+    decimal
+        The decimal sign, if the table leaves it open.
+    scale
+        What numbers are multiplied by. The default is the least power of ten that makes them whole.
+    both_ways
+        Whether each row is two arcs, one each way.
+    encoding
+        How the tables are encoded, such as latin-1. By default it is detected.
+    raw_names
+        Whether names are read as they are, with an apostrophe before = + - @ if they have one.
+    missing
+        What a missing capacity is read as: 0 or "unlimited".
+    ignore
+        The titles of columns from which nothing is read; `extra` has them.
+    matrix
+        Whether rows are tails, and the titles of the other columns heads.
+    velocity
+        In m/s: in a network of EPANET a pipe's capacity is this times its cross-section.
+    tanks
+        What the tanks of a network of EPANET are: "source" or "none".
+    tolerance
+        How far apart ends of lines on a map may lie that are one place, in the map's units.
+    program, history
+        As those of `Network`.
 
-    Raises a `TableFault` that names all rows that cannot be read; an OSError if a file cannot be;
-    and what `Network` raises.
+    Raises
+    ------
+    TableFault
+        If rows cannot be read; it names all of them.
+    OSError
+        If a file cannot be read.
+    Error
+        What `Network` raises.
     """
     given = {"sources": sources, "sinks": sinks, "node_limits": node_limits, "place_table": places}
     paths = {option: _path(option, path) for option, path in given.items() if path is not None}
@@ -179,7 +209,7 @@ def _quantity(given: Any, plan: NetworkTables) -> Decimal:
 
 
 def _sheet_of_frame(frame: Any) -> Sheet:
-    """A frame as a sheet whose first row has the titles."""
+    """Return a frame as a sheet whose first row has the titles."""
     titles = list(frame.keys()) if hasattr(frame, "keys") else list(frame.columns)
     columns = [frame[title] for title in titles]
     cells = [

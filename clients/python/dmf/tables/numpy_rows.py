@@ -172,8 +172,8 @@ class Spans(Rows):
         )
 
     def _telling(self, place: int, is_signed: Any, decimals: Any) -> tuple[int, str]:
-        """Of the cells of a column that have a sign the first in which it does not stand between
-        thousands, if there is one; else the first."""
+        """Return the row and the text of the first cell in which the sign cannot be a thousands
+        separator or, if there is none, of the first with the sign."""
         starts, sizes = self._starts[:, place], self._sizes[:, place]
         is_grouped = (
             (decimals == 3) & (sizes > 4) & (sizes < 8) & (self._letters[starts] != ord("0"))

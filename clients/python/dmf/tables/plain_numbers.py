@@ -83,7 +83,7 @@ def _plain_decimals(cells: list[str], text: str, sign: str) -> Plain:
 
 
 def _scaled(cells: list[str], most: int) -> list[int]:
-    """Decimal numbers, times ten to this power."""
+    """Return decimal numbers, times ten to the power of `most`."""
     # A number whose digits are below 2^50 is exact: each step is off by less than its 2^52nd part.
     numbers: list[int] = list(map(round, map(mul, map(float, cells), repeat(10.0**most))))
     if max(numbers) >= LARGEST_EXACT:

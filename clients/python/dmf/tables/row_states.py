@@ -80,7 +80,7 @@ def told_states(
 
 
 def told_lines(lines: Sequence[int]) -> str:
-    """Lines as they are told: `line 3`, `lines 3 and 4`, `lines 3, 4 and 17 more`."""
+    """Return lines as messages name them: `line 3`, `lines 3 and 4`, `lines 3, 4 and 17 more`."""
     shown = list(map(str, lines[:MOST_TOLD]))
     rest = len(lines) - len(shown)
     last = f"{rest} more" if rest else shown.pop() if len(shown) > 1 else ""

@@ -76,11 +76,12 @@ class FoldedColumns(Columns[Any]):
         return names
 
     def is_place(self, node: int) -> bool:
-        """Whether a node is of the table: the first one, if its place has two."""
+        """Return True if a node is a place of the table; of a place's two nodes only the first
+        is."""
         return node not in self.described.joints and node not in self.described.halves
 
     def places(self) -> list[Any]:
-        """The places, in the order of their nodes."""
+        """Return the places, in the order of their nodes."""
         return [name for number, name in enumerate(self.numbers, 1) if self.is_place(number)]
 
     def outlet(self, node: Any) -> int:
@@ -91,7 +92,8 @@ class FoldedColumns(Columns[Any]):
         return super().between(self.outlets.get(tail, tail), head)
 
     def beside(self, role: Role) -> Iterable[int]:
-        """The numbers of the arcs of the table that an unlimited source or sink is for."""
+        """Return the numbers of the table's arcs that leave an unlimited source, or enter an
+        unlimited sink."""
         ends, node = (
             (self.tails, self.outlets.get(role.node, role.node))
             if role.kind == SUPPLY
@@ -105,8 +107,8 @@ class FoldedColumns(Columns[Any]):
 
 
 def with_room(capacities: array[int], described: TableComments) -> array[int]:
-    """The capacities where each source and each sink without a limit can carry what the arcs there
-    may come to carry: as much more as can be added to all capacities together."""
+    """Return capacities with which each source and each sink without a limit can carry what its
+    arcs may ever carry: the room left below 2^64 is shared between them."""
     unlimited = [number for number, role in described.roles.items() if role.is_unlimited]
     if not unlimited:
         return capacities

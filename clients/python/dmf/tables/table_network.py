@@ -53,7 +53,7 @@ class TableNetwork(ScaledNetwork[str]):
 
     @property
     def _roles(self) -> Mapping[int, Role]:
-        """By their numbers, what the arcs carry that are not of the table."""
+        """The roles of the arcs that are not in the table, by their numbers."""
         return self._columns.described.roles
 
     @property
@@ -62,7 +62,8 @@ class TableNetwork(ScaledNetwork[str]):
         return self.measure.unit
 
     def _terms(self, kind: str) -> dict[str, Optional[Quantity]]:
-        """The places that give, take or let through, each with how much that is at most."""
+        """Return the places that give, take or let through, each with the most that it can, or None
+        for no limit."""
         named, capacities = self._columns.names, self._kept.capacities
         found: dict[str, Optional[Quantity]] = {
             named[role.node - 1]: None
@@ -78,12 +79,12 @@ class TableNetwork(ScaledNetwork[str]):
 
     @property
     def sources(self) -> dict[str, Optional[Quantity]]:
-        """The sources, with what each gives at most, if that is limited."""
+        """The sources, each with the most that it gives, or None for no limit."""
         return self._terms(SUPPLY)
 
     @property
     def sinks(self) -> dict[str, Optional[Quantity]]:
-        """The sinks, with what each takes at most, if that is limited."""
+        """The sinks, each with the most that it takes, or None for no limit."""
         return self._terms(DEMAND)
 
     def _ends(self) -> set[str]:
@@ -126,12 +127,12 @@ class TableNetwork(ScaledNetwork[str]):
 
     @cached_property
     def extra(self) -> dict[str, list[str]]:
-        """The columns of the table that were read for nothing: by their titles a cell for each row
-        of an arc."""
+        """The columns of the table that were not needed: by their titles, a cell for each row of an
+        arc."""
         return self._extra.by_title(self._rows)
 
     def cap(self, arc: Any, capacity: Any) -> Any:
-        """As `Network.cap`, in the table's numbers."""
+        """Change a capacity as `Network.cap` does, in the table's numbers."""
         found = self.arc(arc)
         if found.number not in self._kept.closed:
             self._judge_room(
@@ -150,8 +151,8 @@ class TableNetwork(ScaledNetwork[str]):
 
     @exclusive
     def cut(self) -> TableCut:
-        """As `Network.cut`, in the table's numbers, with the places whose supply, demand or limit
-        is in it."""
+        """Return the cut as `Network.cut` does, in the table's numbers, with the places whose
+        supply, demand or limit is in it."""
         capacity, side = self._session.cut()
         names, is_place = self._columns.names, self._columns.is_place
         places = frozenset(names[node - 1] for node in side if is_place(node))
@@ -166,10 +167,10 @@ class TableNetwork(ScaledNetwork[str]):
 
     @exclusive
     def problem(self, *, names: bool = True, escapes: bool = False) -> str:
-        """The problem as the program has it, with comments that say what its whole numbers stand
-        for and what is not of the table. With `names` they tell the other columns of the table too.
-        A name that no comment can have is escaped.
-        """
+        """Return the problem in the program's whole numbers, with comments that say what they stand
+        for and which arcs are not in the table. With `names`, comments also name the nodes and
+        arcs, and have the other columns of the table. A name that no comment can contain is
+        escaped."""
         opened, columns = self._kept.opened(), self._columns
         places = {number: place for place, number in enumerate(opened.numbers(), 1)}
         roles = {places[number]: role for number, role in self._roles.items() if number in places}
@@ -193,23 +194,23 @@ class TableNetwork(ScaledNetwork[str]):
         return before + self._without_room(self._session.problem().decode(), places)
 
     def _row(self, number: int) -> int:
-        """The number that an arc had before it was closed and opened again, by which its row is
-        found."""
+        """Return the number that an arc had before it was closed and opened again, by which its row
+        is found."""
         kept, at = self._kept, number - len(self._columns.tails) - 1
         while at >= 0 and (first := kept.replaced[at]):
             number, at = first, first - len(self._columns.tails) - 1
         return number
 
     def _name(self, number: int) -> str:
-        """The name of an arc, as a problem has it."""
+        """Return the name that an arc has in a problem."""
         if number in self._roles:
             return self._columns.inner_names.get(number, "")
         key = self._kept.handle(number).given_key
         return "" if key is None else str(key)
 
     def _without_room(self, text: str, places: Mapping[int, int]) -> str:
-        """A problem in which a source or a sink without a limit carries as much as the arcs there,
-        and no more: those of the program can carry what they may come to carry. `places` has the
+        """Return a problem in which each source or sink without a limit carries as much as its arcs
+        do now, and no more: in the session it can carry what they may ever carry. `places` has the
         places of the open arcs, by number."""
         unlimited = {
             number: role
@@ -224,7 +225,7 @@ class TableNetwork(ScaledNetwork[str]):
         return "\n".join(lines) if unlimited else text
 
     def _carried(self, role: Role) -> int:
-        """What the open arcs of a source or a sink carry together."""
+        """Return the sum of the capacities of the open arcs at a source or sink."""
         kept, place = self._kept, self._columns.names[role.node - 1]
         numbers = [
             *self._columns.beside(role),
@@ -237,8 +238,8 @@ class TableNetwork(ScaledNetwork[str]):
         return sum(kept.capacities[number - 1] for number in numbers if number not in kept.closed)
 
     def _judge_room(self, tail: str, head: str, more: int) -> None:
-        """Raises `CapacitiesPast64Bits` if a source or a sink without a limit cannot carry so much
-        more on an arc."""
+        """Raise `CapacitiesPast64Bits` if a source or sink without a limit could not carry `more`
+        on an arc."""
         for number, role in self._roles.items():
             end = tail if role.kind == SUPPLY else head
             if (
@@ -249,7 +250,8 @@ class TableNetwork(ScaledNetwork[str]):
                 raise CapacitiesPast64Bits(shown_value((tail, head)))
 
     def to_networkx(self) -> Any:
-        """As `Network.to_networkx`, with the places and arcs of the table, in its numbers."""
+        """Return a graph as `Network.to_networkx` does, with the places and arcs of the table, in
+        its numbers."""
         made = import_package("networkx", "a graph").MultiDiGraph()
         made.add_nodes_from(self.nodes)
         for arc, carried in self.flow().items():
@@ -265,7 +267,7 @@ class TableNetwork(ScaledNetwork[str]):
         return made
 
     def copy(self) -> TableNetwork:
-        """As `Network.copy`."""
+        """Return a copy as `Network.copy` does, with the table's other columns."""
         made = cast(TableNetwork, super().copy())
         made.notes, made._load, made._rows = self.notes, self._load, self._rows
         return made

@@ -153,8 +153,8 @@ def _is_end(titles: Sequence[Title], place: int, role: str) -> bool:
 
 
 def usual_words(titles: Sequence[Title], role: str) -> list[str]:
-    """Usual titles of a column. In French and Spanish `a` stands beside `de`; else it is a
-    letter."""
+    """Return the usual titles of a column. In French and Spanish `a` is one beside `de`; otherwise
+    it is a letter."""
     words = USUAL[role]
     return (
         [word for word in words if word != "a"]

@@ -52,7 +52,7 @@ def _listed(parts: Sequence[str]) -> str:
 
 
 def _lines(lines: Sequence[int]) -> str:
-    """Lines as they are told: `line 3`, `lines 3, 4`."""
+    """Return lines as warnings name them: `line 3`, `lines 3, 4`."""
     return f"line{'s' * (len(lines) > 1)} {_listed(list(map(str, lines)))}"
 
 
@@ -97,7 +97,7 @@ def _lone_first_row(plan: NetworkTables) -> Iterator[str]:
 
 
 def _rows(plan: NetworkTables) -> Iterator[str]:
-    """Self loops, capacities of 0, and rows that are the same."""
+    """Yield warnings about self loops, capacities of 0, and rows that are the same."""
     table = plan.arcs
     if loops := _equal(table.tails, table.heads):
         yield f"tail and head are the same place: {_lines([table.lines[place] for place in loops])}"
@@ -121,7 +121,7 @@ def _equal(column: array[int], other: array[int]) -> list[int]:
 
 
 def _same_rows(plan: NetworkTables) -> Iterator[str]:
-    """Rows that have the same ends, capacity and name as one before."""
+    """Yield the warning about rows that have the same ends, capacity and name as an earlier one."""
     table = plan.arcs
     first: dict[tuple[object, ...], int] = {}
     same = []
@@ -164,7 +164,8 @@ def _alike(tails: array[int], heads: array[int], numbers: Sequence[int]) -> Iter
 
 
 def _lonely(plan: NetworkTables) -> Iterator[str]:
-    """Places that arcs only leave and that are no source, and the other way round."""
+    """Yield warnings about places that arcs only leave but that are not sources, and that arcs only
+    enter but that are not sinks."""
     table = plan.arcs
     if plan.both_ways:
         return

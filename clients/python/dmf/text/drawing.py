@@ -57,8 +57,8 @@ class Drawing:
 
     @cached_property
     def roles(self) -> dict[int, list[int]]:
-        """For the node of each place, the positions of the arcs that stand for what the place
-        gives, takes or lets through."""
+        """The positions of the arcs that stand for what a place gives, takes or lets through, by
+        the node of the place."""
         found: dict[int, list[int]] = defaultdict(list)
         for place, arc in enumerate(self.arcs) if self.folding.has_roles else ():
             if role := self.folding.role(*arc[:2]):

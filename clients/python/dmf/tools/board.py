@@ -134,7 +134,7 @@ def spots_of(words: argparse.Namespace, desk: Desk) -> dict[int, Spot]:
 
 
 def _map_of_file(desk: Desk) -> Map | None:
-    """The map that the file of a network has itself."""
+    """Return the map that is part of the network's file, or None."""
     from ..desk.board.layout import Map, Spot
 
     plan = desk.network.subject.plan

@@ -35,12 +35,13 @@ class LivePages:
         self._until = {"": clock()}
 
     def note_request(self, is_page: bool = False) -> None:
-        """A page asks for something, or is asked for itself."""
+        """Keep the board running for a page that asks for something or, for longer, that is itself
+        asked for."""
         with self._changed:
             self._wait_for("", AFTER_PAGE if is_page else AFTER_REQUEST)
 
     def hold(self, page: socket.socket, name: str) -> None:
-        """A page has come, which is told of each newer state by this connection."""
+        """Take the connection of a new page, which is sent the number of each newer state."""
         with self._changed:
             self._held[page] = name
             self._until.pop(name, None)
@@ -49,8 +50,8 @@ class LivePages:
             _tell(page, self._told)
 
     def leave(self, name: str) -> None:
-        """A page is left, as when it is closed or loaded again. Its connection has ended, or
-        will."""
+        """Record that a page was left, as when it is closed or reloaded. Its connection has ended
+        or soon will."""
         with self._changed:
             if name in self._held.values():
                 self._left.add(name)
@@ -59,7 +60,7 @@ class LivePages:
             self._changed.notify_all()
 
     def let_go(self, page: socket.socket) -> None:
-        """A page's connection has ended."""
+        """Record that a page's connection has ended."""
         with self._changed:
             name = self._held.pop(page)
             if name not in self._held.values():
@@ -124,7 +125,7 @@ class UnknownConnections:
                 self._end(min(self._waiting, key=self._waiting.__getitem__))
 
     def admit(self, connection: socket.socket) -> None:
-        """The connection has shown the token."""
+        """Take a connection off the list, since it has shown the token."""
         if self.drop(connection):
             _reset_at_end(connection, False)
 

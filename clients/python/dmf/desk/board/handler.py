@@ -73,7 +73,7 @@ class Handler(BaseHTTPRequestHandler):
         self._serve(self._post)
 
     def log_message(self, *_: object) -> None:
-        """Nothing is logged: an address has the token."""
+        """Log nothing, since an address contains the token."""
 
     def parse_request(self) -> bool:
         """Read the head of a request. Of one without the token its first line alone is looked

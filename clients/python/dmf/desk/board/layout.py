@@ -73,8 +73,9 @@ class Places:
     routes: dict[Way, Route] = field(default_factory=dict)
 
     def put(self, nodes: Iterable[int], ways: Iterable[Way], text: str) -> str:
-        """Gives each of these nodes a spot that has none. The text draws them for Graphviz, without
-        spots. Returns what Graphviz has drawn if that lies at these spots. Raises `NoPicture`."""
+        """Give each of these nodes a spot if it has none. `text` draws them for Graphviz, without
+        spots. Return what Graphviz drew if that has the nodes at these spots, or else an empty
+        text. Raises `NoPicture`."""
         known, new = _parted(nodes, self.spots)
         if new and not known:
             return self._put_apart(new, list(ways), text)
@@ -83,7 +84,7 @@ class Places:
         return ""
 
     def _put_apart(self, new: list[int], ways: list[Way], text: str) -> str:
-        """Places of which none is known are put as Graphviz does best, beside all that are
+        """Put places, none of which is known yet, as Graphviz does best, beside those that are
         known."""
         found, drawn = laid_out("dot", text, "-Tsvg")
         # A drawing tells them in hundredths, and a layout in five digits.
@@ -101,7 +102,7 @@ class Places:
         return "" if by else drawn
 
     def put_near(self, rough: Mapping[int, Spot]) -> None:
-        """Puts each of these places near a spot, where none lies yet."""
+        """Put each of these places near the spot given for it, where no other place lies."""
         taken = _FreeSpots(self.spots.values())
         for node, spot in rough.items():
             self.spots[node] = taken.free(spot)
@@ -119,7 +120,7 @@ class _FreeSpots:
         self._fields.setdefault((int(spot.x // WIDE), int(spot.y // HIGH)), []).append(spot)
 
     def free(self, wanted: Spot) -> Spot:
-        """The nearest spot found that overlaps no place, which is taken then."""
+        """Take and return the nearest spot found at which a place overlaps no other."""
         spot = next((spot for spot in _around(wanted) if self._is_free(spot)), wanted)
         self._take(spot)
         return spot
@@ -136,7 +137,7 @@ class _FreeSpots:
 
 
 def _around(spot: Spot) -> Iterator[Spot]:
-    """Spots on a spiral, from its middle on."""
+    """Yield spots on a spiral, from its middle outwards."""
     for step in range(MOST_SPOTS):
         turn, away = step * 2.4, math.sqrt(step) * HIGH / 2
         yield Spot(spot.x + 1.6 * away * math.cos(turn), spot.y + away * math.sin(turn))
@@ -150,7 +151,8 @@ def _parted(nodes: Iterable[int], spots: Mapping[int, Spot]) -> tuple[list[int],
 
 
 def _rough(text: str, known: Mapping[int, Spot], new: list[int]) -> dict[int, Spot]:
-    """Where places would lie by their neighbours, while those that are known stay."""
+    """Return where the new places would lie by their neighbours if the known ones stay where they
+    are."""
     pins = "".join(f'  {node} [pos="{spot.x:.2f},{spot.y:.2f}!"]\n' for node, spot in known.items())
     settings = "  overlap=true; notranslate=true; inputscale=72; splines=false; edge [len=1.8]\n"
     found, _ = laid_out("neato", text.rstrip().removesuffix("}") + settings + pins + "}\n")
@@ -190,8 +192,8 @@ def spread_out(text: str, ways: Iterable[Way]) -> dict[int, Spot]:
 
 
 def laid_out(engine: str, text: str, *words: str) -> tuple[Places, str]:
-    """The spots and routes that an engine of Graphviz finds, and what it writes by these words too.
-    Nodes are numbers in the text, and arcs have their way as `class`."""
+    """Run an engine of Graphviz, and return the spots and routes that it finds, and what else it
+    writes for these words. In the text nodes are numbers, and the `class` of an arc is its way."""
     made = run(text, engine, "-Tjson0", *words)
     told, end = json.JSONDecoder().raw_decode(made)
     # Graphviz names nodes by their place in this list.
@@ -218,7 +220,7 @@ def _way(edge: Mapping[str, str]) -> Way:
 
 
 def run(text: str, engine: str, *words: str) -> str:
-    """What an engine of Graphviz makes of a text. Raises `NoPicture`."""
+    """Return the output of an engine of Graphviz for a text. Raises `NoPicture`."""
     try:
         return graphviz(text.encode(), engine, *words).decode()
     except FileNotFoundError:
@@ -261,8 +263,9 @@ class Map:
 
 
 def read_map(path: str, sign: str = "", encoding: str | None = None) -> Map:
-    """The map in a table of places; `sign` is its decimal sign if that is known. Raises a
-    `TableFault` with all rows that cannot be read, and a `FileFault` if the file cannot be read."""
+    """Return the map in a table of places; `sign` is its decimal sign, if that is known. Raises a
+    `TableFault` that names all rows that cannot be read, and a `FileFault` if the file cannot be
+    read."""
     told, name = split_path(path)
     data = read_file(told)
     with naming(told):
@@ -338,7 +341,7 @@ def _spots(
 
 
 def _sign_of(cells: Sequence[str]) -> str:
-    """The decimal sign of all cells. Raises a `TableFault` if that cannot be told."""
+    """Return the decimal sign of all cells. Raises a `TableFault` if they leave it open."""
     found = [one for one in map(readings, cells) if one]
     fitting = [sign for sign in (POINT, ",") if all(sign in one for one in found)]
     if len(fitting) == 2 and any(len(set(one.values())) > 1 for one in found):
@@ -350,8 +353,7 @@ def _sign_of(cells: Sequence[str]) -> str:
 
 
 def placed(desk: Desk, given: Map) -> tuple[dict[int, Spot], list[str]]:
-    """The spots of the desk's places in a picture, by their nodes, and what is to be said of the
-    map."""
+    """Return the spots of the desk's places in a picture, by their nodes, and notes on the map."""
     found = {
         place.entry: given.spots[name]
         for name, place in desk.network.names.places.items()
@@ -375,8 +377,8 @@ def _notes(desk: Desk, given: Map, count: int) -> Iterator[str]:
 
 
 def _to_points(spots: Mapping[int, Spot], is_globe: bool) -> Iterator[tuple[int, Spot]]:
-    """The spots in points. Degrees to the right are as long as those upwards in the middle of the
-    map."""
+    """Yield the spots in points. Degrees of longitude are scaled by the cosine of the map's middle
+    latitude."""
     lows, highs = (
         [of(spot[axis] for spot in spots.values()) for axis in (0, 1)] for of in (min, max)
     )

@@ -23,7 +23,7 @@ class Overview:
     when the board begins."""
 
     def __init__(self, desk: Desk, places: Places, looks: Looks) -> None:
-        """`places` are those of the picture, with the spots of a map or of a project."""
+        """Take as `places` those of the picture, with the spots of a map or of a project."""
         network = desk.network
         self._desk = desk
         self._looks = looks

@@ -75,7 +75,7 @@ class Shape:
     nodes: tuple[DrawnNode, ...]
 
     def ways(self) -> dict[int, Way]:
-        """The way of each arc, by its number."""
+        """Return the way of each arc, by the arc's number."""
         ranks: Counter[tuple[int, int]] = Counter()
         found: dict[int, Way] = {}
         for arc in self.arcs:
@@ -103,15 +103,15 @@ class Picture:
         self._layouts: dict[Shape, str] = {}
 
     def svg(self, nodes: tuple[int, ...], arcs: list[int], *, to_take: bool = False) -> str:
-        """The picture of these arcs, and of these nodes even if they have none. A picture to take
-        along has its style in it. Raises `NoPicture`."""
+        """Return the picture of these arcs, and of these nodes even if they have no arc. With
+        `to_take`, for a file of its own, it contains its style. Raises `NoPicture`."""
         shape = self._shape_of(arcs, nodes)
         root = self.laid_out(shape)
         self._fill(root, shape)
         return written(root, STYLE, caption(self._desk, LEGEND)) if to_take else written(root)
 
     def laid_out(self, shape: Shape) -> ElementTree.Element:
-        """The layout of a shape, without numbers. Raises `NoPicture`."""
+        """Return the layout of a shape, without numbers. Raises `NoPicture`."""
         layout = self._layouts.pop(shape, "") or self._lay_out(shape)
         self._layouts = dict([*self._layouts.items()][1 - MOST_KEPT :])
         self._layouts[shape] = layout
@@ -128,13 +128,13 @@ class Picture:
         return drawn or run(_text(self._lines(shape, ways, is_put=True)), "neato", "-n2", "-Tsvg")
 
     def _ends(self, line: DeskArc) -> tuple[int, int]:
-        """The places at the ends of an arc."""
+        """Return the places at the ends of an arc."""
         network = self._desk.network
         return network.folding.place(line.tail), network.folding.place(line.head)
 
     def _degrees(self) -> Counter[int]:
-        """How many arcs each place has, open or closed, of those that a picture can show. The arcs
-        of the file are counted once."""
+        """Return how many arcs each place has, open or closed, among those that a picture can show.
+        The arcs of the file are counted by the first call only."""
         desk = self._desk
         network = desk.network
         given = network.first_count
@@ -194,7 +194,8 @@ class Picture:
         )
 
     def _lines(self, shape: Shape, ways: dict[int, Way], *, is_put: bool = False) -> Iterator[str]:
-        """A picture for Graphviz, with the spots and routes that are known if it is put."""
+        """Yield the lines of a picture for Graphviz. With `is_put` it has the spots and routes that
+        are known."""
         network = self._desk.network
         splines = "line" if is_put and len(shape.nodes) > MOST_ROUTED else "true"
         yield (
@@ -235,7 +236,7 @@ class Picture:
         yield "}"
 
     def _fill(self, root: ElementTree.Element, shape: Shape) -> None:
-        """Puts numbers and classes into a layout."""
+        """Fill numbers and classes into a layout."""
         desk = self._desk
         network = desk.network
         cut = desk.cut_arcs() if desk.is_greatest else {}
@@ -296,7 +297,7 @@ def _widest(desk: Desk, number: int) -> str:
 
 
 def _amounts(desk: Desk, number: int) -> str:
-    """The flow on an arc and its capacity, in short."""
+    """Return the flow on an arc and its capacity, in short."""
     line, flow = desk.network.lines[number - 1], plain_text(desk.flow(number))
     return (
         CLOSED
@@ -308,7 +309,7 @@ def _amounts(desk: Desk, number: int) -> str:
 
 
 def spoken(desk: Desk, number: int) -> str:
-    """The flow on an arc, in words."""
+    """Return the flow on an arc, in words."""
     network = desk.network
     line, flow = network.line(number), desk.flow(number)
     if line.is_closed:
@@ -326,7 +327,7 @@ def _mark(group: ElementTree.Element, kind: str, looks: dict[str, bool], label: 
 
 
 def marked(group: ElementTree.Element, classes: Iterable[str], label: str) -> None:
-    """Gives a part of a picture its classes and its title."""
+    """Give a part of a picture its classes and its title."""
     group.set("class", " ".join(classes))
     title = ElementTree.Element(f"{{{SVG}}}title")
     title.text = _label(label)
@@ -334,13 +335,13 @@ def marked(group: ElementTree.Element, classes: Iterable[str], label: str) -> No
 
 
 def caption(desk: Desk, legend: str) -> list[str]:
-    """What a picture to take along says below it: of what it is, of which day, and how it is read.
-    The unit stands in it."""
+    """Return the lines below a picture that is saved: what it shows, from which day, and how to
+    read it, with the unit."""
     return [*said_of(desk), legend]
 
 
 def written(root: ElementTree.Element, style: str = "", below: Sequence[str] = ()) -> str:
-    """The text of a picture, with a style in it, and lines below it."""
+    """Return the text of a picture, with a style in it, and lines below it."""
     if style:
         left, top, width, height = map(float, (root.get("viewBox") or "0 0 1 1").split())
         wide = max([width, *(len(line) * CAPTION * WIDE for line in below)])
@@ -378,8 +379,8 @@ def written(root: ElementTree.Element, style: str = "", below: Sequence[str] = (
 
 
 def _seen(root: ElementTree.Element) -> None:
-    """Has a picture go by the spots of places alone, so that a place has the same coordinates in
-    each picture."""
+    """Set the picture's view by the spots of places alone, so that a place has the same coordinates
+    in each picture."""
     graph = next(group for group in root.iter(f"{{{SVG}}}g") if group.get("class") == "graph")
     moved = re.search(
         r"translate\(([-0-9.e]+)[ ,]+([-0-9.e]+)\)", graph.attrib.pop("transform", "")

@@ -13,8 +13,8 @@ DECIMALS = 2
 
 
 def kept_spots(desk: Desk) -> dict[int, Spot]:
-    """The spots that a project keeps, by the nodes of its places; those of places that are gone are
-    left out."""
+    """Return the spots that a project keeps, by the nodes of its places, without those of places
+    that no longer exist."""
     project = Scenarios.of(desk)
     if project is None:
         return {}
@@ -27,8 +27,8 @@ def kept_spots(desk: Desk) -> dict[int, Spot]:
 
 
 def keep_spots(desk: Desk, spots: Mapping[int, Spot]) -> None:
-    """Has a project keep those of these spots that it does not have yet, unless it can only be
-    read. A place without a name of its own is put anew each time."""
+    """Store in the project those of these spots that it does not have yet, unless it is read-only.
+    A place without a name of its own is put somewhere new each time."""
     project = Scenarios.of(desk)
     if project is None or project.file.why_not:
         return

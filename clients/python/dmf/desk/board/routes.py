@@ -93,8 +93,9 @@ class Board:
         keep: Keep | None = None,
         offer: str = "",
     ) -> None:
-        """`spots` is where places lie in the picture, by their nodes, if that is known; else a
-        project may tell it. `keep` makes a project of the desk in the file `offer`."""
+        """Show a desk. `spots` has the spots of places in the picture, by their nodes, if they are
+        known; otherwise a project may have them. `keep` makes a project of the desk in the file
+        `offer`."""
         self._keep_in, self._offer = keep, offer if keep else ""
         # Whether something is being done that can be stopped.
         self._is_busy = False

@@ -108,8 +108,8 @@ class Server(ThreadingHTTPServer, Host):
             self._other.close()
 
     def let_go(self, page: socket.socket) -> None:
-        """The connection of a page has ended. If it was the last one and none comes in time, the
-        board ends."""
+        """Record that a page's connection has ended. If it was the last one and no other comes in
+        time, end the board."""
         self.guests.let_go(page)
         if self.guests.is_last():
             self.shutdown()
@@ -140,4 +140,4 @@ class Server(ThreadingHTTPServer, Host):
         self.strangers.end_late()
 
     def handle_error(self, request: object, client_address: object) -> None:
-        """A page that goes away during an answer is no fault."""
+        """Ignore the error: it is not a fault if a page goes away during an answer."""

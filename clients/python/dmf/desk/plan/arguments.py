@@ -105,7 +105,8 @@ def new_arc(desk: Desk, words: list[str]) -> tuple[Place, Place, Quantity, str]:
 
 
 def _ends_of_amount(desk: Desk, words: list[str], at: int) -> list[int]:
-    """After which words an amount may end that begins at one of these. Its unit belongs to it."""
+    """Return the numbers of words after which an amount may end that begins at word `at`. Its unit
+    is part of it."""
     unit = desk.network.measure.unit.split()
     ends = [end for end in range(at + 1, len(words) + 1) if is_amount(" ".join(words[at:end]))]
     return [

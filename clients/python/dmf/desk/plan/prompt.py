@@ -48,7 +48,7 @@ def _is_dumb() -> bool:
 
 @contextlib.contextmanager
 def asking(complete: Complete) -> Iterator[Ask]:
-    """What asks a person for lines, for the block."""
+    """Yield a function that asks a person for a line, for the block."""
     with contextlib.ExitStack() as until:
         if not _is_dumb():
             with contextlib.suppress(ImportError):

@@ -56,7 +56,7 @@ def _step(project: Project, content: Any, place: str) -> Project:
 
 
 def _at(project: Project, content: Any, place: str) -> Project:
-    """So many steps are made now, and the others undone."""
+    """Move to the state after `content` steps; the later ones count as undone."""
     scenario = _present(project, place)
     if type(content) is not int or not scenario.inherited <= content <= len(scenario.steps):
         why = (

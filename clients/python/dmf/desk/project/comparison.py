@@ -32,7 +32,7 @@ class ArcState(NamedTuple):
     is_unlimited: bool = False
 
     def told(self) -> str:
-        """It in words: `45 of 45, limit`."""
+        """Return the state in words: `45 of 45, limit`."""
         if self.state != OPEN:
             return self.state
         amounts = (
@@ -95,7 +95,7 @@ class Comparison:
     alike: tuple[Known, ...] = ()
 
     def lines(self) -> Iterator[str]:
-        """It in words, a line for each thing that differs."""
+        """Yield the comparison in words, with a line for each thing that differs."""
         names = [display(it.name) for it in (self.first, self.second)]
         for name, standing in zip(names, (self.first, self.second)):
             yield f"{name}: value {plain_text(standing.value)} {self.measure.told_unit}".rstrip()

@@ -144,7 +144,7 @@ def read_again(table: KeptTable, folder: str) -> LoadedProblem:
 
 
 def differences(before: bytes, after: bytes) -> Differences:
-    """In what two problems differ, by the names of their places and arcs."""
+    """Return how two problems differ, by the names of their places and arcs."""
     (was, unit_before), (now, unit_after) = map(_rows, (before, after))
     found = Differences()
     if unit_before != unit_after:

@@ -56,7 +56,7 @@ class Label:
     """The texts of a place or of an arc in a picture."""
 
     def __init__(self, group: ElementTree.Element, changed: set[str]) -> None:
-        """`changed` has the names of the arcs that a step changed."""
+        """Take as `changed` the names of the arcs that a step changed."""
         self.group = group
         self.texts = group.findall(f"{{{SVG}}}text")
         ellipses = group.findall(f"{{{SVG}}}ellipse")
