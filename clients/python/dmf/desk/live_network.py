@@ -58,9 +58,9 @@ class LiveNetwork(NetworkArcs):
     # Where it stands.
 
     def stand_on(self, steps: tuple[Step, ...]) -> tuple[Step, ...]:
-        """Bring the network to these steps, wherever it stands, and return them as they are made
-        now. Steps at the end whose value is only promised are made by `make` alone. Without a
-        session it can go where it was before; else raises `SessionEnded`."""
+        """Bring the network to the state after these steps, and return them as they are made now.
+        Steps at the end whose value is only promised are made by `make` alone. Without a session it
+        can only go to states in its history; otherwise raises `SessionEnded`."""
         kept, found = self.network._kept, self._found
         if (
             found

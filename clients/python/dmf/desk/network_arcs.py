@@ -233,7 +233,7 @@ class NetworkArcs:
     # How the arcs follow.
 
     def _mark(self, marks: Marks) -> None:
-        """Have these marks, by which sources and sinks are unlimited or not."""
+        """Set the marks, which say what sources and sinks are unlimited."""
         self.marks = marks
         later = range(self.first_count + 1, len(self.lines) + 1) if self._at_first_unlimited else ()
         for number in chain(self._at_first_unlimited, later):
@@ -246,7 +246,8 @@ class NetworkArcs:
         return first in self._at_first_unlimited and first not in self.marks.limited
 
     def _follow(self, change: session.Change, is_made: bool) -> None:
-        """Have the lines be as a change left the network, or as it was before that."""
+        """Update the lines after the network has made a change or, if not `is_made`, has undone
+        it."""
         if change.added:
             arc, capacity, replaced = change.added
             if is_made and arc.number > len(self.lines):

@@ -85,17 +85,17 @@ class Desk:
         return state.network
 
     def take(self, after: DeskState) -> None:
-        """Have a state that is prepared take the place of the present one, once it is kept."""
+        """Replace the present state by a prepared one, once that is written."""
         if self.keeper and after.record is not self.state.record:
             self.keeper.write(self.state, after)
         self.state = after
 
     def tell(self, *lines: str) -> None:
-        """Have lines said beside the next answer."""
+        """Add lines to those that are shown beside the next answer."""
         self.state = replace(self.state, news=(*self.state.news, *lines))
 
     def take_news(self) -> list[str]:
-        """Return what is to be said beside an answer, once."""
+        """Return the lines to show beside an answer, and clear them."""
         news = self.state.news
         if news:
             self.state = replace(self.state, news=())
@@ -130,9 +130,9 @@ class Desk:
 
     @contextlib.contextmanager
     def _fine_for(self, amounts: Iterable[Quantity]) -> Iterator[DeskState]:
-        """Have the present state on a network whose numbers can express these amounts: if they have
-        too few decimals, the steps are made again on a new session, with a finer scale. Raise a
-        `DeskFault` if that is impossible. A network that the block does not take is ended."""
+        """Yield the present state on a network whose numbers can express these amounts. If they
+        have too few decimals, the steps are made again on a new session, with a finer scale. Raise
+        a `DeskFault` if that is impossible. A network that the block does not take is ended."""
         self.follow()
         before = self.network
         state, subject, finest = self.state, before.subject, ""
@@ -157,15 +157,15 @@ class Desk:
 
     @contextlib.contextmanager
     def aside(self) -> Iterator[Desk]:
-        """Have another desk that is in the same state, on which can be tried what this one does not
-        keep. It has the same session, which comes back when this one is asked."""
+        """Yield another desk in the same state, for trials that this one does not keep. It uses the
+        same session, which returns to this desk's state when this desk is asked."""
         self.follow()
         with self.beside(self.state) as other:
             yield other
 
     @contextlib.contextmanager
     def beside(self, state: DeskState) -> Iterator[Desk]:
-        """Have another desk in a state of the same network, of which nothing is kept."""
+        """Yield another desk in a state of the same network, of which nothing is kept."""
         other = copy.copy(self)
         other.keeper, other.state, other._lent = None, state, state.network
         try:

@@ -38,7 +38,8 @@ def in_keywords(text: str) -> str:
 
 @contextlib.contextmanager
 def naming_keywords() -> Iterator[None]:
-    """Have the faults of a call name its keywords."""
+    """Rewrite the faults of a call, for the block or the decorated function, so that they name its
+    keywords."""
     try:
         yield
     except TableFault as fault:

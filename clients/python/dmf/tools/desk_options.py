@@ -100,8 +100,8 @@ def open_desk(words: argparse.Namespace, *, with_solve: bool, may_follow: bool =
 
 @contextlib.contextmanager
 def _without_collection() -> Iterator[None]:
-    """Look for no garbage meanwhile: among the objects of a million arcs that takes a third of the
-    time, and finds nothing."""
+    """Turn garbage collection off for the block: among the objects of a million arcs it takes a
+    third of the time, and finds nothing."""
     was_enabled = gc.isenabled()
     gc.disable()
     try:
@@ -118,7 +118,7 @@ def _is_watched(path: str) -> bool:
 
 
 def _tell(what: str) -> None:
-    """Say at a terminal what the tool does now."""
+    """Print on a terminal what the tool does now."""
     warn(os.path.basename(sys.argv[0]), f"{what} ..")
 
 

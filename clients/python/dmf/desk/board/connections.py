@@ -135,7 +135,7 @@ class UnknownConnections:
             return self._waiting.pop(connection, None) is not None
 
     def part(self, connection: socket.socket) -> None:
-        """Let a connection of these read what it was answered, and wait for its end."""
+        """Wait until one of these connections ends, so that its user can read the answer."""
         if connection in self._waiting:
             with contextlib.suppress(OSError):
                 connection.shutdown(socket.SHUT_WR)

@@ -256,7 +256,8 @@ def _amounts(differs: ArcDifference | None) -> str:
 
 
 def _fill_arc(group: ElementTree.Element, arc: _Found, label: str, number: int) -> None:
-    """Say of an arc in a layout what it is, and which arc of the present scenario, if it is one."""
+    """Fill into an arc of a layout what it is in both scenarios and, if it exists in the present
+    one, its number there."""
     differs = arc.differs
     if number:
         group.set("data-arc", str(number))

@@ -37,7 +37,7 @@ class Beginning:
         self._flows: Sequence[int] | None = None
 
     def heed(self) -> None:
-        """Remember the flows if the desk stands at the beginning."""
+        """Remember the flows if the desk is at the beginning."""
         if self._desk.at == 1:
             self._flows = self._desk.flows()
 

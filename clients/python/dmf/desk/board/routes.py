@@ -314,7 +314,8 @@ class Board:
         return made
 
     def _keep_places(self) -> None:
-        """Have a project keep the positions of places. If that fails, the next step says so."""
+        """Store the positions of the places in the project. If that fails, the next step reports
+        it."""
         spots = self.picture.places.spots
         if len(spots) != self._put_count:
             self._put_count = len(spots)

@@ -108,7 +108,8 @@ def costs_told(desk: Desk, words: list[str]) -> Iterable[str]:
 
 
 def arc_lines(desk: Desk, numbers: list[int], *, with_limit: bool) -> Iterator[str]:
-    """Say what flows on each of these arcs, and which are of the limit, if that is known."""
+    """Yield a line for each of these arcs: its flow and, with `with_limit` and if it is known,
+    whether the arc is part of the limit."""
     network = desk.network
     limit = desk.cut_arcs() if with_limit and desk.is_greatest else {}
     for number, flow in zip(numbers, desk.flows_on(numbers)):

@@ -120,7 +120,7 @@ class Shell:
         return None
 
     def refuse(self, why: str) -> None:
-        """Say why a line is refused. Nothing has changed."""
+        """Print why a line is refused. Nothing has changed."""
         self.output.refusal(why)
         self.refused += 1
         where = "" if self.is_typed else f"dmf-plan: line {self.output.line_number}: "

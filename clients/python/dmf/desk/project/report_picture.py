@@ -134,7 +134,7 @@ def _view(root: ElementTree.Element) -> tuple[float, float, float, float]:
 
 
 def _label(root: ElementTree.Element, changed: set[str]) -> None:
-    """Leave the labels that matter most where they can be read."""
+    """Place the labels that matter most where they can be read, and remove the others."""
     groups = [*root.iter(f"{{{SVG}}}g")]
     for text in groups[0].findall(f"{{{SVG}}}text"):
         groups[0].remove(text)

@@ -167,8 +167,8 @@ class Scenarios:
         return self._after(after, ("at", after.at - 1))
 
     def write(self, before: DeskState, after: DeskState) -> None:
-        """Have the journal tell the acts that lead from one state to another. Raise a `DeskFault`
-        if that fails."""
+        """Write to the journal the acts that lead from one state to another. Raise a `DeskFault` if
+        that fails."""
         if self.file.why_not:
             # It is only looked at.
             return
@@ -236,7 +236,7 @@ class Scenarios:
             raise DeskFault("a trial is open; `keep` or `drop` ends it")
 
     def go(self, name: str) -> None:
-        """Go to a scenario. What differs from what was kept is told."""
+        """Go to a scenario, and report what differs from its stored values."""
         scenario = self._found(name)
         self._judge_no_trial()
         if scenario is not self.scenario:
@@ -303,7 +303,7 @@ class Scenarios:
 
     @contextlib.contextmanager
     def visiting(self, name: str) -> Iterator[Desk]:
-        """Have a desk that shows another scenario, or the network of the table, for the block. The
+        """Yield a desk that shows another scenario, or the network of the table, for the block. The
         present one stays as it is."""
         scenario = Scenario(BASE) if name == BASE else self._found(name)
         if scenario is self.scenario:

@@ -268,7 +268,7 @@ class ProjectFile:
             journal.end(is_folded=project.serial == self._filed, at=record.journal_end)
 
     def leave(self) -> None:
-        """Let others write it, and leave the file and what is in the journal as they are."""
+        """Unlock the project for others, and leave the file and the journal as they are."""
         if self._journal:
             journal, is_folded = self._journal, self.is_folded
             self._journal, self.why_not = None, self.why_not or "it was closed"
