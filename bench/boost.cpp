@@ -1,6 +1,6 @@
 // Boost's push-relabel (boost push) and its search from both ends by Boykov and Kolmogorov (boost trees), on its graph that
 // is quickest to walk: that of compressed rows. Its edges are the links of links.hpp, in their order. With the numbers of arcs behind
-// that word it writes the value without each of them in turn, each solved anew.
+// that word it writes the value without each of them in turn, each solved from scratch.
 #include "links.hpp"
 
 #include <ctime>

@@ -1,4 +1,4 @@
-// LEMON's push-relabel. With the numbers of arcs as its words it writes the value without each of them in turn, each solved anew.
+// LEMON's push-relabel. With the numbers of arcs as its words it writes the value without each of them in turn, each solved from scratch.
 #include "dimacs.hpp"
 
 #include <ctime>

@@ -4,7 +4,7 @@
 //
 // As in Dinic's method, labels found once serve many paths. A link is admissible if it has room and its head's label is
 // one less than its tail's. An augmentation takes room from admissible links and gives it to links that are not, so that
-// a node's links before its current one stay useless until the labels are found anew.
+// a node's links before its current one stay useless until the labels are computed again.
 #pragma once
 
 #include "dimacs.hpp"

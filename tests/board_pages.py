@@ -89,7 +89,7 @@ class Page:
 
         pause, until = SOON, time.monotonic() + SECONDS
         while time.monotonic() < until:
-            # What was found may be shown anew before it is asked.
+            # What was found may be redrawn before it is asked.
             with contextlib.suppress(NoSuchElementException, StaleElementReferenceException):
                 if is_so():
                     return
@@ -137,7 +137,7 @@ class Page:
                 for button in buttons[:1]:
                     self.reached(button).click()
             except StaleElementReferenceException:
-                # What stands there was shown anew meanwhile.
+                # What stands there was redrawn meanwhile.
                 return False
             return bool(buttons)
 
@@ -167,7 +167,7 @@ class Page:
         self.wait(lambda: self.text("#what h3") == name)
 
     def choose_found(self, name: str) -> None:
-        """Chooses what a typed text finds first. What is found may be shown anew under the pointer,
+        """Chooses what a typed text finds first. What is found may be redrawn under the pointer,
         so this is clicked until it is chosen."""
 
         def is_chosen() -> bool:

@@ -23,7 +23,7 @@ BOTH = {
     "test_once",
     "test_reading",
     "test_sweeps",
-    "test_sweeps_anew",
+    "test_sweeps_from_scratch",
     "test_tried",
     "test_unbounded_arcs",
 }

@@ -42,7 +42,7 @@ def pytest_addoption(parser: pytest.Parser) -> None:
     )
     parser.addoption("--cases", type=int, default=0, help="try so many seeded random cases")
     parser.addoption("--seed", type=int, default=1, help="of random cases")
-    parser.addoption("--write", action="store_true", help="make what is compared with files anew")
+    parser.addoption("--write", action="store_true", help="rewrite the files that tests compare")
 
 
 def set_drawn(config: pytest.Config) -> None:
@@ -262,7 +262,7 @@ def types(tmp_path_factory: pytest.TempPathFactory) -> Types:
 
 @pytest.fixture
 def writes(request: pytest.FixtureRequest) -> bool:
-    """Whether a file that is made of others is made anew."""
+    """Whether files that are made from others are rewritten."""
     return bool(request.config.getoption("--write"))
 
 

@@ -1,5 +1,5 @@
 """A German table of decimal numbers with a unit, two sources, a limit of a source and a limit of a
-place, and what it comes to by a second computation in exact fractions: the least that any set of
+place, and its value by a second computation in exact fractions: the least that any set of
 places lets out."""
 
 from __future__ import annotations
@@ -45,8 +45,8 @@ REMARKS = {name: remark for *_, name, remark in ROWS}
 
 def greatest(pipes: list[Pipe], through: dict[str, Fraction] = LET_THROUGH) -> Fraction:
     """The greatest value: the least that a set of places lets out which has the sources and not the
-    sink. A place may be in it as far as one comes to it, and not on from it. A source that gives
-    little may be left out for what it gives.
+    sink. A place may be in it with the node that arcs enter, and without the one that they leave. A
+    source that gives little may be left out for what it gives.
     """
     places = sorted(
         {place for pipe in pipes for place in pipe[:2]} | {"Mill", "New Mill"} - {"Sea"}

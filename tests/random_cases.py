@@ -222,7 +222,7 @@ AFTER_ADDITION: list[Lines] = [
 
 def mixture(random: Random) -> list[Command]:
     """The commands of a script, in any order."""
-    # An addition makes all links anew where an end has no spare one: some scripts have few.
+    # An addition rebuilds all links if an end has no spare one: some scripts have few.
     rest = random.choice([1, 1, 0.1])
     weights = {
         word: it.weight * (rest if word in ("add", "undo") else 1) for word, it in COMMANDS.items()

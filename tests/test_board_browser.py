@@ -1,6 +1,6 @@
 """Shows tools/dmf-board by headless Chromium: the water story by clicks, compared with the same
 story from the shell and from dmf-plan; a reload; the page's end; and what the documents show of it,
-which `--write` makes anew."""
+which `--write` renews."""
 
 from __future__ import annotations
 

@@ -127,8 +127,8 @@ def test_no_program(monkeypatch: pytest.MonkeyPatch) -> None:
 
 @pytest.mark.parametrize("answer", ["exit 1", "kill -9 $$", "echo s 1", "exec sleep 0"])
 def test_a_program_that_fails(tmp_path: Path, monkeypatch: pytest.MonkeyPatch, answer: str) -> None:
-    """What comes to no answer, or to another one than the session: the answers are those of the
-    session."""
+    """If a program does not answer, or answers differently from the session, the answers are those
+    of the session."""
     program = tmp_path / "dmf"
     program.write_text(f'#!/bin/sh\n[ "$1" != session ] || exec {BUILT} "$@"\n{answer}\n')
     program.chmod(0o755)

@@ -35,7 +35,7 @@ def shown_by(driver: Any, tabs: list[str]) -> Iterator[Page]:
 
 
 def judge(driver: Any, tabs: list[str], value: int) -> None:
-    """Each tab comes to show a value by itself."""
+    """Each tab shows a value in the end, by itself."""
     for page in shown_by(driver, tabs):
         page.wait(lambda: page.value() == value)  # noqa: B023
         page.settle()

@@ -108,8 +108,8 @@ def test_broken_connection(driver: Any) -> None:
 
 
 def test_late(driver: Any) -> None:
-    """What a tab asks for that shows what is no more so changes nothing, and the tab then shows
-    what is."""
+    """A request from a tab that shows an older state changes nothing, and the tab then shows
+    the present one."""
     script = driver.execute_cdp_cmd("Page.addScriptToEvaluateOnNewDocument", {"source": DEAF})
     with board(PIPES) as it:
         page = Page(driver, it.address)

@@ -85,7 +85,7 @@ def test_generated(writes: bool, path: str) -> None:
     made = MAKERS[path](file.read_text() if file.exists() else "")
     if writes:
         file.write_text(made)
-    assert file.read_text() == made, "--write makes it anew"
+    assert file.read_text() == made, "--write rewrites it"
 
 
 @rows

@@ -110,7 +110,7 @@ def test_beside_networkx(tmp_path: Path, seed: int) -> None:
 
 
 def assert_end(rows: list[Row], bought: list[Bought], end: str, wanted: int) -> None:
-    """It comes to the wanted value, or no money does: then the limit has arcs that cannot be
+    """The value is reached, or no money reaches it: then the limit has arcs that cannot be
     bought."""
     reached = bought[-1].value if bought else greatest(rows, {})
     assert (reached == wanted) == (not end)

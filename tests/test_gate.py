@@ -145,7 +145,7 @@ def test_no_bare_debian(clone: Clone) -> None:
 
 def test_other_sources(clone: Clone) -> None:
     """A source that was changed, and prebuilt/ not renewed: the gate ends at once, and says what
-    makes it anew."""
+    renews it."""
     (clone.root / "crates/low/src/lib.rt").write_text("// Changed.\n")
     assert ended(clone, *GATE) == (
         1,

@@ -81,7 +81,7 @@ class Terminal:
 
 
 def test_broken_off() -> None:
-    """Ctrl-C ends a command that comes to no end, at once, and the steps before it are there."""
+    """Ctrl-C ends a command that would run on, at once, and the steps before it are there."""
     with tempfile.TemporaryDirectory() as folder:
         terminal = Terminal(folder)
         terminal.wait("165, greatest> ")

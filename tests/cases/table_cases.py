@@ -129,7 +129,7 @@ PROBLEMS: list[tuple[Case, str]] = [
         Case("\ufefffrom;to;cap;name\r\nA;B b;3;\r\n;;;\r\nA;B b;4;the long\tway\r", ("A", "B  b")),
         NAMED,
     ),
-    # What ends a line, for whoever reads, is a space in a name.
+    # A character that ends a line for some readers is a space in a name.
     (Case('A,B b,3\nA,B b,4,"the\nlong\u2028way\x0c"\n', ("A", "B b")), NAMED),
     (Case('A,B b,3\nA,B b,4,"the\r\n\r\n\x85long\x0b \xa0way"\n', ("A", "B b")), NAMED),
     # The columns that the tool does not read are kept.

@@ -310,7 +310,7 @@ def test_a_forked_process_leaves_it_alone(monkeypatch: pytest.MonkeyPatch) -> No
 @pytest.mark.seconds(6)
 def test_ctrl_c(how: str) -> None:
     """A signal to a process of its own, in a solve of 119,600 arcs: it comes back at once, and the
-    next call begins anew. An abandoned call keeps no interpreter from ending."""
+    next call starts a new session. An abandoned call keeps no interpreter from ending."""
     words, pipe = [sys.executable, "-c", BROKEN_OFF, how], subprocess.PIPE
     with subprocess.Popen(
         words, env=environment(), stdin=pipe, stdout=pipe, text=True, preexec_fn=heed_interrupts
@@ -356,7 +356,7 @@ def short(monkeypatch: pytest.MonkeyPatch, word: str, arc: int) -> None:
 
 def test_want_of_memory(monkeypatch: pytest.MonkeyPatch, bound: int) -> None:
     """A call that is refused changes nothing; of cases that are tried together the others have
-    their values; one that is made again when a session begins anew ends that."""
+    their values; one that is made again when a session restarts ends that."""
     with pipes() as network:
         network.solve()
         with monkeypatch.context() as patched:

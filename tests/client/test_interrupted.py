@@ -1,5 +1,5 @@
 """Calls that are broken off, by Ctrl-C above all: the network is as it was before the call, and the
-next call begins a new session that comes to the same state. What it is compared with is another
+next call begins a new session in the same state. What it is compared with is another
 network that made the same steps and was never broken off."""
 
 from __future__ import annotations
@@ -36,7 +36,7 @@ SECONDS = 20
 
 @contextlib.contextmanager
 def stopped(network: dmf.Network[str]) -> Iterator[None]:
-    """A block in which the program comes to no end, and is broken off."""
+    """A block in which the program never answers, and is broken off."""
     stop(process_of(network).pid)
     with pytest.raises(KeyboardInterrupt), interrupted_soon():
         yield
@@ -113,7 +113,7 @@ def test_the_end_of_what_is_tried_out() -> None:
 
 
 def test_twice() -> None:
-    """Ctrl-C while the session begins anew ends it for good, and says so; `begin_again` tries once
+    """Ctrl-C while a new session begins ends it for good, and says so; `begin_again` tries once
     more."""
     with script(f'[ ! -e "$0.slow" ] || kill -STOP $$\nexec {BUILT} "$@"') as program:
         with prepared(program=program) as network, prepared() as other:
@@ -126,8 +126,8 @@ def test_twice() -> None:
             for _ in range(2):
                 with pytest.raises(
                     dmf.SessionEnded,
-                    match="^the session was ended for good: it was broken off, and again while it "
-                    "began anew$",
+                    match="^the session was ended for good: it was broken off, and again while "
+                    "a new one began$",
                 ):
                     network.solve()
             assert (network.value, network.begin_again()) == (other.value, other.value)

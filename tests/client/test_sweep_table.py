@@ -131,7 +131,7 @@ def test_one_that_is_killed(number: int) -> None:
 
 
 def test_another_process_has_it() -> None:
-    """Whoever it is, and whether or not the system tells which."""
+    """Any process, whether or not the system tells which."""
     with open("table.csv", "w") as file:
         fcntl.flock(file, fcntl.LOCK_EX)
         wanted = "dmf-sweep: table.csv is being written by {}; two sweeps cannot write one table\n"

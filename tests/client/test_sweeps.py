@@ -1,4 +1,4 @@
-"""Sweeps: each value comes from the second implementation, which solves each case anew."""
+"""Sweeps: each value comes from the second implementation, which solves each case from scratch."""
 
 import os
 import signal
@@ -50,8 +50,9 @@ def command(state: Any, random: Random) -> tuple[Any, ...]:
     return (word, nodes[0]) if word == "shut" else (word, *nodes, random.choice([0, 1, 5, 2**63]))
 
 
-def solved_anew(state: Any, commands: list[tuple[Any, ...]]) -> tuple[int, int] | str:
-    """The value of a case that is solved anew and the capacity of its cut, or why it is refused."""
+def solved_from_scratch(state: Any, commands: list[tuple[Any, ...]]) -> tuple[int, int] | str:
+    """The value and the capacity of the cut of a case that is solved from scratch, or why it is
+    refused."""
     session = Session(state, SolveReply(False, True))
     try:
         for word, *rest in commands:
@@ -95,7 +96,7 @@ def test_random_sweeps(seed: int) -> None:
                 dmf.sweep(network, asked, random.choice([None, threads]), want_cut, jobs=jobs)
             )
         for result, commands in zip(results, asked):
-            wanted = solved_anew(state, commands)
+            wanted = solved_from_scratch(state, commands)
             if isinstance(wanted, str):
                 assert getattr(result.refusal, "text", None) == wanted
                 continue

@@ -75,7 +75,7 @@ def test_a_program_that_dies_at_one_of_them(dies_always: bool) -> None:
 
 def test_a_refusal_that_nobody_foresaw() -> None:
     """As for want of memory: the replies to the cases after it would be of another network, so all
-    are tried anew."""
+    are tried again."""
     with script(f"sed -u 's/^close 7$/close 99/' | {BUILT} \"$@\"") as program, beside(
         program
     ) as network:

@@ -151,7 +151,7 @@ def test_a_block_that_undid_has_room_again() -> None:
 
 @pytest.mark.parametrize("how", ["go on", "begin again", "copy"])
 def test_what_is_forgotten_stays_so(how: str) -> None:
-    """Also in a session that began anew, of which the last changes are others."""
+    """Also in a session that was restarted, of which the last changes are others."""
     with pipes(history=2) as network:
         network.close(("lake", "mill"))
         network.close(("lake", "town"))

@@ -1,4 +1,4 @@
-"""examples/water/worst.py, whose numbers the second implementation finds by solving each case anew.
+"""examples/water/worst.py beside the second implementation, which solves each case from scratch.
 """
 
 from __future__ import annotations

@@ -1,6 +1,6 @@
 """docs/CLAIMS.txt has what is claimed today: each contract of the calls that callers have, and the
-definitions and types on which they rest. So whoever makes a clause weaker changes a line there.
-`python3 tools/claims.py --write` writes it anew."""
+definitions and types on which they rest. So a change that makes a clause weaker changes a line
+there. `python3 tools/claims.py --write` rewrites it."""
 
 from __future__ import annotations
 

@@ -114,7 +114,7 @@ def test_networkx(seed: int, kind: str) -> None:
 
 @pytest.mark.parametrize("seed", SEEDS)
 def test_what_ifs(seed: int) -> None:
-    """An edge more, and then without it again: each time as networkx finds it anew."""
+    """An edge more, and then without it again: each time as networkx finds it by a new solve."""
     graph = graph_of(seed)
     u, v = next((u, v) for u in range(8) for v in range(8) if u != v and not graph.has_edge(u, v))
     names = {"dmf": dmf, "G": graph, "s": 0, "t": 7, "u": u, "v": v}

@@ -174,7 +174,7 @@ placed=$(tree "$prefix")
 call "a second call" 0 "$putting" "" --prefix="$prefix"
 same "a second call puts the same" "$(tree "$prefix")" "$placed"
 
-# A newer program takes the place of an older one, which whoever has opened it still reads.
+# A newer program replaces an older one, which a process that has opened it can still read.
 exec 3<"$prefix/lib/dmf/dmf"
 echo 2 >"$root/crates/dmf/src/version"
 touch -d '1 hour' "$root/crates/dmf/src"

@@ -49,7 +49,7 @@ LACKS = "test: packages of Debian are missing: apt install fish"
 
 
 class Place(NamedTuple):
-    """A clone, a folder beside it for what a case puts first in PATH, and whoever calls."""
+    """A clone, a folder beside it for what a case puts first in PATH, and the caller."""
 
     clone: Path
     bin: Path

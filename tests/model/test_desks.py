@@ -156,7 +156,7 @@ def numbers_for(random: Random, model: DeskModel, word: str) -> list[Any]:
 
 class Lockstep:
     """A model, a project, and a desk that has no scenarios: where the project goes to another one,
-    it begins anew with its acts."""
+    it restarts with its acts."""
 
     def __init__(self, random: Random, folder: Path, player: type[Player] = Player) -> None:
         text = table(random)

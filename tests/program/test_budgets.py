@@ -255,8 +255,8 @@ def test_nothing_to_do(family: str, maker: Path, tmp_path: Path) -> None:
 @pytest.mark.seconds(4)
 @pytest.mark.parametrize("family", ["grid", "random"])
 def test_added_arcs(family: str, maker: Path, tmp_path: Path) -> None:
-    """An added arc takes two spare links, and its undo leaves them: only the first one makes all
-    links anew."""
+    """An added arc takes two spare links, and its undo leaves them: only the first one rebuilds
+    all links."""
     text = of_family(maker, family)
     others = [f"add {node} {node + 1} 1\nundo\n" for node in range(1, 41, 2)]
     before, after = (
@@ -269,7 +269,7 @@ def test_added_arcs(family: str, maker: Path, tmp_path: Path) -> None:
 @pytest.mark.parametrize("family", ["grid", "random"])
 def test_added_self_loops(family: str, maker: Path, tmp_path: Path) -> None:
     """An added self loop, its undo and its redo touch no link: the close and the solve behind them
-    need make none anew."""
+    need rebuild none."""
     text = of_family(maker, family)
     carrying = next(number for number, arc in enumerate(solved(text), 1) if arc.flow > 0)
     loops = [f"add {node} {node} 1\nundo\nredo\n" for node in range(1, 21)]

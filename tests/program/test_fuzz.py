@@ -32,12 +32,12 @@ def behaviour(case: Case) -> frozenset[object]:
     return corpus.judged(case)[1]
 
 
-def shown_anew(seed: str, count: int, kept: list[Case]) -> dict[Case, frozenset[object]]:
+def newly_shown(seed: str, count: int, kept: list[Case]) -> dict[Case, frozenset[object]]:
     """Tries so many cases that are made of these, and of those that show new behaviour. Gives these
     last, with what was new."""
     kept = [*kept]
     seen = frozenset[object]().union(*map(behaviour, kept))
-    anew: dict[Case, frozenset[object]] = {}
+    new: dict[Case, frozenset[object]] = {}
     for number in range(count):
         case = corpus.mutated(
             kept, f"case {number} of fuzz seed {seed}", Random(f"fuzz/{seed}/{number}")
@@ -50,9 +50,9 @@ def shown_anew(seed: str, count: int, kept: list[Case]) -> dict[Case, frozenset[
         judge_seeded(Found(case), "", not wanted.allows(*run) and run)
         if more := shown - seen:
             seen |= more
-            anew[case] = more
+            new[case] = more
             kept.append(case)
-    return anew
+    return new
 
 
 def reduced_to(case: Case, more: frozenset[object]) -> Case:
@@ -75,9 +75,9 @@ def test_fuzz(request: pytest.FixtureRequest, writes: bool) -> None:
         LONG_CASES if request.config.getoption("--long") else GATE_CASES
     )
     kept = corpus.cases()
-    anew = shown_anew(str(request.config.getoption("--seed")), int(count), kept)
+    new = newly_shown(str(request.config.getoption("--seed")), int(count), kept)
     if writes:
-        kept += [reduced_to(case, more) for case, more in anew.items()]
+        kept += [reduced_to(case, more) for case, more in new.items()]
         corpus.write(corpus.least((case, behaviour(case)) for case in kept))
 
 
@@ -102,7 +102,7 @@ def test_write(tmp_path: Path, monkeypatch: pytest.MonkeyPatch) -> None:
 @pytest.mark.usefixtures("case_folder")
 def test_new_behaviour() -> None:
     """Of a corpus of one case the changes show new behaviour."""
-    assert len(shown_anew("one case", 20, [min(corpus.cases(), key=corpus.size)])) > 3
+    assert len(newly_shown("one case", 20, [min(corpus.cases(), key=corpus.size)])) > 3
 
 
 @pytest.mark.seconds(2)

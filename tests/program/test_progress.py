@@ -307,7 +307,7 @@ def test_asked_drains(tmp_path: Path) -> None:
 def hub_problem(arcs_in: int) -> bytes:
     """A problem in which units flow from node 1 by node 3, the hub, to node 2. From the hub each
     enters one chain of nodes elsewhere, so that no two have paths of one length, and each path is
-    searched anew."""
+    searched again."""
     chain = range(4, HUB_FLOW + 4)
     arcs = [(1, 3, HUB_FLOW // arcs_in)] * arcs_in + [(3, node, 1) for node in chain]
     arcs += [(node, node + 1, HUB_FLOW) for node in chain[:-1]] + [(chain[-1], 2, HUB_FLOW)]

@@ -1,6 +1,6 @@
-"""Scenarios of a project: made, named, copied, deleted and gone between; undone and made again each
-for itself; opened anew with the values of a second computation; and what a second desk, a full disk
-and an ended session leave of them."""
+"""Scenarios of a project: made, named, copied, deleted and switched; each with its own undo and
+redo; opened again with the values of a second computation; and what a second desk, a full disk and
+an ended session leave of them."""
 
 from __future__ import annotations
 

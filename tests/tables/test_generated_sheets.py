@@ -1,6 +1,6 @@
 """A thousand seeded sheets: columns shuffled and titled in four languages, other columns with
 numbers, decimals, units, blank rows, rows above and below. Each is read as it was meant, by a
-second computation, or it is a question; none comes to another value."""
+second computation, or it is a question; none has another value."""
 
 from __future__ import annotations
 

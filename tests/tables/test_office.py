@@ -32,7 +32,7 @@ def rows(network: Any) -> list[tuple[str, str, Decimal]]:
 
 
 def judge(network: Any, arcs: Arcs) -> None:
-    """Sees to it that a network has these arcs, and comes to their value."""
+    """Sees to it that a network has these arcs, and their value."""
     assert rows(network) == [(tail, head, Decimal(most)) for tail, head, most in arcs]
     assert network.solve().value == greatest(arcs)
 
@@ -149,7 +149,7 @@ MISSING = "From,To,Q max\nLake,Mill,50\nLake,Hill,30\nMill,Town,\nHill,Town,25\n
 
 
 def test_missing_as_unlimited(tmp_path: Path) -> None:
-    """All that comes to the Mill goes on: 50, and 25 from the Hill. The others sum up to 105."""
+    """All that reaches the Mill goes on: 50, and 25 from the Hill. The others sum up to 105."""
     with read_text(tmp_path, MISSING, missing="unlimited") as network:
         assert network.solve().value == 75
         told = "missing capacities are read as 10000, which is more than all others together: "

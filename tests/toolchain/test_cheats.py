@@ -48,8 +48,8 @@ mod tests {
 # What edits put in place of the body: one that the contract forbids, one that calls what is not
 # there, one of another type.
 EDITS = {"wrong": "a", "hollow": "a.no_such_method()", "typed": "true"}
-# Gives a crate's changed text the proof of the text before it, as whoever can write into the store
-# could.
+# Gives a crate's changed text the proof of the text before it, as anybody could who can write
+# into the store.
 FORGE = """
 import glob, importlib.machinery, importlib.util, json, os, shutil, sys
 

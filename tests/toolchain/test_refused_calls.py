@@ -5,7 +5,7 @@ just the room that it needs.
 After each call the program tells all that then stands. A call that is refused memory has changed
 nothing, and each other call does what the second implementation does. Changes that alter nothing
 take so little memory that 200 of them make fewer than 100 requests. What the program writes with
-ample memory stands in its file `stdout`; `--write` makes it anew."""
+ample memory stands in its file `stdout`; `--write` rewrites it."""
 
 from __future__ import annotations
 

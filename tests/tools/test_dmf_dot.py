@@ -1,6 +1,6 @@
 """Tests tools/dmf-dot: its texts for Graphviz against texts that were worked out by hand, what it
 says of faults, how it ends, and, where Graphviz is there, what that shows of names, and the
-pictures in docs/pictures against freshly made ones, which `--write` makes anew."""
+pictures in docs/pictures against freshly made ones, which `--write` rewrites."""
 
 from __future__ import annotations
 
@@ -185,4 +185,4 @@ def test_pictures(tmp_path: Path, writes: bool, name: str) -> None:
     made = svg(solved(PICTURES[name], tmp_path)[1])
     if writes:
         page.write_text(made)
-    assert texts(page.read_text()) == texts(made), "--write makes it anew"
+    assert texts(page.read_text()) == texts(made), "--write rewrites it"

@@ -212,7 +212,7 @@ class History:
         if self.floors and self.place - count < self.floors[-1]:
             made = self.place - self.floors[-1]
             raise NothingToUndo(f"undo {count}, of {made} changes that are tried out")
-        # A session that began anew may have kept changes that are forgotten here.
+        # A session that was restarted may have kept changes that are forgotten here.
         undone = self._changes[max(0, self.place - count) : self.place]
         for change in undone:
             if not isinstance(change, Change):

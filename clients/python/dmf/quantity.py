@@ -2,7 +2,7 @@
 beside the whole numbers that stand for them in the program.
 
 A text can be a number in two ways: `1,200` is 1.2 where a comma is the decimal sign, and 1200 where
-a point is. `readings` gives both, and whoever reads a column or a command decides, or asks.
+a point is. `readings` gives both, and the code that reads a column or a command decides, or asks.
 """
 
 from __future__ import annotations

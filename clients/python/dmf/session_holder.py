@@ -1,5 +1,5 @@
-"""A network and its running session: calls that ask it, one at a time, and how it begins anew where
-one was broken off."""
+"""A network and its running session: calls that ask it, one at a time, and how a new session
+replaces one that was broken off."""
 
 from __future__ import annotations
 
@@ -80,8 +80,8 @@ class SessionHolder(Generic[Node]):
         self._kept = kept
         # The thread that makes a call, while it makes it.
         self._taken: dict[int, list[int]] = {}
-        # Whether a call was broken off, so that the next one begins anew; and why none can be asked
-        # any more.
+        # Whether a call was broken off, so that the next one starts a new session; and why no call
+        # can be answered any more.
         self._is_broken = False
         self._why_over = ""
         # The same, from another thread.
@@ -165,8 +165,9 @@ class SessionHolder(Generic[Node]):
     def _begin_call(self) -> None:
         if self._why_stopped or self._why_over:
             raise SessionEnded(self._why_stopped or self._why_over)
-        if self._is_broken or self._session.is_full_after(MOST_LINES) and self._is_shorter_anew():
-            self._begin_anew()
+        is_full = self._session.is_full_after(MOST_LINES)
+        if self._is_broken or is_full and self._is_restart_shorter():
+            self._restart()
         self._kept.begin_call()
 
     def _break_off(self, present: weakref.ref[Flows[Node]] | None) -> None:
@@ -191,14 +192,14 @@ class SessionHolder(Generic[Node]):
         else:
             kept.redo(place - kept.place, value)
 
-    def _is_shorter_anew(self) -> bool:
+    def _is_restart_shorter(self) -> bool:
         """Return True if a new session would take fewer commands to get here than one that is
         nearly full."""
         return self._kept.place < MOST_LINES // 2
 
-    def _begin_anew(self) -> None:
+    def _restart(self) -> None:
         """Start a new session and let it carry out the commands that led to the present state."""
-        self._why_over = f"{TWICE} while it began anew"
+        self._why_over = f"{TWICE} while a new one began"
         try:
             session = start(self._kept, self._session.way)
         except Exception as error:

@@ -22,7 +22,7 @@ if TYPE_CHECKING:
 class NetworkState(History, Generic[Node]):
     """The arcs of a network with the capacities that they have, or had when they were closed; which
     arcs are closed; the added arcs; and the changes that can be undone or redone, of which there
-    are at most `most`. With its commands and the first capacities, a session can begin anew."""
+    are at most `most`. With its commands and the first capacities, a new session can begin."""
 
     # Who is told of each change, when it was made or unmade.
     watcher: Callable[[Change, bool], None] | None = None

@@ -37,7 +37,7 @@ class FirstAnswer:
         return cls(text, program) if text.count(b"\na ") >= LARGE else None
 
     def _find(self) -> None:
-        # Where none comes, whoever asks for it solves instead, and says what is wrong.
+        # If this fails, the caller that needs the answer solves, and reports what is wrong.
         with contextlib.suppress(Error, OSError):
             self._found = solved([self._text], CUT, program_of(self._program))
 

@@ -178,7 +178,8 @@ class FreshSession(Session):
     def flows(self, value: int, open_count: int) -> bytes | array[int]:
         """Raise an `UnknownCommand`."""
         raise UnknownCommand(
-            "the flow in a sweep whose cases are solved anew: only the value and the cut are known"
+            "the flow in a sweep whose cases are solved from scratch: only the value and the cut "
+            "are known"
         )
 
     def cut(self) -> tuple[int, list[int]]:

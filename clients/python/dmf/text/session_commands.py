@@ -105,7 +105,7 @@ class TrackedNetwork(History):
             }
         return shut
 
-    def begin_anew(self, value: int) -> None:
+    def forget_history(self, value: int) -> None:
         """Forget all changes, since an unknown change may be among them."""
         self.begin_with(value)
         self.begins_known = False

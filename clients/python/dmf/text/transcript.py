@@ -272,7 +272,7 @@ class TranscriptReader:
         if command is not None and self.is_known:
             self.timeline.carry_out(command, value)
         elif self.is_known:
-            self.timeline.begin_anew(value)
+            self.timeline.forget_history(value)
         self._awaits_cut = True
         self.solution = None
         return SolutionReply(value, is_told=False, serial=self.timeline.serial)
@@ -340,7 +340,7 @@ class TranscriptReader:
             reading.judge(timeline.problem.source, timeline.problem.sink)
         # If replies to solves are brief, a solution can only answer `print flow`.
         if reading.command is None and not self.solves_are_brief:
-            timeline.begin_anew(reading.value)
+            timeline.forget_history(reading.value)
         elif reading.command == Command(SOLVE):
             timeline.carry_out(reading.command, reading.value)
             self._awaits_cut = True

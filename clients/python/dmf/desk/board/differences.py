@@ -96,7 +96,7 @@ class DifferencePicture(Picture):
 
     def __init__(self, desk: Desk, places: Places) -> None:
         super().__init__(desk)
-        # Places have other sizes here, so arcs are led anew.
+        # Places have other sizes here, so arcs are routed again.
         self.places = Places(places.spots)
 
     def of(self, found: Comparison, *, to_take: bool = False) -> tuple[str, str]:

@@ -84,7 +84,7 @@ class Server(ThreadingHTTPServer, Host):
     def _listen(self, port: int) -> None:
         """Listen at a port, or at a free one. It takes the same port of the other family of
         addresses, too: a browser that is sent to `localhost` may try that first, and would tell the
-        token to whoever listens there."""
+        token to the program that listens there."""
         for left in reversed(range(1 if port else MOST_PORTS)):
             self.server_address = LOOPBACK, port
             self.server_bind()

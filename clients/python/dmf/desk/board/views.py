@@ -109,7 +109,7 @@ def state_view(desk: Desk, offer: str = "") -> Json:
         "sink": network.told_sink,
         "value": plain_text(value),
         "arcs": len(network.pictured()),
-        # The numbers of arcs after these are given anew after an undo.
+        # After an undo, the numbers after these are given to other arcs.
         "given": network.first_count,
         "places": len(names.places),
         **kept_view(desk, offer),

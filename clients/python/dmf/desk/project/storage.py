@@ -1,5 +1,5 @@
 """A project in its file. What is done to it is kept at once as a line of a journal beside the file,
-which takes the same time whatever the project has; when a desk ends, the file is written anew,
+which takes the same time whatever the project has; when a desk ends, the file is rewritten,
 beside the old one at first, and the last versions stay beside it.
 
 The journal names the project and how many acts came before it, and each of its lines has its

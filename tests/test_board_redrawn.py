@@ -1,5 +1,5 @@
-"""What a step leaves on the page as it was, and what it draws anew: together that is what a page
-shows that is loaded then."""
+"""What a step leaves on the page as it was, and what it redraws: together they are what a newly
+loaded page shows."""
 
 from __future__ import annotations
 
@@ -65,7 +65,7 @@ def settled(page: Page) -> Any:
 
 
 def test_what_stays(driver: Any) -> None:
-    """What looks as before a step is not made anew."""
+    """What looks as before a step is not redrawn."""
     with board(PIPES) as it:
         page = Page(driver, it.address)
         settled(page)
