@@ -122,31 +122,52 @@ class Page:
     def find(self, place: str) -> Any:
         return self.reached(self.driver.find_element("css selector", place))
 
+    def act_on(self, find: Callable[[], Any], act: Callable[[Any], object]) -> None:
+        """Does something to an element once it is there. Where it was replaced by another one, or
+        was hidden, before this could be done to it, it is found again."""
+        from selenium.common.exceptions import (
+            ElementClickInterceptedException,
+            ElementNotInteractableException,
+        )
+
+        def is_done() -> bool:
+            try:
+                act(self.reached(find()))
+            except (ElementClickInterceptedException, ElementNotInteractableException):
+                return False
+            return True
+
+        self.wait(is_done)
+
     def click(self, place: str) -> None:
-        self.find(place).click()
+        self.act_on(
+            lambda: self.driver.find_element("css selector", place), lambda found: found.click()
+        )
+
+    def keys(self, place: str, *keys: str) -> None:
+        """Sends keys to an element, once it can take them."""
+        self.act_on(
+            lambda: self.driver.find_element("css selector", place),
+            lambda found: found.send_keys(*keys),
+        )
 
     def press(self, word: str) -> None:
         """Presses the button of this name, once it is there."""
-        from selenium.common.exceptions import StaleElementReferenceException
+        self.act_on(lambda: self.button(word), lambda found: found.click())
 
-        found = f"//button[text()={word!r} or @aria-label={word!r}]"
+    def button(self, word: str) -> Any:
+        return self.driver.find_element(
+            "xpath", f"//button[text()={word!r} or @aria-label={word!r}]"
+        )
 
-        def is_pressed() -> bool:
-            buttons = self.driver.find_elements("xpath", found)
-            try:
-                for button in buttons[:1]:
-                    self.reached(button).click()
-            except StaleElementReferenceException:
-                # What stands there was redrawn meanwhile.
-                return False
-            return bool(buttons)
+    def write(self, place: str, *keys: str) -> None:
+        """Types into a field, in place of what stands there."""
 
-        self.wait(is_pressed)
+        def type_keys(field: Any) -> None:
+            field.clear()
+            field.send_keys(*keys)
 
-    def write(self, place: str, text: str) -> None:
-        field = self.find(place)
-        field.clear()
-        field.send_keys(text)
+        self.act_on(lambda: self.driver.find_element("css selector", place), type_keys)
 
     def choose(self, place: str, name: str) -> None:
         """Clicks a part of the picture: its label, or if that has no room the part itself."""

@@ -193,23 +193,18 @@ def test_focus_stays(driver: Any) -> None:
         page = Page(driver, it.address)
         page.choose("node-5", "Mill")
         for word, then in ("Shut it", "Open it again"), ("Open it again", "Shut it"):
-            page.wait(
-                lambda: page.driver.find_elements("xpath", f"//button[text()={word!r}]")
-            )  # noqa: B023
-            page.reached(driver.find_element("xpath", f"//button[text()={word!r}]")).send_keys(
-                ENTER
+            page.act_on(
+                lambda: page.button(word), lambda found: found.send_keys(ENTER)  # noqa: B023
             )
             page.settle()
             page.wait(lambda: focused(page) == then)  # noqa: B023
         for button in "undo", "undo":
-            page.find(f"#{button}").send_keys(ENTER)
+            page.keys(f"#{button}", ENTER)
             page.settle()
         # There is nothing more to undo.
         assert (focused(page), it.state()["at"]) == ("redo", 0)
         page.choose("arc-9", "Mill Lane")
-        field = page.find("#capacity")
-        field.clear()
-        field.send_keys("40", ENTER)
+        page.write("#capacity", "40", ENTER)
         page.settle()
         page.wait(lambda: "Mill Lane carries 40" in page.text("#way"))
         assert focused(page) == "capacity"
@@ -220,8 +215,7 @@ def test_focus_stays(driver: Any) -> None:
         page.wait(lambda: "Market link" in page.text("#way"))
         page.settle()
         assert focused(page) == place != "picture"
-        head = page.find("#grid th.capacity button")
-        head.send_keys(ENTER)
+        page.keys("#grid th.capacity button", ENTER)
         page.wait(
             lambda: driver.find_element("css selector", "#grid th.capacity").get_attribute(
                 "aria-sort"
@@ -238,13 +232,13 @@ def test_escape(driver: Any) -> None:
     with board(PIPES) as it:
         page = Page(driver, it.address)
         page.choose("arc-9", "Mill Lane")
-        page.find("#capacity").send_keys(ESCAPE)
+        page.keys("#capacity", ESCAPE)
         page.wait(lambda: page.text("#what").startswith("Click a pipe"))
         page.wait(lambda: focused(page) == "arc-9")
         assert driver.find_elements("css selector", "#picture .chosen") == []
-        page.find("#grid").send_keys(" ")
+        page.keys("#grid", " ")
         page.wait(lambda: page.text("#many-told").startswith("1 chosen"))
-        page.find("#many-capacity").send_keys(ESCAPE)
+        page.keys("#many-capacity", ESCAPE)
         page.wait(lambda: page.text("#many") == "" and focused(page) == "grid")
         driver.get("about:blank")
 

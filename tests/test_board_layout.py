@@ -123,8 +123,8 @@ def test_one_choice(driver: Any) -> None:
     table stays open, and the row is seen."""
     with board(PIPES) as it:
         page = Page(driver, it.address)
-        row = page.find("#row-12 .name")
-        row.click()
+        row = driver.find_element("css selector", "#row-12 .name")
+        page.click("#row-12 .name")
         page.wait(lambda: page.text("#what h3") == row.text)
         assert driver.find_element("id", "part-all").is_displayed()
         assert driver.find_element("id", "arc-13").get_attribute("aria-pressed") == "true"

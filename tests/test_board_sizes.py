@@ -195,9 +195,7 @@ def judge_looks(page: Page, case: Case) -> None:
     """Letters can be read, colours are told apart, controls have names, and the page is as wide as
     it may be."""
     driver = page.driver
-    row = page.find("#limit-table button")
-    driver.execute_script("arguments[0].scrollIntoView({ block: 'center' })", row)
-    row.click()
+    page.click("#limit-table button")
     page.wait(lambda: driver.find_elements("css selector", "#picture .chosen"))
     page.press("The limit")
     driver.execute_async_script("requestAnimationFrame(() => requestAnimationFrame(arguments[0]))")

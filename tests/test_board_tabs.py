@@ -20,6 +20,19 @@ EventSource.prototype.addEventListener = function (kind, listener) {
   add.call(this, kind, (event) => { if (!window.deaf || kind !== "message") listener(event); });
 };
 """
+# Breaks the connection of a page's questions for names as often as it asks each in a row; the last
+# one breaks once `giveUp` is called.
+BROKEN = """
+const { fetch } = window, tries = {};
+const released = new Promise((resolve) => { window.giveUp = resolve; });
+window.fetch = async (path, ...rest) => {
+  if (!path.startsWith("find?")) return fetch(path, ...rest);
+  tries[path] = (tries[path] ?? 0) + 1;
+  if (tries[path] > 4) return fetch(path, ...rest);
+  if (tries[path] === 4) await released;
+  throw new TypeError("broken");
+};
+"""
 # What is typed, whether that can be changed, and how many buttons can be pressed.
 TYPED = """
 const field = document.getElementById("text");
@@ -105,6 +118,22 @@ def test_broken_connection(driver: Any) -> None:
         page.wait(lambda: page.value() == without("Bridge pipe"))
         it.end()
         page.wait(lambda: "The board does not answer." in page.text("#trouble"))
+
+
+def test_answered_meanwhile(driver: Any) -> None:
+    """Where one question was not answered, and others were meanwhile, that one is asked again: the
+    page does not say that the board is not reached."""
+    with board(PIPES) as it:
+        page = Page(driver, it.address)
+        driver.execute_script(BROKEN)
+        page.write("#text", "Bridge")
+        it.do(what="close", arc=10)
+        page.wait(lambda: page.value() == without("Bridge pipe"))
+        driver.execute_script("giveUp()")
+        page.wait(lambda: page.text("#trouble") or page.text("#found button"))
+        assert page.text("#trouble") == ""
+        assert page.text("#found button").startswith("Bridge pipe")
+        driver.get("about:blank")
 
 
 def test_late(driver: Any) -> None:

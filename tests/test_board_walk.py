@@ -153,7 +153,7 @@ class Walk:
         if what == "cap":
             text, to = self.chance.choice(AMOUNTS)
             self.page.write("#capacity", text)
-            self.page.find("#capacity").send_keys("\ue007")
+            self.page.keys("#capacity", "\ue007")
             return f"{self.model.cap([place], to)} {text} {row}"
         {"close": self.model.close, "double": self.model.double}[what]([place])
         self.page.press({"close": "Close it", "double": "Put a second one beside it"}[what])
@@ -208,7 +208,7 @@ class Walk:
         by = to - self.model.at
         self.model.at = to
         if abs(by) == 1 and self.chance.random() < 0.5:
-            self.page.find("#grid").send_keys("\ue009", "z" if by < 0 else "y")
+            self.page.keys("#grid", "\ue009", "z" if by < 0 else "y")
         elif abs(by) == 1:
             self.page.click("#undo" if by < 0 else "#redo")
         else:

@@ -66,7 +66,7 @@ def test_shown(driver: Any, tmp_path: Path, width: int, scheme: str) -> None:
         show(driver, width, scheme)
         page = Page(driver, it.address)
         driver.execute_script("document.querySelector('#costs').open = true")
-        page.find("#costs-to").send_keys("175\n")
+        page.keys("#costs-to", "175\n")
         page.wait(lambda: "greedily" in page.text("#costs-told"))
         rows = [row.text for row in driver.find_elements("css selector", "#costs-limit tbody tr")]
         assert len(rows) == 3 and all(
@@ -81,7 +81,7 @@ def test_shown(driver: Any, tmp_path: Path, width: int, scheme: str) -> None:
         page.wait(lambda: page.text("#costs-told") == "The network has changed since.")
         assert not driver.find_element("id", "costs-way").is_displayed()
         # What is refused leaves nothing of an earlier answer.
-        page.find("#costs-column").send_keys("colour\n")
+        page.keys("#costs-column", "colour\n")
         page.wait(lambda: "No column is called 'colour'" in page.text("#trouble"))
         assert page.text("#costs-told") == ""
         as_before(driver)
