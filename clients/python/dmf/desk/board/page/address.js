@@ -1,6 +1,6 @@
 /**
- * The page's address names what it shows: the scenario, what is chosen, and two scenarios beside each other. So back, a reload and a
- * bookmark show it again while the board runs.
+ * The page's address names what it shows: the scenario, what is selected, and the two scenarios that are compared. So Back, a reload and
+ * a bookmark show it again while the board runs.
  * @typedef {import("./state.js").State} State
  */
 import { choose, theChoice } from "./choice.js";
@@ -11,7 +11,7 @@ import { ask, present } from "./state.js";
 let isBegun = false, isRestoring = false, told = 0;
 
 /**
- * What the address has after its #. An arc that was added has its name too, since its number may be another's later.
+ * Returns the part of the address after its #. An arc that was added also has its name there, since another arc may get its number.
  * @returns {Promise<string>}
  */
 async function words() {
@@ -28,7 +28,7 @@ async function words() {
   return `#${found}`;
 }
 
-/** Has the address name what is shown now. */
+/** Makes the address name what is shown now. */
 export async function nameShown() {
   const turn = (told += 1);
   if (!isBegun || isRestoring) return;
@@ -37,7 +37,7 @@ export async function nameShown() {
   history.pushState(null, "", now);
 }
 
-/** Shows what the address names, as far as it is there. */
+/** Shows what the address names, as far as it exists. */
 async function restore() {
   const wanted = new URLSearchParams(location.hash.slice(1));
   const scenario = wanted.get("scenario"), arc = Number(wanted.get("arc")), node = Number(wanted.get("place"));
@@ -56,11 +56,11 @@ async function restore() {
   } finally {
     isRestoring = false;
   }
-  // What is not there any more is not named either.
+  // The address does not name what no longer exists.
   history.replaceState(null, "", await words());
 }
 
-/** Shows what the address names, and has it name what is shown from here on. */
+/** Shows what the address names, and from then on makes it name what is shown. */
 export async function beginAddress() {
   addEventListener("popstate", restore);
   if (location.hash) await restore();

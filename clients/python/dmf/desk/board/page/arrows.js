@@ -1,8 +1,8 @@
 /**
- * The arrows on the lines of the drawing: of one size on the screen, inside lines that are thick enough, and on none that is short.
+ * The arrows on the lines of the drawing: all of one size on the screen, inside lines that are thick enough, and not on short ones.
  * @typedef {{ part: SVGElement, path: SVGPathElement, long: number, thick: number }} Arrow how long its line is, in units, and how thick
  */
-/** How long a line is in pixels from which it has an arrow, and how thick one that has it inside. */
+/** The least length of a line with an arrow, and the least thickness of one that has it inside, in pixels. */
 export const SHORT = 34, INSIDE = 5;
 
 /**
@@ -17,8 +17,8 @@ export const arrowsOf = (parts) => parts.filter((part) => part.matches(".arc")).
 /**
  * Shows the arrows for a size of the picture.
  * @param {Arrow[]} arrows
- * @param {number} scale the pixels for a unit
- * @param {number} thicker by how much thicker lines are
+ * @param {number} scale pixels per unit
+ * @param {number} thicker the factor by which lines are thicker
  */
 export function pointArrows(arrows, scale, thicker) {
   for (const { part, long, thick } of arrows) {

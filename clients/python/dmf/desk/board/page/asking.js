@@ -1,18 +1,18 @@
 /** Requests to the board, over connections that may break. */
 
-/** How long it is waited until a question is asked again whose connection broke, in milliseconds. Then the board is not reached. */
+/** The pauses before a request whose connection broke is repeated, in milliseconds. After the last one the board counts as lost. */
 const PAUSES = [200, 800, 2000];
-/** What is not sent twice, since it may have been heard. */
+/** The requests that are not repeated, since the board may have carried them out. */
 export const ONCE = ["do", "stop"];
 
-/** How many requests were answered so far. */
+/** The number of requests that were answered so far. */
 let answered = 0;
 
 /**
- * What the board answers, or null if it is not reached. Where the connection breaks, it is asked again; and once more if another request
- * was answered meanwhile, since then the board is reached.
+ * Returns the board's answer, or null if the board cannot be reached. If the connection breaks, the request is repeated; and once more if
+ * another request was answered meanwhile, which shows that the board can be reached.
  * @param {string} path
- * @param {object} [content] what is sent, if there is something
+ * @param {object} [content] what is posted, if anything
  * @returns {Promise<{ answer: Response, told: any } | null>}
  */
 export async function heard(path, content) {

@@ -1,5 +1,5 @@
 /**
- * What of the bottleneck lies beyond the edge of the picture: a button at that edge says how much, and shows it.
+ * The part of the bottleneck beyond the edge of the picture: a button at that edge says how much it is, and shows it.
  * @typedef {import("./room.js").Room} Room
  */
 import { at } from "./elements.js";
@@ -8,7 +8,7 @@ import { grouped } from "./words.js";
 const SIGNS = { left: "←", right: "→", top: "↑", bottom: "↓" };
 
 /**
- * At which edge a point lies that is out of a room, or nothing.
+ * Returns the edge beyond which a point lies, or null if it is in the room.
  * @param {number[]} point in pixels
  * @param {Room} room
  */
@@ -19,7 +19,7 @@ function edgeOf([x, y], { left, right, top, bottom }) {
 }
 
 /**
- * Says at the edge where most of the bottleneck is that is not seen how much that is, unless some is seen.
+ * If no part of the bottleneck is visible, says how much of it lies beyond the edge where most of it is.
  * @param {number[][]} points the middles of its arcs, in pixels of the picture
  * @param {Room} room the free part of the picture
  */

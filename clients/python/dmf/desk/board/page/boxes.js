@@ -2,10 +2,10 @@
  * Boxes on the screen, and which of them meet.
  * @typedef {import("./ink.js").Edges} Edges
  */
-/** The side of a field in which boxes are sought, in pixels. */
+/** The side of a field of the grid, in pixels. */
 const FIELD = 64;
 
-/** Boxes, found by the fields of a grid. */
+/** An index of boxes by the fields of a grid. */
 export class Boxes {
   /** @type {Map<string, Edges[]>} */
   #fields = new Map();
@@ -28,7 +28,7 @@ export class Boxes {
   }
 
   /**
-   * Whether no other box than this one's own meets a box.
+   * Returns true if a box meets no box except `own`.
    * @param {Edges} box
    * @param {Edges | null} own
    */

@@ -1,5 +1,5 @@
 /**
- * What is chosen on the page: an arc or a place.
+ * The selection on the page: an arc or a place.
  * @typedef {import("./state.js").Choice} Choice
  */
 import { button, cell } from "./elements.js";
@@ -12,7 +12,7 @@ const watchers = [];
 export const theChoice = () => chosen;
 
 /**
- * Has each choice told to a part of the page.
+ * Calls `watcher` after each new selection.
  * @param {(chosen: Choice | null) => unknown} watcher
  */
 export function watchChoice(watcher) {
@@ -26,7 +26,7 @@ export async function choose(what) {
 }
 
 /**
- * A cell with an arc that a click chooses. One that stands for a limit of a place is seen at that place.
+ * Returns a cell with an arc that a click selects. An arc that stands for a limit of a place is shown at that place.
  * @param {{ number: number, node: number, label?: string }} arc
  * @param {string} text
  */

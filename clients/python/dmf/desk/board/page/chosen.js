@@ -1,5 +1,5 @@
 /**
- * What is told of a chosen arc or place, and what can be done to it.
+ * What the page says about the selected arc or place, and what can be done to it.
  * @typedef {import("./state.js").Arc} Arc
  * @typedef {import("./state.js").Place} Place
  * @typedef {import("./elements.js").Piece} Piece
@@ -17,7 +17,7 @@ export async function showChosen() {
     replace(at("what"), [make("p", `Click a ${noun()} or a place in the picture, or find one by its name.`)]);
     return;
   }
-  // An arc that was added may be gone.
+  // An arc that was added may no longer exist.
   const told = await ask(chosen.arc ? `arc?number=${chosen.arc}` : `place?node=${chosen.node}`, undefined, true);
   if (chosen !== theChoice() || told === undefined) return;
   if (!told || told.replaced) {
@@ -27,7 +27,7 @@ export async function showChosen() {
   replace(at("what"), chosen.arc ? aboutArc(told) : aboutPlace(told));
 }
 
-/** Says what closing the chosen arc leaves, once that is known. All else stays, also what is being typed. */
+/** Says what is left without the selected arc, once that is known. All else stays, including what is being typed. */
 export async function showClosing() {
   const chosen = theChoice();
   if (!chosen?.arc) return;
@@ -50,7 +50,7 @@ function aboutArc(arc) {
 }
 
 /**
- * The form that gives an arc another capacity.
+ * Returns the form that changes an arc's capacity.
  * @param {Arc} arc
  * @param {string} words
  * @param {string} id
@@ -64,7 +64,7 @@ function setting(arc, words, id) {
 }
 
 /**
- * What a place gives, takes or lets through.
+ * Returns what a place gives, takes or lets through, with a form to change it.
  * @param {Arc} arc
  */
 function aboutRole(arc) {
@@ -89,7 +89,7 @@ function aboutPlace(place) {
 }
 
 /**
- * The form that adds an arc from a place.
+ * Returns the form that adds an arc from a place.
  * @param {Place} place
  */
 function adding(place) {

@@ -1,9 +1,9 @@
 /**
- * What the picture is coloured by: one table of colourings, which the picture, the legend and the filter of the table share.
- * @typedef {{ number: number, state: string, use: number, change: string, width: number }} Mark what the board tells of how an arc looks
+ * The colourings of the picture, in one table that the picture, the legend and the table's filter share.
+ * @typedef {{ number: number, state: string, use: number, change: string, width: number }} Mark what the board says about an arc's look
  * @typedef {{ words: string, ink: string, filter: string, isDashed?: boolean, has: (mark: Mark) => boolean }} Shade
- *   `ink` is a colour of the style, and `filter` what shows the same arcs in the table, if that can be typed
- * @typedef {{ name: string, words: string, shades: () => Shade[] }} Colouring the first shade that has an arc is its own
+ *   `ink` is a colour of the style, and `filter` the filter of the table that shows the same arcs, or empty if none does
+ * @typedef {{ name: string, words: string, shades: () => Shade[] }} Colouring an arc has the first shade that fits it
  */
 
 /** @type {Shade} */
@@ -38,23 +38,23 @@ const CHANGE = [
   { words: "not changed (the flows before are not known)", ink: "unused", filter: "not changed", has: (mark) => mark.change === "?" },
   { words: "as at the beginning", ink: "unused", filter: "flow = before and not changed", has: () => true },
 ];
-/** How many shades of loss there are. */
+/** The number of shades of loss. */
 const BANDS = 4;
 /**
- * What is lost without each arc, by their numbers; none where that is not known.
+ * What is lost without each arc, by its number, as far as that is known.
  * @type {Map<number, number>}
  */
 let losses = new Map();
 
 /**
- * Gives the fourth colouring its numbers, or takes it away where they are none.
+ * Sets the numbers of the fourth colouring, which is not offered if there are none.
  * @param {Map<number, number>} found
  */
 export function setLosses(found) {
   losses = found;
 }
 
-/** The shades of loss: the largest loss in parts of one size, each named by the losses that it has. */
+/** Returns the shades of loss: equal parts of the largest loss, each named by the losses in it. */
 function worth() {
   const largest = Math.max(0, ...losses.values());
   const band = (/** @type {number} */ loss) => Math.ceil(loss / largest * BANDS);
@@ -80,12 +80,12 @@ const ALL = [
   { name: "worth", words: "what is lost without it", shades: worth },
 ];
 
-/** The colourings that there are now. */
+/** The colourings that can be chosen now. */
 export const colourings = () => ALL.filter((it) => it.name !== "worth" || losses.size);
 
 /**
  * @param {number} number
- * @param {string} signs as the board writes them
+ * @param {string} signs a character for each field, as the board writes them
  * @returns {Mark}
  */
 export const markOf = (number, [state, use, change, width]) => ({ number, state, use: Number(use), change, width: Number(width) });
@@ -97,13 +97,13 @@ export const markOf = (number, [state, use, change, width]) => ({ number, state,
 export const shadeOf = (shades, mark) => /** @type {Shade} */ (shades.find((shade) => shade.has(mark)));
 
 /**
- * The thickness of a line in pixels by its capacity, for lines of the usual length.
+ * Returns the thickness of a line in pixels, by its arc's capacity, in a picture whose lines have the usual length.
  * @param {Mark} mark
  */
 export const thickness = (mark) => 1.3 + 5.7 * mark.width / 9;
 
 /**
- * By how much thicker lines are, if they are usually as long as this, in pixels.
+ * Returns the factor by which lines are thicker if their usual length is this, in pixels.
  * @param {number} usual
  */
 export const thicker = (usual) => Math.min(1.5, Math.max(0.55, usual / 55));

@@ -1,5 +1,5 @@
 /**
- * Two scenarios beside each other: value, limit, and each arc that differs, in a table and in a picture.
+ * The comparison of two scenarios: their values, their bottlenecks, and each arc that differs, in a table and in a picture.
  * @typedef {import("./state.js").State} State
  * @typedef {{ name: string, value: string, limit: string[], limit_count: number }} Standing
  * @typedef {{ arc: string, number: number, node: number, kind: string, first: string, second: string }} Row
@@ -23,11 +23,11 @@ let asked = 0;
 /** @type {(() => unknown)[]} */
 const watchers = [];
 
-/** The names of the two scenarios that are shown beside each other, if any are. */
+/** The names of the two scenarios that are being compared, or null. */
 export const theComparison = () => (shown ? [shown.first.name, shown.second.name] : null);
 
 /**
- * Has each comparison told to a part of the page.
+ * Calls `watcher` after each comparison.
  * @param {() => unknown} watcher
  */
 export function watchComparison(watcher) {
@@ -35,7 +35,7 @@ export function watchComparison(watcher) {
 }
 
 /**
- * Offers the scenarios to choose two from: the network of the table beside the present one, as long as nothing else is chosen.
+ * Fills the two lists of scenarios. Until others are chosen, the network of the table is compared with the present scenario.
  * @param {string[]} names
  * @param {State} state
  */
@@ -51,7 +51,7 @@ function outdated() {
 }
 
 /**
- * Shows two scenarios beside each other.
+ * Shows the comparison of two scenarios.
  * @param {string} one
  * @param {string} two
  */
@@ -71,7 +71,7 @@ export async function compare(one, two) {
   if (picture && turn === asked) draw(picture);
 }
 
-/** Shows nothing beside each other any more. */
+/** Closes the comparison. */
 export function closeComparison() {
   asked += 1;
   shown = null;
@@ -105,7 +105,7 @@ function showTable() {
     make("td", KINDS.get(row.kind) ?? "", { class: row.kind })]), true);
 }
 
-/** Lists more of what differs. */
+/** Lists more arcs that differ. */
 async function more() {
   const told = shown, turn = asked;
   if (!told) return;
@@ -129,7 +129,7 @@ function draw({ svg, reason }) {
   if (!svg) return;
   const made = document.importNode(new DOMParser().parseFromString(svg, "image/svg+xml").documentElement, true);
   const drawn = /** @type {SVGSVGElement} */ (/** @type {unknown} */ (made)), { width, height } = drawn.viewBox.baseVal;
-  // Letters are 11 pixels high at least; what is wider than the page is moved in its frame.
+  // Letters are at least 11 pixels high; a picture wider than the page scrolls in its frame.
   const scale = Math.min(1.33, Math.max(1.02, (host.clientWidth - 4) / width));
   drawn.setAttribute("width", String(width * scale));
   drawn.setAttribute("height", String(height * scale));

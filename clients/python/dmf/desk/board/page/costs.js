@@ -1,5 +1,5 @@
 /**
- * What more costs, where the table has a column of costs: at each arc of the limit, and a cheap way to a greater value.
+ * The cost of more capacity, if the table has a column of costs: on each arc of the bottleneck, and for a greater value.
  * @typedef {import("./state.js").Arc} Arc
  * @typedef {import("./state.js").State} State
  * @typedef {{ wider: (Arc & { by: string })[], cost: string, total: string, value: string }} Bought
@@ -40,7 +40,7 @@ function show(told) {
 }
 
 /**
- * Takes away what was of another state.
+ * Removes what belongs to another state.
  * @param {State} state
  * @param {State | null} before
  */

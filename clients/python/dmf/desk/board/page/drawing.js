@@ -1,15 +1,15 @@
 /**
- * The drawing that the board makes of the picture. Of a new one those parts alone are put in place that look otherwise than before: it
- * takes far longer to lay out and to paint all.
+ * The drawing that the board makes of the picture. When a new one comes, only the parts that look different are replaced: to lay out and
+ * paint all of them takes far longer.
  * @typedef {import("./view.js").Box} Box
  */
 import { at, replace } from "./elements.js";
 
-/** A part of a drawing as the board writes it. No part has a group in it, and names in it are text, so that this is its end. */
+/** A part of a drawing as the board writes it. No part contains another group, and names in it are text, so the first `</g>` ends it. */
 const PART = /<g id="((?:arc|node)-\d+)"[^]*?<\/g>/g;
 const ROOT = '<svg xmlns="http://www.w3.org/2000/svg" xmlns:xlink="http://www.w3.org/1999/xlink">';
 /**
- * Each part, as the board wrote it last.
+ * The latest text of each part from the board.
  * @type {Map<string, string>}
  */
 let written = new Map();
@@ -18,7 +18,7 @@ let written = new Map();
 export const parts = () => [...at("picture").querySelectorAll("g")].filter((group) => group.matches(".node, .arc"));
 
 /**
- * The part of the picture that a drawing takes, or nothing if the text is empty.
+ * Returns the element of a drawing, or null if the text is empty.
  * @param {string} text
  * @returns {Box | null}
  */
@@ -28,7 +28,7 @@ export function boxOf(text) {
 }
 
 /**
- * Shows a drawing, or none if the text is empty.
+ * Shows a drawing, or removes it if the text is empty.
  * @param {string} text
  */
 export function show(text) {
@@ -65,7 +65,7 @@ function read(text) {
 }
 
 /**
- * Makes a part of the picture a button, which its title names, with room for a click, and for the mark of what is chosen beside it.
+ * Makes a part of the picture a button that its title names, with room for a click and, beside it, for the mark of the selection.
  * @param {Element} group
  */
 function prepare(group) {

@@ -1,10 +1,10 @@
 /**
- * The elements of the page, and new ones. Names of places and arcs are text in them, never markup.
+ * Finds and makes elements of the page. Names of places and arcs are text in them, never markup.
  * @typedef {Node | string} Piece
  */
 
 /**
- * The element of this id. Throws if there is none.
+ * Returns the element with this id. Throws an error if there is none.
  * @param {string} id
  */
 export function at(id) {
@@ -20,7 +20,7 @@ export const field = (id) => /** @type {HTMLInputElement} */ (at(id));
 const tableAt = (id) => /** @type {HTMLTableElement} */ (at(id));
 
 /**
- * Has a click on the element of this id do something.
+ * Sets what a click on the element with this id does.
  * @param {string} id
  * @param {(event: MouseEvent) => unknown} act
  */
@@ -29,7 +29,7 @@ export function onClick(id, act) {
 }
 
 /**
- * An element with what is in it and its attributes; one that is false is left out.
+ * Returns a new element with its content and its attributes. An attribute that is false is left out.
  * @template {keyof HTMLElementTagNameMap} Tag
  * @param {Tag} tag
  * @param {Piece | Piece[]} content
@@ -62,13 +62,13 @@ export function button(text, act, kind = "") {
  */
 let sent = null;
 
-/** Keeps no more what was typed into the form that is being sent, since it is done. */
+/** Forgets what was typed into the form that is being sent, since it was carried out. */
 export function dropTyped() {
   for (const it of sent?.querySelectorAll("input") ?? []) delete it.dataset.of;
 }
 
 /**
- * A form that does something when its button is pressed, or Enter in a field.
+ * Returns a form that does something when its button is pressed, or Enter in one of its fields.
  * @param {Piece[]} fields
  * @param {string} word on its button
  * @param {() => unknown} done
@@ -85,7 +85,7 @@ export function form(fields, word, done) {
 }
 
 /**
- * Gives a list to choose from these values with their words, and keeps what is chosen if it is still there.
+ * Fills a drop-down list with these values and their words, and keeps its selection if that is still there.
  * @param {string} id
  * @param {string[][]} pairs
  * @param {string} usual
@@ -100,14 +100,14 @@ export function offer(id, pairs, usual) {
 const controls = (host) => [...host.querySelectorAll("button:enabled, input:enabled")];
 
 /**
- * The fields of an element that say what they are of.
+ * Returns the fields of an element that say what they belong to.
  * @param {Element} host
  */
 const fieldsIn = (host) => [...host.querySelectorAll("input")].filter((it) => it.dataset.of);
 
 /**
- * Gives an element these children. Those that are there already stay, so that nothing has to be laid out anew. So does what was typed into
- * fields, and the focus, on what is like the one that had it, or else where that was.
+ * Sets the children of an element. Equal ones that it has already stay, so that nothing has to be laid out again. What was typed into
+ * fields stays too, and so does the focus: on a child like the one that had it, or else in the same position.
  * @param {Element} host
  * @param {Element[]} children
  */
@@ -129,7 +129,7 @@ export function replace(host, children) {
 }
 
 /**
- * Replaces what is in a list or a table by rows whose buttons do the same wherever they look the same. So those that look as before stay.
+ * Replaces the rows of a list or a table, in which buttons that look the same do the same. So rows that look as before can stay.
  * @param {Element} host
  * @param {Element[]} rows
  */
@@ -144,12 +144,12 @@ export const cell = (content) => make("td", content);
 export const numberCell = (text) => make("td", text, { class: "number" });
 
 /**
- * Gives a table another title line and other rows.
+ * Replaces the title line and the rows of a table.
  * @param {string} id
  * @param {string} caption
- * @param {string[]} heads the titles, of which all but the first are of numbers, unless they are empty
+ * @param {string[]} heads the titles; all columns but the first have numbers, unless their title is empty
  * @param {HTMLTableCellElement[][]} rows
- * @param {boolean} isWords that no column is of numbers
+ * @param {boolean} isWords whether no column has numbers
  */
 export function fill(id, caption, heads, rows, isWords = false) {
   const table = tableAt(id);

@@ -1,6 +1,6 @@
 /**
- * The filter: what was typed into the table's field, or an entry of the legend. The table lists what it leaves, and all else fades in the
- * picture.
+ * The filter: what was typed into the table's field, or an entry of the legend. The table lists the arcs that match, and all else fades
+ * in the picture.
  * @typedef {import("./colourings.js").Mark} Mark
  * @typedef {import("./colourings.js").Shade} Shade
  */
@@ -9,12 +9,12 @@ import { ask, present } from "./state.js";
 
 let asked = 0;
 /**
- * The arcs that the filter's words leave, or null if there are none, or they have no meaning.
+ * The arcs that match what was typed, or null if nothing was typed or it has no meaning.
  * @type {Set<number> | null}
  */
 let left = null;
 /**
- * The shade of the legend that is the filter and cannot be typed.
+ * The entry of the legend that is the filter, if it cannot be typed.
  * @type {Shade | null}
  */
 let untyped = null;
@@ -22,7 +22,7 @@ let untyped = null;
 const watchers = [];
 
 /**
- * Has each other filter told to a part of the page.
+ * Calls `watcher` after each change of the filter.
  * @param {() => unknown} watcher
  */
 export function watchFilter(watcher) {
@@ -35,12 +35,12 @@ export const filterWords = () => field("filter").value.trim();
 export const isFilter = (shade) => shade === untyped || shade.filter !== "" && shade.filter === filterWords();
 
 /**
- * Whether the filter leaves an arc out.
+ * Returns true if the filter leaves an arc out.
  * @param {Mark} mark
  */
 export const isFaded = (mark) => (left ? !left.has(mark.number) : untyped ? !untyped.has(mark) : false);
 
-/** Finds anew which arcs the filter leaves, as after a step. */
+/** Finds again which arcs match the filter, for example after a step. */
 export async function applyFilter() {
   const turn = (asked += 1), words = filterWords();
   const path = `numbers?filter=${encodeURIComponent(words)}&sort=&first=0&count=${present().arcs}`;
@@ -51,14 +51,14 @@ export async function applyFilter() {
   if (isOther) for (const watcher of watchers) watcher();
 }
 
-/** Takes what was typed as the filter. */
+/** Makes what was typed the filter. */
 export function typeFilter() {
   untyped = null;
   return applyFilter();
 }
 
 /**
- * Makes a shade of the legend the filter, or nothing if it was that.
+ * Makes an entry of the legend the filter, or drops it if it is the filter already.
  * @param {Shade} shade
  */
 export async function toggleFilter(shade) {
@@ -70,7 +70,7 @@ export async function toggleFilter(shade) {
   await applyFilter();
 }
 
-/** Drops a shade that is the filter and was of another colouring. */
+/** Drops a filter that belongs to another colouring. */
 export function dropUntyped() {
   untyped = null;
 }

@@ -1,11 +1,11 @@
-/** Places and arcs, found by their names as one types. */
+/** Finds places and arcs by their names, while they are typed. */
 import { choose, watchChoice } from "./choice.js";
 import { at, button, field, make } from "./elements.js";
 import { ask } from "./state.js";
 
 let typed = 0;
 /**
- * What is being found for what was typed last. Enter waits for it.
+ * The search for what was typed last. Enter waits for it.
  * @type {Promise<unknown>}
  */
 let search = Promise.resolve();
@@ -16,7 +16,7 @@ async function find() {
   const told = text ? await ask(`find?text=${encodeURIComponent(text)}`) : { found: [] };
   if (turn !== typed) return;
   if (!told) {
-    // What was found for another text is not what is meant.
+    // These were found for another text.
     at("found").replaceChildren();
     return;
   }
@@ -26,7 +26,7 @@ async function find() {
   at("found").replaceChildren(...lines);
 }
 
-/** Takes the list away once something is chosen, which is told below it. */
+/** Removes the list once something is selected, which is then described below it. */
 function close() {
   typed += 1;
   if (at("found").contains(document.activeElement)) at("what").focus();
@@ -42,7 +42,7 @@ export function beginFinding() {
     event.preventDefault();
     const turn = typed;
     await search;
-    // What is typed after Enter is another search.
+    // Typing after Enter begins another search.
     if (turn === typed) at("found").querySelector("button")?.click();
   });
 }

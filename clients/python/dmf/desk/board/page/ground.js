@@ -1,10 +1,10 @@
 /**
- * All arcs where they lie, behind the picture, which has a part of them with their numbers: what lies where, and what is near a point.
+ * All arcs at their positions, behind the picture, which shows some of them with their numbers: what lies where, and what is near a point.
  * @typedef {import("./view.js").Box} Box
  * @typedef {import("./colourings.js").Mark} Mark
  * @typedef {{ number: number, tail: number, head: number, from: [number, number], to: [number, number], aside: [number, number],
  *   mark: Mark }} Line
- *   from and to where, and which way and how many lanes aside of that, since it has the same ends as others
+ *   where it begins and ends, and the direction and number of lanes by which it is moved aside from arcs with the same ends
  * @typedef {{ node: number, name: string, x: number, y: number, look: string, isEnd: boolean }} Spot
  */
 import { choose, theChoice } from "./choice.js";
@@ -14,10 +14,10 @@ import { isPicked } from "./many.js";
 import { ask } from "./state.js";
 import { freeBox, scale, seenBox } from "./view.js";
 
-/** The look of an arc that is not there. */
+/** The look of an arc that does not exist now. */
 const NONE = " ";
-/** How far apart arcs with the same ends lie, and how near a click has to be, in pixels; from how many pixels for a unit on names are
- * read. */
+/** The distance of arcs with the same ends, and how near a click has to be, in pixels; and the least scale, in pixels per unit, at which
+ * names can be read. */
 const APART = 5, NEAR = 9;
 export const NAMES = 0.3;
 /** @type {Map<number, Spot>} */
@@ -25,7 +25,7 @@ export const places = new Map();
 /** @type {number[][] | null} */
 let ends = null;
 /**
- * The lines that lie there, how long they usually are, and the arcs and places that the picture before them has.
+ * The lines, their usual length, and the arcs and places that the picture in front of them has.
  * @type {{ lines: Line[], usual: number, before: Set<string> }}
  */
 export const ground = { lines: [], usual: 1, before: new Set() };
@@ -36,7 +36,7 @@ export const isGround = () => ground.lines.length > 0;
 export const isOfLimit = (line) => line.mark.state === "l";
 
 /**
- * Asks for all that lies there, and then for how it looks.
+ * Requests the positions, and then the looks.
  * @param {boolean} isThere
  */
 export async function lookAtGround(isThere) {
@@ -63,7 +63,7 @@ export async function lookAtGround(isThere) {
 }
 
 /**
- * The lines of arcs: side by side where they have the same ends.
+ * Returns the lines of arcs; those with the same ends lie side by side.
  * @param {any[][]} arcs their numbers, ends and signs
  */
 function linesOf(arcs) {
@@ -83,7 +83,7 @@ function linesOf(arcs) {
 }
 
 /**
- * Where a line begins and ends, beside those with the same ends.
+ * Returns where a line begins and ends, beside those with the same ends.
  * @param {Line} line
  * @returns {[number, number][]}
  */
@@ -98,7 +98,7 @@ export function setBefore(ids) {
 }
 
 /**
- * The box of all places, or of the limit, or of what is chosen, if something of that is there.
+ * Returns the box around all places, the bottleneck or the selection, or null if there is nothing in it.
  * @param {string} like a selector of the picture's parts
  */
 export function groundBox(like) {
@@ -113,7 +113,7 @@ export function groundBox(like) {
 }
 
 /**
- * Whether it is chosen.
+ * Returns true if it is selected.
  * @param {Line | Spot} it
  */
 export function isMarked(it) {
@@ -122,7 +122,7 @@ export function isMarked(it) {
 }
 
 /**
- * Chooses the place or the arc at a point of the window, if one is near.
+ * Selects the place or the arc near a point of the window, if there is one.
  * @param {MouseEvent} event
  */
 export function chooseNear(event) {
@@ -135,7 +135,7 @@ export function chooseNear(event) {
 }
 
 /**
- * What is nearest, if it is near enough.
+ * Returns what is nearest, if it is near enough.
  * @template It
  * @param {It[]} all
  * @param {(it: It) => number} far
@@ -150,7 +150,7 @@ function nearest(all, far) {
 }
 
 /**
- * How far a point is from a line.
+ * Returns the distance of a point from a line.
  * @param {Line} line
  * @param {number} x
  * @param {number} y
@@ -162,7 +162,7 @@ function away(line, x, y) {
 }
 
 /**
- * The place that is the nearest to another in a direction.
+ * Returns the nearest place to another in a direction.
  * @param {number} node
  * @param {[number, number]} way to the right and downwards
  */
@@ -177,7 +177,7 @@ export function nextPlace(node, [right, down]) {
   return best;
 }
 
-/** The place in the middle of what is seen, if names can be read there and the picture lacks some that lie around it. */
+/** Returns the place in the middle of the view, if names can be read there and the picture lacks some places around it. */
 export function middlePlace() {
   if (scale() < NAMES || !isGround()) return null;
   const box = freeBox(), [x, y] = [box.x + box.width / 2, box.y + box.height / 2];

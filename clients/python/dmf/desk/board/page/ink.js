@@ -1,24 +1,24 @@
 /**
- * Where the lines of the picture lead, so that labels can keep off them.
+ * Where the lines of the picture run, so that labels can avoid them.
  * @typedef {{ points: { x: number, y: number }[], thick: number }} Stroke
  * @typedef {{ left: number, right: number, top: number, bottom: number }} Edges
  */
-/** The side of a field, and how far apart points of a line are looked at, in pixels; how many points of a curve are known. */
+/** The side of a field, and the distance of the points of a line that are examined, in pixels; and the number of points along a curve. */
 const FIELD = 6, STEP = 5, KNOWN = 12;
 /**
- * Points along curves, by what the curves are.
+ * Points along curves, by the curves' paths.
  * @type {Map<string, DOMPoint[]>}
  */
 let curves = new Map();
 
 /**
- * Points along a path, from its beginning to its end.
+ * Returns points along a path, from its beginning to its end.
  * @param {SVGPathElement} path
  */
 export function pointsOf(path) {
   const curve = path.getAttribute("d") ?? "", known = curves.get(curve), long = known ? 0 : path.getTotalLength();
   const points = known ?? Array.from({ length: KNOWN + 1 }, (_, place) => path.getPointAtLength(place / KNOWN * long));
-  // A picture of a large network shows other curves in each place.
+  // In a large network the picture near each place has other curves.
   if (curves.size > 5000) curves = new Map();
   curves.set(curve, points);
   return points;
@@ -26,14 +26,14 @@ export function pointsOf(path) {
 
 const key = (/** @type {number} */ column, /** @type {number} */ row) => column * 100_003 + row;
 
-/** The fields that lines cover, in pixels for a size of the picture. */
+/** The fields that lines cover at one scale of the picture. */
 export class Ink {
   /** @type {Set<number>} */
   #fields = new Set();
 
   /**
    * @param {Stroke[]} strokes with their thickness in pixels
-   * @param {number} scale the pixels for a unit
+   * @param {number} scale pixels per unit
    */
   constructor(strokes, scale) {
     for (const { points, thick } of strokes) {
@@ -58,7 +58,7 @@ export class Ink {
   }
 
   /**
-   * How many fields under a box lines cover.
+   * Returns the number of fields under a box that lines cover.
    * @param {Edges} box
    */
   under({ left, right, top, bottom }) {

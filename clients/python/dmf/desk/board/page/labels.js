@@ -1,36 +1,36 @@
 /**
- * Where the labels of the picture are: none lies on a place, but in its own where that has room, and none on another label. What matters
- * more is put first; what finds no spot is not shown. Letters are as large as Graphviz made them, within bounds that can be read.
+ * The positions of the picture's labels: a label lies on no place, except inside its own if it fits, and on no other label. The most
+ * important ones are placed first; one that finds no spot is hidden. Letters are as large as Graphviz made them, within readable bounds.
  * @typedef {{ part: SVGElement, texts: SVGTextElement[], x: number, y: number, width: number, height: number, size: number,
  *   rank: number, oval: Oval | null, line: DOMPoint[] }} Label
- * @typedef {{ x: number, y: number, right: number, down: number }} Oval the middle of a place, and how far it reaches
+ * @typedef {{ x: number, y: number, right: number, down: number }} Oval the middle of a place, and its half axes
  * @typedef {import("./ink.js").Edges} Edges
  * @typedef {import("./ink.js").Ink} Ink
- * @typedef {{ ink: Ink, view: Edges }} Ground where lines lead, and what is seen, in pixels
- * @typedef {[number, number, boolean]} Place the middle of a label, and whether that is in its own place
+ * @typedef {{ ink: Ink, view: Edges }} Ground where lines run, and the visible part, in pixels
+ * @typedef {[number, number, boolean]} Place the middle of a label, and whether it is inside its own place
  */
 import { Boxes, edges } from "./boxes.js";
-/** How high letters are, in pixels; how high a line is for them; how far a label stays from its place, in pixels. */
+/** The bounds of the letters' height, in pixels; the height of a line for that; and the distance of a label from its place, in pixels. */
 const LEAST = 11.2, MOST = 17, LINE = 1.25, APART = 3;
-/** How much of an oval a label may take, for it to lie in it. */
+/** The largest part of an oval that a label inside it may fill. */
 const FILLED = 1.6;
-/** How much a label costs of which a part is not seen, in fields with lines under it; how far away one is that costs a field, in pixels. */
+/** The cost of a label that is not wholly visible, in fields with lines under it; and the distance that costs one field, in pixels. */
 const CUT = 100, AWAY = 1.5;
-/** The spots of a label of a place, around that; and of an arc, from where Graphviz has it: by parts of its size. */
+/** The spots of a place's label, around the place; and of an arc's, from where Graphviz put it, in parts of its size. */
 const AROUND = [[1, 0], [-1, 0], [0, -1], [0, 1], [1, -1], [1, 1], [-1, -1], [-1, 1]];
 const BESIDE = [[0, 0], [0, -0.3], [0, 0.3], [0.3, 0], [-0.3, 0], [0, -0.6], [0, 0.6], [0.3, -0.3], [-0.3, 0.3]];
-/** Where a label may lie along the line of an arc, by parts of that, and to which sides of it. */
+/** Where a label may lie along an arc's line, in parts of its length, and on which sides of it. */
 const ALONG = [0.5, 0.3, 0.7, 0.15, 0.85], SIDES = [[0, -1], [0, 1], [1, 0], [-1, 0]];
-/** How many lines further out a label may lie, and how far that is at most in units, but for what is chosen, which has always one. */
+/** How many text lines further out a label may lie, and the most that this may be, in units. The selection always has a label. */
 const RINGS = [1, 2, 3, 4, 5, 6, 8, 10], FURTHEST = 32;
 /**
- * How wide texts are, for letters of one pixel.
+ * The width of texts, in letters of one pixel.
  * @type {Map<string, number>}
  */
 const widths = new Map();
 
 /**
- * The labels in a picture.
+ * Returns the labels in a picture.
  * @param {Iterable<SVGElement>} parts
  * @returns {Label[]}
  */
@@ -51,7 +51,7 @@ export function labelsOf(parts) {
 }
 
 /**
- * How wide a text is at most, for letters of one pixel: as wide as bold ones.
+ * Returns the greatest width of a text, in letters of one pixel: its width in bold.
  * @param {string} text
  */
 function wide(text) {
@@ -63,7 +63,7 @@ function wide(text) {
 }
 
 /**
- * Points of the line of an arc.
+ * Returns points on the line of an arc.
  * @param {SVGElement} part
  */
 function pointsOf(part) {
@@ -83,7 +83,7 @@ function ovalOf(part) {
 }
 
 /**
- * How much a label matters; less is more: the source and the sink, the limit, places, and arcs that are full.
+ * Returns the rank of a label, the most important first: the source and the sink, the bottleneck, places, full arcs, other arcs.
  * @param {SVGElement} part
  */
 function rank(part) {
@@ -92,8 +92,8 @@ function rank(part) {
 }
 
 /**
- * Of these spots the one under which the least of lines is, and which is near the first: a label further away would be read as that of
- * another line. One within its place is taken.
+ * Returns the spot that covers the fewest lines and is near the first one: a label further away would be read as that of another line.
+ * A spot inside the label's own place is preferred.
  * @param {Place[]} found
  * @param {number} right how far the label reaches
  * @param {number} down
@@ -111,13 +111,13 @@ function clearest(found, right, down, { ink, view }) {
 }
 
 /**
- * What labels lie on, since they were arranged last, and what boxes are taken.
+ * What the labels lie on since they were arranged last, and the boxes that are taken.
  * @type {Ground & { taken: Boxes } | null}
  */
 let present = null;
 
 /**
- * Lets no name lie here that finds its spot from now on.
+ * Keeps names that are placed from now on away from here.
  * @param {number} x in pixels
  * @param {number} y
  * @param {number} reach
@@ -125,7 +125,7 @@ let present = null;
 export const cover = (x, y, reach) => present?.taken.add(edges(x, y, reach, reach));
 
 /**
- * The middle of a name beside a place, by the rule of all labels, or nothing if it has no room. It is taken then.
+ * Takes a spot for a name beside a place, as for all labels, and returns its middle, or undefined if there is no room.
  * @param {number} x the place's middle, in pixels
  * @param {number} y
  * @param {number} reach how far the place reaches
@@ -143,9 +143,9 @@ export function nameSpot(x, y, reach, right, down) {
 }
 
 /**
- * Shows the labels that find a spot.
+ * Shows the labels that find a spot, and hides the others.
  * @param {Label[]} labels
- * @param {number} scale the pixels for a unit
+ * @param {number} scale pixels per unit
  * @param {Ground} ground
  */
 export function arrange(labels, scale, ground) {
@@ -170,7 +170,7 @@ export function arrange(labels, scale, ground) {
 }
 
 /**
- * Where the middle of a label may lie, in pixels, the best spot first, and whether that is in its own place.
+ * Returns where the middle of a label may lie, in pixels, the best spot first, and whether that is inside its own place.
  * @param {Label} label
  * @param {number} right how far it reaches
  * @param {number} down
@@ -192,7 +192,7 @@ function spots({ oval, line, x, y }, right, down, scale) {
 }
 
 /**
- * Spots further out.
+ * Returns spots further out.
  * @param {Label} label
  * @param {number} right
  * @param {number} down
@@ -209,7 +209,7 @@ function further({ oval, line, x, y }, right, down, scale, rings) {
 /**
  * Shows a label at a spot, or hides it.
  * @param {Label} label
- * @param {number} by how many times as large its letters are
+ * @param {number} by the factor by which its letters are larger
  * @param {{ x: number, y: number, isIn: boolean } | undefined} spot
  */
 function put({ part, texts, x, y }, by, spot) {

@@ -1,6 +1,6 @@
 /**
- * The legend: what the picture is coloured by, and what each colour means. An entry is a filter: a click fades all else in the picture, and
- * the table lists its arcs.
+ * The legend: what the picture is coloured by, and what each colour means. Each entry is a filter: a click fades all else in the picture,
+ * and the table lists its arcs.
  * @typedef {import("./colourings.js").Mark} Mark
  */
 import { colourings, setLosses, shadeOf } from "./colourings.js";
@@ -10,7 +10,7 @@ import { grouped } from "./words.js";
 
 let chosen = "use";
 /**
- * The marks of the arcs that are shown, by their numbers, and whether these are all of them.
+ * The marks of the arcs that are shown, by their numbers, and whether these are all arcs.
  * @type {{ marks: Map<number, Mark>, isAll: boolean }}
  */
 const shown = { marks: new Map(), isAll: false };
@@ -23,7 +23,7 @@ export const shades = () => (colourings().find((it) => it.name === chosen) ?? co
 export const markAt = (number) => shown.marks.get(number);
 
 /**
- * Takes what the board tells of how arcs look.
+ * Takes what the board says about the looks of arcs.
  * @param {Mark[]} marks
  * @param {boolean} isAll whether these are all arcs
  */
@@ -33,7 +33,7 @@ export function setMarks(marks, isAll) {
   showLegend();
 }
 
-/** Shows the entries, with how many arcs each has if all are known, and without those that have none. */
+/** Shows the entries that have arcs, each with their number if all are known. */
 function showLegend() {
   offer("colouring", colourings().map((it) => [it.name, it.words]), "use");
   const now = shades(), counts = new Map(now.map((shade) => [shade, 0]));
@@ -50,7 +50,7 @@ function showLegend() {
 }
 
 /**
- * Offers to colour by what is lost without each arc, or takes that back if nothing is known of it.
+ * Offers the colouring by what is lost without each arc, or removes it if that is not known.
  * @param {Map<number, number>} losses
  */
 export function colourByLoss(losses) {
@@ -61,7 +61,7 @@ export function colourByLoss(losses) {
   changed();
 }
 
-/** @param {() => unknown} recolour what is done when the colours are other ones */
+/** @param {() => unknown} recolour is called when the colours change */
 export function beginLegend(recolour) {
   changed = recolour;
   watchFilter(showLegend);

@@ -1,13 +1,13 @@
 /**
- * The connection by which the board tells the turn of each newer state, and lives as long as somebody holds it. A browser has few
- * connections to one server, so of all tabs of a board one holds it and tells the others. When that one is left, or does not answer, as
- * where it has a dialog open, another one does.
+ * The connection on which the board sends the number of each newer state; the board runs as long as a page holds one. A browser has few
+ * connections to one server, so one tab of a board holds it and tells the others. When that tab is closed, or does not answer because a
+ * dialog is open in it, another one takes over.
  */
 import { posted } from "./asking.js";
 
-/** What this page calls itself, so that the board and the other tabs know it. */
+/** The name by which the board and the other tabs know this page. */
 const PAGE = [...crypto.getRandomValues(new Uint32Array(4))].map((word) => word.toString(16)).join("-");
-/** How long the tab that holds the connection is waited for to answer, and how long it is not heard before it is asked, in milliseconds. */
+/** How long the tab that holds the connection has to answer, and how long it may be silent before it is asked, in milliseconds. */
 const PATIENCE = 300, QUIET = 4000;
 const tabs = new BroadcastChannel(location.pathname);
 /**
@@ -19,11 +19,11 @@ let waiting = 0;
 
 /**
  * @typedef {object} Listener
- * @property {(turn: number) => unknown} heard what is done when there is a newer state
- * @property {() => unknown} broke when the connection breaks; where the board still answers, the browser makes it anew
- * @property {() => unknown} lost when the board refuses it
+ * @property {(turn: number) => unknown} heard is called when there is a newer state
+ * @property {() => unknown} broke is called when the connection breaks; if the board still answers, the browser reconnects
+ * @property {() => unknown} lost is called when the board refuses it
  *
- * What a tab tells the others: it asks who holds the connection; or it holds that, and tells a turn, that it broke, or that it is left.
+ * A message between tabs: who holds the connection? Or, from the tab that holds it: here, a state's number, it broke, this tab was left.
  * @typedef {{ from: string, what: "who" | "here" | "broke" | "left" | number }} Said
  */
 
@@ -31,9 +31,9 @@ let waiting = 0;
 const say = (what) => tabs.postMessage({ from: PAGE, what });
 
 /**
- * Holds the connection, or hears of it from the tab that does.
+ * Holds the connection, or listens to the tab that does.
  * @param {Listener} listener
- * @returns {() => void} what lets go of it
+ * @returns {() => void} a function that ends this
  */
 export function live(listener) {
   const hold = () => {
@@ -45,7 +45,7 @@ export function live(listener) {
     if (typeof what === "number") listener.heard(what);
     else if (what === "broke") listener.broke();
     if (source) meet(from, what, hold);
-    // A timer may be late in a tab that is not seen, and the board end meanwhile.
+    // Timers may be late in a hidden tab, and the board may end meanwhile.
     else if (what === "left") hold();
     else if (what !== "who") wait(() => seek(hold), QUIET);
   };
@@ -67,7 +67,7 @@ function wait(next, time) {
 }
 
 /**
- * Asks who holds the connection. If nobody does, this tab will.
+ * Asks who holds the connection. If no tab answers, this one will.
  * @param {() => void} hold
  */
 function seek(hold) {
@@ -76,8 +76,8 @@ function seek(hold) {
 }
 
 /**
- * Hears of another tab while this one holds the connection. Of two that hold it, as where one did not answer in time, that of the lesser
- * name stays.
+ * Handles a message from another tab while this one holds the connection. If both hold one, because one did not answer in time, the tab
+ * with the lesser name keeps its own.
  * @param {string} from
  * @param {Said["what"]} what
  * @param {() => void} hold
@@ -113,13 +113,13 @@ function connect({ heard, broke, lost }) {
   return made;
 }
 
-/** Tells the board that this page holds the connection no more. For one that does not say so it waits, since the connection has broken. */
+/** Tells the board that this page was left. Without that the board would wait for it, as for a page whose connection broke. */
 const leave = () => fetch("left", { ...posted({ page: PAGE }), keepalive: true }).catch(() => undefined);
 
-/** Tells the other tabs that this one holds the connection no more, and one of them has to. */
+/** Tells the other tabs that this one no longer holds the connection, so that one of them takes over. */
 const sayLeft = () => source && say("left");
 
-/** Has the board and the other tabs told when this page is left. */
+/** Makes this page tell the board and the other tabs when it is left. */
 export const heedLeaving = () => addEventListener("pagehide", () => {
   sayLeft();
   leave();

@@ -1,5 +1,5 @@
 /**
- * Arcs that are chosen at once, and what can be done to all of them, each in one step.
+ * A selection of several arcs, and what can be done to all of them in one step.
  * @typedef {import("./state.js").State} State
  * @typedef {{ open: number[], closed: number[], flow: string, capacity: string }} Many
  */
@@ -7,7 +7,7 @@ import { at, button, form, make, replace } from "./elements.js";
 import { trouble } from "./messages.js";
 import { act, ask, noun, units } from "./state.js";
 
-/** How many arcs can be chosen, as the board has it. */
+/** How many arcs can be selected at once, as in the board. */
 const MOST = 100_000;
 /** @type {Set<number>} */
 let picked = new Set();
@@ -19,7 +19,7 @@ export const isPicked = (/** @type {number} */ number) => picked.has(number);
 export const pickedCount = () => picked.size;
 
 /**
- * Has each other choice of many arcs told to a part of the page.
+ * Calls `watcher` after each change of this selection.
  * @param {() => unknown} watcher
  */
 export function watchPicked(watcher) {
@@ -27,7 +27,7 @@ export function watchPicked(watcher) {
 }
 
 /**
- * Chooses these arcs and no others, unless they are too many.
+ * Selects these arcs and no others, unless they are too many.
  * @param {Iterable<number>} numbers
  */
 export function pickThese(numbers) {
@@ -41,12 +41,12 @@ export function pickThese(numbers) {
 }
 
 /**
- * Chooses these arcs beside those that are chosen.
+ * Adds these arcs to the selection.
  * @param {Iterable<number>} numbers
  */
 export const pickMore = (numbers) => pickThese([...picked, ...numbers]);
 
-/** Chooses none, and goes back to the table. */
+/** Clears the selection, and goes back to the table. */
 export function pickNone() {
   pickThese([]);
   at("grid").focus();
@@ -55,7 +55,7 @@ export function pickNone() {
 /** @param {number} number */
 export const toggle = (number) => pickThese(picked.has(number) ? [...picked].filter((it) => it !== number) : [...picked, number]);
 
-/** Tells what of the choice is open and closed now, with what can be done to it. */
+/** Shows which of the selected arcs are open and closed, and what can be done to them. */
 async function showMany() {
   const turn = (asked += 1);
   for (const watcher of watchers) watcher();
@@ -95,7 +95,7 @@ function about(told) {
 }
 
 /**
- * Follows a new state. Where more than one step was taken, the number of an arc that was added may be another's.
+ * Follows a new state. If more than one step was taken, the number of an added arc may belong to another.
  * @param {State} state
  * @param {State | null} before
  */

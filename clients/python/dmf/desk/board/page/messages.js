@@ -1,10 +1,10 @@
-/** What the page says above the picture: news, trouble, and that something takes long. */
+/** The messages above the picture: news, trouble, and that something takes long. */
 import { at, make } from "./elements.js";
 
 const LONG = 1500;
 
 /**
- * Says what went wrong, with buttons beside it; or nothing any more.
+ * Shows what went wrong, with buttons beside it, or clears it.
  * @param {string} text
  * @param {HTMLElement[]} acts
  */
@@ -21,7 +21,7 @@ export function news(text) {
 }
 
 /**
- * Waits for an answer, and lets the planner stop what takes long.
+ * Waits for an answer, and offers to stop what takes long.
  * @template Told
  * @param {Promise<Told>} answer
  */

@@ -1,5 +1,5 @@
 /**
- * What lies behind the picture, painted on a canvas, since a picture of that many elements would be slow to move in.
+ * The layer behind the picture, painted on a canvas, since a picture with so many elements would be slow to move.
  * @typedef {import("./view.js").Box} Box
  * @typedef {import("./ground.js").Line} Line
  * @typedef {import("./ground.js").Spot} Spot
@@ -13,20 +13,20 @@ import { cover, nameSpot } from "./labels.js";
 import { shades } from "./legend.js";
 import { scale, seenBox } from "./view.js";
 
-/** How a place looks that is before the limit, and one that is shut. */
+/** The look of a place before the bottleneck, and of one that is shut. */
 const BEFORE = "b", SHUT = "s";
-/** How much is seen of what a filter leaves out. */
+/** The opacity of what a filter leaves out. */
 const FADED = 0.16;
-/** How many names there are at most; how large letters are, in pixels, and by how much a line is higher; and a shade, in units. */
+/** The most names; the size of letters, in pixels, and the height of a line for that; and the size of a shade, in units. */
 const MOST_NAMES = 400, LETTERS = 12, LINE = 1.25, ROUND = 90;
 
-/** Whether nothing can be read. Then the arcs of the picture are drawn as the others are. */
+/** Returns true if names cannot be read at this scale. Then the arcs of the picture are drawn like the others. */
 const isFar = () => isGround() && scale() < NAMES;
 
-/** Draws what is seen of it. */
+/** Paints the visible part. */
 export function paint() {
   const canvas = /** @type {HTMLCanvasElement} */ (at("ground")), box = seenBox(), by = devicePixelRatio;
-  // Where nothing lies behind the picture, an empty canvas would be drawn with it.
+  // An empty canvas would be drawn with the picture.
   canvas.hidden = !isGround();
   at("picture").classList.toggle("far", isFar());
   const pen = isGround() && canvas.getContext("2d");
@@ -41,13 +41,13 @@ export function paint() {
   stroke(pen, seen.filter(isMarked), colour("mark"), 9);
   paintLines(pen, seen.filter((line) => isFar() || !ground.before.has(`arc-${line.number}`)), colour);
   const named = paintPlaces(pen, box, colour);
-  // Places that lie close would hide the limit, which is what is looked for from afar.
+  // Places that lie close together would hide the bottleneck, which is what one looks for at this scale.
   if (isFar()) paintLines(pen, seen.filter(isOfLimit), colour);
   paintNames(pen, named, colour);
 }
 
 /**
- * Draws lines: what a filter leaves out first, then what the legend has last, and at once those that look alike.
+ * Paints lines, those that look alike together: first those that a filter leaves out, then from the legend's last entry to its first.
  * @param {CanvasRenderingContext2D} pen
  * @param {Line[]} drawn
  * @param {(name: string) => string} colour
@@ -72,7 +72,7 @@ function paintLines(pen, drawn, colour) {
   pen.globalAlpha = 1;
 }
 
-/** The page's colours, by their names. To ask for one takes longer than to draw with it. */
+/** The page's colours, by their names. Looking one up takes longer than drawing with it. */
 function colours() {
   const style = getComputedStyle(document.documentElement);
   const names = ["ink", "mark", "paper", "side", "unused", ...shades().map((shade) => shade.ink)];
@@ -81,7 +81,7 @@ function colours() {
 }
 
 /**
- * Shades the places before the limit, which are too small to be told from others.
+ * Shades the places before the bottleneck, which are too small to be told from others.
  * @param {CanvasRenderingContext2D} pen
  * @param {string} ink
  */
@@ -97,7 +97,7 @@ function shadeBefore(pen, ink) {
 }
 
 /**
- * Whether a line may be seen.
+ * Returns true if a line may be visible.
  * @param {Box} box
  * @param {Line} line
  */
@@ -125,11 +125,11 @@ function stroke(pen, drawn, ink, wide, dashes = []) {
 }
 
 /**
- * Points in the middle of each line that is long enough to where it leads.
+ * Paints an arrow in the middle of each line that is long enough.
  * @param {CanvasRenderingContext2D} pen
  * @param {Line[]} drawn
  * @param {string} ink
- * @param {number} pixels how large an arrow is
+ * @param {number} pixels the size of an arrow
  */
 function point(pen, drawn, ink, pixels) {
   const size = pixels / scale();
@@ -148,7 +148,7 @@ function point(pen, drawn, ink, pixels) {
 }
 
 /**
- * Draws the places, and gives those that are named.
+ * Paints the places, and returns those that get a name.
  * @param {CanvasRenderingContext2D} pen
  * @param {Box} box
  * @param {(name: string) => string} colour
@@ -159,7 +159,7 @@ function paintPlaces(pen, box, colour) {
     && y <= box.y + box.height + rim);
   const behind = isNear ? seen.filter((place) => !ground.before.has(`node-${place.node}`)) : seen;
   /**
-   * Those that look alike are drawn at once, and those that are chosen at last.
+   * Those that look alike are painted together, and the selection last.
    * @type {Record<string, Spot[]>}
    */
   const alike = { unused: [], ink: [], mark: [] };
@@ -179,7 +179,7 @@ function paintPlaces(pen, box, colour) {
 }
 
 /**
- * Has the pen's way lead around each place.
+ * Adds the outline of each place to the path.
  * @param {CanvasRenderingContext2D} pen
  * @param {Spot[]} spots
  */
@@ -192,12 +192,12 @@ function circle(pen, spots) {
   }
 }
 
-/** The lines that names keep off, where names are read. */
+/** Returns the lines that names avoid, if names can be read. */
 export const strokesSeen = () => (!isGround() || isFar() ? [] : ground.lines.filter((line) => isIn(seenBox(), line)).map((line) => ({
   points: endsOf(line).map(([x, y]) => ({ x, y })), thick: thickness(line.mark) })));
 
 /**
- * Writes the names that have room, those of the source and the sink first, and then of what is chosen.
+ * Paints the names that have room: first the source and the sink, then the selection, then the others.
  * @param {CanvasRenderingContext2D} pen
  * @param {Spot[]} seen
  * @param {(name: string) => string} colour
@@ -205,7 +205,7 @@ export const strokesSeen = () => (!isGround() || isFar() ? [] : ground.lines.fil
 function paintNames(pen, seen, colour) {
   const by = scale(), style = getComputedStyle(at("picture")).fontFamily;
   const order = (/** @type {Spot} */ it) => 2 * Number(it.isEnd) + Number(isMarked(it));
-  // The picture before it has covered its own places.
+  // The picture in front covers its own places.
   const others = seen.filter((place) => isFar() || !ground.before.has(`node-${place.node}`));
   for (const place of others) cover(place.x * by, place.y * by, reach(place));
   Object.assign(pen, { font: `${LETTERS / by}px ${style}`, textBaseline: "middle", textAlign: "center", lineWidth: 3 / by });
@@ -219,7 +219,7 @@ function paintNames(pen, seen, colour) {
 }
 
 /**
- * How far a place reaches, in pixels.
+ * Returns the radius of a place, in pixels.
  * @param {Spot} place
  */
 function reach({ isEnd }) {
