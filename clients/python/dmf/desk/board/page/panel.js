@@ -1,4 +1,4 @@
-/** The panel beside the picture: its tabs, and how much of it is seen. On a narrow page it is a sheet from below, of three heights. */
+/** The panel beside the picture: its tabs, and how much of it is visible. On a narrow page it is a bottom sheet with three heights. */
 import { at, onClick } from "./elements.js";
 import { keepFree } from "./view.js";
 
@@ -7,7 +7,7 @@ const HEIGHTS = ["low", "middle", "full"];
 const watchers = [];
 
 /**
- * Has each tab that is opened told to a part of the page.
+ * Calls `watcher` with the part of each tab that is opened.
  * @param {(part: string) => unknown} watcher
  */
 export function watchPanel(watcher) {
@@ -20,7 +20,7 @@ const tabs = () => /** @type {HTMLElement[]} */ ([...at("tabs").querySelectorAll
 const partOf = (tab) => at(tab.getAttribute("aria-controls") ?? "");
 
 /**
- * Shows the part of a tab, and no other one.
+ * Shows the part of a tab, and hides the others.
  * @param {HTMLElement} tab
  */
 function open(tab) {
@@ -33,13 +33,13 @@ function open(tab) {
   for (const watcher of watchers) watcher(partOf(tab).id);
 }
 
-/** Shows the panel, if it is folded away or low. */
+/** Unfolds the panel, or raises it if it is low. */
 function unfold() {
   fold(false);
   if (height() === "low") setHeight("middle");
 }
 
-/** Shows what is chosen, unless that was chosen in another part of the panel, which goes on then. */
+/** Opens the tab of the selection, unless the selection was made in another part of the panel, which then stays open. */
 export function openChosen() {
   const part = document.activeElement?.closest(".part");
   if (part) unfold();
@@ -47,7 +47,7 @@ export function openChosen() {
 }
 
 /**
- * Offers a tab, or takes it away.
+ * Shows a tab, or hides it.
  * @param {string} id
  * @param {boolean} isThere
  */
@@ -68,10 +68,10 @@ function setHeight(now) {
   });
 }
 
-/** Leaves the window to what lies over the picture, where the panel is a sheet. */
+/** Lowers the panel, if it is a bottom sheet, so that what lies over the picture can be seen. */
 export const lower = () => setHeight(HEIGHTS[0]);
 
-/** @param {number} by how many heights it becomes larger */
+/** @param {number} by the number of heights by which it grows */
 const grow = (by) => setHeight(HEIGHTS[Math.max(0, Math.min(2, HEIGHTS.indexOf(height()) + by))]);
 
 /** @param {boolean} isFolded */
@@ -100,7 +100,7 @@ export function beginPanel() {
   onClick("panel-more", () => grow(1));
   onClick("panel-less", () => grow(-1));
   setHeight(HEIGHTS[0]);
-  // What lies over the picture begins below the headline.
+  // The panel and the legend begin below the headline.
   const heed = () => document.documentElement.style.setProperty("--head", `${at("head").getBoundingClientRect().bottom}px`);
   new ResizeObserver(heed).observe(at("head"));
 }

@@ -1,5 +1,5 @@
 /**
- * The picture of the network, or of the part of it that lies near a place or the limit.
+ * The picture of the network, or of the part of it near a place or the bottleneck.
  * @typedef {import("./state.js").State} State
  * @typedef {import("./labels.js").Label} Label
  * @typedef {import("./arrows.js").Arrow} Arrow
@@ -23,15 +23,15 @@ import { freePart } from "./room.js";
 import { beginView, fit, reveal, scale, see, seenBox, zoom } from "./view.js";
 import { listed } from "./words.js";
 
-/** How much larger a button or a key makes it. */
+/** The factor by which a button or a key enlarges it. */
 export const LARGER = 1.4;
 const STILL = 300;
 let asked = 0, count = 0, pending = 0, moving = 0;
-/** The place that is shown with what lies near it, or nothing where that is the limit; and the one of the picture that is there. */
+/** The place around which the picture should be, or an empty text for the bottleneck; and the one around which it is. */
 let near = "", nearShown = "none";
 /** @type {Label[]} */
 let labels = [];
-/** How long lines usually are, in units of the picture. */
+/** The usual length of lines, in units of the picture. */
 let usual = 1;
 /** @type {Arrow[]} */
 let arrows = [];
@@ -41,11 +41,11 @@ let arrows = [];
  */
 let limits = [];
 
-/** Whether not all arcs are shown. */
+/** Returns true if not all arcs are shown. */
 export const isPart = () => count < present().arcs;
 
 /**
- * The part of the picture that is an arc or a place.
+ * Returns the part of the picture that shows an arc or a place.
  * @param {import("./choice.js").Choice | null} choice
  */
 export const partOf = (choice) => parts().find((part) => part.id === (choice?.arc ? `arc-${choice.arc}` : `node-${choice?.node}`));
@@ -54,9 +54,9 @@ export const partOf = (choice) => parts().find((part) => part.id === (choice?.ar
 export const isShown = (choice) => Boolean(partOf(choice));
 
 /**
- * Shows what lies near a place.
+ * Shows what is near a place.
  * @param {number} node
- * @param {boolean} isMoved whether one has moved there, and sees it
+ * @param {boolean} isMoved whether the view has moved there already
  */
 export function showNear(node, isMoved = false) {
   near = String(node);
@@ -89,7 +89,7 @@ function draw(text) {
   const active = document.activeElement;
   const held = active && at("picture").contains(active) ? active.id : "";
   const box = boxOf(text);
-  // Once it is there, to ask for its room would lay it out, and what is done then to its labels once more.
+  // After the picture is in the page, reading its size would lay it out, and changes to its labels would do that once more.
   if (box && nearShown !== near) takeRoom(box);
   show(text);
   if (!box) return;
@@ -105,7 +105,7 @@ function draw(text) {
 }
 
 /**
- * Fits what is seen to a picture that shows what lies near another place than before, once, so that nothing jumps at a step.
+ * Fits the view to a picture around another place than before; only then, so that nothing jumps at a step.
  * @param {import("./view.js").Box} box
  */
 function takeRoom(box) {
@@ -113,7 +113,7 @@ function takeRoom(box) {
   nearShown = near;
 }
 
-/** Colours what is shown, marks what is chosen, and has its label seen. */
+/** Colours the parts, marks the selection, and arranges the labels again. */
 export function mark() {
   const chosen = partOf(theChoice()), now = shades();
   for (const part of parts()) {
@@ -131,7 +131,7 @@ export function mark() {
   label();
 }
 
-/** Moves the picture to what is chosen, and has it drawn first where it was not. */
+/** Moves the picture to the selection, after drawing it if it was not drawn. */
 export async function revealChosen() {
   const chosen = theChoice();
   if (chosen && !isShown(chosen) && !isGround()) {
@@ -144,7 +144,7 @@ export async function revealChosen() {
   if (box) reveal(box);
 }
 
-/** Arranges the labels before the page is drawn next. Where one has moved to another part and stays there, that part gets its numbers. */
+/** Arranges the labels before the next frame. If the view has moved to another part and stays there, that part gets its numbers. */
 function label() {
   pending = pending || requestAnimationFrame(() => {
     pending = 0;
@@ -167,9 +167,9 @@ function label() {
 }
 
 /**
- * Fits the picture to all that is like this, or says that nothing of that is drawn.
+ * Fits the view to all parts that match a selector, or says that none is drawn.
  * @param {string} like a selector
- * @param {string} what it is
+ * @param {string} what they are, in words
  */
 function fitTo(like, what) {
   const whole = groundBox(like);
@@ -192,7 +192,7 @@ export function choosePart(part) {
 }
 
 /**
- * What a click means: the label that is there, though the line of another part may lie over it, or else what is uppermost.
+ * Returns what a click means: the label there, although the line of another part may lie over it, or else the uppermost element.
  * @param {MouseEvent} event
  */
 function meant(event) {
@@ -219,7 +219,7 @@ export function beginPicture() {
   });
 }
 
-/** Goes back from what is told of the choice to the part of the picture that it was, and chooses nothing. */
+/** Clears the selection, and moves the focus from its description to its part of the picture. */
 export async function closeChoice() {
   const part = partOf(theChoice()), isBeside = at("chosen").contains(document.activeElement);
   await choose(null);
@@ -227,7 +227,7 @@ export async function closeChoice() {
 }
 
 /**
- * Says what the picture shows, for who does not see it.
+ * Describes the picture for screen readers.
  * @param {State} state
  */
 export function sayPicture(state) {

@@ -1,17 +1,17 @@
-/** The picture by keys: from place to place, and what is seen of it. */
+/** The keys of the picture: they go from place to place, and move and scale the view. */
 import { parts } from "./drawing.js";
 import { at } from "./elements.js";
 import { nextPlace } from "./ground.js";
 import { choosePart, fitAll, isShown, LARGER, partOf, showNear } from "./picture.js";
 import { move, reveal, zoom } from "./view.js";
 
-/** By how many pixels a key moves it. */
+/** The pixels by which a key moves it. */
 const STEP = 60;
 /** @type {Record<string, [number, number]>} */
 const WAYS = { ArrowRight: [1, 0], ArrowLeft: [-1, 0], ArrowDown: [0, 1], ArrowUp: [0, -1] };
 
 /**
- * The nearest part in a direction, of those that are like this.
+ * Returns the nearest part in a direction that matches a selector.
  * @param {Element} from
  * @param {[number, number]} way
  * @param {string} like
@@ -33,7 +33,7 @@ function nextPart(from, [right, down], like) {
 }
 
 /**
- * Goes to the nearest part in a direction, or to the first. Where a place lies there that the picture does not have, it is shown.
+ * Goes to the nearest part in a direction, or to the first. If that is a place that the picture lacks, it is drawn first.
  * @param {SVGGElement | undefined} from
  * @param {[number, number]} way
  * @param {string} like

@@ -4,14 +4,14 @@
  */
 import { make } from "./elements.js";
 
-/** The height of a row in pixels, as the style has it. */
+/** The height of a row in pixels, as in the style sheet. */
 export const HEIGHT = 32;
 export const COLUMNS = [
   ["name", ""], ["from", "From"], ["to", "To"], ["flow", "flows"], ["capacity", "fits"], ["use", "use"], ["lost", "if lost"]];
 
 /**
  * @param {string} column
- * @param {string} told words that stand for it where they are not seen
+ * @param {string} told its words, for screen readers
  */
 export const title = (column, told) => make("th", make("span", told, { class: "unseen" }), { class: column, scope: "col" });
 
@@ -26,7 +26,7 @@ export function spacer(count) {
 }
 
 /**
- * An empty row at this place of the table.
+ * Returns an empty row for this place of the table.
  * @param {number} place
  */
 export function row(place) {
@@ -36,7 +36,7 @@ export function row(place) {
 }
 
 /**
- * Which part of what an arc can carry is used.
+ * Returns the used part of an arc's capacity.
  * @param {Arc} arc
  */
 function use(arc) {
@@ -44,11 +44,11 @@ function use(arc) {
   return arc.closed || !Number.isFinite(used) ? "" : `${Math.round(100 * used)} %`;
 }
 
-/** Where the losses stand among the columns. */
+/** The position of the losses among the columns. */
 const LOST = COLUMNS.findIndex(([column]) => column === "lost");
 
 /**
- * What is lost without an arc, if that is something. Until it is known, what stands there is marked as old.
+ * Returns what is lost without an arc, or an empty text if that is nothing. Until it is known, the old text stays, marked as old.
  * @param {Arc} arc
  * @param {HTMLTableCellElement} cell
  */

@@ -1,5 +1,5 @@
 /**
- * The scenarios of a project: one goes to another by a click, begins, copies, names, notes and deletes them.
+ * The scenarios of a project, which the planner can open, begin, copy, rename, annotate and delete.
  * @typedef {import("./state.js").State} State
  * @typedef {{ name: string, from: string, note: string, steps: number, undone: number, value: string, by: string,
  *   left_out: string[] }} Scenario
@@ -21,7 +21,7 @@ export const goTo = (name) => act({ what: "scenario-go", name }, `scenario ${nam
  * @param {State | null} before
  */
 export async function showScenarios(state, before) {
-  // An arc that was added in one scenario is none in another, or another one.
+  // The number of an arc that was added in one scenario may be unused in another, or belong to another arc.
   if (before && before.scenario !== state.scenario && (theChoice()?.arc ?? 0) > state.given) choose(null);
   at("scenarios").hidden = !state.scenario;
   offerTab("tab-scenarios", Boolean(state.scenario));
@@ -30,7 +30,7 @@ export async function showScenarios(state, before) {
   const told = await ask("scenarios");
   if (!told) return;
   const present = told.scenarios.find((it) => it.name === state.scenario);
-  at("scenario-base").textContent = `The network of the table, without a step, comes to ${told.base}. `
+  at("scenario-base").textContent = `The value of the table's network, without a step, is ${told.base}. `
     + (present?.note ? `${state.scenario}: ${present.note}` : "");
   replace(at("scenario-list"), told.scenarios.map((it) => line(it, it === present, Boolean(state.why_not))));
   const names = told.scenarios.map((it) => it.name);
@@ -40,10 +40,10 @@ export async function showScenarios(state, before) {
 }
 
 /**
- * A line of the list.
+ * Returns a line of the list.
  * @param {Scenario} it
  * @param {boolean} isPresent
- * @param {boolean} isFixed that nothing can be deleted
+ * @param {boolean} isFixed whether nothing can be deleted
  */
 function line(it, isPresent, isFixed) {
   const { by } = it, steps = `${it.steps} step${it.steps === 1 ? "" : "s"}`, from = it.from ? `, begun from ${it.from}` : "";
@@ -61,7 +61,7 @@ function line(it, isPresent, isFixed) {
 }
 
 /**
- * Has a button make a scenario of the name that is typed.
+ * Makes a button act on the name that is typed.
  * @param {string} id
  * @param {(name: string) => object} content
  * @param {string} words what was done to it

@@ -1,5 +1,5 @@
 /**
- * The state that the board told last, and what is asked of the board.
+ * The latest state from the board, and the requests to the board.
  * @typedef {{ number: number, node: number, tail_node: number, name: string, label: string, short: string, tail: string, head: string,
  *   flow: string, capacity: string, closed: boolean, replaced: boolean, unlimited: boolean, full: boolean, limit: boolean,
  *   without: string, lost: string, without_both?: string }} Arc
@@ -22,23 +22,23 @@ import { sentence, upper } from "./words.js";
 let state = null;
 let acting = false, newest = 0;
 /**
- * What was shut since the board is not reached.
+ * The controls that were disabled because the board cannot be reached.
  * @type {HTMLElement[]}
  */
 let shut = [];
 /** @type {((state: State, before: State | null) => unknown)[]} */
 const watchers = [];
-/** What parts of the page show of a state, which they ask for after each: of each path the last address. */
+/** What the parts of the page request after each state. The latest address of each path is remembered. */
 const SHOWN = ["picture", "looks", "rows", "arc", "place", "scenarios"];
 /** @type {Map<string, string>} */
 const addresses = new Map();
 /**
- * What was told with a state, by the addresses by which these parts ask for it.
+ * What came with a state, by the addresses with which these parts request it.
  * @type {Record<string, any>}
  */
 let parts = {};
 
-/** The present state. Throws before there is one. */
+/** Returns the present state. Throws an error before there is one. */
 export function present() {
   if (!state) throw new Error("nothing is told yet");
   return state;
@@ -49,7 +49,7 @@ export const units = () => (state?.unit ? ` ${state.unit}` : "");
 export const caption = () => state?.unit && `in ${state.unit}` || "";
 
 /**
- * Has each new state told to a part of the page, with the one before it.
+ * Calls `watcher` with each new state and the one before it.
  * @param {(state: State, before: State | null) => unknown} watcher
  */
 export function watch(watcher) {
@@ -57,11 +57,11 @@ export function watch(watcher) {
 }
 
 /**
- * Asks the board, which answers with JSON. Gives null where it refuses, and says why; and undefined where the answer is of another state
- * than this page shows, which is then, or soon, shown anew, or where the connection broke before it came.
+ * Returns the board's answer, parsed from JSON. Returns null if the board refuses, after showing why; and undefined if the answer belongs
+ * to another state than this page shows, which is then, or soon, updated, or if the connection broke before it came.
  * @param {string} path
- * @param {object} [content] what is sent, if something is to be done
- * @param {boolean} isQuiet that a refusal is not told
+ * @param {object} [content] what is posted, if anything
+ * @param {boolean} isQuiet whether a refusal is not shown
  * @returns {Promise<any>}
  */
 export async function ask(path, content, isQuiet = false) {
@@ -87,14 +87,14 @@ export async function ask(path, content, isQuiet = false) {
   }
   if (!answer.ok && !isQuiet || told.told) trouble(sentence(told.error || told.told));
   if (state && told.turn !== undefined && told.turn !== state.turn && path !== "state" && !(path === "do" && answer.ok)) {
-    // While this page does something itself, it looks anew at its end.
+    // While this page is acting itself, it updates when that has ended.
     if (told.turn > state.turn && (!acting || path === "do")) await renew();
     return undefined;
   }
   return answer.ok ? told : null;
 }
 
-/** Says that the board is not reached, and lets nothing be done but to look again. */
+/** Says that the board cannot be reached, and disables everything except the button that tries again. */
 function lost() {
   if (shut.length) return;
   letGo();
@@ -106,7 +106,7 @@ function lost() {
 }
 
 /**
- * Shuts a control, or opens it. What was typed into one can be read and copied.
+ * Disables a control, or enables it. What was typed into it can still be read and copied.
  * @param {HTMLElement} it
  * @param {boolean} isShut
  */
@@ -115,7 +115,7 @@ function put(it, isShut) {
   else it.toggleAttribute("disabled", isShut);
 }
 
-/** Goes on with the board, if it is reached again. What was asked for meanwhile did not come. */
+/** Goes on if the board can be reached again. What was requested meanwhile did not come, so the state is shown again. */
 async function lookAgain() {
   if (!await heard("state")) return;
   for (const it of shut) put(it, false);
@@ -126,23 +126,23 @@ async function lookAgain() {
 }
 
 /**
- * Shows what the board has now, which another tab may have changed.
- * @param {boolean} isAnew also if this page shows it already
+ * Shows the board's present state, which another tab may have changed.
+ * @param {boolean} isForced also if this page shows it already
  */
-async function renew(isAnew = false) {
+async function renew(isForced = false) {
   const told = await patiently(ask("state"));
-  if (!told || state && (told.turn < state.turn || told.turn === state.turn && !isAnew)) return;
+  if (!told || state && (told.turn < state.turn || told.turn === state.turn && !isForced)) return;
   if (state && state.turn !== told.turn) news(hasTrouble() ? "" : "The network has changed in another tab.");
   await show(told);
 }
 
-/** Shows the newest state that was told of, if this page shows an older one. */
+/** Shows the newest state, if this page shows an older one. */
 async function catchUp() {
   if (state && newest > state.turn) await renew();
 }
 
 /**
- * Shows a state. Of a large network the board tells first what can be sent, and the limit; the parts that need the flows wait for them.
+ * Shows a state. For a large network the board first sends the value and the bottleneck; the parts that need the flows wait for them.
  * @param {State} told
  */
 async function show(told) {
@@ -150,7 +150,7 @@ async function show(told) {
   state = told;
   parts = told.parts ?? {};
   addresses.clear();
-  // Before it has a content, to lay it out would be work for nothing.
+  // Hidden until now, since laying it out without its content would be wasted work.
   at("main").hidden = false;
   const shown = Promise.all(watchers.map((watcher) => watcher(told, before)));
   if (told.flows_follow) news("What can be sent and the limit are known; the flows follow.");
@@ -159,8 +159,8 @@ async function show(told) {
 }
 
 /**
- * Does something, and shows what came of it, by these words or else by those of the step. A second click meanwhile was meant for what is
- * not shown yet.
+ * Makes a change, and reports it in these words or else in those of the step. A second click meanwhile is ignored: it was meant for the
+ * state before the change.
  * @param {object} content
  * @param {string} words
  * @returns {Promise<boolean>} whether it was done
@@ -178,7 +178,7 @@ export async function act(content, words = "") {
     news(`${upper(words || told.steps[told.at].text)}: ${told.value}${units()}, ${told.moved}`);
     await show(told);
   } else {
-    // What was done before has nothing to do with what is refused.
+    // The news about the change before would seem to belong to the refusal.
     news("");
   }
   await catchUp();
@@ -189,7 +189,7 @@ export async function act(content, words = "") {
 export const undo = () => present().at > present().floor && act({ what: "go", step: present().at - 1 }, "undone");
 export const redo = () => present().at < present().steps.length - 1 && act({ what: "go", step: present().at + 1 }, "done again");
 
-/** Follows the newer states that the board tells of. While this page does something itself, it looks anew at its end. */
+/** Follows the newer states of the board. While this page is acting itself, it updates when that has ended. */
 const follow = () => live({
   heard: (turn) => {
     newest = turn;

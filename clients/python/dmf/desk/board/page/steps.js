@@ -1,5 +1,5 @@
 /**
- * The steps that were made, and those that were undone.
+ * The list of the steps, including those that were undone.
  * @typedef {import("./state.js").State} State
  */
 import { at, button, field, make, onClick, replaceAlike } from "./elements.js";
@@ -17,7 +17,7 @@ export function showSteps(state) {
     const by = place ? ` (${step.by})` : "";
     const go = button(`${words}: ${step.value}${by}`, () => act({ what: "go", step: place }, `at the step “${words}”`));
     if (place === state.at) go.setAttribute("aria-current", "step");
-    // The steps of the scenario that this one began from stay.
+    // The steps that this scenario has from the one it began from cannot be undone.
     go.disabled = place < state.floor;
     return make("li", go, { class: place > state.at ? "undone" : "" });
   }));

@@ -1,5 +1,5 @@
 /**
- * What can be sent, at the top, and the limit.
+ * The headline, with what can be sent, and the bottleneck.
  * @typedef {import("./state.js").State} State
  */
 import { pick } from "./choice.js";
@@ -25,7 +25,7 @@ function tell(state) {
   at("demands").hidden = !state.demands;
   at("demands").textContent = `${upper(state.demands)}.`;
   at("show-limit").hidden = !state.limit_count;
-  // A limit may also be what a place gives, takes or lets through.
+  // The bottleneck may also contain what a place gives, takes or lets through.
   const word = state.limit.some((arc) => arc.node) ? "part" : noun();
   at("show-limit").textContent = `Bottleneck: ${grouped(state.limit_count)} ${word}${state.limit_count === 1 ? "" : "s"}`;
   at("legend").textContent = `45/60: 45${units()} flow where 60 fit`;

@@ -1,5 +1,5 @@
 /**
- * The table of all arcs. It holds the rows that can be seen, and asks for others as one scrolls.
+ * The table of all arcs. It has the visible rows, and requests others while it is scrolled.
  * @typedef {import("./rows.js").Arc} Arc
  * @typedef {{ total: number, first: number, rows: Arc[], reading: string, fault: string }} Part
  */
@@ -12,21 +12,21 @@ import { COLUMNS, fill, HEIGHT, row, spacer, title } from "./rows.js";
 import { ask, caption, noun, units } from "./state.js";
 import { sentence, upper } from "./words.js";
 
-/** How many rows are asked for at once; how many a page of keys moves by. */
+/** The rows in one request; and the rows by which Page Up and Page Down move. */
 const AT_ONCE = 36, PAGE = 10;
 /** @type {Part} */
 let part = { total: 0, first: 0, rows: [], reading: "", fault: "" };
 /**
- * The rows that are shown, by their places and their arcs' numbers.
+ * The rows in the page, by their places and their arcs' numbers.
  * @type {Map<string, HTMLTableRowElement>}
  */
 let shown = new Map();
 let order = "", asked = 0, current = 0, anchor = 0, isAsking = false, isLate = false;
-/** How many signs the longest amount has that was shown, for which there is room. */
+/** The length of the longest amount so far, which sets the width of the columns. */
 let signs = 0;
 
 const words = () => `filter=${encodeURIComponent(filterWords())}&sort=${order}`;
-/** The filter of which rows are shown. */
+/** The filter whose rows are shown. */
 let filtered = "";
 
 /**
@@ -41,7 +41,7 @@ async function numbers(first, count) {
   return told ? told.numbers : null;
 }
 
-/** Shows the rows that can be seen, after another state, filter or order. */
+/** Updates the visible rows after a change of the state, the filter or the order. */
 export async function showTable() {
   const turn = (asked += 1);
   const above = Math.floor(at("rows").scrollTop / HEIGHT) - AT_ONCE / 3, first = Math.max(0, Math.min(above, part.total - AT_ONCE));
@@ -54,12 +54,12 @@ export async function showTable() {
   draw();
 }
 
-/** How the filter is understood, and how many it shows. */
+/** Returns how the filter is understood, and how many rows match. */
 function reading() {
   return part.fault ? sentence(part.fault) : `${part.total} ${part.total === 1 ? "row" : "rows"}: ${part.reading || "all"}.`;
 }
 
-/** Asks for the rows that came into sight, one request after the other. */
+/** Requests the rows that have become visible, one request after the other. */
 async function scrolled() {
   const first = Math.floor(at("rows").scrollTop / HEIGHT), last = first + Math.ceil(at("rows").clientHeight / HEIGHT);
   if (first >= part.first && Math.min(last, part.total) <= part.first + part.rows.length) return;
@@ -99,7 +99,7 @@ function draw() {
   point();
 }
 
-/** Marks the row that keys move from, and those that are chosen. */
+/** Marks the current row, from which keys move, and the selected ones. */
 function point() {
   for (const [place, { number }] of part.rows.entries()) {
     const made = document.getElementById(`row-${part.first + place}`), is = isPicked(number), tick = made?.querySelector("input");
@@ -112,7 +112,7 @@ function point() {
 }
 
 /**
- * Goes to a row, and shows it.
+ * Makes a row the current one, and scrolls to it.
  * @param {number} place
  */
 async function go(place) {
@@ -124,13 +124,13 @@ async function go(place) {
   point();
 }
 
-/** Shows the rows once the table is seen, with the mark of what is chosen. */
+/** Marks the rows and, if the table is visible, updates them. */
 export async function showRows() {
   point();
   if (!at("part-all").hidden) await scrolled();
 }
 
-/** Goes to the row of the arc that is chosen, if that was chosen elsewhere while the table is seen, and the filter shows it. */
+/** Goes to the row of the selected arc, if it was selected elsewhere while the table is visible, and it matches the filter. */
 export async function goToChosen() {
   const number = theChoice()?.arc, host = at("part-all");
   point();
@@ -141,13 +141,13 @@ export async function goToChosen() {
 
 const arcAt = (/** @type {number} */ place) => part.rows[place - part.first];
 
-/** Chooses the rows between the one where the choice began and the present one. */
+/** Selects the rows between the one where the selection began and the current one. */
 async function pickRange() {
   const found = await numbers(Math.min(anchor, current), Math.abs(anchor - current) + 1);
   if (found) pickThese(found);
 }
 
-/** Chooses all that the filter shows. */
+/** Selects all arcs that match the filter. */
 async function pickAll() {
   const found = await numbers(0, part.total);
   if (found) pickMore(found);
@@ -202,7 +202,7 @@ export function beginTable() {
   watchPicked(point);
 }
 
-/** Shows the rows of another filter, from the first on. */
+/** If the filter has changed, shows its rows from the first on. */
 export function showFiltered() {
   if (filterWords() === filtered) return undefined;
   filtered = filterWords();
@@ -211,7 +211,7 @@ export function showFiltered() {
   return showTable();
 }
 
-/** Says what can be typed into the filter, and in what amounts are. */
+/** Says what can be typed into the filter, and the unit of amounts. */
 export const showForms = () => {
   at("listed-head").textContent = `All ${noun()}s`;
   at("filter-forms").textContent = "A part of a name, or use > 80, changed, full, limit, closed, capacity < 60, flow >= 10, from ~ Mill;"

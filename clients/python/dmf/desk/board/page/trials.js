@@ -1,10 +1,10 @@
 /**
- * What each arc means for the value: each is tried in turn, alone.
+ * Trials of arcs: what the value is without each of them, or with a second one beside it.
  * @typedef {import("./state.js").Arc} Arc
  * @typedef {import("./state.js").State} State
  *
- * What is lost without an arc, and won by a second one, is empty where it is nothing; `loss` and `gain` are the same in digits of one
- * length, so that the larger one comes later in the order of texts.
+ * `lost` without an arc, and `won` by a second one, are empty if they are 0; `loss` and `gain` are the same with equally many digits, so
+ * that they can be compared as texts.
  * @typedef {Arc & { doubled: string, without: string, lost: string, won: string, loss: string, gain: string }} Trial
  */
 import { pick } from "./choice.js";
@@ -12,19 +12,19 @@ import { at, cell, fill, make, numberCell, onClick } from "./elements.js";
 import { ask, caption, noun, present, units } from "./state.js";
 import { grouped, upper } from "./words.js";
 
-/** How many rows the table has at first, and at most; how many arcs are asked for at once; how many are named;
- * how often what is found so far is shown, in ms. */
+/** The rows of the table at first, and at most; the arcs in one request; the most names in a sentence; and the pause between updates, in
+ * milliseconds. */
 const FIRST_ROWS = 20, MOST_ROWS = 3000, AT_ONCE = 5000, MOST_NAMED = 5, PAUSE = 400;
 /**
- * The sweep that goes on: what it has found, the arcs that are left, and which they all are if that is not all.
+ * The running sweep: its results, the arcs that are left, and in words which arcs it tries, or an empty text for all.
  * @type {{ trials: Trial[], left: number[], which: string } | null}
  */
 let going = null;
-/** What the table was made of last, and whether it has more than its first rows. */
+/** The trials in the table, and whether it shows more than the first rows. */
 const shown = { trials: /** @type {Trial[]} */ ([]), isAll: false };
 
 /**
- * Tries these in turn. Where they are not all, `which` says so. The table has those that matter most.
+ * Tries these arcs in turn, and shows those that matter most. `which` says which they are, if they are not all.
  * @param {number[]} numbers
  * @param {string} which
  */
@@ -50,7 +50,7 @@ async function sweep(numbers, which) {
   stop();
 }
 
-/** Ends the sweep that goes on, and tells what it has found. What is being tried is not waited for, and the board ends that. */
+/** Ends the running sweep, and shows its results. It does not wait for the trials that are being made, which the board ends. */
 function stop() {
   if (!going) return;
   const { trials, left, which } = going;
@@ -61,7 +61,7 @@ function stop() {
   at("verdict").textContent = left.length ? `Stopped: ${trials.length} of ${trials.length + left.length} are tried. ${found}` : found;
 }
 
-/** Leaves the sweep that goes on. */
+/** Forgets the running sweep. */
 function leave() {
   going = null;
   if (document.activeElement === at("stop")) at("try-all").focus();
@@ -94,7 +94,7 @@ function verdict(trials, which) {
 }
 
 /**
- * A bar as long as this part of the most.
+ * Returns a bar whose length is this amount in parts of the largest one.
  * @param {string} by
  * @param {string} most
  * @param {string} kind
@@ -106,7 +106,7 @@ function bar(by, most, kind) {
 }
 
 /**
- * Shows those that matter most, or all that the table has room for.
+ * Shows the trials that matter most, or as many as the table can have.
  * @param {Trial[]} trials
  */
 function showTrials(trials) {
@@ -127,7 +127,7 @@ function showTrials(trials) {
   at("trials-more").textContent = `Show ${all < trials.length ? "the first" : "all"} ${grouped(all)}`;
 }
 
-/** Shows the rows after the first ones, and goes to the next of them. */
+/** Shows the rows after the first ones, and moves the focus to the next one. */
 function showAll() {
   shown.isAll = true;
   showTrials(shown.trials);
@@ -135,7 +135,7 @@ function showAll() {
 }
 
 /**
- * Ends the sweep, since the state that it tries has passed.
+ * Forgets the running sweep after a change, and says that the table is out of date.
  * @param {State} state
  * @param {State | null} before
  */

@@ -1,12 +1,12 @@
 /**
- * The part of the picture that is seen: dragged, made larger and smaller about a point, and fitted to what is in it.
+ * The view, which is the visible part of the picture: it can be dragged, scaled about a point, and fitted to a box.
  * @typedef {{ x: number, y: number, width: number, height: number }} Box
  */
 import { at } from "./elements.js";
 import { freePart } from "./room.js";
 
-/** The largest number of pixels for a unit of the picture, also where that is fitted; the smallest; what a drag is, and
- * the room for labels at each side, and how high a part is free that is looked at, in pixels. */
+/** The largest scale, in pixels per unit of the picture, and the largest one for a fit; the smallest; and, in pixels, the least length of a
+ * drag, the room for labels at each side, and the least height of a free part that somebody looks at. */
 const MOST = 6, MOST_FITTED = 1.8, LEAST = 0.004, DRAG = 4, ASIDE = 60, LEAST_FREE = 80;
 /** @type {Box} */
 let seen = { x: 0, y: 0, width: 1, height: 1 };
@@ -14,23 +14,23 @@ let seen = { x: 0, y: 0, width: 1, height: 1 };
 const pointers = new Map();
 let isDragged = false, wide = 1, high = 1;
 /**
- * What the picture was fitted to last, if it was not moved since.
+ * The box to which the view was fitted last, if it was not moved since.
  * @type {Box | null}
  */
 let fitted = null;
-/** The middle of what was free when something of the picture was last. */
+/** The middle of the latest free part that was large enough. */
 let focus = { x: 0, y: 0 };
 /** @type {() => unknown} */
 let told = () => undefined;
 
-/** The pixels for a unit of the picture. */
+/** Returns the pixels per unit of the picture. */
 export const scale = () => wide / seen.width;
 
-/** The part of the picture that is seen. */
+/** Returns the visible part of the picture. */
 export const seenBox = () => seen;
 
 /**
- * Shows the part of a size about a middle, with as many pixels for a unit.
+ * Moves the view to a middle, at a scale in pixels per unit.
  * @param {number} x
  * @param {number} y
  * @param {number} pixels
@@ -42,7 +42,7 @@ function show(x, y, pixels) {
   see();
 }
 
-/** Has the picture show what is to be seen. */
+/** Applies the view to the picture. */
 export function see() {
   const svg = at("picture").querySelector("svg"), box = [seen.x, seen.y, seen.width, seen.height].join(" ");
   if (svg?.getAttribute("viewBox") !== box) svg?.setAttribute("viewBox", box);
@@ -53,14 +53,14 @@ export function see() {
 const middleOf = ({ x, y, width, height }) => ({ x: x + width / 2, y: y + height / 2 });
 const middle = () => middleOf(seen);
 
-/** Shows the same middle again, if the room is another one. */
+/** Keeps the middle of the view after the window has changed its size. */
 function refresh() {
   const { clientWidth, clientHeight } = at("picture");
   if (clientWidth !== wide || clientHeight !== high) show(middle().x, middle().y, scale());
 }
 
 /**
- * Makes the picture larger about a point of the window, or the middle of its free part; below 1 smaller.
+ * Scales the picture by a factor about a point of the window, or the middle of its free part.
  * @param {number} by
  * @param {{ x: number, y: number }} [point]
  */
@@ -73,7 +73,7 @@ export function zoom(by, point) {
 }
 
 /**
- * Moves what is seen, by pixels.
+ * Moves the view, in pixels.
  * @param {number} right
  * @param {number} down
  */
@@ -83,7 +83,7 @@ export function move(right, down) {
 }
 
 /**
- * The part of the picture that is seen and over which nothing lies.
+ * Returns the visible part of the picture that nothing covers.
  * @returns {Box}
  */
 export function freeBox() {
@@ -92,7 +92,7 @@ export function freeBox() {
 }
 
 /**
- * Shows a point in the middle of the free part, with as many pixels for a unit.
+ * Moves a point to the middle of the free part, at a scale in pixels per unit.
  * @param {number} x
  * @param {number} y
  * @param {number} pixels
@@ -104,7 +104,7 @@ function showFree(x, y, pixels) {
 }
 
 /**
- * Shows the same in what is free after a change of what lies over the picture: what was fitted is fitted again, and else the middle stays.
+ * Makes a change to what covers the picture, and keeps the view in the free part: a fitted box is fitted again, or else the middle stays.
  * @param {() => unknown} change
  */
 export function keepFree(change) {
@@ -118,7 +118,7 @@ export function keepFree(change) {
   else showFree(focus.x, focus.y, scale());
 }
 
-/** @param {Box} box what is seen whole, in the free part, with room for labels beside it */
+/** @param {Box} box is shown whole, in the free part, with room for labels beside it */
 export function fit(box) {
   const { x, y, width, height } = box;
   fitted = box;
@@ -128,16 +128,16 @@ export function fit(box) {
 }
 
 /**
- * How far a span has to be moved to lie in another one; one that is longer lies in its middle.
+ * Returns how far a span has to be moved to lie in another one, or about its middle if it is longer.
  * @param {number} from
  * @param {number} long
  * @param {number} free where the other one begins
- * @param {number} room how long that is
+ * @param {number} room the length of the other one
  */
 const into = (from, long, free, room) =>
   long > room ? free + room / 2 - from - long / 2 : Math.max(free - from, 0) + Math.min(free + room - from - long, 0);
 
-/** @param {Box} box what is to be seen: the picture is moved as far as is needed to have it in the free part */
+/** @param {Box} box should be visible: the view moves as little as brings it into the free part */
 export function reveal({ x, y, width, height }) {
   const free = freeBox(), right = into(x, width, free.x, free.width), down = into(y, height, free.y, free.height);
   if (right || down) show(middle().x - right, middle().y - down, scale());
@@ -156,7 +156,7 @@ function dragged(event) {
   pointers.set(event.pointerId, { x: event.x, y: event.y });
 }
 
-/** @param {() => unknown} tell what is done whenever another part is seen */
+/** @param {() => unknown} tell is called after each change of the view */
 export function beginView(tell) {
   told = tell;
   const host = at("picture");

@@ -1,4 +1,4 @@
-/** Words of the board, as sentences. */
+/** Makes sentences from the words of the board. */
 
 /** @param {string} text */
 export const upper = (text) => text.charAt(0).toUpperCase() + text.slice(1);
@@ -9,14 +9,14 @@ export const sentence = (text) => upper(text) + (/[.?!]$/.test(text) ? "" : ".")
 /** @param {number} count */
 export const grouped = (count) => count.toLocaleString("en");
 
-/** How many names of a list are written. */
+/** The most names of a list in a sentence. */
 const MOST_NAMED = 5;
 
 /**
- * The first names of a list, and how many more it has.
+ * Returns the first names of a list, and how many more it has.
  * @param {string[]} names
  * @param {number} count how many names the whole list has
- * @param {string} sign what stands between two
+ * @param {string} sign the separator
  */
 export function listed(names, count = names.length, sign = ", ") {
   const rest = count - Math.min(names.length, MOST_NAMED);
@@ -24,7 +24,7 @@ export function listed(names, count = names.length, sign = ", ") {
 }
 
 /**
- * The name of a file, without the folders before it.
+ * Returns the name of a file, without its folders.
  * @param {string} path
  */
 export const fileName = (path) => path.split(/[\\/]/).pop() || path;

@@ -1,5 +1,5 @@
 /**
- * What each arc is worth: what is left without it. The board finds that beside each new state, and the page asks until it is known.
+ * What is left without each arc. The board computes that in the background for each new state, and the page asks until it is known.
  * @typedef {import("./state.js").Arc} Arc
  * @typedef {{ is_finding: boolean, is_known: boolean, worst: Arc[], more: number, losses: Record<string, string> }} Worth
  */
@@ -9,21 +9,21 @@ import { colourByLoss } from "./legend.js";
 import { ask, caption, noun, present, units } from "./state.js";
 import { grouped, upper } from "./words.js";
 
-/** How long it is waited before the board is asked again, at first and at most, in milliseconds. */
+/** The first and the longest pause before the board is asked again, in milliseconds. */
 const SOON = 100, LATE = 2000;
 let asked = 0;
 /** @type {(() => unknown)[]} */
 const watchers = [];
 
 /**
- * Has a part of the page told when it becomes known.
+ * Calls `watcher` when it becomes known.
  * @param {() => unknown} watcher
  */
 export function watchWorth(watcher) {
   watchers.push(watcher);
 }
 
-/** Finds it for a new state. Until then the old one is marked as such, and nothing waits for it. */
+/** Asks for it after a new state. Until it comes, the old numbers stay, marked as old, and nothing waits for it. */
 export function findWorth() {
   asked += 1;
   markOld(true);
@@ -65,7 +65,7 @@ function show(told) {
 }
 
 /**
- * What closing an arc leaves, in words; empty while that is not known.
+ * Returns in words what is left without an arc, or an empty text while that is not known.
  * @param {Arc} arc
  */
 export function closingWords(arc) {
