@@ -8,8 +8,8 @@
  * Who owns what.  A session is yours from the call that opens it, dmf_session_new or dmf_session_read, until you give it to
  * dmf_session_free. It is on the heap of malloc, and holds no file, thread or lock. Arrays and texts stay yours: a call
  * reads or writes the places that you lend it, and only while it runs.
- * Pointers.  No pointer may be NULL: not where a length is 0, and not in dmf_session_free. What a call writes may not
- * overlap anything else that the same call is given. A length counts elements, and must be true.
+ * Pointers.  Only a pointer beside a length of 0 may be NULL. What a call writes may not overlap anything else that the same
+ * call is given. A length counts elements, and must be true.
  * Threads.  One call at a time for a session; calls that take a const session count too. It need not be the same thread each
  * time. Calls for different sessions may run at the same time if malloc may. No call blocks or starts a thread, and none may
  * be made from a signal handler. After a fork each process has its own copy of the session; if other threads were running,
@@ -57,7 +57,7 @@ enum dmf_status {
     DMF_NEGATIVE = 15        /* more flow enters the source than leaves it */
 };
 
-/* The first fault of a problem text, which `dmf solve` prints in words. The numbers never change. */
+/* The first fault of a problem text. The numbers never change. */
 enum dmf_fault {
     DMF_FAULT_PROBLEM_LINE_EXPECTED = 1,  /* a line before the line `p max NODES ARCS`, or no such line */
     DMF_FAULT_SECOND_PROBLEM_LINE = 2,
@@ -77,6 +77,55 @@ enum dmf_fault {
     DMF_FAULT_TERMINAL_MISSING = 16,      /* source or sink missing */
     DMF_FAULT_SUM_TOO_LARGE = 17          /* capacities past 64 bits */
 };
+
+/* The words for an enum dmf_status, such as "no such arc". They live as long as the program. */
+static inline const char *dmf_status_text(int status)
+{
+    switch (status) {
+    case DMF_OK: return "no error";
+    case DMF_NO_MEMORY: return "no memory";
+    case DMF_NO_SUCH_NODE: return "no such node";
+    case DMF_NO_SUCH_ARC: return "no such arc";
+    case DMF_CLOSED: return "arc is closed";
+    case DMF_TOO_MANY_ARCS: return "too many arcs";
+    case DMF_SUM_TOO_LARGE: return "capacities past 64 bits";
+    case DMF_NOTHING_TO_UNDO: return "nothing to undo";
+    case DMF_NOTHING_TO_REDO: return "nothing to redo";
+    case DMF_NOT_GREATEST: return "flow is not greatest";
+    case DMF_BAD_LENGTH: return "array has the wrong length";
+    case DMF_BAD_NUMBER: return "number out of range";
+    case DMF_BAD_TEXT: return "not a problem text";
+    case DMF_OVER_CAPACITY: return "flow exceeds the capacity of an arc";
+    case DMF_NOT_CONSERVED: return "flow is not conserved at a node";
+    case DMF_NEGATIVE: return "more flow enters the source than leaves it";
+    default: return "unknown status";
+    }
+}
+
+/* The words for an enum dmf_fault, as `dmf solve` prints them. They live as long as the program. */
+static inline const char *dmf_fault_text(int fault)
+{
+    switch (fault) {
+    case DMF_FAULT_PROBLEM_LINE_EXPECTED: return "problem line expected";
+    case DMF_FAULT_SECOND_PROBLEM_LINE: return "second problem line";
+    case DMF_FAULT_UNKNOWN_LINE: return "unknown line";
+    case DMF_FAULT_NOT_MAX: return "not a max problem";
+    case DMF_FAULT_FIELD_COUNT: return "wrong number of fields";
+    case DMF_FAULT_NOT_A_NUMBER: return "not a number";
+    case DMF_FAULT_TOO_LARGE: return "number too large";
+    case DMF_FAULT_COUNT_OUT_OF_RANGE: return "count out of range";
+    case DMF_FAULT_NODE_OUT_OF_RANGE: return "no such node";
+    case DMF_FAULT_NEITHER_SOURCE_NOR_SINK: return "neither source nor sink";
+    case DMF_FAULT_TERMINAL_NAMED_TWICE: return "terminal named twice";
+    case DMF_FAULT_SAME_TERMINALS: return "source and sink are the same";
+    case DMF_FAULT_ARC_BEFORE_TERMINALS: return "arc before source and sink";
+    case DMF_FAULT_TOO_MANY_ARCS: return "too many arcs";
+    case DMF_FAULT_TOO_FEW_ARCS: return "too few arcs";
+    case DMF_FAULT_TERMINAL_MISSING: return "source or sink missing";
+    case DMF_FAULT_SUM_TOO_LARGE: return "capacities past 64 bits";
+    default: return "unknown fault";
+    }
+}
 
 /* A session. What it holds is private. */
 typedef struct dmf_session dmf_session;
@@ -168,7 +217,7 @@ enum dmf_status dmf_session_check(const dmf_session *session, const uint64_t *fl
 
 /* The problem text of the open arcs, or the solution text, into `room` bytes. *length becomes the length of the whole text,
  * unless the answer is DMF_NO_MEMORY, which leaves it unchanged. If it exceeds `room`, the answer is DMF_BAD_LENGTH, and
- * nothing is written: so ask first with a room of 1 byte, and then with that length. No 0 is added. */
+ * nothing is written: so ask first with a room of 0 bytes, and then with that length. No 0 is added. */
 enum dmf_status dmf_session_problem(const dmf_session *session, uint8_t *text, size_t room, size_t *length);
 enum dmf_status dmf_session_solution(const dmf_session *session, uint8_t *text, size_t room, size_t *length);
 

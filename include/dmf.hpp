@@ -81,51 +81,10 @@ enum class fault : std::uint32_t {
 };
 
 /// Returns the words for a status, which live as long as the program.
-[[nodiscard]] constexpr const char *text(status status) noexcept {
-    switch (status) {
-    case status::ok: return "no error";
-    case status::no_memory: return "no memory";
-    case status::no_such_node: return "no such node";
-    case status::no_such_arc: return "no such arc";
-    case status::closed: return "arc is closed";
-    case status::too_many_arcs: return "too many arcs";
-    case status::sum_too_large: return "capacities past 64 bits";
-    case status::nothing_to_undo: return "nothing to undo";
-    case status::nothing_to_redo: return "nothing to redo";
-    case status::not_greatest: return "flow is not greatest";
-    case status::bad_length: return "array has the wrong length";
-    case status::bad_number: return "number out of range";
-    case status::bad_text: return "not a problem text";
-    case status::over_capacity: return "flow exceeds the capacity of an arc";
-    case status::not_conserved: return "flow is not conserved at a node";
-    case status::negative: return "more flow enters the source than leaves it";
-    }
-    return "unknown status";
-}
+[[nodiscard]] inline const char *text(status status) noexcept { return dmf_status_text(static_cast<int>(status)); }
 
 /// Returns the words for a fault, as `dmf solve` prints them. They live as long as the program.
-[[nodiscard]] constexpr const char *text(fault fault) noexcept {
-    switch (fault) {
-    case fault::problem_line_expected: return "problem line expected";
-    case fault::second_problem_line: return "second problem line";
-    case fault::unknown_line: return "unknown line";
-    case fault::not_max: return "not a max problem";
-    case fault::field_count: return "wrong number of fields";
-    case fault::not_a_number: return "not a number";
-    case fault::too_large: return "number too large";
-    case fault::count_out_of_range: return "count out of range";
-    case fault::node_out_of_range: return "no such node";
-    case fault::neither_source_nor_sink: return "neither source nor sink";
-    case fault::terminal_named_twice: return "terminal named twice";
-    case fault::same_terminals: return "source and sink are the same";
-    case fault::arc_before_terminals: return "arc before source and sink";
-    case fault::too_many_arcs: return "too many arcs";
-    case fault::too_few_arcs: return "too few arcs";
-    case fault::terminal_missing: return "source or sink missing";
-    case fault::sum_too_large: return "capacities past 64 bits";
-    }
-    return "unknown fault";
-}
+[[nodiscard]] inline const char *text(fault fault) noexcept { return dmf_fault_text(static_cast<int>(fault)); }
 
 /// Thrown by a call that is refused for any reason except memory.
 class error : public std::runtime_error {
@@ -229,16 +188,6 @@ inline void expect_ok(dmf_status answer) {
         refuse(answer);
 }
 
-// The library does not accept NULL, but the data() of something empty may be NULL.
-template <class Element> Element *pointer(span<Element> elements) noexcept {
-    static std::remove_const_t<Element> nothing{};
-    return elements.data() != nullptr ? elements.data() : &nothing;
-}
-
-inline const std::uint8_t *bytes(std::string_view text) noexcept {
-    return reinterpret_cast<const std::uint8_t *>(text.empty() ? "" : text.data());
-}
-
 struct closer {
     void operator()(dmf_session *session) const noexcept { dmf_session_free(session); }
 };
@@ -265,7 +214,8 @@ public:
         dmf_session *handle = nullptr;
         std::uint64_t line = 0;
         std::uint32_t fault = 0;
-        const dmf_status answer = dmf_session_read(detail::bytes(text), text.size(), past, &handle, &line, &fault);
+        const auto *bytes = reinterpret_cast<const std::uint8_t *>(text.data());
+        const dmf_status answer = dmf_session_read(bytes, text.size(), past, &handle, &line, &fault);
         if (answer == DMF_BAD_TEXT)
             throw text_error(line, static_cast<dmf::fault>(fault));
         detail::expect_ok(answer);
@@ -340,7 +290,7 @@ public:
 
     /// Writes the flow on each arc into an array of arcs() elements, and takes no memory. Throws error with bad_length.
     void flows(span<std::uint64_t> into) const {
-        detail::expect_ok(dmf_session_flows(live(), detail::pointer(into), into.size()));
+        detail::expect_ok(dmf_session_flows(live(), into.data(), into.size()));
     }
 
     /// Returns the capacity of each arc, 0 for a closed one.
@@ -352,7 +302,7 @@ public:
 
     /// Writes the capacity of each arc into an array of arcs() elements, and takes no memory. Throws error with bad_length.
     void capacities(span<std::uint64_t> into) const {
-        detail::expect_ok(dmf_session_capacities(live(), detail::pointer(into), into.size()));
+        detail::expect_ok(dmf_session_capacities(live(), into.data(), into.size()));
     }
 
     /// Returns the source side of the smallest minimum cut: 1 at index v - 1 if every minimum cut has node v on the source
@@ -366,14 +316,14 @@ public:
 
     /// Writes the source side into an array of nodes() elements. Throws as side() does, and error with bad_length.
     void side(span<std::uint8_t> into) const {
-        detail::expect_ok(dmf_session_side(live(), detail::pointer(into), into.size()));
+        detail::expect_ok(dmf_session_side(live(), into.data(), into.size()));
     }
 
     /// Judges flows, one for each arc, as flows of the present network; the session's own flow does not matter. A wrong
     /// flow is an answer and not an error. Throws error with bad_length, or std::bad_alloc.
     [[nodiscard]] judgement check(span<const std::uint64_t> flows) const {
         std::uint64_t place = 0;
-        const dmf_status answer = dmf_session_check(live(), detail::pointer(flows), flows.size(), &place);
+        const dmf_status answer = dmf_session_check(live(), flows.data(), flows.size(), &place);
         if (answer == DMF_NO_MEMORY || answer == DMF_BAD_LENGTH)
             detail::refuse(answer);
         return {static_cast<status>(answer), place};
@@ -391,9 +341,9 @@ private:
                                              span<const std::uint64_t> capacities, std::uint32_t past) {
         dmf_session *handle = nullptr;
         std::size_t bad_arc = 0;
-        const dmf_status answer = dmf_session_new(nodes, source, sink, detail::pointer(tails), tails.size(),
-                                                  detail::pointer(heads), heads.size(), detail::pointer(capacities),
-                                                  capacities.size(), past, &handle, &bad_arc);
+        const dmf_status answer =
+            dmf_session_new(nodes, source, sink, tails.data(), tails.size(), heads.data(), heads.size(),
+                            capacities.data(), capacities.size(), past, &handle, &bad_arc);
         if (answer == DMF_NO_SUCH_NODE || answer == DMF_TOO_MANY_ARCS || answer == DMF_SUM_TOO_LARGE)
             throw arc_error(static_cast<status>(answer), bad_arc + 1);
         detail::expect_ok(answer);
@@ -405,9 +355,9 @@ private:
         return handle_.get();
     }
 
-    // Asks for the length with room for one byte, which is never enough, and then for the text.
+    // Asks for the length without room, and then for the text.
     template <class Call> [[nodiscard]] std::string written(Call call) const {
-        std::string text(1, '\0');
+        std::string text;
         std::size_t length = 0;
         for (;;) {
             const dmf_status answer = call(live(), reinterpret_cast<std::uint8_t *>(text.data()), text.size(), &length);

@@ -4,7 +4,9 @@ from __future__ import annotations
 
 import ctypes
 import functools
+import re
 import subprocess
+from collections.abc import Sequence
 from ctypes import byref, c_size_t, c_uint8, c_uint32, c_uint64, c_void_p
 from pathlib import Path
 
@@ -25,6 +27,11 @@ def library_folder() -> Path:
 def library_file() -> str:
     """The library itself."""
     return str(library_folder() / "libdmf.so.0")
+
+
+def header_calls() -> list[str]:
+    """Return the calls of the library that dmf.h declares, without its inline functions."""
+    return re.findall(r"^(?:enum )?\w+ (dmf_\w+)\(", HEADER.read_text(), re.MULTILINE)
 
 
 def compiled(compiler: list[str], source: Path, folder: Path, scratch: Path) -> Path:
@@ -59,11 +66,17 @@ NO_MEMORY, NO_SUCH_NODE, TOO_MANY_ARCS, SUM_TOO_LARGE, BAD_LENGTH, BAD_TEXT = 1,
 def odd_array(
     kind: type[ctypes._SimpleCData[int]], count: int
 ) -> ctypes.Array[ctypes._SimpleCData[int]]:
-    """An array with odd numbers, and with one place after its last, since no pointer may be
-    NULL."""
+    """An array with odd numbers, and with one place after its last, which stays odd."""
     array = (kind * (count + 1))()
     ctypes.memset(array, ODD, ctypes.sizeof(array))
     return array
+
+
+def array_of(
+    kind: type[ctypes._SimpleCData[int]], numbers: Sequence[int]
+) -> ctypes.Array[ctypes._SimpleCData[int]] | None:
+    """Return an array of these numbers, or NULL if there are none."""
+    return (kind * len(numbers))(*numbers) if numbers else None
 
 
 class Library:
@@ -101,11 +114,11 @@ class Library:
             c_uint32(nodes),
             c_uint32(ends[0]),
             c_uint32(ends[1]),
-            (c_uint32 * max(1, len(tails)))(*tails),
+            array_of(c_uint32, tails),
             c_size_t(len(tails)),
-            (c_uint32 * max(1, len(heads)))(*heads),
+            array_of(c_uint32, heads),
             c_size_t(len(heads)),
-            (c_uint64 * max(1, len(capacities)))(*capacities),
+            array_of(c_uint64, capacities),
             c_size_t(len(capacities)),
             c_uint32(past),
             byref(session),
@@ -174,11 +187,11 @@ class CSession:
 
     def check(self, flows: tuple[int, ...]) -> None:
         place = c_uint64(ODD_NUMBER)
-        given = (c_uint64 * max(1, len(flows)))(*flows)
+        given = array_of(c_uint64, flows)
         status = self.calls.dmf_session_check(
             self.session, given, c_size_t(len(flows)), byref(place)
         )
-        assert tuple(given)[: len(flows)] == flows
+        assert tuple(given or ()) == flows
         want(status, place.value)
         assert place.value == 0
 
@@ -187,6 +200,7 @@ class CSession:
         stays."""
         length = c_size_t(ODD_NUMBER)
         call = getattr(self.calls, f"dmf_session_{name}")
+        assert call(self.session, None, c_size_t(0), byref(length)) == BAD_LENGTH
         for room in 0, 1:
             text = odd_array(c_uint8, room)
             assert call(self.session, text, c_size_t(room), byref(length)) == BAD_LENGTH

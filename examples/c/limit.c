@@ -11,9 +11,12 @@ int main(void)
     uint64_t flows[5];
     dmf_session *session = NULL;
     size_t bad_arc;
+    enum dmf_status status = dmf_session_new(4, 1, 4, tails, 5, heads, 5, capacities, 5, 100, &session, &bad_arc);
 
-    if (dmf_session_new(4, 1, 4, tails, 5, heads, 5, capacities, 5, 100, &session, &bad_arc) != DMF_OK)
+    if (status != DMF_OK) {
+        fprintf(stderr, "limit: %s\n", dmf_status_text(status));
         return 1;
+    }
     if (dmf_session_solve(session) != DMF_OK || dmf_session_flows(session, flows, 5) != DMF_OK)
         return 1;
     for (int i = 0; i < 5; i++)

@@ -11,6 +11,7 @@ import sys
 from pathlib import Path
 
 import pytest
+from c_library import header_calls
 from conftest import ROOT
 
 CLAIMS = ROOT / "docs" / "CLAIMS.txt"
@@ -39,10 +40,7 @@ def test_each_clause_is_there() -> None:
     heads = {re.sub(r"\s+", " ", home.head).strip() for home in list_edits.front_clauses().values()}
     assert len(heads) > 80
     assert not [head for head in heads if head not in claims]
-    calls = re.findall(
-        r"\b(dmf_\w+)\(",
-        re.sub(r"/\*.*?\*/", "", (ROOT / "include/dmf.h").read_text(), flags=re.DOTALL),
-    )
+    calls = header_calls()
     assert len(calls) > 20
     assert not [call for call in calls if f"fn {call}(" not in claims]
 

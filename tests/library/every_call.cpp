@@ -173,6 +173,10 @@ int main() {
     owning();
     without_arcs();
     EXPECT(dmf::abi() == DMF_ABI && dmf::version() == dmf_version());
+    for (int number : {-1, DMF_NEGATIVE + 1})
+        EXPECT(dmf_status_text(number) == std::string("unknown status"));
+    for (int number : {0, DMF_FAULT_SUM_TOO_LARGE + 1})
+        EXPECT(dmf_fault_text(number) == std::string("unknown fault"));
     for (std::uint32_t number = 0; number <= DMF_NEGATIVE; number++)
         std::cout << dmf::text(static_cast<dmf::status>(number)) << "\n";
     for (std::uint32_t number = 1; number <= DMF_FAULT_SUM_TOO_LARGE; number++)

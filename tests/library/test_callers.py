@@ -3,13 +3,12 @@ request for memory in turn. test_cpp.py has those in C++."""
 
 from __future__ import annotations
 
-import re
 import subprocess
 import sys
 from pathlib import Path
 
 import pytest
-from c_library import HEADER, ROOT, compiled, library_folder
+from c_library import ROOT, compiled, header_calls, library_folder
 
 EXAMPLES = ROOT / "examples/c"
 SOLVED = (
@@ -67,7 +66,7 @@ def test_the_names_that_the_library_shows(folder: Path) -> None:
     library but libc."""
     listed = output_of("nm", "-D", "--defined-only", folder / "libdmf.so.0").split()
     shown = {name.removesuffix("@@DMF_0") for name in listed if name.startswith("dmf_")}
-    assert shown == set(re.findall(r"\b(dmf_\w+)\(", HEADER.read_text()))
+    assert shown == set(header_calls())
     assert {
         name
         for name in listed

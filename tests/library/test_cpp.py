@@ -14,7 +14,7 @@ from types import MappingProxyType
 
 import networkx
 import pytest
-from c_library import HEADER, ROOT, compiled, library_folder
+from c_library import HEADER, ROOT, compiled, header_calls, library_folder
 from dmf.session.library import FAULTS, REASONS
 
 EXAMPLE = ROOT / "examples/cpp"
@@ -155,7 +155,7 @@ def test_memory_refused(tmp_path: Path) -> None:
 def test_each_call_and_number_of_the_c_header() -> None:
     """dmf.hpp makes each call of dmf.h, and has each status and each fault."""
     c, cpp = HEADER.read_text(), HEADER_CPP.read_text()
-    calls = re.findall(r"^(?:enum )?\w+ \*?(dmf_\w+)\(", c, re.MULTILINE)
+    calls = header_calls()
     assert len(calls) == 25 and [call for call in calls if f"{call}(" not in cpp] == [
         "dmf_session_problem",
         "dmf_session_solution",

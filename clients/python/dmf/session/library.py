@@ -287,7 +287,7 @@ class LibrarySession(Session):
 
     def _problem(self, held: Handle) -> bytes:
         length = _SIZE()
-        text = array("B", [0])
+        text = array("B")
         while True:
             status = self._library.problem(
                 held.address, _place(text), len(text), ctypes.byref(length)
@@ -332,6 +332,5 @@ class LibrarySession(Session):
 
 
 def _place(column: array[int]) -> int:
-    """Return the address of an array's items. For an empty array too, the library expects an
-    address other than 0."""
-    return column.buffer_info()[0] or 8
+    """Return the address of an array's items."""
+    return column.buffer_info()[0]
