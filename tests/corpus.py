@@ -158,7 +158,7 @@ def mutated_text(text: bytes, other: bytes, random: Random) -> bytes:
 
 
 def mutated(corpus: list[Case], name: str, random: Random) -> Case:
-    """A case of the corpus with a few changes, and seldom one from nothing."""
+    """A case of the corpus with a few changes, and seldom one from scratch."""
     if not corpus or random.random() < 0.1:
         return random_case(name, random)
     case, other = random.choice(corpus), random.choice(corpus)

@@ -38,7 +38,7 @@ PROGRAM = "dmf"
 FAILED, INTERRUPTED = 70, 130
 # The most memory that proving one crate takes, in GiB.
 MEMORY = 3.5
-# The processor seconds that each crate takes with one job, from nothing (`/usr/bin/time rt lib
+# The processor seconds that each crate takes with one job, from scratch (`/usr/bin/time rt lib
 # --jobs 1`). They decide which crate begins first, and give the time left. Measured on processors
 # of 2.5 GHz on 2026-11-25; for half of the crates they are estimates from the size of their proofs.
 SECONDS = {

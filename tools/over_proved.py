@@ -4,7 +4,7 @@ lib` would prove each of them again.
     python3 tools/over_proved.py KIT ROOT CRATE
 
 KIT is the toolchain's folder, ROOT the repository's folder, and CRATE the library's crate, which is
-proved here from nothing. The status is 0 if the library was built, and 2 if out/ has no work of `rt
+proved here from scratch. The status is 0 if the library was built, and 2 if out/ has no work of `rt
 ci`.
 """
 

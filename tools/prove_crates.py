@@ -1,5 +1,5 @@
 #!/usr/bin/env python3
-"""Prove each crate and its tests from nothing, and try the must-fail edits of each: `rt ci --anew`,
+"""Prove each crate and its tests from scratch, and try the must-fail edits of each: `rt ci --anew`,
 with a stricter count of the edits.
 
     python3 tools/prove_crates.py

@@ -1,4 +1,4 @@
-"""Sweeps whose cases are networks of their own, solved from nothing: each result is that of a sweep
+"""Sweeps whose cases are networks of their own, solved from scratch: each result is that of a sweep
 that goes on from a solved network."""
 
 from __future__ import annotations

@@ -111,8 +111,7 @@ if TYPE_CHECKING:
     from .tables.table_network import TableNetwork as TableNetwork
     from .vital_arcs import VitalArcs as VitalArcs
 
-# The public names of each module, but for those of the exceptions, which the module `errors` knows
-# itself.
+# The public names of each module. The module `errors` lists those of the exceptions itself.
 _NAMES = {
     "arcs": ["Arc"],
     "desk.project.comparison": ["Comparison"],
@@ -142,8 +141,8 @@ _NAMES = {
 }
 _HOMES = {name: module for module, names in _NAMES.items() for name in names}
 if not TYPE_CHECKING:
-    # `help(dmf)` prints whatever stands here in full, which would be thousands of lines. `dir(dmf)`
-    # has all names.
+    # `help(dmf)` would print the full help of every name here, thousands of lines. `dir(dmf)` has
+    # all names.
     __all__ = []
 
 
@@ -159,7 +158,7 @@ class _EarlierModules:
         return spec_of(name)
 
 
-# The last of all: it is asked for a module of this package only if there is none of its name.
+# This finder comes last, so it is asked only for modules that this package does not have.
 sys.meta_path.append(_EarlierModules)
 
 

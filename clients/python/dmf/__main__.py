@@ -1,4 +1,4 @@
-"""Runs the program in place of Python, as in `python -m dmf solve --cut <problem.max`, or a tool,
+"""Runs the program instead of Python, as in `python -m dmf solve --cut <problem.max`, or a tool,
 as in `python -m dmf plan pipes.csv`; or prints a problem's value and its limit, with its names:
 `python -m dmf problem.max`."""
 
@@ -17,7 +17,7 @@ from .session import executable
 from .tools import TOOLS
 from .tools.command import ToolFault, run, status_of, write
 
-# The status of `./dmf` where there is no program.
+# The status of `./dmf` if there is no program.
 MISSING = 70
 
 

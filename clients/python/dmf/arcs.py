@@ -218,7 +218,7 @@ class OpenArcs(Sequence[Arc[Node]], Generic[Node]):
         low, high = 0, len(self.closed)
         while low < high:
             middle = (low + high) // 2
-            # So many open arcs stand before this closed one.
+            # The number of open arcs before this closed one.
             if self.closed[middle] - 1 - middle <= place:
                 low = middle + 1
             else:

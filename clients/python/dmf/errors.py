@@ -59,7 +59,7 @@ class HistoryOutOfRange(Error, ValueError):
 
 
 class JobsOutOfRange(Error, ValueError):
-    """How many programs a sweep may have at once is no whole number from 1 on."""
+    """The number of programs that a sweep may run at once is not a whole number from 1 on."""
 
 
 class NameNotWritable(Error, ValueError):

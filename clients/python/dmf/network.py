@@ -140,7 +140,8 @@ class Network(ChangeableNetwork[Node]):
         Raises
         ------
         ValueError
-            If the scale is none, or not all whole numbers divided by it are finite decimals.
+            If the scale is not a number, or some whole number divided by it is not a finite
+            decimal.
         NotAnArc
             If the columns differ in length, or a node is missing: None, NaN, or hidden by a mask.
         Error

@@ -1,5 +1,5 @@
 """The columns of rows of arcs, as callers give them: numbers for the nodes, whole capacities, and
-what is no arc."""
+rows that are not arcs."""
 
 from __future__ import annotations
 
@@ -74,7 +74,7 @@ def columns_of(rows: Iterable[Any], nodes: Iterable[Node]) -> tuple[Columns[Node
             for row in piece:
                 taken.take(row)
     if isinstance(taken.numbers, defaultdict):
-        # From now on a node that is not there is none.
+        # From now on looking up an unknown node is a KeyError.
         taken.numbers.default_factory = None
     columns = Columns(taken.numbers, taken.tails, taken.heads, taken.keys)
     _judge_nodes(columns, taken.capacities)

@@ -34,8 +34,8 @@ def measure_of(scale: object) -> Measure:
 
 def exact(number: Any) -> Decimal:
     """Return a number as a Decimal: a float by its shortest decimal form, so that 0.1 is a tenth.
-    Raises a TypeError for what is no number, and a `QuantityFault` for a fraction that is no finite
-    decimal."""
+    Raises a TypeError for a value that is not a number, and a `QuantityFault` for a fraction that
+    is not a finite decimal."""
     if isinstance(number, Decimal):
         return number
     if isinstance(number, int):

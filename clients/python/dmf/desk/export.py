@@ -55,8 +55,8 @@ class _SaidColumns(Extra):
 
 
 def _columns(desk: Desk, row: int) -> Extra:
-    """Return the other columns of a plan's table. One of a project has one more, in place of that
-    which an older plan had."""
+    """Return the other columns of a plan's table. That of a project has one more, which replaces
+    the one of an older plan."""
     extra = desk.network.subject.extra
     if not desk.state.scenario:
         return extra

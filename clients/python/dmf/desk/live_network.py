@@ -29,8 +29,8 @@ class LiveNetwork(NetworkArcs):
         self.network = whole_network(subject.text, program=program)
         super().__init__(subject, self.network._kept, self.network.nodes)
         self.network._kept.watcher = self._follow
-        # Whether changes are being made; an error that is no refusal leaves it so, and the session
-        # is left then.
+        # Whether changes are being made. An error that is not a refusal leaves this True, and the
+        # session is then abandoned.
         self._is_moving = self._is_dropped = False
         # The moment of the network's history, the steps that it was found to stand on then, and
         # their marks.

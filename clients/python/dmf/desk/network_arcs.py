@@ -265,7 +265,7 @@ class NetworkArcs:
                 self.lines[number - 1] = line._replace(capacity=self.measure.quantity(now), **looks)
 
     def _put(self, arc: Arc[Node], capacity: int, replaced: int | None) -> None:
-        """Take in the line of an arc that was added, in place of a closed one if that was opened
+        """Add the line of an arc that was added; it replaces that of a closed arc which was opened
         again."""
         if replaced:
             was = self.lines[replaced - 1]

@@ -4,5 +4,5 @@ session.
 This package knows only the numbers of nodes and arcs, and must not know names, tables or a
 `Network`.
 Entrances: `base` (`Session`, and what it is asked), `runners` (begins one) and `fresh` (answers
-from nothing).
+from scratch).
 """

@@ -1,4 +1,4 @@
-"""Answers without a session, and sessions whose solves begin from nothing and give only the value
+"""Answers without a session, and sessions whose solves begin from scratch and give only the value
 and the cut."""
 
 from __future__ import annotations
@@ -102,7 +102,7 @@ def _not_understood(words: list[str]) -> SessionEnded:
 
 class FreshSession(Session):
     """A session that solves by `dmf solve --brief --cut`: each solve finds the greatest value and
-    the smallest side of a minimum cut of the present network from nothing.
+    the smallest side of a minimum cut of the present network from scratch.
 
     No flow is known, so that no change takes long. Another session takes all changes and decides
     what is refused; only the solves do not reach it.

@@ -240,7 +240,7 @@ def sweep(
     progress
         Whether to show a progress bar, if the package tqdm is installed.
     anew
-        Whether to solve each case from nothing, as `dmf solve --brief` does. The results are the
+        Whether to solve each case from scratch, as `dmf solve --brief` does. The results are the
         same. It is faster if paths are long, or if a case changes much of the network. A function
         can then ask for values and cuts, but not for flows.
 

@@ -78,7 +78,7 @@ class SolvedCopy:
     has ended.
 
     Several programs may read its problem from one file. With `anew` the copy is not solved; this
-    program solves each case from nothing instead.
+    program solves each case from scratch instead.
     """
 
     def __init__(

@@ -280,7 +280,7 @@ def _is_lost(error: BaseException) -> bool:
 @dataclass
 class RemoteCopy:
     """A network as it is sent to another process, with the program, if the caller named one, and
-    whether its cases are solved from nothing."""
+    whether its cases are solved from scratch."""
 
     columns: Any
     capacities: Any

@@ -341,9 +341,9 @@ def read_subject(words: argparse.Namespace, *, in_doubt: bool = False) -> Loaded
 
 
 def is_problem(path: str, data: bytes, *, in_doubt: bool = False) -> bool:
-    """Return True if a file has a problem, by its first line that is no comment, or by its name. If
-    neither says so, a workbook has none, nor has a file with the name of a table or with a comma, a
-    semicolon or a bar in that line; any other has one if `in_doubt`."""
+    """Return True if a file has a problem, by its first line that is not a comment, or by its name.
+    If neither says so, a workbook has none, nor has a file with the name of a table or with a
+    comma, a semicolon or a bar in that line; any other has one if `in_doubt`."""
     head = lines(b"\n".join(data.split(b"\n", MOST_HEAD_LINES)[:MOST_HEAD_LINES]))
     first = next((line for line in head if (found := fields(line)) and found[0] != b"c"), b"")
     if fields(first)[:2] == [b"p", b"max"] or path.endswith(".max"):

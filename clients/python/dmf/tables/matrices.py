@@ -1,5 +1,5 @@
 """Tables whose rows are the places where arcs begin and whose columns are those where they end: a
-cell is the capacity from the one to the other. An empty cell, or 0, is no arc."""
+cell is the capacity from the one to the other. An empty cell, or 0, means no arc."""
 
 from __future__ import annotations
 

@@ -139,8 +139,8 @@ def too_much(measure: Measure) -> str:
 
 
 def check(plan: NetworkTables) -> None:
-    """Raise a `TableFault` with all that is said of what is no place, twice, or of a source that is
-    a sink too; and if a first row that was read as titles has the name of a place."""
+    """Raise a `TableFault` for terms of unknown places, terms that are given twice, and sources
+    that are also sinks; and if a first row that was read as titles has the name of a place."""
     _refuse_dropped(plan)
     places = plan.arcs.places
     faults: list[TableFault] = []

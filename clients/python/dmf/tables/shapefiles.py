@@ -82,7 +82,7 @@ def _encoding(file: TableFile, table: bytes) -> tuple[str, list[str]]:
                 "A".encode(word)
                 return word, []
         raise TableFault(f"its .cpg names no encoding that is known: {quoted_name(name)}")
-    # The head of the table has bytes that are no text.
+    # The head of the table has bytes that are not text.
     body = table[int.from_bytes(table[8:10], "little") :]
     found, note = encoding_of(body.replace(b"\0", b" "))
     return (

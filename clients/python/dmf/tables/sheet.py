@@ -5,8 +5,8 @@ A spreadsheet runs a cell that begins with one of = + - @, a tab or an end of a 
 So a name stands there with an apostrophe before it if such a character is its first, or the first
 after apostrophes. A reader takes one apostrophe off where one or more stand before such a
 character. So each name comes back as it was: `=a` is written `'=a`, `'=a` is written `''=a`, and
-`'a` stays. Names, and cells of other columns that are no numbers, are written and read in this way,
-so numbers stay numbers.
+`'a` stays. Names, and cells of other columns that are not numbers, are written and read in this
+way, so numbers stay numbers.
 
 Numbers are those of the table that a problem was made of, and have its decimal sign. Where that is
 a comma, semicolons stand between cells, as spreadsheets write it then.

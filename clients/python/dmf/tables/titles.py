@@ -119,7 +119,7 @@ _UPPER = [
         "limite superieure",
     )
 ]
-# Titles of usual capacities that also name what is no capacity.
+# Usual titles of capacities that also name other things.
 WEAK = _words("weight gewicht poids peso")
 # What makes a title that of something else.
 _MINIMUM = _words(

@@ -49,7 +49,7 @@ def _has_cells(sheet: Sheet) -> bool:
 
 
 def _kind(data: bytes) -> str:
-    """Return which workbook it is. Raises a `TableFault` for what is none."""
+    """Return the kind of a workbook. Raises a `TableFault` if the bytes are not a workbook."""
     try:
         with zipfile.ZipFile(io.BytesIO(data)) as archive:
             names = {member.filename: member.file_size for member in archive.infolist()}

@@ -29,8 +29,8 @@ MOST_COLUMNS = 16_384
 WORKBOOK = "xl/workbook.xml"
 # The numbers of formats of dates that each workbook has.
 DATE_FORMATS = {*range(14, 23), *range(27, 37), 45, 46, 47, *range(50, 59)}
-# What in a format is no letter of a date: a text in quotes, what is in brackets but hours, minutes
-# and seconds that count on, and an escaped letter.
+# The parts of a format that are not letters of a date: texts in quotes, what is in brackets except
+# elapsed hours, minutes and seconds, and escaped letters.
 _NO_LETTERS = re.compile(r'"[^"]*"|\[(?!hh?\]|mm?\]|ss?\])[^\]]*\]|\\.|_.|\*.', re.IGNORECASE)
 _ESCAPED = re.compile("_x([0-9A-Fa-f]{4})_")
 _REFERENCE = re.compile("([A-Z]{1,3})[0-9]+")

@@ -68,7 +68,7 @@ def arguments() -> argparse.Namespace:
     parser.add_argument(
         "--anew",
         action="store_true",
-        help="solve each case from nothing: faster if paths are long; the table is the same",
+        help="solve each case from scratch: faster if paths are long; the table is the same",
     )
     parser.add_argument(
         "--top",

@@ -122,8 +122,8 @@ def outside(why: str) -> Response:
 FOLDER = Path(__file__).parent / "page"
 PAGE_KINDS = {".html": "text/html", ".css": "text/css", ".js": "text/javascript"}
 PAGE = "index.html"
-# What the page may do: run its own scripts, have its own style, and ask this server. What is told
-# of a network is no script, by its kind.
+# What the page may do: run its own scripts, have its own style, and ask this server. Text
+# about a network has a content type that is not a script's.
 POLICY = (
     "default-src 'none'; script-src 'self'; style-src 'self'; connect-src 'self'; base-uri 'none'; "
     "form-action 'none'; "

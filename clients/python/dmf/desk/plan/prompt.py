@@ -22,7 +22,7 @@ except ImportError:  # A Python without it has no completion and no history.
 
 MOST_REMEMBERED = 2_000
 # What completes a line, and what asks for a line after a prompt. It raises an EOFError at Ctrl-D, a
-# KeyboardInterrupt at Ctrl-C, and a UnicodeDecodeError for bytes that are no text.
+# KeyboardInterrupt at Ctrl-C, and a UnicodeDecodeError for bytes that are not text.
 Complete = Callable[[str], Completed]
 Ask = Callable[[str], str]
 
@@ -113,7 +113,7 @@ def _by_prompt_toolkit(complete: Complete) -> Iterator[Ask]:
         try:
             return ask(prompt)
         except UnicodeEncodeError as fault:
-            # Bytes that are no text stand for themselves.
+            # Bytes that are not text stand for themselves.
             raise UnicodeDecodeError("utf-8", b"", fault.start, fault.end, "no text") from None
 
     try:

@@ -170,7 +170,7 @@ class Shell:
                     self.refuse("that line is not UTF-8")
 
     def completed(self, line: str) -> Completed:
-        """Return what may stand in place of the end of a line."""
+        """Return the possible completions of a line."""
         with contextlib.suppress(Error, DeskFault):
             return completed(self.desk, line)
         return Completed(len(line), [])

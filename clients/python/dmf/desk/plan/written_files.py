@@ -31,7 +31,7 @@ class WrittenFiles:
     def put(self, path: str, data: bytes) -> str:
         """Write a file, and say so. Raise a `DeskFault`."""
         try:
-            # A new file is none that somebody else put there meanwhile, nor a link to one.
+            # A new file must not replace a file or a link that somebody else put there meanwhile.
             write_file(path, data, is_new=os.path.realpath(path) not in self._written)
         except (OSError, ValueError) as error:
             why = error.strerror if isinstance(error, OSError) else error
