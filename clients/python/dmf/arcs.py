@@ -34,11 +34,10 @@ class Owner(Protocol):
 
 
 class Arc(Generic[Node]):
-    """An arc of a network: its handle. `number` is the one that the session knows it by, `tail` and
-    `head` are its ends, and `given_key` is the key that the caller gave it, or None. `is_open`,
-    `capacity` and `flow` say how it is now in its network. Each arc is equal to itself alone, so a
-    copy of it is the arc itself. One that was pickled has no network any more.
-    """
+    """An arc of a network: its handle. `number` is its number in the session, `tail` and `head` are
+    its ends, and `given_key` is the key that the caller gave it, or None. `is_open`, `capacity` and
+    `flow` say how it is now in its network. Each arc is equal only to itself, so a copy of it is
+    the arc itself. An arc that was pickled no longer has a network."""
 
     __module__ = __package__
 

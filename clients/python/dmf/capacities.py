@@ -17,9 +17,9 @@ Scale = Union["Decimal", float]
 
 
 class CapacityReader:
-    """What makes whole numbers of capacities: the scale by which they are multiplied, if there is
-    one, and what is taken for one that is missing or infinite, if anything is. `measure` says how
-    the whole numbers stand for capacities, and is None without a scale."""
+    """A converter of capacities to whole numbers: with the scale by which they are multiplied, if
+    there is one, and the number that replaces a missing or infinite capacity, if there is one.
+    `measure` says how the whole numbers stand for capacities, and is None without a scale."""
 
     def __init__(self, infinite: object = None, scale: object = None) -> None:
         """Check the scale and the number for missing capacities. Raises a ValueError for an

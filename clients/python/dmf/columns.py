@@ -114,8 +114,8 @@ class Index:
 class Columns(Generic[Node]):
     """The arcs of a problem, column by column: the numbers of their tails and heads, from 1 on, and
     the keys that were given, by the arcs' numbers. `numbers` has the number of each node, in order.
-    Nothing of it changes. A function may make the keys when one is first asked for. `described` is
-    what the problem tells of its table, where it is of one."""
+    None of this changes. A function may make the keys when one is first asked for. `described` has
+    the problem's comments about its table, if it has any."""
 
     described: TableComments | None = None
 

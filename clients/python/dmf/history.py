@@ -34,9 +34,8 @@ class Change:
 
 
 class _Now:
-    """The present state: how many changes led to it, forgotten ones counted, and the value of its
-    flow. It is never changed, but another one takes its place.
-    """
+    """The present state: how many changes led to it, including forgotten ones, and the value of its
+    flow. It is never changed, only replaced."""
 
     __slots__ = "place", "value"
 

@@ -48,9 +48,9 @@ class Network(ChangeableNetwork[Node]):
     Raises a `Refused` if the problem has a fault, `NotAnArc` for a row of another form,
     `HistoryOutOfRange`, `SessionEnded` if the program fails, and `NoProgram` if none is found that
     fits. Each method that asks the session raises `SessionEnded` if that has ended, and
-    `UsedByTwoThreads` if another thread is using the network. Ctrl-C, or whatever else breaks a
-    call off, leaves the network as it was before the call; the next call begins a new session in
-    the same state.
+    `UsedByTwoThreads` if another thread is using the network. Ctrl-C, or any other exception that
+    interrupts a call, leaves the network as it was before the call; the next call begins a new
+    session in the same state.
 
     >>> network = Network(
     ...     [("lake", "mill", 3), ("lake", "town", 2), ("mill", "town", 5),

@@ -18,7 +18,7 @@ SOLVE = ("solve",)
 
 
 class ChangeableNetwork(Presentable[Node]):
-    """What changes a network: each call is one change, which `undo` takes back."""
+    """The changes of a network: each call is one change, which `undo` takes back."""
 
     @property
     def arcs(self) -> Sequence[Arc[Node]]:

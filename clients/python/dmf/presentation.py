@@ -22,7 +22,7 @@ if TYPE_CHECKING:
 
 
 class Presentable(SessionHolder[Node]):
-    """What a network has to show itself. Each call leaves the network as it is."""
+    """The forms in which a network can be shown. No call changes the network."""
 
     @property
     def source(self) -> Node:

@@ -67,10 +67,9 @@ def exclusive(method: Method) -> Method:
 
 
 class SessionHolder(Generic[Node]):
-    """What a network is below its calls: a session, and what is kept of the network outside of it.
-    Whatever breaks a call off ends the session, and leaves what is kept as it was before the call.
-    From that the next call begins a new session in the same state.
-    """
+    """The lower half of a network: a session, and the state that is kept outside it. An error that
+    breaks a call off ends the session, and leaves that state as it was before the call. The next
+    call begins a new session in the same state."""
 
     # How whole numbers stand for those of callers, if they do.
     _measure: Measure | None = None

@@ -113,8 +113,8 @@ MOST_BOUGHT = 100
 
 @dataclass(frozen=True)
 class Prices:
-    """What the column of this title says: by the numbers of the table's arcs what one unit more
-    costs there, or, `is_second`, a second arc beside it."""
+    """The prices in the column with this title, by the numbers of the table's arcs: of one more
+    unit on the arc or, if `is_second`, of a second arc beside it."""
 
     title: str
     of: Mapping[int, Decimal]
@@ -123,8 +123,8 @@ class Prices:
 
 @dataclass(frozen=True)
 class Bought:
-    """What is bought at once: by how much each arc is widened, what that costs, what all costs so
-    far, and the greatest value then."""
+    """One purchase: by how much each arc is widened, what that costs, the money spent so far, and
+    the greatest value then."""
 
     wider: tuple[tuple[int, Quantity], ...]
     cost: Decimal
@@ -134,7 +134,7 @@ class Bought:
 
 @dataclass
 class Way:
-    """A way to a greater value, and why it goes no further."""
+    """A way to a greater value, and why it ends there."""
 
     bought: list[Bought]
     end: str = ""

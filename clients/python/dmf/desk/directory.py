@@ -32,9 +32,9 @@ class ArcNames(NamedTuple):
 
 
 class Directory:
-    """The names of places and arcs, and which of them a text means. What is not in the table is
-    named by what it means there: a place with a limit is one place, and the arc that has the limit
-    is `what Mill lets through`."""
+    """The names of places and arcs, and which of them a text means. A node or an arc that is not in
+    the table is named by its meaning: a place with a limit is one place, and the arc that has the
+    limit is `what Mill lets through`."""
 
     def __init__(
         self,

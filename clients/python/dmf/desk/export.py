@@ -44,7 +44,7 @@ def said_of(desk: Desk) -> list[str]:
 
 @dataclass(frozen=True)
 class _SaidColumns(Extra):
-    """The other columns of a table, and one more that says in the row of this arc which plan it
+    """The other columns of a table, and one more that says, in the row of this arc, which plan it
     is."""
 
     text: str = ""

@@ -20,7 +20,7 @@ from .arcs_and_places import Term
 
 @dataclass(frozen=True)
 class InnerNode:
-    """A node that is not of the table. No caller sees it."""
+    """A node that is not in the table. No caller sees it."""
 
     number: int
     name: str
@@ -30,9 +30,9 @@ class InnerNode:
 
 
 class FoldedColumns(Columns[Any]):
-    """The arcs of a network of a table. A place with a limit has a node that arcs into it enter,
-    which its name is the name of, and one that arcs out of it leave. `inner_names` has the names of
-    the arcs that are not of the table."""
+    """The arcs of the network of a table. A place with a limit has two nodes: arcs into it enter
+    the first, which has its name, and arcs out of it leave the second. `inner_names` has the names
+    of the arcs that are not in the table."""
 
     described: TableComments
 

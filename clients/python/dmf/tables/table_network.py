@@ -25,15 +25,14 @@ from .titles import DEMAND, LIMIT, SUPPLY
 
 
 class TableNetwork(ScaledNetwork[str]):
-    """A network of a table. `read_table` makes it. It is a `Network` of the table's places, whose
+    """The network of a table, made by `read_table`. It is a `Network` of the table's places, whose
     numbers are those of the table: ints if all are whole, else Decimals. Calls take numbers of any
-    kind, and texts as the table has them (`cap("Main", "47,3")`), with no more decimals than the
-    table's.
+    kind, and texts as in the table (`cap("Main", "47,3")`), with no more decimals than the table's.
 
-    `unit` is the unit of the numbers, `notes` what was taken for granted and what looks like a
-    mistake, `extra` has the other columns of the table, by their titles. `sources` and `sinks` have
-    what each gives or takes at most, `limits` what places let through; None stands for no limit. A
-    place with a limit is shut by shutting what enters it."""
+    `unit` is the unit of the numbers, `notes` say what was assumed and what looks like a mistake,
+    and `extra` has the other columns of the table, by their titles. `sources` and `sinks` have the
+    most that each gives or takes, and `limits` the most that places let through; None stands for no
+    limit. Shutting a place with a limit closes the arcs that enter it."""
 
     notes: list[str] = []
     # What reads the other columns, when somebody asks for them; and the first arc of each row of

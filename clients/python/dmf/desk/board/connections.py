@@ -108,10 +108,9 @@ MOST_STRANGERS, PATIENCE = 16, 5.0
 
 
 class UnknownConnections:
-    """The connections that have not shown the token. If there are too many, one of another user's
-    goes first, and else the oldest. The end of one is a reset, after which its user holds no port
-    of this machine for it: else no page might find one.
-    """
+    """The connections that have not shown the token. If there are too many, the oldest one of
+    another user's is ended first, or else the oldest. It is ended by a reset, after which its user
+    holds no port of this machine for it: otherwise pages might find none left."""
 
     def __init__(self) -> None:
         self._waiting: dict[socket.socket, tuple[bool, float]] = {}

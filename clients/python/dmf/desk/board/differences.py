@@ -56,8 +56,8 @@ LEGEND = (
 
 
 class _Found(NamedTuple):
-    """An arc of either scenario: its number in the picture, its ends and its name, by what it is
-    known, and in what it differs, if it does."""
+    """An arc of either scenario: its number in the picture, its ends, its name, the key by which it
+    is known, and how it differs, if it does."""
 
     number: int
     tail: int
@@ -285,7 +285,7 @@ MOST_DIFFERENCES, MOST_LISTED = 500, 300
 
 
 class Comparisons:
-    """The comparison that a page asked for last, which is kept until something is done."""
+    """The comparison that a page asked for last, which is kept until the next change."""
 
     def __init__(self, desk: Desk, places: Places) -> None:
         self._desk = desk

@@ -32,8 +32,8 @@ Reading = tuple[Condition, str]
 
 
 class Filters:
-    """Reads the filters of a desk's table. `label` is what an arc is found by, without case and
-    accents."""
+    """A reader of the filters of a desk's table. `label` is the text by which an arc is found,
+    without case and accents."""
 
     def __init__(self, desk: Desk, beginning: Beginning, label: Callable[[int], str]) -> None:
         self._desk = desk

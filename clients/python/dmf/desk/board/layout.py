@@ -40,11 +40,11 @@ APART = 200.0
 
 
 class NoPicture(DeskFault):
-    """Why there is no picture."""
+    """The reason why a picture cannot be drawn."""
 
 
 class Spot(NamedTuple):
-    """Where the middle of a place lies, in points, upwards."""
+    """The middle of a place in points; `y` grows upwards."""
 
     x: float
     y: float
@@ -59,7 +59,7 @@ Way = tuple[int, int, int]
 
 
 class Route(NamedTuple):
-    """How an arc is drawn, and where its label stands, in the words of Graphviz."""
+    """The curve of an arc and the position of its label, in the notation of Graphviz."""
 
     curve: str
     label: str
@@ -109,7 +109,7 @@ class Places:
 
 
 class _FreeSpots:
-    """Where places lie already, by the fields of a grid."""
+    """The spots that places cover, by the fields of a grid."""
 
     def __init__(self, spots: Iterable[Spot]) -> None:
         self._fields: dict[tuple[int, int], list[Spot]] = {}
@@ -241,7 +241,7 @@ MAP_APART, DEGREES = 150.0, (180, 90)
 
 
 class NoMap(TableFault):
-    """That a table of places does not say where they lie."""
+    """The refusal of a table of places that does not say where they lie."""
 
 
 class _MapColumns(NamedTuple):
@@ -255,8 +255,8 @@ class _MapColumns(NamedTuple):
 
 @dataclass(frozen=True)
 class Map:
-    """Where each place of a map lies, by its name, in the units of its table, and whether these are
-    degrees of the globe."""
+    """The position of each place of a map, by its name, in the units of its table, and whether
+    these are degrees of the globe."""
 
     spots: Mapping[str, Spot]
     is_globe: bool

@@ -19,8 +19,9 @@ MOST = 9
 
 
 class Mark(NamedTuple):
-    """A sign for each thing that the page may show of an arc: its state; the tenths of its capacity
-    that are used; what changed; and the square root of its capacity, from 0 to 9, the widest."""
+    """A character for each property that the page may show of an arc: its state; the tenths of its
+    capacity that are used; what changed; and the square root of its capacity, from 0 to 9 for the
+    widest."""
 
     state: str
     use: str
@@ -29,8 +30,8 @@ class Mark(NamedTuple):
 
 
 class Beginning:
-    """What a desk began with: the capacities of the problem, and the flows of its first solve. The
-    flows are known once the desk has stood there since the board began."""
+    """The capacities with which a desk began, and the flows of its first solve. The flows are known
+    once the desk has been at that state since the board began."""
 
     def __init__(self, desk: Desk) -> None:
         self._desk = desk

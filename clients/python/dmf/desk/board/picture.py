@@ -47,7 +47,8 @@ _NO_XML = re.compile("[\ufffe\uffff]")
 
 
 class DrawnArc(NamedTuple):
-    """What a layout depends on of an arc; `widest` is the widest text that its numbers may have."""
+    """The properties of an arc on which a layout depends; `widest` is the widest text that its
+    numbers may have."""
 
     number: int
     tail: int
@@ -57,8 +58,9 @@ class DrawnArc(NamedTuple):
 
 
 class DrawnNode(NamedTuple):
-    """What a layout depends on of a place. Its roles are the arcs that stand for what it gives,
-    takes or lets through, each with its words there and the widest text of its numbers."""
+    """The properties of a place on which a layout depends. Its roles are the arcs that stand for
+    what it gives, takes or lets through, each with its words there and the widest text of its
+    numbers."""
 
     node: int
     label: str
@@ -69,7 +71,7 @@ class DrawnNode(NamedTuple):
 
 @dataclass(frozen=True)
 class Shape:
-    """What a layout depends on: the arcs, and the places."""
+    """All on which a layout depends: the arcs, and the places."""
 
     arcs: tuple[DrawnArc, ...]
     nodes: tuple[DrawnNode, ...]
@@ -93,7 +95,7 @@ def _label(text: str) -> str:
 
 
 class Picture:
-    """The pictures of a desk, and where its places lie in all of them."""
+    """The pictures of a desk, and the position of its places in all of them."""
 
     def __init__(self, desk: Desk) -> None:
         self._desk = desk

@@ -19,7 +19,7 @@ Fields = Mapping[str, type]
 
 
 class WrongForm(Exception):
-    """Why a request is malformed."""
+    """The reason why a request is malformed."""
 
 
 @dataclass(frozen=True)

@@ -83,7 +83,7 @@ class PageRoute(NamedTuple):
 
 
 class Board:
-    """Answers the requests of a page about a desk."""
+    """The answers to a page's requests about a desk."""
 
     def __init__(
         self,

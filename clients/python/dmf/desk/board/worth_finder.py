@@ -16,7 +16,7 @@ from ..workspace import Desk
 
 class WorthRun:
     """A run of the program that finds the value without each arc of one state, in a thread of its
-    own. The answers of that state get what it finds."""
+    own. Its results become part of that state's answers."""
 
     def __init__(self, answers: Answers, problem: ProblemColumns, program: Program) -> None:
         self.answers = answers
@@ -48,8 +48,8 @@ class WorthRun:
 
 
 class WorthFinder:
-    """Finds what each arc of a desk is worth in its present state. A run for an earlier state is
-    ended. Calls are made one after another."""
+    """A finder of the value without each arc, in the present state of a desk. A run for an earlier
+    state is ended. Calls are made one after another."""
 
     def __init__(self, desk: Desk) -> None:
         self._desk = desk

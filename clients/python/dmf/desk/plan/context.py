@@ -18,7 +18,7 @@ Keep = Callable[[str, Desk], Desk]
 
 
 class Output:
-    """Writes the answers of commands, in one form. Each method is for one kind of answer."""
+    """A writer of the answers of commands, in one form. It has a method for each kind of answer."""
 
     def __init__(self, write: Callable[[str], None]) -> None:
         self.write = write
@@ -76,7 +76,7 @@ class Output:
 
 @dataclass
 class Context:
-    """What a command works on. `keep` makes a project of the desk."""
+    """What a command acts on. `keep` makes a project of the desk."""
 
     desk: Desk
     output: Output
