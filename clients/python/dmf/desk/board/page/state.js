@@ -21,6 +21,8 @@ import { sentence, upper } from "./words.js";
 /** @type {State | null} */
 let state = null;
 let acting = false, newest = 0;
+/** How many actions, and displays of a state, have not ended. */
+let pending = 0;
 /**
  * The controls that were disabled because the board cannot be reached.
  * @type {HTMLElement[]}
@@ -136,6 +138,24 @@ async function renew(isForced = false) {
   await show(told);
 }
 
+/**
+ * Marks the page as busy until something has ended.
+ * @template Told
+ * @param {() => Promise<Told>} task
+ */
+async function busily(task) {
+  const note = (/** @type {number} */ change) => {
+    pending += change;
+    at("main").setAttribute("aria-busy", String(pending > 0));
+  };
+  note(1);
+  try {
+    return await task();
+  } finally {
+    note(-1);
+  }
+}
+
 /** Shows the newest state, if this page shows an older one. */
 async function catchUp() {
   if (state && newest > state.turn) await renew();
@@ -145,7 +165,7 @@ async function catchUp() {
  * Shows a state. For a large network the board first sends the value and the bottleneck; the parts that need the flows wait for them.
  * @param {State} told
  */
-async function show(told) {
+const show = (told) => busily(async () => {
   const before = state;
   state = told;
   parts = told.parts ?? {};
@@ -156,7 +176,7 @@ async function show(told) {
   if (told.flows_follow) news("What can be sent and the limit are known; the flows follow.");
   await (told.flows_follow ? patiently(shown) : shown);
   if (told.flows_follow) news("The flows are there.");
-}
+});
 
 /**
  * Makes a change, and reports it in these words or else in those of the step. A second click meanwhile is ignored: it was meant for the
@@ -165,10 +185,9 @@ async function show(told) {
  * @param {string} words
  * @returns {Promise<boolean>} whether it was done
  */
-export async function act(content, words = "") {
+export const act = (content, words = "") => busily(async () => {
   if (acting) return false;
   acting = true;
-  at("main").setAttribute("aria-busy", "true");
   trouble("");
   /** @type {State & { moved: string } | null | undefined} */
   const told = await patiently(ask("do", { ...content, shown: [...addresses.values()] }));
@@ -182,9 +201,8 @@ export async function act(content, words = "") {
     news("");
   }
   await catchUp();
-  at("main").setAttribute("aria-busy", String(acting));
   return Boolean(told);
-}
+});
 
 export const undo = () => present().at > present().floor && act({ what: "go", step: present().at - 1 }, "undone");
 export const redo = () => present().at < present().steps.length - 1 && act({ what: "go", step: present().at + 1 }, "done again");
@@ -203,9 +221,8 @@ let letGo = follow();
 heedLeaving();
 
 /** Shows the page for the first time. */
-export async function begin() {
+export const begin = () => busily(async () => {
   at("end").addEventListener("click", () => ask("stop", {}));
   await renew();
   await catchUp();
-  at("main").setAttribute("aria-busy", "false");
-}
+});
