@@ -42,8 +42,8 @@ def by_library() -> None:
 
 
 def drawn(arcs: int) -> Iterator[tuple[int, int, int]]:
-    """Return a random network in the form that bench/generate.cpp makes: 5 arcs for each node,
-    capacities from 1 to 1,000."""
+    """Yield the arcs of a random network in the form that bench/generate.cpp makes: 5 for each
+    node, with capacities from 1 to 1,000."""
     draw = random.Random(1990)
     nodes = arcs // 5
     for _ in range(arcs - nodes // 10):

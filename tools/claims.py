@@ -75,7 +75,7 @@ def without_comments(text: str) -> str:
 
 
 def heads(text: str, indent: str, public_only: bool) -> Iterator[str]:
-    """Return the functions of a text at this depth, each with its clauses and without its body."""
+    """Yield the functions of a text at this depth, each with its clauses and without its body."""
     for function in FUNCTION.finditer(text):
         if function["indent"] == indent and (
             function["head"].startswith("pub ") or not public_only
@@ -184,7 +184,7 @@ def is_ours(definition: Definition) -> bool:
 
 
 def types_named(text: str, crate: str) -> Iterator[Item]:
-    """Return the types of this crate that a text names, without their calls."""
+    """Yield the types of this crate that a text names, without their calls."""
     for word in {*re.findall(r"\b[A-Z]\w+\b", text)}:
         yield from (item for item in named(crate, word) if is_type(item))
 
@@ -207,7 +207,7 @@ def declared(definition: Definition) -> list[Item]:
 
 
 def in_own_file(definition: Definition) -> Iterator[tuple[str, str]]:
-    """Return the definition, or the one that a constructor belongs to, with its text."""
+    """Yield the definition, or the one that a constructor belongs to, with its text."""
     texts = module_of(definition.file).texts
     if definition.name in texts:
         yield definition.name, texts[definition.name]
@@ -229,7 +229,7 @@ def below(starts: list[Item]) -> list[Item]:
 
 
 def rests_on(item: Item) -> Iterator[Item]:
-    """Return the definitions and types that an item names."""
+    """Yield the definitions and types that an item names."""
     crate = item.file.relative_to(CRATES).parts[0]
     if item.file.suffix == ".rt":
         brought = brought_by(item.file)
@@ -255,7 +255,7 @@ def without_dashes(text: str) -> str:
 
 
 def lines() -> Iterator[str]:
-    """Return the lines of the list."""
+    """Yield the lines of the list."""
     yield (
         "What is claimed: the contracts of all calls that callers have, and what these rest on. "
         "`python3 tools/claims.py --write` writes this file."
@@ -274,7 +274,7 @@ def lines() -> Iterator[str]:
 
 
 def told(items: list[Item]) -> Iterator[str]:
-    """Return the texts of items, under the files in which they stand."""
+    """Yield the texts of items, under the files in which they stand."""
     last = None
     for item in items:
         if item.file != last:

@@ -40,7 +40,7 @@ class Module(NamedTuple):
 
 
 def blocks(text: str) -> Iterator[tuple[str, str]]:
-    """Return the definitions of a file, each with its text, up to the comment or blank line before
+    """Yield the definitions of a file, each with its text, up to the comment or blank line before
     the next one."""
     for block in re.split(r"\n\s*\n", text):
         heads = [match for match in map(HEAD.match, block.split("\n")) if match]
@@ -62,7 +62,7 @@ def module_of(file: Path) -> Module:
 
 
 def named_in(text: str, module: Module, file: Path) -> Iterator[Definition]:
-    """Return the definitions that a text names: those of its own file, and others."""
+    """Yield the definitions that a text names: those of its own file, and others."""
     for word in WORD.findall(re.sub(r"--.*$", "", text, flags=re.MULTILINE)):
         first, _, rest = word.partition(".")
         if word in module.texts or first in module.texts:

@@ -146,7 +146,7 @@ class Edits(NamedTuple):
 
 
 def exports(crate: str) -> Iterator[tuple[str, str]]:
-    """Return what a crate exports: the crate or module that it takes each name from, and the
+    """Yield what a crate exports: the crate or module that it takes each name from, and the
     name."""
     for use in USE.finditer((CRATES / crate / "src" / "lib.rt").read_text()):
         for name in (use[2] or use[3]).split(","):
@@ -169,7 +169,7 @@ def type_of(about: str) -> str:
 
 
 def functions(text: str, indent: str, is_public: bool) -> Iterator[tuple[str, str]]:
-    """Return the names and heads of the functions of a text at this depth: the public ones, or
+    """Yield the names and heads of the functions of a text at this depth: the public ones, or
     all."""
     for function in FUNCTION.finditer(text):
         if function[1] == indent and (function[2] or not is_public):
@@ -177,7 +177,7 @@ def functions(text: str, indent: str, is_public: bool) -> Iterator[tuple[str, st
 
 
 def calls_of(file: Path, name: str) -> Iterator[tuple[str, str]]:
-    """Return the calls in a file, with their heads, that a user of this name can make."""
+    """Yield the calls in a file, with their heads, that a user of this name can make."""
     text = file.read_text()
     yield from ((name, head) for function, head in functions(text, "", True) if function == name)
     for kind, about, inside in BLOCK.findall(text):
@@ -190,7 +190,7 @@ def calls_of(file: Path, name: str) -> Iterator[tuple[str, str]]:
 
 
 def c_calls() -> Iterator[tuple[Path, str, str]]:
-    """Return the C functions: the file, the name and the head of each."""
+    """Yield the C functions: the file, the name and the head of each."""
     for file in sorted((CRATES / C_FRONT / "src").glob("*.rt")):
         yield from ((file, name, head) for name, head in C_FUNCTION.findall(file.read_text()))
 
@@ -213,7 +213,7 @@ def front_clauses() -> dict[Clause, Home]:
 
 
 def covered_by(edit: Path) -> Iterator[Clause]:
-    """Return the clauses that an edit says that it breaks."""
+    """Yield the clauses that an edit says that it breaks."""
     for line in COVERS.findall(edit.read_text()):
         at = 0
         for match in COVERED.finditer(line):

@@ -197,7 +197,7 @@ class Rows:
         cells: Optional[list[list[str]]] = None,
         columns: Sequence[Sequence[str]] = (),
     ) -> None:
-        """Return either the cells are given, or all columns, in which no cell is missing."""
+        """Take either the cells, row by row, or all columns, in which no cell is missing."""
         self.lines = lines
         self._cells = cells
         self._columns = columns

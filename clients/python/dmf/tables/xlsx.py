@@ -69,10 +69,10 @@ class _Parser:
             self.texts.append(text)
 
     def begin(self, name: str, given: dict[str, str]) -> None:
-        """Return an element begins, with these attributes."""
+        """Handle the beginning of an element with these attributes."""
 
     def end(self, name: str) -> None:
-        """Return an element ends."""
+        """Handle the end of an element."""
 
     def take(self, part: Any) -> None:
         """Take a whole part."""
