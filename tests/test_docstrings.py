@@ -46,25 +46,27 @@ def is_generator(node: ast.AST) -> bool:
     )
 
 
-def is_right(word: str, function: Function) -> bool:
-    """Return True if a function's docstring may begin with this word."""
+def is_right(words: list[str], function: Function) -> bool:
+    """Return True if a function's docstring may begin with these words."""
     returned = ast.unparse(function.returns) if function.returns else ""
-    if word == "Return":
+    if words[0] == "Return":
         return returned not in ("None", "NoReturn") and not is_generator(function)
-    return word in VERBS or is_property(function) and word in ARTICLES
+    # With "of" behind it, "Number" or "Name" is a noun.
+    is_verb = words[0] in VERBS and words[1:2] != ["of"]
+    return is_verb or is_property(function) and words[0] in ARTICLES
 
 
 def wrong_words(text: str) -> Iterator[tuple[int, str]]:
     """Yield the line and the first word of each docstring of a function that begins wrongly."""
     for node in ast.walk(ast.parse(text)):
         if isinstance(node, FUNCTIONS) and (docstring := ast.get_docstring(node)):
-            word = docstring.split()[0]
-            if not is_right(word, node):
-                yield node.lineno, word
+            words = docstring.split()
+            if not is_right(words, node):
+                yield node.lineno, words[0]
 
 
 @pytest.mark.parametrize(
-    "begun", ["The arcs of", "Whether", "Returns", "How many", "As", "`arcs` has"]
+    "begun", ["The arcs of", "Whether", "Returns", "How many", "As", "`arcs` has", "Number of"]
 )
 def test_wrong_words_are_found(begun: str) -> None:
     text = f'def first():\n    """Return a node."""\n\ndef second():\n    """{begun} a node."""\n'

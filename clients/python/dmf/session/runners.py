@@ -145,8 +145,8 @@ def _has_newer(folder: str, than: int) -> bool:
 
 
 class Startable(Protocol):
-    """What a session is begun for: a first problem, and the commands after which it has this value.
-    At most `most` changes can be undone."""
+    """What a session begins with: a first problem, and commands after which the flow has this
+    value. At most `most` changes can be undone."""
 
     @property
     def value(self) -> int:

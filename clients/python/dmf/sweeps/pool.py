@@ -34,12 +34,8 @@ PATIENCE = 30.0
 
 
 class Tries:
-    """How cases are tried: `size` cases at once, and `most` such pieces before the first answer is
-    waited for.
-
-    The size begins with `first` and then follows the time that cases take. Later, the waiting
-    pieces never have more cases than have been answered.
-    """
+    """The way in which cases are tried: `size` cases at once, and at most `most` such pieces before
+    the first answer is awaited."""
 
     first = 1
 

@@ -46,9 +46,9 @@ class _CellPiece:
 
 
 class Amounts:
-    """A column of numbers. `what` is what messages call one, and `column` its number, from 1 on.
-    `unit` is that of the title, and `named` says that the title names it as one, and is not just a
-    word for what is counted."""
+    """A column of numbers. `what` is the word for one in messages, and `column` its number, from 1
+    on. `unit` is that of the title, and `named` says that the title gives it as a unit, and does
+    not just say what is counted."""
 
     def __init__(
         self, what: str, column: int = 0, path: str = "", unit: str = "", *, named: bool = True

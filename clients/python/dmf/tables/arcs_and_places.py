@@ -52,10 +52,10 @@ MARKS = {
 
 
 class Term(NamedTuple):
-    """What a place gives, takes or lets through (`supply`, `demand` or `limit`): so much, or
-    without a quantity what its arcs carry; and where a table says so, if one does. `is_idle` says
-    that it is a supply or a demand of 0 in a table that says other things of places too: it counts
-    only where no other place gives, or takes."""
+    """What a place gives, takes or lets through (`supply`, `demand` or `limit`): at most
+    `quantity`, or what its arcs can carry if that is None; and the line and the file that say so,
+    if a table does. `is_idle` marks a supply or a demand of 0 in a table that also says other
+    things about places: it counts only if no other place gives, or takes."""
 
     kind: str
     place: str
@@ -66,7 +66,7 @@ class Term(NamedTuple):
 
 
 class _PlaceReader(Reader):
-    """Takes rows of places."""
+    """A reader of rows of places."""
 
     def __init__(self, sheet: Sheet, form: Form, layout: Layout, reading: ReadOptions) -> None:
         super().__init__(sheet, form, layout, reading)
@@ -96,8 +96,8 @@ class _PlaceReader(Reader):
 
 
 class Heading(NamedTuple):
-    """A first row that was read as titles: what would be a place in it, and its amount of this
-    kind."""
+    """A first row that was read as titles: the cells that would otherwise be a place and an amount
+    of this kind."""
 
     kind: str
     place: str
@@ -156,7 +156,7 @@ def terms_of(
 
 
 class _ArcReader(Reader):
-    """Takes rows of arcs, and of places among them."""
+    """A reader of rows of arcs, and of places among them."""
 
     def __init__(self, sheet: Sheet, layout: Layout, reading: ReadOptions) -> None:
         super().__init__(sheet, ARCS, layout, reading)

@@ -23,8 +23,8 @@ MOST_WORDS, LONGEST_TOLD = 5, 60
 
 
 class Aside(NamedTuple):
-    """A row that may be one of these: its line and cells, what it may be, its amount, and how many
-    rows of arcs stand above it."""
+    """A row that may be a total, a sum or a note: its line and cells, what it may be, its amount,
+    and the number of rows of arcs above it."""
 
     line: int
     row: list[str]

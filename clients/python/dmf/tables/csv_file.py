@@ -136,8 +136,8 @@ def _bare_rows(data: bytes, encoding: str, delimiter: str, line: int, np: Any) -
 
 
 class Block(NamedTuple):
-    """Whole lines of a table without quotes, from one byte of its file to another, of which the
-    first is this line."""
+    """Whole lines of a table without quotes, from one byte of its file to another; `line` is the
+    number of the first."""
 
     file: bytes
     begin: int

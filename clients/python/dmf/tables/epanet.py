@@ -76,7 +76,7 @@ def sheets_of(file: TableFile) -> list[Sheet]:
 
 
 class _Network:
-    """Reads the sections to links and nodes, and these to sheets."""
+    """A reader that turns the sections into links and nodes, and these into sheets."""
 
     def __init__(
         self, file: TableFile, sections: Mapping[str, list[Line]], notes: Sequence[str]

@@ -33,9 +33,9 @@ MOST_LISTED = 20
 
 @dataclass(frozen=True)
 class Form:
-    """What a table is read for: the columns of places, those of amounts of which at least one is
-    there, and one of names. Without titles they stand in this order. `hint` is for a first row that
-    was refused and not read as titles."""
+    """The columns for which a table is read: those of places, those of amounts, of which at least
+    one must exist, and one of names. Without titles they stand in this order. `hint` is added to
+    messages about a first row that was refused and not read as titles."""
 
     places: tuple[str, ...]
     amounts: tuple[str, ...]
@@ -65,10 +65,9 @@ _CALLED = {TAIL: "from", HEAD: "to"}
 
 @dataclass(frozen=True)
 class Layout:
-    """Where each column of a table is, from 0 on; the titles, the line of which is `line`, if there
-    is a row of them, and the first line that may have a row. `is_by_numbers` says that the amounts
-    are those of the only column with numbers, and that a column had no cell in the rows that were
-    looked at."""
+    """The position of each column of a table, from 0 on; the titles, and their line, if there is a
+    row of them; and the first line that may have a row. `is_by_numbers` says that the amounts are
+    those of the only column with numbers, and that a column had no cell in the examined rows."""
 
     at: Mapping[str, int]
     titles: tuple[Title, ...] = ()

@@ -37,7 +37,7 @@ Point = tuple[Decimal, Decimal]
 
 
 class LineFault(ValueError):
-    """Why a cell has no line with two ends."""
+    """The reason why a cell does not have a line with two ends."""
 
 
 def wkt_of(parts: Sequence[Sequence[Sequence[str]]]) -> str:
@@ -107,7 +107,7 @@ def lines_of(sheet: Sheet, reading: ReadOptions) -> Sheet:
 
 @dataclass(frozen=True)
 class _Geometry:
-    """Where the lines of a sheet stand: the line of the titles, these, and the column."""
+    """The position of the lines in a sheet: the line of the titles, the titles, and the column."""
 
     line: int
     titles: list[str]
@@ -158,7 +158,7 @@ def _with_ends(sheet: Sheet, found: _Geometry, ends: dict[int, list[str]]) -> It
 
 @dataclass
 class _Places:
-    """The points at which lines end, and which of them are one place."""
+    """The points at which lines end, and the places that they are."""
 
     tolerance: Decimal
     numbers: dict[Point, int] = field(default_factory=dict)

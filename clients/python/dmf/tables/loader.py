@@ -44,9 +44,9 @@ PLACE_TABLES: dict[str, Sequence[str]] = {
 
 @dataclass(frozen=True)
 class TableOptions:
-    """What is said of the tables: how they are read and encoded, the scale, whether rows go both
-    ways, words that name sources and sinks, the files of tables of places, by the option, what
-    reads these, and which kinds of terms are `named` elsewhere."""
+    """The options for tables: how they are read and encoded, the scale, whether rows go both ways,
+    the words that name sources and sinks, the files of tables of places, by the option, the
+    function that reads these, and the kinds of terms that are `named` elsewhere."""
 
     reading: ReadOptions = ReadOptions()
     encoding: Optional[str] = None
@@ -288,10 +288,9 @@ MARKS = b",;|"
 class LoadedProblem:
     """A problem with comments, as `dmf-problem` writes it. `noun` is the table's word for an arc,
     if its titles have one. `notes` say what looks like a mistake, and what was assumed. `raw_names`
-    says that names stand in a table as they are. `plan` is what the problem was made of, if it was
-    made here, and `found` are the options that say what was found then: titles of columns, the
-    source, the sink.
-    """
+    says that names stand unprotected in a table. `plan` has the tables that the problem was made
+    from, if it was made here, and `found` the options that say what was found then: titles of
+    columns, the source, the sink."""
 
     path: str
     text: bytes

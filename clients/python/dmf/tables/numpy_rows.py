@@ -22,8 +22,8 @@ _ODD = 0x9E3779B97F4A7C15
 
 
 class ByteBlock(Protocol):
-    """Whole lines of a table without quotes, from one byte of its file on, of which the first is
-    `line`."""
+    """Whole lines of a table without quotes, from one byte of its file on; `line` is the number of
+    the first."""
 
     @property
     def data(self) -> bytes:
@@ -56,8 +56,8 @@ class ByteBlock(Protocol):
 
 
 class Spans(Rows):
-    """Rows of one width. `arrays` are the bytes of their lines, with more after the last one, and
-    the place and the size of each cell, row by row."""
+    """Rows of one width. `arrays` has the bytes of their lines, with more after the last one, and
+    the start and the size of each cell, row by row."""
 
     def __init__(self, np: Any, block: ByteBlock, arrays: tuple[Any, Any, Any]) -> None:
         self._letters, self._starts, self._sizes = arrays

@@ -37,8 +37,8 @@ _CELL = re.compile(rb"^c cell ([1-9][0-9]{0,8}) ([1-9][0-9]{0,8}) ([^\n]*)", re.
 
 @dataclass(frozen=True)
 class Extra:
-    """The titles of these columns, and for each its cells by row, as texts, perhaps only those that
-    are not empty. Each row of the table is `ways` arcs."""
+    """The titles of the columns that are not needed, and for each its cells by row, as texts,
+    perhaps only those that are not empty. Each row of the table is `ways` arcs."""
 
     titles: Sequence[str] = ()
     columns: Sequence[Sequence[str] | Mapping[int, str]] = ()

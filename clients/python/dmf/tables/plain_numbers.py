@@ -43,10 +43,9 @@ _DECIMALS = {
 
 @dataclass
 class Plain:
-    """Cells with nothing but digits and at most one decimal sign, which is the same in all: their
-    numbers, over ten to the power of `decimals`. `telling` is one of those with the sign, and its
-    place: one that admits no other, if there is one.
-    """
+    """Cells that have only digits and at most one decimal sign, the same in all: their numbers,
+    over ten to the power of `decimals`. `telling` is the place and the text of a cell with the
+    sign: one in which it can only be the decimal sign, if there is one."""
 
     numbers: Sequence[int]
     decimals: int = 0

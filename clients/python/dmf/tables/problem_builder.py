@@ -69,10 +69,10 @@ KINDS = {SUPPLY: "source", DEMAND: "sink"}
 
 @dataclass
 class NetworkTables:
-    """What a network is made of: the arcs of a table, and what is said of its places. `both_ways`
-    makes two opposite arcs of each row. `scale` is what numbers are multiplied by; without one it
-    is the least power of ten that makes all of them whole. `headings` are the first rows of tables
-    of places that were read as titles. `notes` say what was taken for granted."""
+    """The tables from which a network is made: the arcs, and the terms of places. `both_ways` makes
+    two opposite arcs of each row. `scale` is the factor of all numbers; if it is None, it is the
+    least power of ten that makes all of them whole. `headings` are the first rows of tables of
+    places that were read as titles. `notes` say what was assumed."""
 
     arcs: Table
     terms: list[Term] = field(default_factory=list)
@@ -109,9 +109,10 @@ class NetworkTables:
 
 @dataclass
 class BuiltProblem:
-    """A network of a table, by numbers from 1 on: the names of the nodes, of which `place_count`
-    are places; the ends and capacities of the arcs, of which `row_count` are of rows, `ways` of
-    each; the names of the rows, if they have any, and of the other arcs; and what is said of it."""
+    """The network of a table, by numbers from 1 on: the names of the nodes, of which `place_count`
+    are places; the ends and capacities of the arcs, of which the first `row_count` belong to rows,
+    `ways` to each; the names of the rows, if they have any, and of the other arcs; and the comments
+    about the table."""
 
     node_names: list[str]
     tails: array[int]
@@ -196,7 +197,7 @@ def _refuse_dropped(plan: NetworkTables) -> None:
 
 
 class _Maker:
-    """The nodes and arcs that the network has so far."""
+    """A builder, with the nodes and arcs that the network has so far."""
 
     def __init__(self, plan: NetworkTables, measure: Measure) -> None:
         self.plan = plan

@@ -123,7 +123,7 @@ class Numbers:
 
 
 class Said(NamedTuple):
-    """What a row says of a place: by the column, a cell that is not blank."""
+    """A row about a place: by the column, each cell that is not blank."""
 
     line: int
     place: str
@@ -178,7 +178,7 @@ class Table:
 
 
 class Reader:
-    """Takes the rows of a table, and their faults."""
+    """A reader of the rows of a table, which collects their faults."""
 
     def __init__(self, sheet: Sheet, form: Form, layout: Layout, reading: ReadOptions) -> None:
         self.form = form

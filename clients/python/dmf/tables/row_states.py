@@ -17,7 +17,7 @@ from .titles import CLOSED, DIRECTION, FLAGS, OPEN, STATUS, Title
 
 
 class RowStates:
-    """The cells of such columns, row by row."""
+    """The cells of the columns that say the state or the direction of rows, row by row."""
 
     def __init__(self, layout: Layout) -> None:
         self.columns = {role: layout.at[role] for role in STATES if role in layout.at}

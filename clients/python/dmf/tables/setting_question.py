@@ -13,8 +13,8 @@ from ..errors import TableFault
 
 
 class Setting(NamedTuple):
-    """What an option settles: what stands for its word in the help, how that is read, what it is
-    expected to be, and the words that are proposed, each with what it means."""
+    """A setting that an option gives: the word for its value in the help, the function that reads
+    it, what is expected, and the values that are proposed, each with its meaning."""
 
     metavar: str
     read: Callable[[str], Any]
@@ -62,7 +62,7 @@ SETTINGS = {
 
 
 class SettingQuestion(TableFault):
-    """Why nothing is read: an option must say what the file does not."""
+    """A question that stops the reading: an option must say what the file does not."""
 
     # A tool asks for it whatever table it is of.
     is_arcs = True

@@ -35,7 +35,7 @@ MOST_FAULTS = 5
 
 
 class Faults:
-    """The faults that were found so far in a table, whose columns have these titles."""
+    """The faults found so far in a table whose columns have these titles."""
 
     def __init__(self, path: str, titles: Sequence[str] = ()) -> None:
         self.path = path
@@ -106,7 +106,7 @@ def text_in(cell: str, *, is_raw: bool = False) -> str:
 
 
 class _Lines:
-    """Takes the lines that a writer of the module `csv` makes, each at once."""
+    """The lines that a writer of the module `csv` makes, each in one piece."""
 
     END = "\r\n"
 
@@ -168,7 +168,7 @@ def shown_number(text: str) -> str:
 
 
 class PlaceSink(Protocol):
-    """Takes in the cells that name places."""
+    """A receiver of cells that name places."""
 
     # What a reader by numpy knows of the cells that were looked up.
     seen: Any
@@ -178,7 +178,7 @@ class PlaceSink(Protocol):
 
 
 class AmountSink(Protocol):
-    """Takes in the cells of a column of numbers."""
+    """A receiver of the cells of a column of numbers."""
 
     def add(self, cells: list[str]) -> None:
         """Take in cells below those that are there."""
@@ -188,8 +188,8 @@ class AmountSink(Protocol):
 
 
 class Rows:
-    """Rows one below the other: the line in which each begins, and its cells as texts. Iterated
-    over it is these two."""
+    """Successive rows: the line in which each begins, and its cells as texts. Iterating over it
+    yields the lines, and then the cells."""
 
     def __init__(
         self,
@@ -271,8 +271,8 @@ class Rows:
 
 
 class Positions(NamedTuple):
-    """Where places lie on a map, to the right and upwards, by their names; `is_globe` says that
-    these are degrees."""
+    """The position of places on a map, to the right and upwards, by their names; `is_globe` says
+    that these are degrees."""
 
     spots: Mapping[str, tuple[float, float]]
     is_globe: bool = False
@@ -318,8 +318,8 @@ def is_blank(row: list[str]) -> bool:
 
 
 class Cells(Sequence[str]):
-    """Cells below each other, each of one line. They are a few texts until one is asked for, with
-    no object for each."""
+    """The cells of a column, each of one line. They are kept as a few texts until one is asked for,
+    with no object for each."""
 
     def __init__(self) -> None:
         self._texts: list[str] = []

@@ -140,9 +140,9 @@ class WriterRow(NamedTuple):
 
 @dataclass(frozen=True)
 class Told:
-    """How a network is told: what is folded, the names of a node and of an arc, the nodes of its
-    source and its sink, the row that an arc is of, the other columns, and the places to which a
-    limit was given that had none."""
+    """How a network is written: the roles of its nodes and arcs, the names of a node and of an arc,
+    the nodes of its source and its sink, the row of an arc, the other columns, and the places
+    without a limit that were given one."""
 
     folding: TableRoles
     node: Callable[[int], str]

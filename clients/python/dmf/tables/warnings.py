@@ -190,8 +190,8 @@ def _lonely(plan: NetworkTables) -> Iterator[str]:
 
 
 class _LonelyPlaces(Sequence[str]):
-    """Places as they are told: with the line of the first row that has one, and a name that may
-    have been meant."""
+    """Places as warnings name them: with the line of the first row that has one, and a similar name
+    that may have been meant."""
 
     def __init__(self, plan: NetworkTables, numbers: list[int], ends: array[int]) -> None:
         self.table = plan.arcs

@@ -40,8 +40,8 @@ DAY = 86_400
 
 
 class _Parser:
-    """Tells the elements of a part as they begin and end, by their names without a namespace.
-    `inside` says whether texts count now."""
+    """A parser that calls `begin` and `end` for the elements of a part, with names without a
+    namespace. `inside` says whether texts count now."""
 
     def __init__(self) -> None:
         self.parser = expat.ParserCreate(namespace_separator=" ")
@@ -84,7 +84,8 @@ def _refuse(*_: object) -> None:
 
 
 class _Elements(_Parser):
-    """Collects elements: their names, and their attributes by names without a namespace."""
+    """A parser that collects elements: their names, and their attributes by names without a
+    namespace."""
 
     def __init__(self) -> None:
         super().__init__()
@@ -120,8 +121,8 @@ class _Strings(_Parser):
 
 
 class _SheetCells(_Parser):
-    """The rows of a sheet: `lines` and `rows` have those that are read and were not taken yet. A
-    row ends with its last cell that has something, or a formula."""
+    """A parser of the rows of a sheet: `lines` and `rows` have those that were read and not taken
+    yet. A row ends with its last cell that has a content or a formula."""
 
     def __init__(self, book: Workbook) -> None:
         super().__init__()

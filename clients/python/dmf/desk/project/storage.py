@@ -42,7 +42,7 @@ class Locked(Exception):
 
 
 class Journal:
-    """A journal that is locked. Raises `Taken`, and an OSError if it cannot be written."""
+    """A locked journal. Raises `Locked`, and an OSError if it cannot be written."""
 
     def __init__(self, path: str) -> None:
         self.path = path
