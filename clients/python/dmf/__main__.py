@@ -47,7 +47,7 @@ def print_help(path: str, word: str) -> int:
 
 def become(path: str) -> NoReturn:
     """Replace this process by the program. Raises `NoProgram`."""
-    # Python ignores this signal, and what runs in its place would too. `run` sees to the others.
+    # Python ignores this signal, and the program would inherit that. `run` resets the others.
     signal.signal(signal.SIGXFSZ, signal.SIG_DFL)
     try:
         os.execv(path, [path, *sys.argv[1:]])

@@ -15,7 +15,7 @@ from .columns import Columns, Node
 from .errors import AmbiguousArc, NoSuchArc, SessionEnded, shown_value
 from .text.lexical import NODES
 
-# How many arcs of many are shown.
+# The most arcs that a repr shows.
 MOST_SHOWN = 20
 _NONE = array(NODES)
 
@@ -127,7 +127,7 @@ class Handles(Generic[Node]):
                 columns.names[columns.tails[number - 1] - 1],
                 columns.names[columns.heads[number - 1] - 1],
             )
-            # Where two threads make one at once, both take the same.
+            # If two threads make one at once, both get the same.
             made = Arc(number, tail, head, columns.keys.get(number), self.owner)
             arc = self._made.setdefault(number, made)
         return arc

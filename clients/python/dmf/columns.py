@@ -88,7 +88,7 @@ class WholeNodes(Mapping[Any, int]):
 
 
 Node = TypeVar("Node", bound=Hashable)
-# How many questions about the arcs at a node look at all arcs, before an index of them is made.
+# The number of searches that look at all arcs before an index is made.
 MOST_MISSED = 20
 
 
@@ -130,9 +130,9 @@ class Columns(Generic[Node]):
         self.tails = tails
         self.heads = heads
         self._given = keys
-        # A function makes the names that a text has, of which none is a pair.
+        # Keys that a function makes are names in a text, so none of them is a pair.
         self._may_be_pairs = not callable(keys)
-        # How often an index was missed: of the arcs at each node, and of the arcs by their ends.
+        # The number of searches so far: for the arcs at a node, and for the arcs between two nodes.
         self._missed = 0
         self._missed_ends = 0
 
@@ -156,7 +156,7 @@ class Columns(Generic[Node]):
     def keys(self) -> dict[int, Hashable]:
         """The keys that were given, by the arcs' numbers, in order."""
         if callable(self._given):
-            # Where two threads come at once, both make the same.
+            # If two threads do this at once, both make the same.
             self._given = self._given()
         return self._given
 

@@ -9,7 +9,8 @@ from importlib.abc import Loader
 from importlib.machinery import ModuleSpec
 from types import ModuleType
 
-# The modules that have what was in each module of then; a package has no names of its own.
+# For each module of version 0.1.0, the modules that have its content now; a package has no names of
+# its own.
 HOMES: dict[str, tuple[str, ...]] = {
     "executable": ("session.executable",),
     "numbering": ("columns",),
@@ -34,7 +35,7 @@ HOMES: dict[str, tuple[str, ...]] = {
     "tables.places": ("tables.arcs_and_places",),
     "ways": ("session.runners",),
 }
-# Classes that pickles name by names of then.
+# Classes by the names that pickles of version 0.1.0 have for them.
 RENAMED = {"Described": "TableComments", "Inner": "InnerNode"}
 
 

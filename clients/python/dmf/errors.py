@@ -212,7 +212,7 @@ class TooFewArcs(Refused):
     ...
 
 
-# How many more lines are told that have one fault.
+# The most further lines that a message names for one fault.
 MOST_LINES = 9
 
 

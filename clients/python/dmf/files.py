@@ -11,8 +11,8 @@ from typing import IO, BinaryIO
 
 from .errors import FileFault
 
-# What a process finds of itself below this is what another one, to which a file was passed on,
-# finds there too.
+# The folder with the open files of a process. A file that was passed on has the same path there in
+# both processes.
 OPENED = "/proc/self/fd"
 
 
@@ -99,7 +99,7 @@ def write_file(path: str, data: bytes, *, is_new: bool = False) -> None:
         with open(path if stream is None else os.dup(stream), "wb") as file:
             file.write(data)
         return
-    # Most sessions write no file of theirs, and this takes some milliseconds.
+    # Imported here, since it takes some milliseconds, and most sessions write no file.
     import secrets
 
     path = os.path.abspath(path) if is_new else os.path.realpath(path)

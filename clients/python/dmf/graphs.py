@@ -35,7 +35,7 @@ if TYPE_CHECKING:
 
     Flows = Dict[Node, Dict[Node, int]]
 
-# A network with more arcs than these is solved by the program, also where the library is there.
+# A network with more arcs than these is solved by the program, even if the library is installed.
 MOST_IN_PROCESS = 20_000
 WANTED = "a graph of networkx or igraph, a sparse matrix of scipy, or a dictionary of dictionaries"
 

@@ -314,7 +314,7 @@ class Network(ChangeableNetwork[Node]):
                     self.undo(kept.place - place)
             finally:
                 if kept.place > place and self._is_free:
-                    # The session has ended. Another one will be in the state that is kept.
+                    # The session has ended. A new one begins in the kept state.
                     self._go_without_session(place, value)
 
     def copy(self) -> Network[Node]:

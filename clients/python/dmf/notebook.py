@@ -20,7 +20,7 @@ from .text.problem_text import ArcRecord, Problem
 from .text.spelling import picture_names
 from .text.table_comments import TableComments
 
-# How many rows of a table are shown.
+# The most rows of a table.
 MOST_ROWS = 20
 
 

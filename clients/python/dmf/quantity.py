@@ -20,7 +20,7 @@ LARGEST = 2**64 - 1
 # The decimal signs.
 POINT, COMMA = ".", ","
 SIGNS = (POINT, COMMA)
-# Marks between thousands beside the sign that is not the decimal one: spaces and apostrophes.
+# Thousands separators besides the sign that is not the decimal one: spaces and apostrophes.
 _SPACES = " \u00a0\u2007\u2009\u202f"
 _APOSTROPHES = "'\u2019"
 # The most characters of a number, and the largest exponent: what is longer is past 64 bits, or has

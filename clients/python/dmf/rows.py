@@ -25,8 +25,8 @@ DECIMALS = (
 )
 # How many rows are taken together: the objects that they refer to fit the processor's cache.
 PIECE = 1 << 8
-# How many rows are expected if nobody says so, and how large nodes that are whole numbers may be
-# for each row.
+# The expected number of rows if it is not known; and for each row, how large whole numbers may be
+# that are nodes.
 USUAL, LARGEST_NODE = 1 << 18, 4
 WANTED = (
     "expected (tail, head, capacity) or (tail, head, capacity, key), in which all but the capacity "
@@ -95,7 +95,7 @@ def is_missing(value: object) -> bool:
     except TypeError:
         return True
     except ValueError:
-        # An array, of which each value is compared.
+        # An array, whose values are compared one by one.
         return False
 
 

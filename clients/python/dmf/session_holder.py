@@ -27,7 +27,7 @@ from .text.lexical import AMOUNTS
 if TYPE_CHECKING:
     from .quantity import Measure
 
-# A session of the program takes 1,000,000 lines, so another one takes its place before.
+# A session of the program takes 1,000,000 lines, so a new one replaces it before that.
 MOST_LINES = 900_000
 TWICE = "the session was ended for good: it was broken off, and again"
 
@@ -71,7 +71,7 @@ class SessionHolder(Generic[Node]):
     breaks a call off ends the session, and leaves that state as it was before the call. The next
     call begins a new session in the same state."""
 
-    # How whole numbers stand for those of callers, if they do.
+    # The measure by which whole numbers stand for the caller's, if there is one.
     _measure: Measure | None = None
 
     def _begin(self, session: Session, kept: NetworkState[Node]) -> None:

@@ -24,7 +24,7 @@ class NetworkState(History, Generic[Node]):
     arcs are closed; the added arcs; and the changes that can be undone or redone, of which there
     are at most `most`. With its commands and the first capacities, a new session can begin."""
 
-    # Who is told of each change, when it was made or unmade.
+    # A function that is called after each change is made or unmade.
     watcher: Callable[[Change, bool], None] | None = None
 
     def __init__(
@@ -38,12 +38,12 @@ class NetworkState(History, Generic[Node]):
         self.capacities = capacities
         self.closed: set[int] = set()
         self.added: list[Arc[Node]] = []
-        # For each of these the number of the closed arc that it replaces.
+        # For each added arc, the number of the closed arc that it replaces, or None.
         self.replaced: list[int | None] = []
         # The arcs of the network from which this one was copied. Their handles name the arcs here
         # too.
         self.origin: OpenArcs[Node] | None = None
-        # What the problem tells of its table.
+        # The problem's comments about its table.
         self._described: TableComments | None = columns.described
         self._added_index: Added[Node] | None = None
         self._opened: OpenArcs[Node] | None = None
@@ -56,7 +56,7 @@ class NetworkState(History, Generic[Node]):
         """Make the present state the first one."""
         self.first_count = len(self.capacities)
         self._first_closed = frozenset(self.closed)
-        # The first capacities of those arcs that have another one now.
+        # The first capacities of the arcs whose capacity has changed since.
         self._first: dict[int, int] = {}
 
     @property
@@ -268,7 +268,7 @@ class NetworkState(History, Generic[Node]):
             self.closed.add(number)
             return
         self.closed.discard(number)
-        # Where a call was broken off before the arc was added, it has none.
+        # If a call was broken off before the arc was added, the arc has no capacity here.
         if number > len(self.capacities) or self.capacities[number - 1] == capacity:
             return
         if number <= self.first_count:

@@ -16,7 +16,7 @@ from .session.base import ProblemColumns, Told, read_flows
 from .session.fresh import FLOW, Solved
 from .text.lexical import AMOUNTS, NODES
 
-# What solves a problem, as some words ask for it.
+# A function that solves a problem as some words ask.
 Solver = Callable[[ProblemColumns, "list[str]"], Solved]
 BITS = 64
 

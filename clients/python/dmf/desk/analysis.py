@@ -107,7 +107,7 @@ def _greatest_or_none(result: SweepResult[Node]) -> int | None:
 
 
 TITLES = set("cost costs kosten cout coste price preis".split())
-# How many purchases a way has at most.
+# The most purchases on a way.
 MOST_BOUGHT = 100
 
 

@@ -16,7 +16,7 @@ from ..session.fresh import CUT, Solved, ValuesWithout, solved
 from ..session.runners import program_of
 from .live_network import LiveNetwork
 
-# How many arcs a network has at least whose flows may follow.
+# The least number of arcs of a network whose flows may come later than its value.
 LARGE = 100_001
 
 

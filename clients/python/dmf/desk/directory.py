@@ -13,7 +13,7 @@ from .arc_lines import ArcLines
 from .steps import DeskFault, Node, Place
 
 MOST_LISTED = 6
-# What stands between the ends of an arc that is named by them, the longest first.
+# The separators between the ends of an arc that is named by them, the longest first.
 ARROWS = (" -> ", "->", " - ", "-")
 
 

@@ -19,7 +19,7 @@ from .steps import DeskArc, DeskFault
 from .workspace import Desk
 
 MOST_DRAWN = 300
-# How long Graphviz may take, in seconds.
+# The most time that Graphviz may take, in seconds.
 PATIENCE = 60
 DRAWN = {".svg": "svg", ".png": "png", ".pdf": "pdf"}
 # How a picture is read, and the title of the column that says of which plan a table is.

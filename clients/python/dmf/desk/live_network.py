@@ -55,7 +55,7 @@ class LiveNetwork(NetworkArcs):
             self.network.end()
         self._is_moving = False
 
-    # Where it stands.
+    # Its place in the history.
 
     def stand_on(self, steps: tuple[Step, ...]) -> tuple[Step, ...]:
         """Bring the network to the state after these steps, and return them as they are made now.
@@ -158,7 +158,7 @@ class LiveNetwork(NetworkArcs):
                 self.marks = marks._replace(limited=marks.limited | {line.first or change.arc})
             network.cap(self.handle(change.arc), self.measure.whole(change.capacity))
 
-    # What is so there.
+    # Answers about that state.
 
     @property
     def program(self) -> Program:

@@ -34,7 +34,7 @@ class NetworkArcs:
         self, subject: LoadedProblem, state: NetworkState[Node], nodes: Sequence[Node]
     ) -> None:
         self.subject = subject
-        # How the session's numbers stand for quantities.
+        # The measure by which the session's numbers stand for quantities.
         self.measure: Measure = subject.measure
         self._nodes = nodes
         self.folding = TableRoles(subject.described)
@@ -46,7 +46,7 @@ class NetworkArcs:
         self._at_first_unlimited = {
             number for number, role in subject.described.roles.items() if role.is_unlimited
         }
-        # How many arcs the problem has; those after them were added.
+        # The number of the problem's arcs; those after them were added.
         self.first_count = len(self.lines)
         self.marks = Marks()
         self._mark(self.marks)
@@ -230,7 +230,7 @@ class NetworkArcs:
                 }
         return opened - left
 
-    # How the arcs follow.
+    # Updates after a change.
 
     def _mark(self, marks: Marks) -> None:
         """Set the marks, which say what sources and sinks are unlimited."""

@@ -61,7 +61,7 @@ class Desk:
         self._running = RunningNetworks(program)
         network = self._running.begin(subject)
         self.with_solve = with_solve
-        # The network of the desk that this one tries something out for, if it does.
+        # The network of the desk for which this one tries something out, if it does.
         self._lent: LiveNetwork | None = None
         self.state = DeskState(network)
         if with_solve:
@@ -72,7 +72,7 @@ class Desk:
             begun = replace(self.state, steps=steps, at=1, floors=(1,), turn=1)
             self.state = replace(begun, answers=answers)
 
-    # The state, and how another one takes its place.
+    # The state, and its replacement by another one.
 
     @property
     def network(self) -> LiveNetwork:
@@ -182,7 +182,7 @@ class Desk:
             if self.keeper:
                 self.keeper.end()
 
-    # What is so now.
+    # Answers about the present state.
 
     @property
     def has_ended(self) -> bool:
@@ -274,7 +274,7 @@ class Desk:
         flows, quantity = self.flows(), network.measure.quantity
         return [quantity(flows[number - 1]) for number in numbers]
 
-    # What can be done.
+    # Changes.
 
     def solve(self) -> Step:
         """Make the flow a maximum flow."""

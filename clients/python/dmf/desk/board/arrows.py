@@ -8,7 +8,7 @@ import re
 from xml.etree import ElementTree
 
 SVG = "http://www.w3.org/2000/svg"
-# How long an arrow is, and half of how wide, in the units of the picture.
+# The length of an arrow, and half its width, in the units of the picture.
 LONG, HALF = 9.0, 4.0
 _NUMBER = re.compile("-?[0-9.]+(?:e-?[0-9]+)?")
 Point = tuple[float, float]

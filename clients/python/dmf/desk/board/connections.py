@@ -14,9 +14,10 @@ import time
 from collections.abc import Callable
 
 # How long a board runs on without a page, in seconds: after a request, longer than a reload takes
-# to the next one; after one for the page itself, whose scripts come and begin before it holds a
-# connection, and on a busy machine that takes long; and after a connection that broke, as where a
-# machine sleeps or a tunnel reconnects, since its page has not said that it is left.
+# to the next one; after one for the page itself, which must load and start its scripts before it
+# holds a connection, and on a busy machine that takes long; and after a connection that broke, for
+# example because a machine sleeps or a tunnel reconnects, since its page has not said that it is
+# left.
 AFTER_REQUEST, AFTER_PAGE, AFTER_BREAK = 10.0, 60.0, 300.0
 
 

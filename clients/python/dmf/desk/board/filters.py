@@ -18,7 +18,7 @@ FORMS = (
     "a part of a name, or use > 80, flow >= 10, capacity < 60, flow > before, from ~ Mill, to ~ "
     'Mill, full, limit, closed, added, changed; with "and" between two, and "not" before one'
 )
-# What else the page calls a column.
+# Other names of columns on the page.
 _CALLED = {"flows": "flow", "fits": "capacity", "carries": "capacity"}
 # The longest signs come first.
 _SIGN = re.compile(

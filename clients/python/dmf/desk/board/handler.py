@@ -25,7 +25,7 @@ from .responses import LONGEST_TEXT, PAGE, POLICY, Json, Response, WrongForm, an
 from .routes import Board
 
 LONGEST_BODY = 1 << 20
-# What a page calls itself.
+# The form of the names that pages give themselves.
 PAGE_NAME = "[0-9a-f-]{1,40}"
 
 

@@ -25,17 +25,16 @@ from ...text.spelling import cleaned, quoted_name
 from ..steps import DeskFault
 from ..workspace import Desk
 
-# How large a place is, about, in points, and how many spots are tried around the one where it would
-# lie best.
+# The approximate size of a place, in points, and the number of spots that are tried around the best
+# one.
 WIDE, HIGH, MOST_SPOTS = 120.0, 50.0, 400
-# Of how many places layers are drawn, however long they are; how many times as long as high, or as
-# high as long, they are at most of more places; and what else pulls these and pushes them.
+# The most places that are drawn in layers of any shape; the greatest ratio of the layers' length to
+# their height, or the reverse, with more places; and the forces that spread out all others.
 MOST_LAYERED, MOST_LONG = 40, 2.3
 FORCES = "K=1; repulsiveforce=1.4; smoothing=triangle; overlap=true"
-# How many times as long as high a window is for a picture, which is stretched so far at most.
+# The ratio of a window's width to its height, and the most by which a picture is stretched to it.
 WINDOW, MOST_STRETCHED = 1.4, 2.2
-# How far from all other places a part of the network is put that has no neighbour among them, in
-# points.
+# The distance between parts of the network that are not connected, in points.
 APART = 200.0
 
 
@@ -50,11 +49,11 @@ class Spot(NamedTuple):
     y: float
 
 
-# Where a place lies in a drawing of Graphviz.
+# The position of a place in a drawing of Graphviz.
 _DRAWN = re.compile(
     r'<g id="node(?:-|&#45;)(\d+)".*?<ellipse [^>]* cx="([-0-9.]+)" cy="([-0-9.]+)"', re.DOTALL
 )
-# An arc by its ends, and by its place among those with the same ends.
+# An arc by its ends, and by its rank among those with the same ends.
 Way = tuple[int, int, int]
 
 
@@ -185,7 +184,7 @@ def spread_out(text: str, ways: Iterable[Way]) -> dict[int, Spot]:
     pins = "".join(
         f'  {node} [pos="{spot.x:.2f},{spot.y * by:.2f}"]\n' for node, spot in turned.items()
     )
-    # Places that lie over one another go apart.
+    # Move places apart that overlap.
     settings = '  overlap=prism; sep="+14"; notranslate=true; inputscale=72; splines=false\n'
     apart = laid_out("neato", text.rstrip().removesuffix("}") + settings + pins + "}\n", "-n")[0]
     return {node: Spot(round(it.x, 2), round(it.y, 2)) for node, it in apart.spots.items()}
@@ -236,7 +235,7 @@ def run(text: str, engine: str, *words: str) -> str:
 # The usual titles of columns to the right and upwards: of a plane, and of the globe.
 PLANE = ("x easting east rechtswert".split(), "y northing north hochwert".split())
 GLOBE = ("lon longitude long lng".split(), "lat latitude".split())
-# How far apart neighbours are put, about, in points; and the most degrees to the right and upwards.
+# The approximate distance of neighbours, in points; and the most degrees to the right and upwards.
 MAP_APART, DEGREES = 150.0, (180, 90)
 
 

@@ -12,7 +12,7 @@ from .layout import Places, Spot
 from .looks import Looks
 from .responses import Json
 
-# The sign of an arc that is not drawn: it belongs to a place, or was opened again as another.
+# The character for an arc that is not drawn: it belongs to a place, or was opened again as another.
 NONE = " "
 # A place before the limit, one that is shut, and any other.
 BEFORE, SHUT, PLAIN = "b", "s", "."
@@ -29,7 +29,7 @@ class Overview:
         self._looks = looks
         self._places = places
         self._nodes = network.folding.places(range(1, len(network.names.nodes) + 1))
-        # Else most of what is drawn would be what nobody has said.
+        # Otherwise most of the drawing would be invented.
         self._is_known = 2 * sum(node in places.spots for node in self._nodes) > len(self._nodes)
 
     @property

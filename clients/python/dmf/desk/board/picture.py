@@ -19,14 +19,14 @@ from ..workspace import Desk
 from .arrows import SVG, add_arrows
 from .layout import Places, Way, run
 
-# Among how many places new arcs are led around others: that takes a second for 50 of them.
+# Up to this many places, arcs are routed around places, which takes a second for 50 of them.
 MOST_ROUTED = 20
-# How many layouts are kept.
+# The most layouts that are kept.
 MOST_KEPT = 8
-# A text as wide as any digit of a number, and what stands in place of the numbers of a closed arc.
+# The widest digit, and the text that a closed arc has instead of its numbers.
 WIDEST, CLOSED = "8", "closed"
-# How large the letters below a picture are that is taken along, and how wide a letter and how high
-# a line is for that size.
+# The size of the letters below a saved picture, and the width of a letter and the height of a line
+# at size 1.
 CAPTION, WIDE, LINE = 11.0, 0.6, 1.4
 STYLE = f"""
 text {{ font-family: Helvetica, Arial, sans-serif; }}

@@ -11,7 +11,7 @@ from pathlib import Path
 from typing import Any, Union
 
 LONGEST_TEXT = 4_000
-# How many arcs a request may name.
+# The most arcs that a request may name.
 MOST_ARCS = 100_000
 Json = dict[str, Any]
 # The names of fields, each with its kind.
@@ -33,7 +33,7 @@ class Response:
     to: str = ""
 
 
-# What a request is answered with, if it is not refused.
+# The answer to a request that is not refused.
 Made = Union[Response, Json]
 
 
@@ -69,7 +69,7 @@ def judge_fields(content: Json, form: Fields) -> None:
             judge_arcs(given, MOST_ARCS)
 
 
-# How many parts a page shows beside a state at most.
+# The most parts that a page shows beside a state.
 MOST_SHOWN = 8
 
 

@@ -110,7 +110,7 @@ class Board:
         self._beginning = Beginning(desk)
         self._looks = Looks(desk, self._beginning)
         self._overview = Overview(desk, self.picture.places, self._looks)
-        # How many places had been put when a project was asked to keep where.
+        # The number of places that had spots when a project was last asked to store them.
         self._put_count = -1
         self._nearby = Nearby(desk)
         self._rows_of_all = ArcList(desk, self._beginning)

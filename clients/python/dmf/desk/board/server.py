@@ -44,7 +44,7 @@ class Door:
 
 
 LOOPBACK_6 = "::1"
-# How long the server waits where it has no file left for a connection, in seconds.
+# How long the server waits if it has no file descriptor left for a connection, in seconds.
 PAUSE = 0.2
 NO_FILE_LEFT = (errno.EMFILE, errno.ENFILE, errno.ENOBUFS, errno.ENOMEM)
 # How many ports the system is asked for, if the one that it gives is taken by another user in the
@@ -92,7 +92,7 @@ class Server(ThreadingHTTPServer, Host):
                 self._other = self._other or socket.socket(socket.AF_INET6)
                 self._other.bind((LOOPBACK_6, self.server_address[1]))
             except OSError as error:
-                # Else there is no such family here.
+                # Any other error means that this machine lacks the family.
                 if error.errno == errno.EADDRINUSE:
                     if not left:
                         raise

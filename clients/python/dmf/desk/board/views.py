@@ -285,7 +285,7 @@ def opened_view(desk: Desk) -> Json:
     }
 
 
-# How many digits the largest number of a session has.
+# The number of digits of a session's largest number.
 DIGITS = 20
 
 

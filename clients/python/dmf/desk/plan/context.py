@@ -13,7 +13,7 @@ from ..workspace import Desk
 from ..worth import Loss
 from .written_files import WrittenFiles
 
-# Keeps the steps of a desk in a new project at a path, whose desk goes on in its place.
+# A function that keeps the steps of a desk in a new project at a path, and returns its desk.
 Keep = Callable[[str, Desk], Desk]
 
 

@@ -32,9 +32,9 @@ from .grammar import CHANGES, COMMANDS, count_of, no_words, one_name
 from .output import TextOutput, costs_told, place_lines
 from .project_handlers import PROJECT_HANDLERS
 
-# From how many arcs on it is shown how far a sweep is.
+# From this many arcs on, the progress of a sweep is shown.
 MANY = 20
-# How many arcs `worst` lists.
+# The number of arcs that `worst` lists.
 MOST_WORST = 10
 
 

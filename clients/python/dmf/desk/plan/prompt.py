@@ -21,8 +21,9 @@ except ImportError:  # A Python without it has no completion and no history.
     readline = None  # type: ignore[assignment]
 
 MOST_REMEMBERED = 2_000
-# What completes a line, and what asks for a line after a prompt. It raises an EOFError at Ctrl-D, a
-# KeyboardInterrupt at Ctrl-C, and a UnicodeDecodeError for bytes that are not text.
+# A function that completes a line, and one that asks for a line after a prompt. The second raises
+# an EOFError at Ctrl-D, a KeyboardInterrupt at Ctrl-C, and a UnicodeDecodeError for bytes that are
+# not text.
 Complete = Callable[[str], Completed]
 Ask = Callable[[str], str]
 

@@ -60,7 +60,7 @@ class Shell:
         """Return the desk, which is another one after the steps were kept in a project."""
         return self._context.desk
 
-    # How lines come and how they are answered.
+    # Input and answers.
 
     def onecmd(self, line: str) -> bool:
         """Carry out a line. Return True if the session should end."""
@@ -91,7 +91,7 @@ class Shell:
         if not self.is_typed:
             yield
             return
-        # A person need not mind how names are written.
+        # For a person, capitals and accents in names do not matter.
         self.desk.state.network.names.is_any_case = True
         write, told = self.output.write, list[str]()
         self.output.write = told.append
@@ -108,7 +108,7 @@ class Shell:
         try:
             return do()
         except FileFault:
-            # Nothing can be told any more.
+            # Nothing more can be printed.
             raise
         except KeyboardInterrupt:
             self.output.tell("")

@@ -37,7 +37,7 @@ from .strict_json import ProjectFault
 
 # The options that are decimal numbers.
 NUMBERS = ("scale", "velocity", "tolerance")
-# How many rows that differ are told.
+# The most differing rows that are reported.
 MOST_TOLD = 20
 
 

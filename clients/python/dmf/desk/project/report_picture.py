@@ -16,17 +16,17 @@ from ..workspace import Desk
 SVG = "http://www.w3.org/2000/svg"
 # The room for a picture on a sheet of A4, in points.
 WIDE, HIGH = 496.0, 330.0
-# How many labels there are at most, and how large letters are at least on paper, in points.
+# The most labels, and the least size of letters on paper, in points.
 MOST_LABELS, LEAST = 30, 8.2
-# How thick a line is at least, and one of the bottleneck, in points.
+# The least thickness of a line, and of one in the bottleneck, in points.
 THIN, THICK = 0.6, 1.6
 # How many times as long as high a picture in layers is at most that has more places than this, and
 # how places are spread out else.
 MOST_LONG, MOST_LAYERED = 3.0, 40
 FORCES = [f"-G{it}" for it in ("K=1", "repulsiveforce=1.4", "smoothing=triangle", "overlap=prism")]
-# How wide a letter and how high a line is, for letters of size 1.
+# The width of a letter and the height of a line, for letters of size 1.
 LETTER, LINE = 0.58, 1.2
-# Where a label may lie instead of where Graphviz has it: by parts of its own size.
+# The other positions of a label, from the one that Graphviz gave it, in parts of its own size.
 SPOTS = sorted(
     ((along, up) for along in (0, 0.6, -0.6, 1.1, -1.1) for up in (0, 1, -1, 2, -2, 3, -3)),
     key=lambda spot: abs(spot[0]) + abs(spot[1]),

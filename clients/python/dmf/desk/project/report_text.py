@@ -14,7 +14,7 @@ from .comparison import ArcDifference
 from .report_findings import Demand, Findings, Section, Tried
 from .scenarios import BASE
 
-# How many rows of a table are shown, and how many places in a sentence.
+# The most rows of a table, and the most places in a sentence.
 MOST_ROWS, MOST_PLACES = 10, 5
 
 

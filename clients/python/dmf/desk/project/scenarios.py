@@ -132,7 +132,7 @@ class Scenarios:
         """Return the scenario that is worked on."""
         return self._found(self.project.present)
 
-    # What the desk asks of what keeps it.
+    # The methods of a keeper, which the desk calls.
 
     def judge(self, back: int = 0) -> None:
         """Raise a `DeskFault` if nothing can be written, or if the scenario has fewer steps of its

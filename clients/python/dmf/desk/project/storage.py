@@ -47,7 +47,7 @@ class Journal:
     def __init__(self, path: str) -> None:
         self.path = path
         while True:
-            # A link could lead to a file of somebody's.
+            # A link could lead to another user's file.
             self._file = os.open(
                 path, os.O_RDWR | os.O_CREAT | os.O_APPEND | os.O_NOFOLLOW | os.O_NONBLOCK, 0o666
             )
