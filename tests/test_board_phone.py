@@ -86,18 +86,53 @@ def test_sheet(driver: Any) -> None:
 
 
 def middle(driver: Any) -> tuple[float, float]:
-    """What of the picture is in the middle between the headline and the legend, in its units."""
+    """The point of the picture in the middle of what is free: between the headline and the legend,
+    and beside the panel, in its units."""
     x, y = driver.execute_script(
         """
         const box = document.querySelector("#picture svg").viewBox.baseVal;
-        const top = document.querySelector("header").getBoundingClientRect().bottom;
-        const bottom = document.querySelector("[aria-label=Legend]").closest(".card")
-          .getBoundingClientRect().top;
+        const at = (place) => document.querySelector(place).getBoundingClientRect();
+        const [top, bottom] = [at("header").bottom, at("#foot").top];
+        const right = at("#fold").width ? at("#fold").left : innerWidth;
         const by = innerWidth / box.width;
-        return [box.x + box.width / 2, box.y + (top + bottom) / 2 / by];
+        return [box.x + right / 2 / by, box.y + (top + bottom) / 2 / by];
         """
     )
     return float(x), float(y)
+
+
+@pytest.mark.parametrize("sizes", [((400, 800), (800, 400)), ((1280, 800), (768, 900))])
+def test_another_size(driver: Any, sizes: tuple[tuple[int, int], ...]) -> None:
+    """After a phone is turned, or a window has another size, all places are seen again if all were
+    fitted; and if the planner has moved the picture, its middle and its scale stay."""
+    with board(PIPES) as it:
+        resize(driver, *sizes[0])
+        page = Page(driver, it.address)
+        for size in (*sizes, *sizes):
+            resize(driver, *size)
+            page.wait(lambda: is_free(driver))
+        resize(driver, *sizes[0])
+        page.press("Larger")
+        before, by = middle(driver), scale(driver)
+        for size in sizes[::-1]:
+            resize(driver, *size)
+            page.wait(lambda: max(abs(a - b) for a, b in zip(middle(driver), before)) < 1)
+            assert scale(driver) == pytest.approx(by, rel=0.001)
+        as_before(driver)
+
+
+def resize(driver: Any, width: int, height: int) -> None:
+    """Gives the window a size, and waits until the picture has it."""
+    metrics = {"width": width, "height": height, "deviceScaleFactor": 1, "mobile": False}
+    driver.execute_cdp_cmd("Emulation.setDeviceMetricsOverride", metrics)
+    driver.execute_async_script("requestAnimationFrame(() => requestAnimationFrame(arguments[0]))")
+
+
+def scale(driver: Any) -> float:
+    """How many pixels a unit of the picture has."""
+    return float(
+        driver.execute_script("return document.querySelector('#picture svg').getScreenCTM().a")
+    )
 
 
 @pytest.mark.parametrize("width", [1280, 400])

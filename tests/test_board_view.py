@@ -33,6 +33,18 @@ return labels.filter((text) => text.checkVisibility()).map((text) =>
 """
 
 
+# The parts of the picture that are seen whole, and have no label.
+BARE = """
+const box = (it) => it.getBoundingClientRect();
+const over = ["head", "foot", "panel", "fold"].map((id) => box(document.getElementById(id)));
+return [...document.querySelectorAll("#picture .unlabelled")].filter((part) => {
+  const { left, top, right, bottom } = box(part);
+  return left > 0 && top > 0 && right < innerWidth && bottom < innerHeight && over.every((it) =>
+    it.left > right || it.right < left || it.top > bottom || it.bottom < top);
+}).map((part) => part.id);
+"""
+
+
 def grid_table(folder: Path, side: int) -> str:
     """A square of places with an arc to the right and an arc down from each, and a lake and a sea
     at its ends."""
@@ -176,10 +188,7 @@ def sink_of(driver: Any, name: str) -> str:
 
 def judge_labels(page: Page) -> None:
     """Labels are never too small to be read, at any size of the picture; when it is large enough
-    all are seen."""
-    count = len(
-        page.driver.find_elements("css selector", "#picture .node text, #picture .arc text")
-    )
+    all that is seen whole has its label."""
     shown = []
     for key in "0-------0" + 20 * "+":
         page.driver.find_element("id", "picture").send_keys(key)
@@ -189,7 +198,7 @@ def judge_labels(page: Page) -> None:
         heights = page.driver.execute_script(HEIGHTS)
         shown.append(len(heights))
         assert min(heights, default=11) >= 10.99, (key, min(heights))
-    assert shown[0] > 0 and shown[-1] == count, shown
+    assert 0 < shown[0] < shown[-1] and page.driver.execute_script(BARE) == [], shown
 
 
 # The labels that are seen and lie over one another, by more than a third of the smaller one.
@@ -213,8 +222,8 @@ return [boxes.length, boxes.flatMap((one, place) => boxes.slice(place + 1)
 
 
 def test_labels_on_a_map(driver: Any, tmp_path: Path) -> None:
-    """Where places lie as on a map no label hides another one, at any size, and all are seen in the
-    largest."""
+    """Where places lie as on a map no label hides another one, at any size, and in the largest all
+    that is seen whole has one."""
     with board(*city(tmp_path, 7)) as it:
         page = Page(driver, it.address)
         counts = []
@@ -227,12 +236,7 @@ def test_labels_on_a_map(driver: Any, tmp_path: Path) -> None:
             assert over == [], key
             assert min(page.driver.execute_script(HEIGHTS), default=11) >= 10.99
             counts.append(count)
-        assert (
-            counts[-1]
-            == len(driver.find_elements("css selector", "#picture .node, #picture .arc"))
-            > counts[0]
-            > 0
-        )
+        assert counts[-1] > counts[0] > 0 and driver.execute_script(BARE) == []
         driver.get("about:blank")
 
 

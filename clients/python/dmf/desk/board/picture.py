@@ -201,7 +201,7 @@ class Picture:
         network = self._desk.network
         splines = "line" if is_put and len(shape.nodes) > MOST_ROUTED else "true"
         yield (
-            f"digraph dmf {{\n  rankdir=LR; bgcolor=transparent; ranksep=0.2; splines={splines}; "
+            f"digraph dmf {{\n  rankdir=LR; bgcolor=transparent; ranksep=0.2; nodesep=0.6; splines={splines}; "
             "notranslate=true"
         )
         yield '  node [fontname="Helvetica"]\n  edge [fontname="Helvetica", fontsize=11]'

@@ -33,10 +33,25 @@ export class Boxes {
    * @param {Edges | null} own
    */
   isFree(box, own) {
-    return Boxes.#keys(box).every((key) => (this.#fields.get(key) ?? []).every((it) => it === own
-      || it.right <= box.left || box.right <= it.left || it.bottom <= box.top || box.bottom <= it.top));
+    return Boxes.#keys(box).every((key) => (this.#fields.get(key) ?? []).every((it) => it === own || isApart(it, box)));
   }
 }
+
+/**
+ * Returns true if two boxes have no area in common.
+ * @param {Edges} one
+ * @param {Edges} other
+ */
+export const isApart = (one, other) =>
+  one.right <= other.left || other.right <= one.left || one.bottom <= other.top || other.bottom <= one.top;
+
+/**
+ * Returns true if the first box lies inside the other.
+ * @param {Edges} one
+ * @param {Edges} other
+ */
+export const isWithin = (one, other) =>
+  one.left >= other.left && one.right <= other.right && one.top >= other.top && one.bottom <= other.bottom;
 
 /**
  * @param {number} x
@@ -46,3 +61,10 @@ export class Boxes {
  * @returns {Edges}
  */
 export const edges = (x, y, right, down) => ({ left: x - right, right: x + right, top: y - down, bottom: y + down });
+
+/**
+ * @param {Edges} box
+ * @param {number} by how much further it reaches to each side
+ * @returns {Edges}
+ */
+export const larger = ({ left, right, top, bottom }, by) => ({ left: left - by, right: right + by, top: top - by, bottom: bottom + by });

@@ -1,26 +1,30 @@
 /**
- * The positions of the picture's labels: a label lies on no place, except inside its own if it fits, and on no other label. The most
- * important ones are placed first; one that finds no spot is hidden. Letters are as large as Graphviz made them, within readable bounds.
+ * The positions of the picture's labels: a label lies on no place, except inside its own if it fits, and on no other label, line or
+ * arrow, and no edge or card cuts it. The most important ones are placed first; one that finds no spot is hidden. Letters are as large as
+ * Graphviz made them, within readable bounds.
  * @typedef {{ part: SVGElement, texts: SVGTextElement[], x: number, y: number, width: number, height: number, size: number,
- *   rank: number, oval: Oval | null, line: DOMPoint[] }} Label
+ *   rank: number, oval: Oval | null, line: Spot[] }} Label
  * @typedef {{ x: number, y: number, right: number, down: number }} Oval the middle of a place, and its half axes
+ * @typedef {{ x: number, y: number, across: [number, number] }} Spot a point of a line, and the direction at right angles to it
  * @typedef {import("./ink.js").Edges} Edges
- * @typedef {import("./ink.js").Ink} Ink
- * @typedef {{ ink: Ink, view: Edges }} Ground where lines run, and the visible part, in pixels
- * @typedef {[number, number, boolean]} Place the middle of a label, and whether it is inside its own place
+ * @typedef {import("./spots.js").Ground} Ground
+ * @typedef {import("./spots.js").Taken} Taken
+ * @typedef {import("./spots.js").Place} Place
  */
 import { Boxes, edges } from "./boxes.js";
+import { pointsOf } from "./ink.js";
+import { freeSpot } from "./spots.js";
 /** The bounds of the letters' height, in pixels; the height of a line for that; and the distance of a label from its place, in pixels. */
 const LEAST = 11.2, MOST = 17, LINE = 1.25, APART = 3;
 /** The largest part of an oval that a label inside it may fill. */
 const FILLED = 1.6;
-/** The cost of a label that is not wholly visible, in fields with lines under it; and the distance that costs one field, in pixels. */
-const CUT = 100, AWAY = 1.5;
+/** The rank up to which labels are shown even if they have to lie on lines: those of the source, the sink and the selection. */
+const NEEDED = 0;
 /** The spots of a place's label, around the place; and of an arc's, from where Graphviz put it, in parts of its size. */
 const AROUND = [[1, 0], [-1, 0], [0, -1], [0, 1], [1, -1], [1, 1], [-1, -1], [-1, 1]];
 const BESIDE = [[0, 0], [0, -0.3], [0, 0.3], [0.3, 0], [-0.3, 0], [0, -0.6], [0, 0.6], [0.3, -0.3], [-0.3, 0.3]];
-/** Where a label may lie along an arc's line, in parts of its length, and on which sides of it. */
-const ALONG = [0.5, 0.3, 0.7, 0.15, 0.85], SIDES = [[0, -1], [0, 1], [1, 0], [-1, 0]];
+/** Which points of an arc's line its label may lie beside, the best first; and how far the arrow reaches from the line, in pixels. */
+const ALONG = [6, 4, 8, 2, 10], ARROW = 6.5;
 /** How many text lines further out a label may lie, and the most that this may be, in units. The selection always has a label. */
 const RINGS = [1, 2, 3, 4, 5, 6, 8, 10], FURTHEST = 32;
 /**
@@ -44,7 +48,7 @@ export function labelsOf(parts) {
     const middle = texts.reduce((sum, text) => sum + Number(text.getAttribute("y")), 0) / texts.length;
     const width = size * Math.max(...texts.map((text) => wide(text.textContent ?? "")));
     const height = texts.length * size * LINE;
-    const oval = ovalOf(part), line = oval ? [] : pointsOf(part);
+    const oval = ovalOf(part), line = oval ? [] : spotsOf(part);
     labels.push({ part, texts, size, x, y: middle - size / 3, width, height, rank: rank(part), oval, line });
   }
   return labels;
@@ -63,12 +67,17 @@ function wide(text) {
 }
 
 /**
- * Returns points on the line of an arc.
+ * Returns the points of an arc's line that its label may lie beside.
  * @param {SVGElement} part
+ * @returns {Spot[]}
  */
-function pointsOf(part) {
-  const path = /** @type {SVGPathElement | null} */ (part.querySelector("path")), long = path?.getTotalLength() ?? 0;
-  return path ? ALONG.map((by) => path.getPointAtLength(by * long)) : [];
+function spotsOf(part) {
+  const path = /** @type {SVGPathElement | null} */ (part.querySelector("path")), points = path ? pointsOf(path) : [];
+  return (path ? ALONG : []).map((at) => {
+    const [before, after] = [points[at - 1], points[at + 1]], [right, down] = [after.x - before.x, after.y - before.y];
+    const long = Math.hypot(right, down) || 1;
+    return { x: points[at].x, y: points[at].y, across: [-down / long, right / long] };
+  });
 }
 
 /**
@@ -92,53 +101,36 @@ function rank(part) {
 }
 
 /**
- * Returns the spot that covers the fewest lines and is near the first one: a label further away would be read as that of another line.
- * A spot inside the label's own place is preferred.
- * @param {Place[]} found
- * @param {number} right how far the label reaches
- * @param {number} down
- * @param {Ground} ground
- */
-function clearest(found, right, down, { ink, view }) {
-  let best = found[0], least = Infinity;
-  for (const spot of found) {
-    const box = edges(spot[0], spot[1], right, down), away = Math.hypot(spot[0] - found[0][0], spot[1] - found[0][1]) / AWAY;
-    const isCut = box.left < view.left || box.right > view.right || box.top < view.top || box.bottom > view.bottom;
-    const cost = away >= least ? away : spot[2] ? 0 : away + ink.under(box) + Number(isCut) * CUT;
-    if (cost < least) [best, least] = [spot, cost];
-  }
-  return best;
-}
-
-/**
- * What the labels lie on since they were arranged last, and the boxes that are taken.
- * @type {Ground & { taken: Boxes } | null}
+ * What the labels lie on since they were arranged last.
+ * @type {Taken | null}
  */
 let present = null;
 
 /**
- * Keeps names that are placed from now on away from here.
+ * Keeps names that are placed from now on away from a place, and returns the place's box.
  * @param {number} x in pixels
  * @param {number} y
  * @param {number} reach
  */
-export const cover = (x, y, reach) => present?.taken.add(edges(x, y, reach, reach));
+export function cover(x, y, reach) {
+  const box = edges(x, y, reach, reach);
+  present?.taken.add(box);
+  present?.places.add(box);
+  return box;
+}
 
 /**
  * Takes a spot for a name beside a place, as for all labels, and returns its middle, or undefined if there is no room.
- * @param {number} x the place's middle, in pixels
- * @param {number} y
- * @param {number} reach how far the place reaches
- * @param {number} right how far the name reaches
- * @param {number} down
+ * @param {Edges} own the box of the place
+ * @param {[number, number]} size half the width and half the height of the name
+ * @param {boolean} isNeeded whether it is shown even if it has to lie on lines
  */
-export function nameSpot(x, y, reach, right, down) {
+export function nameSpot(own, [right, down], isNeeded) {
   if (!present) return undefined;
-  const { taken } = present, out = reach + APART;
-  const found = AROUND.map(([along, below]) => /** @type {Place} */ ([x + along * (out + right), y + below * (out + down), false]))
-    .filter((spot) => taken.isFree(edges(spot[0], spot[1], right, down), null));
-  const spot = clearest(found, right, down, present);
-  if (spot) taken.add(edges(spot[0], spot[1], right, down));
+  const [x, y, out] = [(own.left + own.right) / 2, (own.top + own.bottom) / 2, (own.right - own.left) / 2 + APART];
+  const found = AROUND.map(([along, below]) => /** @type {Place} */ ([x + along * (out + right), y + below * (out + down), false]));
+  const spot = freeSpot(found, [right, down], present, { own, isNeeded });
+  if (spot) present.taken.add(edges(spot[0], spot[1], right, down));
   return spot;
 }
 
@@ -149,11 +141,11 @@ export function nameSpot(x, y, reach, right, down) {
  * @param {Ground} ground
  */
 export function arrange(labels, scale, ground) {
-  const taken = new Boxes();
-  present = { taken, ...ground };
+  const [taken, places] = [new Boxes(), new Boxes()], now = { taken, places, ...ground };
+  present = now;
   const ovals = new Map(labels.map((label) => {
     const { oval } = label, box = oval && edges(oval.x * scale, oval.y * scale, oval.right * scale, oval.down * scale);
-    if (box) taken.add(box);
+    for (const boxes of box ? [taken, places] : []) boxes.add(/** @type {Edges} */ (box));
     return [label, box];
   }));
   const first = (/** @type {Label} */ label) => (label.part.matches(".chosen") ? -1 : label.rank);
@@ -161,9 +153,9 @@ export function arrange(labels, scale, ground) {
     const by = Math.min(MOST, Math.max(LEAST, label.size * scale)) / (label.size * scale);
     const [right, down] = [label.width * scale * by / 2, label.height * scale * by / 2], own = ovals.get(label) ?? null;
     const isChosen = first(label) < 0, rings = RINGS.filter((ring) => isChosen || !label.oval && ring * down < FURTHEST * scale);
-    const found = spots(label, right, down, scale).concat(further(label, right, down, scale, rings))
-      .filter(([x, y, isIn]) => taken.isFree(edges(x, y, right, down), isIn ? own : null));
-    const spot = clearest(found, right, down, ground);
+    const half = ground.thicker * Number(label.part.style.getPropertyValue("--thick")) / 2;
+    const found = spots(label, right, down, scale, half).concat(further(label, right, down, scale, rings));
+    const spot = freeSpot(found, [right, down], now, { own, arc: label.oval ? undefined : label.part, isNeeded: first(label) <= NEEDED });
     if (spot) taken.add(edges(spot[0], spot[1], right, down));
     put(label, by, spot && { x: spot[0] / scale, y: spot[1] / scale, isIn: spot[2] });
   }
@@ -175,14 +167,18 @@ export function arrange(labels, scale, ground) {
  * @param {number} right how far it reaches
  * @param {number} down
  * @param {number} scale
+ * @param {number} half half the thickness of the arc's line
  * @returns {Place[]}
  */
-function spots({ oval, line, x, y }, right, down, scale) {
+function spots({ oval, line, x, y }, right, down, scale, half) {
   if (!oval) {
     const near = BESIDE.map(([along, below]) => /** @type {Place} */ (
       [x * scale + 2 * along * right, y * scale + 2 * below * down, false]));
-    return near.concat(line.flatMap((point) => SIDES.map(([along, below]) => /** @type {Place} */ (
-      [point.x * scale + along * (right + APART), point.y * scale + below * (down + APART), false]))));
+    return near.concat(line.flatMap(({ x: pointX, y: pointY, across: [along, below] }) => {
+      const reach = Math.abs(along) * right + Math.abs(below) * down + APART, outs = [half, ARROW].map((by) => reach + by);
+      return outs.flatMap((out) => [out, -out]).map((out) => /** @type {Place} */ (
+        [pointX * scale + out * along, pointY * scale + out * below, false]));
+    }));
   }
   const [ovalRight, ovalDown] = [oval.right * scale, oval.down * scale];
   const isIn = Math.max(right / ovalRight, down / ovalDown) < 1 && (right / ovalRight) ** 2 + (down / ovalDown) ** 2 <= FILLED;

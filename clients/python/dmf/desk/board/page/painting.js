@@ -20,6 +20,12 @@ const FADED = 0.16;
 /** The most names; the size of letters, in pixels, and the height of a line for that; and the size of a shade, in units. */
 const MOST_NAMES = 400, LETTERS = 12, LINE = 1.25, ROUND = 90;
 
+/**
+ * Returns half the length of the arrow on a line, in pixels.
+ * @param {number} wide the thickness of the line, in pixels
+ */
+const arrowSize = (wide) => Math.min(5, 0.4 * wide + 2.6);
+
 /** Returns true if names cannot be read at this scale. Then the arcs of the picture are drawn like the others. */
 const isFar = () => isGround() && scale() < NAMES;
 
@@ -67,7 +73,7 @@ function paintLines(pen, drawn, colour) {
     const shade = shadeOf(now, lines[0].mark), wide = by * thickness(lines[0].mark);
     pen.globalAlpha = key.startsWith("0") ? FADED : 1;
     stroke(pen, lines, colour(shade.ink), wide, shade.isDashed ? [5, 3] : []);
-    if (lines[0].mark.state !== "c") point(pen, lines, colour(wide < INSIDE ? shade.ink : "paper"), Math.min(5, 0.4 * wide + 2.6));
+    if (lines[0].mark.state !== "c") point(pen, lines, colour(wide < INSIDE ? shade.ink : "paper"), arrowSize(wide));
   }
   pen.globalAlpha = 1;
 }
@@ -192,9 +198,18 @@ function circle(pen, spots) {
   }
 }
 
-/** Returns the lines that names avoid, if names can be read. */
-export const strokesSeen = () => (!isGround() || isFar() ? [] : ground.lines.filter((line) => isIn(seenBox(), line)).map((line) => ({
-  points: endsOf(line).map(([x, y]) => ({ x, y })), thick: thickness(line.mark) })));
+/**
+ * Returns the lines and the arrows that names avoid, if names can be read.
+ * @returns {import("./ink.js").Stroke[]}
+ */
+export function strokesSeen() {
+  const by = thicker(ground.usual * scale()), seen = !isGround() || isFar() ? [] : ground.lines.filter((line) => isIn(seenBox(), line));
+  return seen.flatMap((line) => {
+    const [from, to] = endsOf(line).map(([x, y]) => ({ x, y })), thick = by * thickness(line.mark);
+    const middle = { x: (from.x + to.x) / 2, y: (from.y + to.y) / 2 };
+    return [{ points: [from, to], thick }, { points: [middle, middle], thick: 2 * arrowSize(thick) }];
+  });
+}
 
 /**
  * Paints the names that have room: first the source and the sink, then the selection, then the others.
@@ -207,11 +222,12 @@ function paintNames(pen, seen, colour) {
   const order = (/** @type {Spot} */ it) => 2 * Number(it.isEnd) + Number(isMarked(it));
   // The picture in front covers its own places.
   const others = seen.filter((place) => isFar() || !ground.before.has(`node-${place.node}`));
-  for (const place of others) cover(place.x * by, place.y * by, reach(place));
+  const boxes = new Map(others.map((place) => [place, cover(place.x * by, place.y * by, reach(place))]));
   Object.assign(pen, { font: `${LETTERS / by}px ${style}`, textBaseline: "middle", textAlign: "center", lineWidth: 3 / by });
   Object.assign(pen, { strokeStyle: colour("paper"), fillStyle: colour("ink") });
   for (const place of others.sort((one, other) => order(other) - order(one)).slice(0, MOST_NAMES)) {
-    const spot = nameSpot(place.x * by, place.y * by, reach(place), pen.measureText(place.name).width * by / 2, LETTERS * LINE / 2);
+    const own = boxes.get(place), wide = pen.measureText(place.name).width * by;
+    const spot = own && nameSpot(own, [wide / 2, LETTERS * LINE / 2], order(place) > 0);
     if (!spot) continue;
     pen.strokeText(place.name, spot[0] / by, spot[1] / by);
     pen.fillText(place.name, spot[0] / by, spot[1] / by);

@@ -4,7 +4,7 @@
  * @typedef {import("./labels.js").Label} Label
  * @typedef {import("./arrows.js").Arrow} Arrow
  */
-import { arrowsOf, pointArrows } from "./arrows.js";
+import { arrowsOf, pointArrows, strokesOf } from "./arrows.js";
 import { hintBeyond } from "./beyond.js";
 import { choose, theChoice } from "./choice.js";
 import { markOf, shadeOf, thicker, thickness, usualLength } from "./colourings.js";
@@ -12,14 +12,14 @@ import { boxOf, parts, show } from "./drawing.js";
 import { at, make, onClick } from "./elements.js";
 import { isFaded } from "./filter.js";
 import { chooseNear, ground, groundBox, isGround, isOfLimit, lookAtGround, middlePlace, setBefore } from "./ground.js";
-import { Ink, pointsOf } from "./ink.js";
+import { Ink } from "./ink.js";
 import { arrange, labelsOf } from "./labels.js";
 import { markAt, setMarks, shades } from "./legend.js";
 import { isPicked, pickedCount } from "./many.js";
 import { news } from "./messages.js";
 import { paint, strokesSeen } from "./painting.js";
 import { ask, noun, present, units } from "./state.js";
-import { freePart } from "./room.js";
+import { covers, freePart } from "./room.js";
 import { beginView, fit, reveal, scale, see, seenBox, zoom } from "./view.js";
 import { listed } from "./words.js";
 
@@ -153,10 +153,7 @@ function label() {
     at("picture").style.setProperty("--scale", String(scale()));
     pointArrows(arrows, scale(), by);
     hintBeyond(limits.map(([x, y]) => [(x - seenBox().x) * scale(), (y - seenBox().y) * scale()]), freePart());
-    const strokes = arrows.map(({ path, thick }) => ({ points: pointsOf(path), thick: by * thick }));
-    const { x, y, width, height } = seenBox();
-    const view = { left: x * scale(), right: (x + width) * scale(), top: y * scale(), bottom: (y + height) * scale() };
-    arrange(labels, scale(), { ink: new Ink([...strokes, ...strokesSeen()], scale()), view });
+    arrangeLabels(by);
     paint();
   });
   clearTimeout(moving);
@@ -164,6 +161,19 @@ function label() {
     const node = middlePlace();
     if (node && String(node) !== near) showNear(node, true);
   }, STILL);
+}
+
+/**
+ * Arranges the labels around what is drawn and what covers it.
+ * @param {number} by by what factor lines are thicker
+ */
+function arrangeLabels(by) {
+  const { x, y, width, height } = seenBox(), [across, down] = [x * scale(), y * scale()];
+  const inPicture = (/** @type {import("./ink.js").Edges} */ box) =>
+    ({ left: box.left + across, right: box.right + across, top: box.top + down, bottom: box.bottom + down });
+  const view = inPicture({ left: 0, right: width * scale(), top: 0, bottom: height * scale() });
+  const ink = new Ink([...strokesOf(arrows, by), ...strokesSeen()], scale(), view);
+  arrange(labels, scale(), { ink, view, covers: covers().map(inPicture), thicker: by });
 }
 
 /**

@@ -21,3 +21,7 @@ export function freePart() {
   const top = Math.min(head.bottom, whole.height - LEAST), bottom = Math.max(below, top + LEAST);
   return { left: RIM, top: top + RIM, right: Math.max(right - RIM, RIM + LEAST), bottom: bottom - RIM };
 }
+
+/** Returns the boxes of what covers the picture, in pixels from its corner. */
+export const covers = () => ["head", "foot", "panel", "fold", "beyond"].map((id) => at(id).getBoundingClientRect())
+  .filter(({ width, height }) => width && height);

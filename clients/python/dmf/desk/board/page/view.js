@@ -6,8 +6,8 @@ import { at } from "./elements.js";
 import { freePart } from "./room.js";
 
 /** The largest scale, in pixels per unit of the picture, and the largest one for a fit; the smallest; and, in pixels, the least length of a
- * drag, the room for labels at each side, and the least height of a free part that somebody looks at. */
-const MOST = 6, MOST_FITTED = 1.8, LEAST = 0.004, DRAG = 4, ASIDE = 60, LEAST_FREE = 80;
+ * drag, the room for labels at each side, the least height of a free part that somebody looks at, and the least move that somebody sees. */
+const MOST = 6, MOST_FITTED = 1.8, LEAST = 0.004, DRAG = 4, ASIDE = 60, LEAST_FREE = 80, SEEN = 0.5;
 /** @type {Box} */
 let seen = { x: 0, y: 0, width: 1, height: 1 };
 /** @type {Map<number, { x: number, y: number }>} */
@@ -39,6 +39,7 @@ function show(x, y, pixels) {
   const by = Math.min(MOST, Math.max(LEAST, pixels)), { clientWidth, clientHeight } = at("picture");
   [wide, high] = [clientWidth, clientHeight];
   seen = { width: clientWidth / by, height: clientHeight / by, x: x - clientWidth / by / 2, y: y - clientHeight / by / 2 };
+  if (isRoomy(freePart())) focus = middleOf(freeBox());
   see();
 }
 
@@ -53,10 +54,23 @@ export function see() {
 const middleOf = ({ x, y, width, height }) => ({ x: x + width / 2, y: y + height / 2 });
 const middle = () => middleOf(seen);
 
-/** Keeps the middle of the view after the window has changed its size. */
+/**
+ * Returns true if a free part is large enough to show something in it.
+ * @param {import("./room.js").Room} room
+ */
+const isRoomy = ({ top, bottom }) => bottom - top > LEAST_FREE;
+
+/** Keeps the view in a free part that has changed: a fitted box is fitted again, or else the middle stays. */
+function showAgain() {
+  if (!at("picture").querySelector("svg")) return;
+  if (fitted) fit(fitted);
+  else showFree(focus.x, focus.y, scale());
+}
+
+/** Keeps the view after the window has changed its size, or a phone was turned. */
 function refresh() {
   const { clientWidth, clientHeight } = at("picture");
-  if (clientWidth !== wide || clientHeight !== high) show(middle().x, middle().y, scale());
+  if (clientWidth !== wide || clientHeight !== high) showAgain();
 }
 
 /**
@@ -104,18 +118,14 @@ function showFree(x, y, pixels) {
 }
 
 /**
- * Makes a change to what covers the picture, and keeps the view in the free part: a fitted box is fitted again, or else the middle stays.
+ * Makes a change to what covers the picture, and keeps the view in the free part.
  * @param {() => unknown} change
  */
 export function keepFree(change) {
   const before = freePart();
-  if (before.bottom - before.top > LEAST_FREE) focus = middleOf(freeBox());
   change();
   const now = freePart();
-  if (!at("picture").querySelector("svg") || now.bottom - now.top <= LEAST_FREE) return;
-  if (now.bottom === before.bottom && now.right === before.right) return;
-  if (fitted) fit(fitted);
-  else showFree(focus.x, focus.y, scale());
+  if (isRoomy(now) && (now.bottom !== before.bottom || now.right !== before.right)) showAgain();
 }
 
 /** @param {Box} box is shown whole, in the free part, with room for labels beside it */
@@ -139,8 +149,8 @@ const into = (from, long, free, room) =>
 
 /** @param {Box} box should be visible: the view moves as little as brings it into the free part */
 export function reveal({ x, y, width, height }) {
-  const free = freeBox(), right = into(x, width, free.x, free.width), down = into(y, height, free.y, free.height);
-  if (right || down) show(middle().x - right, middle().y - down, scale());
+  const free = freeBox(), right = into(x, width, free.x, free.width) * scale(), down = into(y, height, free.y, free.height) * scale();
+  if (Math.hypot(right, down) > SEEN) move(-right, -down);
 }
 
 /** @param {PointerEvent} event */
