@@ -41,7 +41,8 @@ const lines = parts.filter((it) => it.matches(".arc")).map((it) => {
   const long = path.getTotalLength(), count = Math.ceil(long * a / 3);
   const half = parseFloat(getComputedStyle(path).strokeWidth) / 2;
   return [it.id, Array.from({ length: count + 1 }, (_, at) => {
-    const { x, y } = path.getPointAtLength(at / count * long), [right, down] = [x * a + e, y * d + f];
+    const { x, y } = path.getPointAtLength(at / count * long);
+    const [right, down] = [x * a + e, y * d + f];
     return { left: right - half, right: right + half, top: down - half, bottom: down + half };
   })];
 });
@@ -64,7 +65,9 @@ labels.forEach(([id, label, part], at) => {
   for (const [arc, dots] of lines) {
     if (dots.some((dot) => meets(label, dot))) wrong.push(`${id} on the line of ${arc}`);
   }
-  for (const [arc, head] of heads) if (meets(label, head)) wrong.push(`${id} on the arrow of ${arc}`);
+  for (const [arc, head] of heads) {
+    if (meets(label, head)) wrong.push(`${id} on the arrow of ${arc}`);
+  }
 });
 return [labels.length, wrong];
 """

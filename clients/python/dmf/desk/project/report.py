@@ -25,7 +25,7 @@ from ..workspace import Desk
 from .comparison import ArcDifference, compare
 from .records import ENDING, Scenario
 from .report_findings import Demand, Findings, Section, Tried
-from .report_picture import readable
+from .report_picture import HIGH, LOW, readable
 from .report_text import report_lines
 from .scenarios import BASE, Scenarios
 
@@ -82,7 +82,7 @@ def _section(
     network = desk.network
     picture, why = "", ""
     try:
-        picture = readable(desk)
+        picture = readable(desk, LOW if scenario or Scenarios.of(desk) else HIGH)
     except DeskFault as fault:
         why = str(fault)
     made = desk.steps[first : desk.at]

@@ -1,11 +1,13 @@
 """The picture of a report: what Graphviz drew, with at most as many labels as can be read on a
-sheet of A4."""
+sheet of A4. Those of the bottleneck and of what was changed come first, and if one of them has no
+room beside its line, a thin line leads to it."""
 
 from __future__ import annotations
 
 import math
 import re
-from collections.abc import Iterator
+from collections import defaultdict
+from collections.abc import Iterable, Iterator
 from dataclasses import dataclass
 from xml.etree import ElementTree
 
@@ -14,8 +16,9 @@ from ..export import drawn
 from ..workspace import Desk
 
 SVG = "http://www.w3.org/2000/svg"
-# The room for a picture on a sheet of A4, in points.
-WIDE, HIGH = 496.0, 330.0
+# The room for a picture on a sheet of A4, and its height beside pictures of other scenarios, in
+# points.
+WIDE, HIGH, LOW = 496.0, 330.0, 200.0
 # The most labels, and the least size of letters on paper, in points.
 MOST_LABELS, LEAST = 30, 8.2
 # The least thickness of a line, and of one in the bottleneck, in points.
@@ -23,6 +26,7 @@ THIN, THICK = 0.6, 1.6
 # How many times as long as high a picture in layers is at most that has more places than this, and
 # how places are spread out else.
 MOST_LONG, MOST_LAYERED = 3.0, 40
+LAYERS = ["-Gnodesep=0.6"]
 FORCES = [f"-G{it}" for it in ("K=1", "repulsiveforce=1.4", "smoothing=triangle", "overlap=prism")]
 # The width of a letter and the height of a line, for letters of size 1.
 LETTER, LINE = 0.58, 1.2
@@ -31,6 +35,16 @@ SPOTS = sorted(
     ((along, up) for along in (0, 0.6, -0.6, 1.1, -1.1) for up in (0, 1, -1, 2, -2, 3, -3)),
     key=lambda spot: abs(spot[0]) + abs(spot[1]),
 )
+# Beside which points of its line a label may lie, by parts of the line, and how far from a line or
+# a place, in points.
+ALONG, APART = (0.5, 0.35, 0.65, 0.2, 0.8), 2.5
+# The rim around all that is drawn, in units of the picture.
+RIM = 4.0
+# How far the line that leads to a label reaches at most, in heights of the label, and in how many
+# directions.
+FURTHEST, WAYS = 12, 16
+# How many points of each curve are known, and the side of a field in which they are sought.
+STEPS, FIELD = 24, 40.0
 
 Point = tuple[float, float]
 
@@ -50,6 +64,52 @@ class Box:
             abs(self.x - other.x) < self.right + other.right
             and abs(self.y - other.y) < self.down + other.down
         )
+
+    def within(self, other: Box) -> bool:
+        """Return True if the other box has all of this one."""
+        return (
+            abs(self.x - other.x) + self.right <= other.right
+            and abs(self.y - other.y) + self.down <= other.down
+        )
+
+    def away(self, point: Point) -> float:
+        """Return the distance of a point, which is 0 inside."""
+        return math.hypot(
+            max(0.0, abs(point[0] - self.x) - self.right),
+            max(0.0, abs(point[1] - self.y) - self.down),
+        )
+
+
+class Lines:
+    """Points of all lines of a picture, by the fields of a grid."""
+
+    def __init__(self, lines: Iterable[list[Point]]) -> None:
+        self._fields: dict[tuple[int, int], list[tuple[int, Point]]] = defaultdict(list)
+        for line in lines:
+            for x, y in line:
+                self._fields[int(x // FIELD), int(y // FIELD)].append((id(line), (x, y)))
+
+    def near(self, box: Box, by: float) -> Iterator[tuple[int, Point]]:
+        """Yield the points at most this far from a box, each with the id of its line."""
+        for column in range(
+            int((box.x - box.right - by) // FIELD), int((box.x + box.right + by) // FIELD) + 1
+        ):
+            for row in range(
+                int((box.y - box.down - by) // FIELD), int((box.y + box.down + by) // FIELD) + 1
+            ):
+                for key, point in self._fields.get((column, row), ()):
+                    if box.away(point) <= by:
+                        yield key, point
+
+    def leave(self, box: Box, gap: float) -> bool:
+        """Return True if no line comes this near to a box."""
+        return not any(True for _ in self.near(box, gap))
+
+    def leave_to(self, box: Box, line: list[Point]) -> bool:
+        """Return True if no other line is nearer to a box than this one: else the label there would
+        be read as that of the other."""
+        far = min(map(box.away, line), default=0.0)
+        return all(key == id(line) or box.away(it) >= far for key, it in self.near(box, far))
 
 
 class Label:
@@ -74,25 +134,73 @@ class Label:
             return 0
         return 1 if self.is_changed else 2 if self.is_end else 3 if self.place else 4
 
-    def boxes(self, scale: float) -> Iterator[Box]:
-        """Yield where it may lie, the best first. On its own place it lies only if it fits."""
+    def size(self, scale: float) -> tuple[float, float]:
+        """Return half its width and half its height."""
         size = max(LEAST / scale, float(self.texts[0].get("font-size") or 14))
         long = max(len(text.text or "") for text in self.texts)
-        right, down = long * size * LETTER / 2, len(self.texts) * size * LINE / 2
-        x, place = float(self.texts[0].get("x") or 0), self.place
-        y = sum(float(text.get("y") or 0) for text in self.texts) / len(self.texts) - size / 3
+        return long * size * LETTER / 2, len(self.texts) * size * LINE / 2
+
+    def boxes(self, scale: float) -> Iterator[Box]:
+        """Yield where it may lie, the best first. On its own place it lies only if it fits."""
+        right, down = self.size(scale)
+        x, y = float(self.texts[0].get("x") or 0), self.middle - down / len(self.texts) / LINE / 1.5
+        place, apart = self.place, APART / scale
         if place is None:
-            yield from (Box(x + 2 * by * right, y + 2 * up * down, right, down) for by, up in SPOTS)
+            given = [Box(x + 2 * by * right, y + 2 * up * down, right, down) for by, up in SPOTS]
+            yield from (given[0], *self._beside(right, down, apart), *given[1:])
             return
         if right < 0.9 * place.right and down < 0.8 * place.down:
             yield Box(place.x, place.y, right, down)
-        for by, up in ((0, -1), (0, 1), (1, 0), (-1, 0)):
+        for by, up in ((0, -1), (0, 1), (1, 0), (-1, 0), (1, -1), (1, 1), (-1, -1), (-1, 1)):
             yield Box(
-                place.x + by * (place.right + right + 2 / scale),
-                place.y + up * (place.down + down + 2 / scale),
+                place.x + by * (place.right + right + apart),
+                place.y + up * (place.down + down + apart),
                 right,
                 down,
             )
+
+    @property
+    def middle(self) -> float:
+        return sum(float(text.get("y") or 0) for text in self.texts) / len(self.texts)
+
+    def _beside(self, right: float, down: float, apart: float) -> Iterator[Box]:
+        """Yield the boxes that touch its line, on both sides of it."""
+        for part in ALONG if len(self.line) > 2 else ():
+            at = min(max(1, round(part * (len(self.line) - 1))), len(self.line) - 2)
+            (x0, y0), (x, y), (x1, y1) = self.line[at - 1 : at + 2]
+            long = math.dist((x0, y0), (x1, y1)) or 1.0
+            across = (y0 - y1) / long, (x1 - x0) / long
+            out = abs(across[0]) * right + abs(across[1]) * down + apart
+            for side in out, -out:
+                yield Box(x + side * across[0], y + side * across[1], right, down)
+
+    def far_boxes(self, scale: float) -> Iterator[Box]:
+        """Yield boxes further away from the middle of its line, the nearest first."""
+        right, down = self.size(scale)
+        x, y = self.line[len(self.line) // 2] if self.line else (0.0, 0.0)
+        for ring in range(2, 2 * FURTHEST):
+            for way in range(WAYS):
+                turn = 2 * math.pi * way / WAYS
+                yield Box(
+                    x + math.cos(turn) * (right + ring * down),
+                    y + math.sin(turn) * ring * down,
+                    right,
+                    down,
+                )
+
+    def lead(self, box: Box, scale: float) -> None:
+        """Draw a thin line from its own line to where it is written."""
+        x, y = self.line[len(self.line) // 2]
+        to = (
+            min(max(x, box.x - box.right), box.x + box.right),
+            min(max(y, box.y - box.down), box.y + box.down),
+        )
+        leader = ElementTree.Element(
+            f"{{{SVG}}}path", d=f"M{x:.2f},{y:.2f}L{to[0]:.2f},{to[1]:.2f}", fill="none"
+        )
+        leader.set("stroke", self.texts[0].get("fill") or "black")
+        leader.set("stroke-width", f"{0.4 / scale:.2f}")
+        self.group.insert([*self.group].index(self.texts[0]), leader)
 
     def put(self, box: Box) -> None:
         """Write it here."""
@@ -109,18 +217,18 @@ class Label:
             self.group.remove(text)
 
 
-def readable(desk: Desk) -> str:
-    """Return the picture of a desk with at most `MOST_LABELS` labels, none of which lies on a place
-    or on another label, in letters that can be read on paper. Raise a `DeskFault` if it cannot be
-    drawn."""
+def readable(desk: Desk, high: float = HIGH) -> str:
+    """Return the picture of a desk, this high at most, with at most `MOST_LABELS` labels, none of
+    which lies on a place, on another label or on a line, in letters that can be read on paper.
+    Raise a `DeskFault` if it cannot be drawn."""
     root, network = _drawn(desk), desk.network
-    _label(root, {network.names.arc_name(number) for number in network.changed()})
+    _label(root, {network.names.arc_name(number) for number in network.changed()}, high)
     return ElementTree.tostring(root, encoding="unicode")
 
 
 def _drawn(desk: Desk) -> ElementTree.Element:
     """Return what Graphviz draws: in layers, unless these are a long strip of many places."""
-    root = ElementTree.fromstring(drawn(desk, "picture.svg"))
+    root = ElementTree.fromstring(drawn(desk, "picture.svg", "dot", *LAYERS))
     _, _, width, height = _view(root)
     is_long = not 1 / MOST_LONG < width / height < MOST_LONG
     if not is_long or len(root.findall(f".//{{{SVG}}}ellipse")) <= MOST_LAYERED:
@@ -133,38 +241,98 @@ def _view(root: ElementTree.Element) -> tuple[float, float, float, float]:
     return left, top, width, height
 
 
-def _label(root: ElementTree.Element, changed: set[str]) -> None:
-    """Place the labels that matter most where they can be read, and remove the others."""
+def _room(root: ElementTree.Element, by: float) -> Box:
+    """Return the box of a picture with room for labels at each side. Graphviz has the corner of the
+    picture 4 units to the left and below 0."""
+    _, _, width, height = _view(root)
+    return Box(width / 2 - 4, 4 - height / 2, width / 2 + by, height / 2 + by)
+
+
+def _crop(root: ElementTree.Element, boxes: list[Box], points: list[Point]) -> None:
+    """Leave out of a picture what lies around all this."""
+    corners = [
+        *points,
+        *((it.x - it.right, it.y - it.down) for it in boxes),
+        *((it.x + it.right, it.y + it.down) for it in boxes),
+    ]
+    if not corners:
+        return
+    left, right = (by(x for x, _ in corners) for by in (min, max))
+    top, bottom = (by(y for _, y in corners) for by in (min, max))
+    left, right, top, bottom = left - RIM, right + RIM, top - RIM, bottom + RIM
+    _, _, _, height = _view(root)
+    root.set(
+        "viewBox", f"{left + 4:.2f} {top + height - 4:.2f} {right - left:.2f} {bottom - top:.2f}"
+    )
+    root.set("width", f"{right - left:.2f}pt")
+    root.set("height", f"{bottom - top:.2f}pt")
+
+
+def _label(root: ElementTree.Element, changed: set[str], high: float) -> None:
+    """Leave the labels that matter most where they can be read."""
     groups = [*root.iter(f"{{{SVG}}}g")]
     for text in groups[0].findall(f"{{{SVG}}}text"):
         groups[0].remove(text)
     _, _, width, height = _view(root)
-    scale = min(1.0, WIDE / width, HIGH / height)
+    view = _room(root, 2 * LINE * LEAST / min(1.0, WIDE / width, high / height))
+    scale = min(1.0, WIDE / view.right / 2, high / view.down / 2)
     _thicken(root, scale)
     labels = [
         Label(group, changed) for group in groups[1:] if group.find(f"{{{SVG}}}text") is not None
     ]
-    places = [label.place for label in labels if label.place]
-    lines = [label.line for label in labels if label.line]
-    taken: list[Box] = []
+    spots = Spots(labels, view, scale)
     for label in sorted(labels, key=lambda it: it.rank):
-        others = [*taken, *(place for place in places if place is not label.place)]
-        found = next(
+        spots.put(label)
+    lines = [point for label in labels for point in label.line]
+    _crop(root, [*spots.places, *spots.taken], lines)
+
+
+class Spots:
+    """The labels that have found their places in a picture."""
+
+    def __init__(self, labels: list[Label], view: Box, scale: float) -> None:
+        self.places = [label.place for label in labels if label.place]
+        self._lines = Lines(label.line for label in labels if label.line)
+        self._view, self._scale = view, scale
+        self.taken: list[Box] = []
+
+    def put(self, label: Label) -> None:
+        """Write a label where it can be read, or leave it out."""
+        found, is_led = self._spot(label), False
+        if found is None and label.rank < 2 and label.line:
+            found, is_led = self._far_spot(label), True
+        if found is None or len(self.taken) >= MOST_LABELS:
+            label.leave_out()
+            return
+        if is_led:
+            label.lead(found, self._scale)
+        label.put(found)
+        self.taken.append(found)
+
+    def _is_free(self, box: Box, label: Label) -> bool:
+        if not box.within(self._view) or any(map(box.meets, self.taken)):
+            return False
+        if label.place and box.within(label.place):
+            return True
+        return not any(map(box.meets, self.places)) and self._lines.leave(box, 1 / self._scale)
+
+    def _spot(self, label: Label) -> Box | None:
+        """Return the best spot beside a place or a line, where a label is not read as that of
+        another line."""
+        return next(
             (
                 box
-                for box in label.boxes(scale)
-                if len(taken) < MOST_LABELS
-                and _is_within(box, width, height)
-                and not any(map(box.meets, others))
-                and _is_nearest(box, label.line, lines)
+                for box in label.boxes(self._scale)
+                if self._is_free(box, label)
+                and (label.place or self._lines.leave_to(box, label.line))
             ),
             None,
         )
-        if found is None:
-            label.leave_out()
-            continue
-        label.put(found)
-        taken.append(found)
+
+    def _far_spot(self, label: Label) -> Box | None:
+        """Return a spot further away."""
+        boxes = label.far_boxes(self._scale)
+        return next((box for box in boxes if self._is_free(box, label)), None)
 
 
 def _thicken(root: ElementTree.Element, scale: float) -> None:
@@ -182,8 +350,8 @@ def _points(curve: str) -> list[Point]:
     given = list(zip(numbers[::2], numbers[1::2]))
     found = []
     for at in range(0, len(given) - 3, 3):
-        for step in range(1, 9):
-            part, rest = step / 8, 1 - step / 8
+        for step in range(STEPS + 1):
+            part, rest = step / STEPS, 1 - step / STEPS
             weights = rest**3, 3 * part * rest**2, 3 * part**2 * rest, part**3
             pieces = given[at : at + 4]
             found.append(
@@ -193,26 +361,6 @@ def _points(curve: str) -> list[Point]:
                 )
             )
     return found
-
-
-def _is_nearest(box: Box, line: list[Point], lines: list[list[Point]]) -> bool:
-    """Return True if no other line lies nearer to a label than its own, if it is of one: else it
-    would be read as that of the other."""
-    middle = box.x, box.y
-    far = min((math.dist(middle, point) for point in line), default=0.0)
-    return all(
-        other is line or math.dist(middle, point) >= far for other in lines for point in other
-    )
-
-
-def _is_within(box: Box, width: float, height: float) -> bool:
-    """Return True if a box lies in the picture, which begins 4 units to the left and below 0."""
-    return (
-        -4 <= box.x - box.right
-        and box.x + box.right <= width - 4
-        and 4 - height <= box.y - box.down
-        and box.y + box.down <= 4
-    )
 
 
 def _box(ellipse: ElementTree.Element) -> Box:

@@ -85,11 +85,6 @@ def _head(found: Findings) -> Iterator[str]:
 
 def _section_lines(found: Findings, it: Section) -> Iterator[str]:
     base = found.sections[0]
-    yield f"<section><h2>{_text(it.name)}</h2>"
-    if it.begun_from:
-        yield f'<p class="faint">begun with the steps of {_text(it.begun_from)}</p>'
-    if it.note:
-        yield f'<p class="note">{_lines(it.note)}</p>'
     by = (
         ""
         if it is base
@@ -97,21 +92,20 @@ def _section_lines(found: Findings, it: Section) -> Iterator[str]:
         if it.value != base.value
         else " <small>(as base)</small>"
     )
-    yield f'<p class="value">{_told(it.value, found.unit)}{by}</p>'
-    if it.steps:
-        yield "<h3>What was changed</h3><ol>"
-        yield from (
-            f"<li>{_text(text)} <span class='faint'>then {_told(value, found.unit)}</span></li>"
-            for text, value in it.steps
-        )
-        yield "</ol>"
+    yield (
+        f"<section><header><h2>{_text(it.name)}</h2>"
+        f'<p class="value">{_told(it.value, found.unit)}{by}</p></header>'
+    )
+    if it.begun_from:
+        yield f'<p class="faint">begun with the steps of {_text(it.begun_from)}</p>'
+    if it.note:
+        yield f'<p class="note">{_lines(it.note)}</p>'
     if it.left_out:
         steps = "; ".join(map(_text, it.left_out))
         yield (
             "<p>Left out, since the table has changed and they mean nothing in it any more: "
             f"{steps}.</p>"
         )
-    yield from _limit(found, it)
     if it.picture:
         data = base64.b64encode(it.picture.encode()).decode()
         yield (
@@ -120,14 +114,30 @@ def _section_lines(found: Findings, it: Section) -> Iterator[str]:
         )
     else:
         yield f'<p class="faint">There is no picture: {_text(it.no_picture)}.</p>'
+    yield '<div class="beside"><div>'
+    if it.steps:
+        yield from _steps(it.steps, found.unit)
+    yield from _limit(found, it)
+    yield "</div>"
     if it.demands:
-        yield from _demands(it.demands, found.unit)
+        yield from ("<div>", *_demands(it.demands, found.unit), "</div>")
     if it.differences:
-        yield from _differences(it.differences)
-    yield (
-        '<p class="faint">The flow was judged by <code>dmf check</code>: '
-        f"<code>{_text(it.check)}</code></p></section>"
+        yield from ("<div>", *_differences(it.differences), "</div>")
+    yield "</div></section>"
+
+
+def _steps(steps: tuple[tuple[str, Quantity], ...], unit: str) -> Iterator[str]:
+    """Yield the changes, the last ones if there are many, each with the value after it."""
+    hidden = max(0, len(steps) - MOST_ROWS)
+    yield "<h3>What was changed</h3>"
+    if hidden:
+        yield f'<p class="faint">{_counted(hidden, "step")} before these</p>'
+    yield f'<ol start="{hidden + 1}">'
+    yield from (
+        f"<li>{_text(text)} <span class='faint'>then {_told(value, unit)}</span></li>"
+        for text, value in steps[hidden:]
     )
+    yield "</ol>"
 
 
 def _limit(found: Findings, it: Section) -> Iterator[str]:
@@ -207,6 +217,7 @@ def _trial_lines(found: Findings, tried: Tried) -> Iterator[str]:
             "A second one beside any of them brings nothing.",
         ),
     ]
+    yield '<div class="beside">'
     for title, word, rows, sign, none in columns:
         if not rows:
             yield f"<p>{none}</p>"
@@ -214,20 +225,26 @@ def _trial_lines(found: Findings, tried: Tried) -> Iterator[str]:
         cells = [
             [_text(arc), plain_text(by), plain_text(sign(tried.value, by))] for arc, by in rows
         ]
-        yield from _table([(title, False), (word, True), ("then", True)], cells)
+        titles = [(title, False), (word, True), ("then", True)]
+        yield from ("<div>", *_table(titles, cells), "</div>")
+    yield "</div>"
 
 
 def report_lines(found: Findings) -> Iterator[str]:
     """Yield the lines of a report."""
     yield from _head(found)
+    yield '<div class="sections">' if len(found.sections) == 1 else '<div class="sections many">'
     for section in found.sections:
         yield from _section_lines(found, section)
+    yield "</div>"
     yield from _trial_lines(found, found.tried)
     yield "<h2>How it was reckoned</h2>"
     if found.assumed:
         yield "<p>Taken for granted when the table was read:</p><ul>"
         yield from (f"<li>{_text(it)}</li>" for it in found.assumed)
         yield "</ul>"
+    judged = ", ".join(f"{_text(it.name)} <code>{_text(it.check)}</code>" for it in found.sections)
+    yield f"<p><code>dmf check</code> judged each flow: {judged}.</p>"
     yield (
         f"<p>Values and bottlenecks are those of dmf {__version__}, whose solves are proved to "
         "find the greatest value; this report is only tested.</p>"
