@@ -249,7 +249,7 @@ def _room(root: ElementTree.Element, by: float) -> Box:
 
 
 def _crop(root: ElementTree.Element, boxes: list[Box], points: list[Point]) -> None:
-    """Leave out of a picture what lies around all this."""
+    """Remove the empty room around what is drawn."""
     corners = [
         *points,
         *((it.x - it.right, it.y - it.down) for it in boxes),
@@ -269,7 +269,7 @@ def _crop(root: ElementTree.Element, boxes: list[Box], points: list[Point]) -> N
 
 
 def _label(root: ElementTree.Element, changed: set[str], high: float) -> None:
-    """Leave the labels that matter most where they can be read."""
+    """Put the labels that matter most where they can be read."""
     groups = [*root.iter(f"{{{SVG}}}g")]
     for text in groups[0].findall(f"{{{SVG}}}text"):
         groups[0].remove(text)
