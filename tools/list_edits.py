@@ -75,7 +75,8 @@ REASONS = {
         f"dmf_session_{call} (unchanged)": READ_ONLY for call in (*C_NUMBERS, "flows", "capacities")
     },
     "Files::open": FOR_CALLERS,
-    "Host::run": FOR_CALLERS,
+    "Runner::run (task)": FOR_CALLERS,
+    "Runner::run (runs)": FOR_CALLERS,
     **{
         f"Watch::{call} ({name})": FOR_CALLERS
         for call in ("begun", "augmented", "lowered")

@@ -9,7 +9,7 @@ ghost use Rattle.dmf_program.specs.Program.{MayRun};
 use dmf_arguments::{Arguments, MAX_HISTORY, Mode};
 use dmf_explain::{help_without_page, invite};
 use dmf_host::{Fault, explain, open_problem, output, tell, words};
-use dmf_program::{Files, Host, run_program, run_words};
+use dmf_program::{Files, Host, Runner, run_program, run_words};
 use dmf_progress::{Progress, WatchedSink, WatchedSolve, WatchedSource};
 use dmf_session::MAX_BOUND;
 use dmf_streams::Status;
@@ -31,8 +31,9 @@ fn main(rt: HostRuntime) -> ExitCode {
     let mut err = StdSink::new(WholeWrites {
         writer: rt.stderr(),
     });
+    let runner = SystemRunner { rt: &rt };
     let system = System { rt: &rt };
-    let status = run_words(rt.alloc(), words(&rt), &system, &mut out, &mut err);
+    let status = run_words(rt.alloc(), words(&rt), runner, &system, &mut out, &mut err);
     ExitCode::from(status)
 }
 
@@ -53,6 +54,20 @@ impl<W: Write> Write for WholeWrites<W> {
     }
 }
 
+/// What runs a task over the program's files and streams.
+#[derive(Drop)]
+struct SystemRunner<'a> {
+    rt: &'a HostRuntime,
+}
+
+impl<'a> Runner for SystemRunner<'a> {
+    ghost runs = { λ _. MayRun };
+
+    fn run(self, asked: &Arguments) -> Result<Status, Fault> {
+        run_asked(self.rt, asked)
+    }
+}
+
 /// The system on which the program runs.
 #[derive(Drop)]
 struct System<'a> {
@@ -60,10 +75,6 @@ struct System<'a> {
 }
 
 impl<'a> Host for System<'a> {
-    fn run(&self, asked: &Arguments) -> Result<Status, Fault> {
-        run_asked(self.rt, asked)
-    }
-
     fn lacks_page(&self, help: &str) -> bool {
         lacks_page(self.rt, help)
     }

@@ -95,6 +95,10 @@ pub record HasRun (task : Task) (result : Result Status Fault) : Type 0 where
 abbrev pub MayRun : Task → Result Status Fault → Type 0
 MayRun task result = HasRun task result ⊎ (result ≡ Err no_memory)
 
+-- How the program may end if a runner runs a task. Of a runner no more is known than this, so only its run shows it.
+abbrev pub Running : Type 1
+Running = Task → Result Status Fault → Type 0
+
 -- ---- what is written beside a run
 
 -- the two streams on which words are answered
@@ -128,20 +132,21 @@ pub record IsPrinted (text : List ℕ) (old new : Writer) (result : Result Statu
 abbrev pub has_ended : Fault → Outputs → Outputs → Result Status Fault → Type 0
 has_ended fault old new result = (new ≡ old) × (result ≡ Err fault)
 
--- What follows on these arguments: their task is run, unless memory is refused before. What follows where there are none: the text that
--- was asked for is written on standard output, or that of wrong words on standard error, of which the other gets nothing.
-abbrev pub Follows : Result Arguments WordsFault → Outputs → Outputs → Result Status Fault → Type 0
-Follows (Ok asked) old new result = (new ≡ old) × MayRun (task_of asked) result
-Follows (Err (words.Help text)) old new result = (new.err ≡ old.err) × IsPrinted text.bytes.items old.out new.out result
-Follows (Err (words.Usage text)) old new result =
+-- What follows on these arguments: their task is run, unless memory is refused before, and the program ends as the runner does. What
+-- follows where there are none: the text that was asked for is written on standard output, or that of wrong words on standard error, of
+-- which the other gets nothing.
+abbrev pub Follows : Running → Result Arguments WordsFault → Outputs → Outputs → Result Status Fault → Type 0
+Follows Runs (Ok asked) old new result = (new ≡ old) × MayRun (task_of asked) result × Runs (task_of asked) result
+Follows Runs (Err (words.Help text)) old new result = (new.err ≡ old.err) × IsPrinted text.bytes.items old.out new.out result
+Follows Runs (Err (words.Usage text)) old new result =
     (new.out ≡ old.out) × ((told : Result (Unit {0}) WriteFault) × Writes old.err new.err told text.bytes.items) × (result ≡ Err Usage)
-Follows (Err words.NoMemory) old new result = has_ended no_memory old new result
+Follows Runs (Err words.NoMemory) old new result = has_ended no_memory old new result
 
 -- What the program makes of its words, of which the first is its name: it reads them, and does what follows.
-pub record RunsWords (words : List (List ℕ)) (old new : Outputs) (result : Result Status Fault) : Type 0 where
+pub record RunsWords (Runs : Running) (words : List (List ℕ)) (old new : Outputs) (result : Result Status Fault) : Type 0 where
   pub read : Result Arguments WordsFault
   pub reads : ReadsWords words read
-  pub follows : Follows read old new result
+  pub follows : Follows Runs read old new result
 
 -- The program ends with the status of a result that is so.
 pub record Ends (IsSo : Result Status Fault → Type 0) (status : ℕ) : Type 0 where

@@ -4,9 +4,11 @@
 pub use files::Files;
 pub use host::Host;
 pub use run::{SolveAnswer, run_program, run_solving};
+pub use runner::Runner;
 pub use words::run_words;
 
 mod files;
 mod host;
 mod run;
+mod runner;
 mod words;

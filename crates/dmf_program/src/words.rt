@@ -5,6 +5,7 @@ ghost use Rattle.dmf_text.specs.Writing.{Writes};
 ghost use Rattle.dmf_program.specs.Program.{Ends, Follows, IsPrinted, RunsWords, WritesShown, has_ended, outputs_of};
 
 use crate::host::Host;
+use crate::runner::Runner;
 use dmf_arguments::{Arguments, WordsFault, read_arguments};
 use dmf_host::{Fault, exit_status};
 use dmf_streams::{EngineFault, Status};
@@ -14,26 +15,27 @@ use std::alloc::Global;
 /// The last sentence of a help text.
 const SENTENCE: &str = "man dmf has the formats.\n";
 
-/// Does what the words ask for, of which the first is the program's name, and returns the exit status. The host runs a task. A text that
-/// is asked for is written on `out`, and what is wrong with words on `err`.
+/// Does what the words ask for, of which the first is the program's name, and returns the exit status. A task is run once, by the runner.
+/// A text that is asked for is written on `out`, and what is wrong with words on `err`.
 ///
 /// Where the system gives no words, the program ends with the fault of that.
-pub fn run_words<H: Host, W: Sink, E: Sink>(
+pub fn run_words<R: Runner + Drop, H: Host, W: Sink, E: Sink>(
     alloc: Global,
     words: Result<Vec<String>, Fault>,
+    runner: R,
     host: &H,
     out: &mut W,
     err: &mut E,
 ) -> u8
     ensures { Ends
         (λ outcome. MatchResult words
-        (λ words. RunsWords (map (λ word. word.bytes.items) words.items)
+        (λ words. RunsWords (R.runs runner) (map (λ word. word.bytes.items) words.items)
         (outputs_of (W.written out.old) (E.written err.old)) (outputs_of (W.written out.new) (E.written err.new)) outcome)
         (λ fault. has_ended fault
         (outputs_of (W.written out.old) (E.written err.old)) (outputs_of (W.written out.new) (E.written err.new)) outcome))
         result }
 {
-    let outcome = answer(alloc, words, host, out, err);
+    let outcome = answer(alloc, words, runner, host, out, err);
     if let Err(fault) = &outcome {
         host.tell(fault);
     }
@@ -42,38 +44,40 @@ pub fn run_words<H: Host, W: Sink, E: Sink>(
 
 /// Reads the words, if there are any, and does what they ask for.
 #[inline(never)]
-fn answer<H: Host, W: Sink, E: Sink>(
+fn answer<R: Runner + Drop, H: Host, W: Sink, E: Sink>(
     alloc: Global,
     words: Result<Vec<String>, Fault>,
+    runner: R,
     host: &H,
     out: &mut W,
     err: &mut E,
 ) -> Result<Status, Fault>
     ensures { MatchResult words
-        (λ words. RunsWords (map (λ word. word.bytes.items) words.items)
+        (λ words. RunsWords (R.runs runner) (map (λ word. word.bytes.items) words.items)
         (outputs_of (W.written out.old) (E.written err.old)) (outputs_of (W.written out.new) (E.written err.new)) result)
         (λ fault. has_ended fault
         (outputs_of (W.written out.old) (E.written err.old)) (outputs_of (W.written out.new) (E.written err.new)) result) }
 {
     match words {
-        Ok(words) => follow(read_arguments(alloc, words), host, out, err),
+        Ok(words) => follow(read_arguments(alloc, words), runner, host, out, err),
         Err(fault) => Err(fault),
     }
 }
 
 /// Does what follows on these arguments, or on words that ask for no run.
-fn follow<H: Host, W: Sink, E: Sink>(
+fn follow<R: Runner + Drop, H: Host, W: Sink, E: Sink>(
     read: Result<Arguments, WordsFault>,
+    runner: R,
     host: &H,
     out: &mut W,
     err: &mut E,
 ) -> Result<Status, Fault>
     requires { IfOk read (λ asked. HasBound asked.mode) }
-    ensures { Follows read
+    ensures { Follows (R.runs runner) read
         (outputs_of (W.written out.old) (E.written err.old)) (outputs_of (W.written out.new) (E.written err.new)) result }
 {
     match read {
-        Ok(asked) => host.run(&asked),
+        Ok(asked) => runner.run(&asked),
         Err(WordsFault::Help(text)) => print(text.as_str(), host, out),
         Err(WordsFault::Usage(text)) => {
             // If this cannot be written, the exit status still says it.
